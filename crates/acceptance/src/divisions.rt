@@ -1,0 +1,105 @@
+//! Divisions: where a placer puts rows one after another, and what a part is.
+
+ghost use Rattle.std.specs.Prelude.{IsTrue};
+ghost use Rattle.std.specs.Option.{ForSome};
+ghost use Rattle.dip_core.specs.Item.{IsBelow};
+
+use dip_core::{Item, Part, Placer, create_dip};
+use period_core::{Period, Point};
+use std::alloc::Global;
+use std::cmp::Ordering;
+use std::process::Abort;
+use std::test::Fail;
+
+// A row of January 2024, by the days of its start and its end.
+fn item(rt: &impl Abort, id: u64, from: &[u8; 2], to: &[u8; 2]) -> Item {
+    let from = Point::parse(&[
+        b'2', b'0', b'2', b'4', b'-', b'0', b'1', b'-', from[0], from[1],
+    ])
+    .expect(rt, "a date");
+    let to = Point::parse(&[b'2', b'0', b'2', b'4', b'-', b'0', b'1', b'-', to[0], to[1]]).expect(
+        rt, "a date",
+    );
+    Item {
+        period: Period::new(from, to).expect(rt, "a period"),
+        id,
+        class: 0,
+        amount: 0,
+    }
+}
+
+// Whether the item isn't below the last one.
+fn may_follow(last: Option<Item>, item: &Item) -> bool
+    ensures { IsTrue result → ForSome last (λ last. IsBelow item.now last → ⊥) }
+{
+    match last {
+        Some(last) => item.cmp(&last) != Ordering::Less,
+        None => true,
+    }
+}
+
+// The numbers of the parts that a placer puts the items into, and the division that comes of it.
+fn check_placing(
+    rt: &(impl Abort + Alloc<A = Global>),
+    items: &[Item],
+    places: &[u32],
+) -> Result<(), Fail> {
+    let mut placer = Placer::new(rt.alloc());
+    for (item, place) in items.iter().zip(places) {
+        assert!(rt; may_follow(placer.last(), item));
+        assert!(rt; placer.len() < 1_000_000);
+        assert_eq!(rt; placer.place(*item)?, *place);
+    }
+    assert_eq!(rt; placer.len(), items.len() as u64);
+    let placed = placer.finish();
+    assert!(rt; items.len() <= 1_000_000);
+    let divided = create_dip(rt.alloc(), items)?;
+    assert_eq!(rt; placed.instant(), divided.instant());
+    assert_eq!(rt; placed.parts(), divided.parts());
+    for number in 0..placed.parts() {
+        assert!(rt; number < divided.parts());
+        assert_eq!(rt; placed.part(number).items(), divided.part(number).items());
+    }
+    Ok(())
+}
+
+#[test]
+fn places_rows(rt: HostRuntime) -> Result<(), Fail> {
+    let rows = [
+        item(&rt, 1, b"01", b"05"),
+        item(&rt, 2, b"02", b"04"),
+        item(&rt, 5, b"03", b"09"),
+        item(&rt, 3, b"04", b"08"),
+        item(&rt, 4, b"05", b"06"),
+    ];
+    check_placing(&rt, &rows, &[0, 1, 2, 1, 0])?;
+    let division = create_dip(rt.alloc(), &rows)?;
+    let third = Point::parse(b"2024-01-03")?;
+    assert_eq!(rt; division.instant(), Some(third));
+    Ok(())
+}
+
+#[test]
+fn takes_the_part_that_ended_first(rt: HostRuntime) -> Result<(), Fail> {
+    let later = [
+        item(&rt, 1, b"01", b"05"),
+        item(&rt, 2, b"02", b"04"),
+        item(&rt, 3, b"05", b"06"),
+    ];
+    check_placing(&rt, &later, &[0, 1, 1])?;
+    let together = [
+        item(&rt, 1, b"01", b"03"),
+        item(&rt, 2, b"02", b"03"),
+        item(&rt, 3, b"03", b"04"),
+    ];
+    check_placing(&rt, &together, &[0, 1, 0])
+}
+
+#[test]
+fn knows_parts(rt: HostRuntime) {
+    let touching = [item(&rt, 1, b"01", b"05"), item(&rt, 2, b"05", b"06")];
+    let overlapping = [item(&rt, 1, b"01", b"05"), item(&rt, 2, b"04", b"06")];
+    assert!(rt; Part::new(&touching).is_some());
+    assert!(rt; Part::new(&overlapping).is_none());
+    assert!(rt; Part::new(&[]).is_some());
+}

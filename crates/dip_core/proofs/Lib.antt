@@ -1,0 +1,11 @@
+pub mod AddedLemmas
+pub mod BestLemmas
+pub mod ChainLemmas
+pub mod CrowdLemmas
+pub mod GrownLemmas
+pub mod IdsLemmas
+pub mod OrderLemmas
+pub mod PlacedLemmas
+pub mod StepLemmas
+pub mod DivisionLemmas
+pub mod SortedLemmas

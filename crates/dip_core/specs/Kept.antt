@@ -1,0 +1,33 @@
+-- What a division and a placer keep of their parts.
+use Rattle.std.specs.Prelude.{◌≡◌, ℕ, ◌-◌, ◌<◌, ◌≤◌, List, length, All, Option, slice_index_or}
+use Rattle.dip_core.specs.declared.item.Item.{Item}
+use Rattle.dip_core.specs.Item.{crowd, IsChain, HasDistinctIds}
+use Rattle.dip_core.specs.Division.{all_of, class_at, IsPlaced}
+use Rattle.dip_core.specs.Placing.{IsGreatest}
+
+-- the last part's first item, by which that part was opened; d where there is none
+abbrev pub opener : List (List Item) → Item → Item
+opener parts d = slice_index_or (class_at parts (length parts - 1)) 0 d
+
+-- its start is held by at least as many items as there are parts
+abbrev pub LastPartIsCrowded : List (List Item) → Type 0
+LastPartIsCrowded parts = (d : Item) → 0 < length parts → length parts ≤ crowd (all_of parts) (opener parts d).period.from
+
+-- what is known of the parts at each moment
+pub record ArePlaced (parts : List (List Item)) : Type 0 where
+  pub filled : All (λ part. 0 < length part) parts
+  pub chained : All IsChain parts
+  pub crowded : LastPartIsCrowded parts
+  pub placed : HasDistinctIds (all_of parts) → IsPlaced parts
+
+-- what a placer keeps
+pub record IsPlacing (parts : List (List Item)) (last : Option Item) (len : ℕ) : Type 0 where
+  pub are_placed : ArePlaced parts
+  pub greatest : IsGreatest parts last
+  pub counted : len ≡ length (all_of parts)
+  pub small : len ≤ 1_000_000
+
+-- what a division keeps
+pub record IsDivided (parts : List (List Item)) : Type 0 where
+  pub are_placed : ArePlaced parts
+  pub small : length (all_of parts) ≤ 1_000_000

@@ -1,0 +1,4 @@
+pub mod Item
+pub mod Division
+pub mod Placing
+pub mod Kept

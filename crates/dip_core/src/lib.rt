@@ -1,0 +1,20 @@
+#![tactic(auto)]
+
+//! Divides items into the least number of parts in which no two items overlap, and gives an instant that as many items hold as there are parts.
+
+mod class;
+mod division;
+mod ids;
+mod item;
+mod laws;
+mod part;
+mod placer;
+mod placing;
+
+pub use division::{Division, create_dip};
+pub use ids::ids_rise;
+pub use item::Item;
+pub use laws::{crowded_division_is_least, rising_ids_are_distinct};
+pub use part::Part;
+pub use period_core::NoMemory;
+pub use placer::Placer;

@@ -1,0 +1,145 @@
+ghost use Rattle.std.specs.Prelude.{◌≡◌, ℤ, ◌<ℤ◌, ◌≤ℤ◌, ◌↔◌, IsTrue, IsOk, IfOk};
+ghost use Rattle.std.specs.Result.{result_ok};
+
+use crate::Point;
+
+/// The instants from `from` on and before `to`, of which there is always one. Periods are ordered by
+/// start, then end.
+#[derive(Clone, Copy, Debug, PartialEq, Eq, PartialOrd, Ord)]
+pub struct Period {
+    /// The first instant.
+    pub from: Point,
+    /// The first instant behind the last.
+    pub to: Point,
+    pub ghost ordered: { from <ℤ to },
+}
+
+/// The start of a period would not be before its end.
+#[derive(Clone, Copy, Debug, PartialEq, Eq)]
+pub struct BadPeriod;
+
+impl Period {
+    ghost use Rattle.period_core.specs.Period.{Holds, HoldsIn, Overlap, HoldAlike, Includes, Precedes, PrecedesAtOnce, between, meet, before, after};
+
+    /// The period from one point on and before another.
+    ///
+    /// # Errors
+    ///
+    /// `BadPeriod` exactly where `from` is not before `to`.
+    pub fn new(from: Point, to: Point) -> Result<Period, BadPeriod>
+        ensures succeeds { IsOk result ↔ (from <ℤ to) }
+        ensures value { IfOk result (λ p. (p.from ≡ from) × (p.to ≡ to)) }
+        ensures period { result_ok result ≡ between from to }
+    {
+        if from < to {
+            Ok(Period { from, to })
+        } else {
+            Err(BadPeriod)
+        }
+    }
+
+    /// The first instant.
+    pub fn from(self) -> Point
+        ensures { result ≡ self.from }
+    {
+        self.from
+    }
+
+    /// The first instant behind the last.
+    pub fn to(self) -> Point
+        ensures { result ≡ self.to }
+    {
+        self.to
+    }
+
+    /// Whether some instant lies in both. Periods that touch don't overlap.
+    pub fn overlaps(self, other: Period) -> bool
+        ensures ends { IsTrue result ↔ ((self.from <ℤ other.to) × (other.from <ℤ self.to)) }
+        ensures instants { IsTrue result ↔ Overlap self other }
+    {
+        self.from < other.to && other.from < self.to
+    }
+
+    /// Whether both have the same instants.
+    pub fn equals(self, other: Period) -> bool
+        ensures ends { IsTrue result ↔ ((self.from ≡ other.from) × (self.to ≡ other.to)) }
+        ensures instants { IsTrue result ↔ HoldAlike self other }
+    {
+        self.from == other.from && self.to == other.to
+    }
+
+    /// Whether each instant of the other is one of this period.
+    pub fn contains(self, other: Period) -> bool
+        ensures ends { IsTrue result ↔ ((self.from ≤ℤ other.from) × (other.to ≤ℤ self.to)) }
+        ensures instants { IsTrue result ↔ Includes self other }
+    {
+        self.from <= other.from && other.to <= self.to
+    }
+
+    /// Whether the point is one of the instants.
+    pub fn holds(self, point: Point) -> bool
+        ensures { IsTrue result ↔ Holds self point }
+    {
+        self.from <= point && point < self.to
+    }
+
+    /// Whether each instant is before each of the other.
+    pub fn precedes(self, other: Period) -> bool
+        ensures ends { IsTrue result ↔ (self.to ≤ℤ other.from) }
+        ensures instants { IsTrue result ↔ Precedes self other }
+    {
+        self.to <= other.from
+    }
+
+    /// Whether each instant is after each of the other.
+    pub fn succeeds(self, other: Period) -> bool
+        ensures ends { IsTrue result ↔ (other.to ≤ℤ self.from) }
+        ensures instants { IsTrue result ↔ Precedes other self }
+    {
+        other.precedes(self)
+    }
+
+    /// Whether this period ends where the other starts: it precedes it, and no instant lies between.
+    pub fn immediately_precedes(self, other: Period) -> bool
+        ensures ends { IsTrue result ↔ (self.to ≡ other.from) }
+        ensures instants { IsTrue result ↔ PrecedesAtOnce self other }
+    {
+        self.to == other.from
+    }
+
+    /// Whether this period starts where the other ends: it succeeds it, and no instant lies between.
+    pub fn immediately_succeeds(self, other: Period) -> bool
+        ensures ends { IsTrue result ↔ (other.to ≡ self.from) }
+        ensures instants { IsTrue result ↔ PrecedesAtOnce other self }
+    {
+        other.immediately_precedes(self)
+    }
+
+    /// The instants of both, where there are any.
+    pub fn meet(&self, other: &Period) -> Option<Period>
+        ensures ends { result ≡ meet self.now other.now }
+        ensures instants { (t : ℤ) → HoldsIn result t ↔ (Holds self.now t × Holds other.now t) }
+    {
+        Period::between(self.from.max(other.from), self.to.min(other.to))
+    }
+
+    /// The instants before the other's start, and those from the other's end on, where there are any.
+    pub fn minus(&self, other: &Period) -> (Option<Period>, Option<Period>)
+        ensures before_ends { result.0 ≡ before self.now other.now }
+        ensures after_ends { result.1 ≡ after self.now other.now }
+        ensures before { (t : ℤ) → HoldsIn result.0 t ↔ (Holds self.now t × (t <ℤ other.now.from)) }
+        ensures after { (t : ℤ) → HoldsIn result.1 t ↔ (Holds self.now t × (other.now.to ≤ℤ t)) }
+    {
+        (
+            Period::between(self.from, self.to.min(other.from)),
+            Period::between(self.from.max(other.to), self.to),
+        )
+    }
+
+    // The instants from one point on and before the other, if there are any.
+    fn between(from: Point, to: Point) -> Option<Period>
+        ensures { result ≡ between from to }
+    {
+        Period::new(from, to).ok()
+    }
+}

@@ -1,0 +1,164 @@
+ghost use Rattle.std.specs.Prelude.{Some, ◌+◌, ◌%◌, vec_len, ◌≡◌, ◌≢◌, ◌↔◌, ◌<◌, ◌≤◌, ◌≤ℤ◌, ℕ, pos, length, ◌∷◌, [], ◌++◌, IsOk, IfOk, OnOk, OnErr, MatchOption, unsigned_abs};
+ghost use Rattle.std.specs.Result.{result_ok};
+ghost use Rattle.std.specs.Vec.{vec_capacity};
+ghost use Rattle.jiff_core.specs.Date.{epoch_day};
+ghost use Rattle.period_core.specs.Point.{IsPointNumber, IsPointText, IsSomePointText, IsDate, YearMonthDay, date_text, day_number, digits, parts_of, point_of, point_text};
+
+use crate::NoMemory;
+use jiff::civil::Date;
+use jiff_core::civil;
+use std::alloc::Allocator;
+use std::marker::Model;
+
+/// A date of the proleptic Gregorian calendar, in the years 0001 to 9999. Contracts see its number: the
+/// days from 1970-01-01. Points are ordered by it.
+#[derive(Clone, Copy, Debug, PartialEq, Eq, PartialOrd, Ord)]
+pub struct Point {
+    number: i64,
+}
+
+impl Model for Point {
+    ghost use Rattle.std.specs.Prelude.{ℤ};
+    ghost use Rattle.period_core.specs.Point.{IsPointNumber};
+
+    ghost Value = { ℤ };
+
+    ghost view = { λ p. p.number };
+
+    ghost invariant = { λ p. IsPointNumber p.number };
+
+    ghost inverse = { λ n. record { number = n } };
+}
+
+/// A text is no date of the years 0001 to 9999.
+#[derive(Clone, Copy, Debug, PartialEq, Eq)]
+pub struct BadPoint;
+
+impl Point {
+    /// The date that the ten bytes `YYYY-MM-DD` name.
+    ///
+    /// # Errors
+    ///
+    /// `BadPoint` exactly where the bytes are the text of no date.
+    pub fn parse(text: &[u8]) -> Result<Point, BadPoint>
+        ensures succeeds { IsOk result ↔ IsSomePointText text.now }
+        ensures value { IfOk result (λ point. IsPointText text.now point) }
+        ensures point { result_ok result ≡ point_of text.now }
+        ensures writes_back { IfOk result (λ point. point_text point ≡ text.now) }
+    {
+        let Some((year, month, day)) = parts(text) else {
+            return Err(BadPoint);
+        };
+        let Some(date) = date_of(year, month, day) else {
+            return Err(BadPoint);
+        };
+        Ok(Point {
+            number: date.to_unix_epoch_day() as i64,
+        })
+    }
+
+    /// The days from 1970-01-01, negative before it.
+    pub fn number(self) -> i64
+        ensures value { result ≡ self }
+        ensures bound { IsPointNumber result }
+    {
+        self.number
+    }
+
+    /// Appends the ten bytes `YYYY-MM-DD`.
+    ///
+    /// # Errors
+    ///
+    /// `NoMemory` where a growth of `out` is refused; `out` is then unchanged.
+    pub fn write<A: Allocator>(&self, out: &mut Vec<u8, A>) -> Result<(), NoMemory>
+        ensures ok { OnOk result (out.new.items ≡ out.old.items ++ point_text self.now) }
+        ensures err { OnErr result (out.new.items ≡ out.old.items) }
+
+        // Memory is asked for only where there is no room.
+        ensures room { vec_len out.old + length (point_text self.now) ≤ vec_capacity out.old → IsOk result }
+
+        // What is written is the point's text, and is read as the point.
+        ensures text { IsPointText (point_text self.now) self.now }
+        ensures reads_back { point_of (point_text self.now) ≡ Some self.now }
+    {
+        let text = text_of(&self.date());
+        out.extend_from_slice(&text)
+    }
+
+    // The date with that number.
+    fn date(&self) -> civil::Date
+        ensures year { pos 1 ≤ℤ result.year }
+        ensures number { epoch_day result ≡ self.now }
+    {
+        match civil::Date::from_unix_epoch_day(self.number) {
+            Ok(date) => date,
+            Err(_) => unreachable!(),
+        }
+    }
+}
+
+// The number that two digits write.
+fn two_digits(tens: u8, ones: u8) -> Option<u8>
+    ensures { MatchOption result ((n : ℕ) → tens ∷ ones ∷ [] ≢ digits 2 n) (λ n. (n < 100) × (tens ∷ ones ∷ [] ≡ digits 2 n)) }
+{
+    if tens.is_ascii_digit() && ones.is_ascii_digit() {
+        Some((tens - b'0') * 10 + (ones - b'0'))
+    } else {
+        None
+    }
+}
+
+// The year, the month and the day that a text names, which there need not be.
+fn parts(text: &[u8]) -> Option<(u16, u8, u8)>
+    ensures { MatchOption result ((d : YearMonthDay) → text.now ≢ date_text d)
+        (λ p. (p.0 ≤ 9999) × (p.1 < 100) × (p.2 < 100) × (text.now ≡ date_text (record { year = p.0; month = p.1; day = p.2 }))) }
+{
+    if text.len() != 10 || text[4] != b'-' || text[7] != b'-' {
+        return None;
+    }
+    let century = two_digits(text[0], text[1])?;
+    let year = two_digits(text[2], text[3])?;
+    let month = two_digits(text[5], text[6])?;
+    let day = two_digits(text[8], text[9])?;
+    Some((century as u16 * 100 + year as u16, month, day))
+}
+
+// The date, if the calendar has it.
+fn date_of(year: u16, month: u8, day: u8) -> Option<civil::Date>
+    requires { (year ≤ 9999) × (month < 100) × (day < 100) }
+    ensures { MatchOption result (¬ IsDate (record { year = year; month = month; day = day }))
+        (λ date. (pos 1 ≤ℤ date.year) × (parts_of date ≡ record { year = year; month = month; day = day })) }
+{
+    if year == 0 {
+        return None;
+    }
+    let date = Date::new(year as i16, month as i8, day as i8).ok()?;
+    Some(date.to_plain())
+}
+
+// The text of a date.
+fn text_of(date: &civil::Date) -> [u8; 10]
+    requires { pos 1 ≤ℤ date.now.year }
+    ensures { result ≡ date_text (parts_of date.now) }
+{
+    let year = date.year as u16;
+    [
+        digit(year / 1000),
+        digit(year / 100),
+        digit(year / 10),
+        digit(year),
+        b'-',
+        digit((date.month / 10) as u16),
+        digit(date.month as u16),
+        b'-',
+        digit((date.day / 10) as u16),
+        digit(date.day as u16),
+    ]
+}
+
+// The last digit of a number.
+fn digit(number: u16) -> u8
+    ensures { result ≡ 48 + number % 10 }
+{
+    b'0' + (number % 10) as u8
+}

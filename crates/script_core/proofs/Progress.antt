@@ -1,0 +1,97 @@
+-- What a run has done of its script so far.
+use Rattle.std.proofs.Common.{◌≡◌, ℕ, ◌+◌, ◌≤◌, List, [], ◌∷◌, ◌++◌, Option, length, take, drop, refl, sym, ap, subst, ◌∙◌, arith}
+use Rattle.std.specs.Io.KnownBytes.{Appends}
+use Rattle.std.proofs.lemmas.List.Concat.{flat_map-append}
+use Rattle.std.proofs.lemmas.List.Sums.{sum_by-append}
+use Rattle.std.proofs.KnownBytes.{Appends-kept, Appends-trans}
+use Rattle.std.proofs.lemmas.List.{take-append-drop, append-nil, length-append, length-take, drop-drop}
+use Rattle.script_core.specs.Answer.{Answers}
+use Rattle.script_core.specs.Meaning.{Meaning, Means}
+use Rattle.script_core.specs.Records.{Record, bytes_of}
+use Rattle.script_core.specs.Script.{Done, Place, Step, Steps, start_of, output_of, Tells, ExplainsAnswering, WritesPart}
+use Rattle.script_core.specs.State.{State}
+use Rattle.script_core.specs.Words.{errors_in}
+use Rattle.script_core.specs.Faults.{ExplainsWriting}
+use Rattle.script_core.specs.declared.fault.RunFault.{RunFault}
+use Rattle.script_core.specs.declared.fault.RunFault.TheVariants.{ReadFault, TooLong, NoMemory, WriteFault}
+use Rattle.script_core.specs.declared.outcome.Outcome.{Outcome}
+
+-- the place before the record of this index
+abbrev pub place_at : List Record → State → ℕ → Place
+place_at records state at = record { state = state; number = at + 1; left = drop at records }
+
+-- the commands before the record of this index are done, their answers written, and this is told of them
+pub record Progress (records : List Record) (old now : Option (List ℕ)) (state : State) (at : ℕ) (outcome : Outcome) : Type 0 where
+  pub dones : List Done
+  pub steps : Steps (start_of records) dones (place_at records state at)
+  pub written : Appends old now (output_of dones)
+  pub tells : Tells outcome dones
+
+-- one more step at the end
+pub steps-more : (p q r : Place) (dones : List Done) (next : Done) → Steps p dones q → Step q next r → Steps p (dones ++ next ∷ []) r
+steps-more p q r [] next e step = (r, subst (λ z. Step z next r) (sym e) step, refl)
+steps-more p q r (d ∷ ds) next (mid, first, rest) step = (mid, first, steps-more mid q r ds next rest step)
+
+pub output-more : (dones : List Done) (next : Done) → output_of (dones ++ next ∷ []) ≡ output_of dones ++ bytes_of next.answer
+output-more dones next = flat_map-append (λ (done : Done). bytes_of done.answer) dones (next ∷ []) ∙ ap (λ bytes. output_of dones ++ bytes) (append-nil (bytes_of next.answer))
+
+-- the command at a place, by what it takes and how it is answered
+pub step-at : (records : List Record) (before after : State) (at taken : ℕ) (meaning : Meaning) (answer : List Record) → taken ≤ length (drop at records)
+    → Means (at + 1) (take taken (drop at records)) (drop taken (drop at records)) meaning → Answers before (at + 1) meaning answer after
+    → Step (place_at records before at) (record { meaning = meaning; answer = answer }) (place_at records after (at + taken))
+step-at records before after at taken meaning answer within means answers =
+    let rest : drop taken (drop at records) ≡ drop (at + taken) records = drop-drop taken at records in
+    record {
+      own = take taken (drop at records);
+      taken = sym (take-append-drop taken (drop at records)) ∙ ap (λ left. take taken (drop at records) ++ left) rest;
+      number = omega (arith, length-take taken (drop at records));
+      means = subst (λ left. Means (at + 1) (take taken (drop at records)) left meaning) rest means;
+      answers = answers;
+    }
+
+-- one more command is done
+pub progress-more : (records : List Record) (old mid new : Option (List ℕ)) (before after : State) (at taken : ℕ) (sofar outcome : Outcome) (meaning : Meaning) (answer : List Record)
+    → Progress records old mid before at sofar → taken ≤ length (drop at records) → Means (at + 1) (take taken (drop at records)) (drop taken (drop at records)) meaning
+    → Answers before (at + 1) meaning answer after → Appends mid new (bytes_of answer)
+    → outcome.commands ≡ sofar.commands + 1 → outcome.errors ≡ sofar.errors + errors_in answer → Progress records old new after (at + taken) outcome
+progress-more records old mid new before after at taken sofar outcome meaning answer p within means answers writes commands errors =
+    let next : Done = record { meaning = meaning; answer = answer } in
+    let dones = p.dones in
+    record {
+      dones = dones ++ next ∷ [];
+      steps = steps-more (start_of records) (place_at records before at) (place_at records after (at + taken)) dones next p.steps (step-at records before after at taken meaning answer within means answers);
+      written = subst (Appends old new) (sym (output-more dones next)) (Appends-trans old mid new _ _ p.written writes);
+      tells = record {
+        commands = omega (arith, length-append dones (next ∷ []), p.tells.commands, commands);
+        errors = omega (arith, sum_by-append (λ (done : Done). errors_in done.answer) dones (next ∷ []), p.tells.errors, errors);
+      };
+    }
+
+-- a prefix of the next command's answer was written
+pub progress-part : (records : List Record) (old mid new : Option (List ℕ)) (before after : State) (at taken : ℕ) (sofar : Outcome) (meaning : Meaning) (answer : List Record) (size : ℕ)
+    → Progress records old mid before at sofar → taken ≤ length (drop at records) → Means (at + 1) (take taken (drop at records)) (drop taken (drop at records)) meaning
+    → Answers before (at + 1) meaning answer after → Appends mid new (take size (bytes_of answer)) → WritesPart records old new
+progress-part records old mid new before after at taken sofar meaning answer size p within means answers writes = record {
+  dones = p.dones;
+  place = place_at records before at;
+  steps = p.steps;
+  next = record { meaning = meaning; answer = answer };
+  after = place_at records after (at + taken);
+  step = step-at records before after at taken meaning answer within means answers;
+  size = size;
+  written = Appends-trans old mid new _ _ p.written writes;
+}
+
+-- why the writing of a command's answer stopped
+pub progress-stopped : (records : List Record) (old mid new : Option (List ℕ)) (before after : State) (at taken : ℕ) (sofar : Outcome) (meaning : Meaning) (answer : List Record) (first second third : ℕ) (fault : RunFault)
+    → Progress records old mid before at sofar → taken ≤ length (drop at records) → Means (at + 1) (take taken (drop at records)) (drop taken (drop at records)) meaning
+    → Answers before (at + 1) meaning answer after → first ≤ second → ExplainsWriting mid new second third (bytes_of answer) fault → ExplainsAnswering records old new first third fault
+progress-stopped records old mid new before after at taken sofar meaning answer first second third ReadFault p within means answers le why = why
+progress-stopped records old mid new before after at taken sofar meaning answer first second third TooLong p within means answers le why = why
+progress-stopped records old mid new before after at taken sofar meaning answer first second third NoMemory p within means answers le why = record {
+  dones = p.dones;
+  begun = record { place = place_at records before at; steps = p.steps };
+  written = Appends-kept old mid new (output_of p.dones) p.written why;
+}
+progress-stopped records old mid new before after at taken sofar meaning answer first second third WriteFault p within means answers le (grown, size, writes) =
+    (progress-part records old mid new before after at taken sofar meaning answer size p within means answers writes, omega (arith, grown))

@@ -1,0 +1,10 @@
+-- The rows so far are those of the records before this place.
+use Rattle.std.proofs.Common.{◌≡◌, ◌+◌, drop}
+use Rattle.script_core.specs.Lines.{lines_in}
+use Rattle.script_core.specs.State.{rows_of}
+use Rattle.script_core.proofs.Loading.{behind}
+use Rattle.script_core.proofs.rows.rows_of.Given as goal
+
+abbrev pub invariant-loop-place : goal.invariant-loop-place
+invariant-loop-place l =
+    rows_of l.number (lines_in l.lines) ≡ behind l.rows.items (rows_of (l.number + l.place) (drop l.place (lines_in l.lines)))

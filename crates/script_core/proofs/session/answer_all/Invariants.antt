@@ -1,0 +1,18 @@
+-- The commands before `at` are done, and their answers are written.
+use Rattle.std.proofs.Common.{◌≡◌, ◌≤◌, ◌-◌, [], length}
+use Rattle.script_core.specs.Counted.{failures_of, inner_of}
+use Rattle.script_core.proofs.Progress.{Progress}
+use Rattle.script_core.proofs.session.answer_all.Given as goal
+
+abbrev pub invariant-loop-at : goal.invariant-loop-at
+invariant-loop-at g l = record {
+  within : l.at ≤ length l.records;
+  few : l.outcome.commands ≤ l.at;
+  fewer : l.outcome.errors ≤ l.outcome.commands;
+  counts : failures_of l.fn.writer ≤ failures_of l.writer;
+  begins : l.answer ≡ record { text = []; fields = [] };
+  progress : Progress l.records (g.W.Write.contents (inner_of l.fn.writer)) (g.W.Write.contents (inner_of l.writer)) l.tables l.at l.outcome;
+}
+
+abbrev pub decreases-loop-at : goal.decreases-loop-at
+decreases-loop-at g l = length l.records - l.at

@@ -1,0 +1,39 @@
+-- What a record says by its words.
+use Rattle.std.specs.Prelude.{ℕ, List, [], ◌∷◌, Bool, false, Option, Some, None, bytes_eq, codes, count_by, if◌then◌else◌}
+use Rattle.script_core.specs.Records.{Record}
+use Rattle.script_core.specs.declared.words.Verb.{Verb}
+use Rattle.script_core.specs.declared.words.Verb.TheVariants.{Table, Load, Dip}
+
+-- the first field is this word
+abbrev pub begins : List ℕ → Record → Bool
+begins word [] = false
+begins word (first ∷ rest) = bytes_eq first word
+
+-- the command that the first field is the word of
+abbrev pub verb_of : Record → Option Verb
+verb_of line =
+    if begins (codes "table") line then Some Table
+    else if begins (codes "load") line then Some Load
+    else if begins (codes "dip") line then Some Dip
+    else None
+
+-- the field behind the word, where there is no other
+abbrev pub argument_of : Record → Option (List ℕ)
+argument_of [] = None
+argument_of (word ∷ []) = None
+argument_of (word ∷ argument ∷ []) = Some argument
+argument_of (word ∷ argument ∷ third ∷ rest) = None
+
+-- the record of the one field `end`
+abbrev pub is_end : Record → Bool
+is_end [] = false
+is_end (first ∷ []) = bytes_eq first (codes "end")
+is_end (first ∷ second ∷ rest) = false
+
+-- a block is opened by its word, whatever the other fields are
+abbrev pub opens_block : Record → Bool
+opens_block line = begins (codes "load") line
+
+-- how many of some records tell of a refusal
+abbrev pub errors_in : List Record → ℕ
+errors_in records = count_by (begins (codes "error")) records

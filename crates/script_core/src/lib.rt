@@ -1,0 +1,26 @@
+//! The script language: reads a script whole, answers its commands in order, and writes the answers.
+#![tactic(auto)]
+
+mod answer;
+mod command;
+mod counted;
+mod failure;
+mod fault;
+mod input;
+mod lines;
+mod name;
+mod outcome;
+mod output;
+mod patience;
+mod print;
+mod records;
+mod refusal;
+mod rows;
+mod session;
+mod tables;
+mod words;
+
+pub use counted::Counted;
+pub use fault::RunFault;
+pub use outcome::Outcome;
+pub use session::run;

@@ -1,0 +1,54 @@
+//! Writes an answer.
+ghost use Rattle.std.specs.Prelude.{◌≡◌, ℕ, ◌≤◌, ◌<◌, IfOk, IfErr, OnOk, OnErr, take, length};
+ghost use Rattle.std.specs.Io.KnownBytes.{Appends, Keeps};
+ghost use Rattle.script_core.specs.Counted.{inner_of, failures_of};
+ghost use Rattle.script_core.specs.Faults.{HasGrown};
+
+use crate::counted::Counted;
+use crate::fault::RunFault;
+use crate::patience::Patience;
+use std::io::{ErrorKind, Write};
+
+// One write of some bytes, tried again where it was interrupted.
+fn write_some<W: Write>(
+    writer: &mut Counted<W>,
+    patience: &mut Patience,
+    bytes: &[u8],
+) -> Result<usize, RunFault>
+    requires { 0 < length bytes.now }
+    ensures bound { IfOk result (λ n. (0 < n) × (n ≤ length bytes.now)) }
+    ensures ok { IfOk result (λ n. Appends (W.contents (inner_of writer.old)) (W.contents (inner_of writer.new)) (take n bytes.now)) }
+    ensures err { OnErr result (Keeps (W.contents (inner_of writer.old)) (W.contents (inner_of writer.new))) }
+    ensures fault { IfErr result (λ e. (e ≡ RunFault.WriteFault) × HasGrown (failures_of writer.old) (failures_of writer.new)) }
+    ensures counts { failures_of writer.old ≤ failures_of writer.new }
+{
+    loop {
+        match writer.write(bytes) {
+            Ok(0) => return Err(RunFault::WriteFault),
+            Ok(n) => return Ok(n),
+            Err(e) => {
+                if e.kind() != ErrorKind::Interrupted || !patience.try_again() {
+                    return Err(RunFault::WriteFault);
+                }
+            }
+        }
+    }
+}
+
+/// Writes all of the bytes, or a prefix of them where it fails.
+pub(crate) fn write_answer<W: Write>(
+    writer: &mut Counted<W>,
+    patience: &mut Patience,
+    bytes: &[u8],
+) -> Result<(), RunFault>
+    ensures ok { OnOk result (Appends (W.contents (inner_of writer.old)) (W.contents (inner_of writer.new)) bytes.now) }
+    ensures prefix { OnErr result ((taken : ℕ) × Appends (W.contents (inner_of writer.old)) (W.contents (inner_of writer.new)) (take taken bytes.now)) }
+    ensures fault { IfErr result (λ e. (e ≡ RunFault.WriteFault) × HasGrown (failures_of writer.old) (failures_of writer.new)) }
+    ensures counts { failures_of writer.old ≤ failures_of writer.new }
+{
+    let mut taken = 0;
+    while taken < bytes.len() {
+        taken += write_some(writer, patience, &bytes[taken..])?;
+    }
+    Ok(())
+}

@@ -1,0 +1,138 @@
+//! The commands of a script, one after another.
+ghost use Rattle.std.specs.Prelude.{◌≡◌, ◌+◌, ◌≤◌, ◌<◌, ◌^◌, [], IfErr, IfOk};
+ghost use Rattle.script_core.specs.Command.{meaning_of};
+ghost use Rattle.script_core.specs.Count.{last_count};
+ghost use Rattle.script_core.specs.Counted.{failures_of, inner_of};
+ghost use Rattle.script_core.specs.Meaning.{Dip, behind_length};
+ghost use Rattle.script_core.specs.Printed.{Answered};
+ghost use Rattle.script_core.specs.Script.{ExplainsAnswering, ExplainsRun, RunsAll, WritesAll};
+
+use crate::answer::AnswerWriter;
+use crate::command::{Command, next_command};
+use crate::counted::Counted;
+use crate::failure::Failure;
+use crate::fault::RunFault;
+use crate::input::read_script;
+use crate::lines::Lines;
+use crate::outcome::Outcome;
+use crate::patience::Patience;
+use crate::records::{Records, read_records};
+use crate::tables::Tables;
+use period_core::NoMemory;
+use std::alloc::Global;
+use std::io::{Read, Write};
+
+/// Answers a query for a division, and tells how many records of the answer tell of a refusal.
+fn answer_dip(
+    tables: &Tables,
+    number: u64,
+    name: &[u8],
+    answer: &mut AnswerWriter,
+) -> Result<u64, NoMemory>
+    requires { answer.old.fields ≡ [] }
+    ensures answered { IfOk result (Answered tables.now number (Dip name.now) tables.now answer.old answer.new) }
+    ensures few { IfOk result (λ errors. errors ≤ 1) }
+{
+    match tables.divide(number, name) {
+        Ok((rows, division)) => {
+            answer.division(rows, &division, division.instant())?;
+            Ok(0)
+        }
+        Err(Failure::Refused(fault)) => {
+            answer.refuse(fault)?;
+            Ok(1)
+        }
+        Err(Failure::NoMemory) => Err(std::alloc::AllocError),
+    }
+}
+
+/// Does a command, whose first record has this number, and answers it; tells how many records of the
+/// answer tell of a refusal.
+fn answer_command(
+    tables: &mut Tables,
+    number: u64,
+    command: Command<'_>,
+    answer: &mut AnswerWriter,
+) -> Result<u64, NoMemory>
+    requires numbers { number + behind_length (meaning_of command) < 2 ^ 64 }
+    requires begins { answer.old.fields ≡ [] }
+    ensures answered { IfOk result (Answered tables.old number (meaning_of command.entry) tables.new answer.old answer.new) }
+    ensures few { IfOk result (λ errors. errors ≤ 1) }
+{
+    match command {
+        Command::Refused(fault) => {
+            answer.refuse(fault)?;
+            Ok(1)
+        }
+        Command::Make(name) => answer.change(tables.make(number, name)),
+        Command::Load(name, body) => answer.change(tables.load(number, name, body)),
+        Command::Dip(name) => answer_dip(tables, number, name, answer),
+    }
+}
+
+/// Answers the commands of some records, and writes each answer whole.
+fn answer_all<W: Write>(
+    alloc: Global,
+    records: &Records,
+    writer: &mut Counted<W>,
+    patience: &mut Patience,
+) -> Result<Outcome, RunFault>
+    ensures ok { IfOk result (WritesAll records.now (W.contents (inner_of writer.old)) (W.contents (inner_of writer.new))) }
+    ensures fault { IfErr result (ExplainsAnswering records.now (W.contents (inner_of writer.old)) (W.contents (inner_of writer.new)) (failures_of writer.old) (failures_of writer.new)) }
+{
+    let lines = Lines::all(records);
+    let mut tables = Tables::new(alloc);
+    let mut answer = AnswerWriter::new(alloc);
+    let mut outcome = Outcome {
+        commands: 0,
+        errors: 0,
+    };
+    let mut at = 0;
+    while at < lines.len() {
+        let number = at as u64 + 1;
+        let cut = next_command(lines.range(at, lines.len()), number);
+        let errors = answer_command(&mut tables, number, cut.command, &mut answer)?;
+        answer.write_to(writer, patience)?;
+        outcome.commands += 1;
+        outcome.errors += errors;
+        at += cut.taken;
+    }
+    Ok(outcome)
+}
+
+/// Reads a script whole, answers its commands in order, and writes each command's answer whole.
+///
+/// A script has at most 67,108,864 bytes. A read or a write that was interrupted is tried again, at
+/// most 1,000 times in a run. The writer is not flushed.
+///
+/// # Errors
+///
+/// `ReadFault` or `TooLong` where the script could not be read: then nothing is written. `NoMemory`
+/// with the answers of all commands before written. `WriteFault` with those and a front of the
+/// command's own answer.
+pub fn run<R: Read, W: Write>(
+    alloc: Global,
+    reader: &mut Counted<R>,
+    writer: &mut Counted<W>,
+    workers: u32,
+) -> Result<Outcome, RunFault>
+    requires some_workers { 0 < workers }
+    requires few_workers { workers ≤ 64 }
+    requires reads { failures_of reader.old < last_count }
+    requires writes { failures_of writer.old < last_count }
+
+    ensures ok { IfOk result (RunsAll
+        (R.remaining (inner_of reader.old)) (R.remaining (inner_of reader.new))
+        (W.contents (inner_of writer.old)) (W.contents (inner_of writer.new))) }
+    ensures fault { IfErr result (ExplainsRun
+        (R.remaining (inner_of reader.old)) (R.remaining (inner_of reader.new))
+        (W.contents (inner_of writer.old)) (W.contents (inner_of writer.new))
+        (failures_of reader.old) (failures_of reader.new)
+        (failures_of writer.old) (failures_of writer.new)) }
+{
+    let _ = workers;
+    let mut patience = Patience::new();
+    let script = read_script(alloc, reader, &mut patience)?;
+    let records = read_records(alloc, script.as_slice())?;
+    answer_all(alloc, &records, writer, &mut patience)
+}
