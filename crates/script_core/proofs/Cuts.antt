@@ -1,11 +1,13 @@
 -- How the first records of some are one command's.
-use Rattle.std.proofs.Common.{◌≡◌, ℕ, zero, suc, ◌+◌, ◌<◌, List, [], ◌∷◌, ◌++◌, length, take, drop, true, false, All, Some, None, Option, refl, ap, subst, ◌∙◌, arith, inl, inr}
+use Rattle.std.proofs.Common.{◌≡◌, ℕ, zero, suc, ◌+◌, ◌<◌, ◌≤◌, List, [], ◌∷◌, ◌++◌, length, take, drop, true, false, All, Some, None, Option, refl, ap, subst, ◌∙◌, arith, inl, inr}
 use Rattle.std.specs.List.{slice_get}
 use Rattle.std.specs.Option.{IfSome}
+use Rattle.std.proofs.lemmas.List.{drop_all, take_all}
 use Rattle.std.proofs.lemmas.List.Elements.{All-append}
 use Rattle.script_core.specs.Records.{Record}
 use Rattle.script_core.specs.Words.{is_end, opens_block}
-use Rattle.script_core.specs.Meaning.{Meaning, Means, IsBody, block_meaning}
+use Rattle.script_core.specs.Meaning.{Meaning, Means, IsBody, block_meaning, refuse}
+use Rattle.script_core.specs.declared.refusal.Refusal.TheVariants.{Unended}
 use Rattle.script_core.proofs.Cutting.{slice_get-there, take-slice_get}
 
 -- a block up to its end
@@ -38,3 +40,20 @@ IsBody-more xs x body e = All-append (λ line. is_end line ≡ false) xs (x ∷ 
     one : All (λ line. is_end line ≡ false) (x ∷ [])
     one zero d lt = e
     one (suc k) d lt = absurd (omega arith)
+
+-- a block whose end is not among the records
+pub unended-means : (xs : List Record) (x : Record) (number size : ℕ) (rest : List Record) → size ≡ length xs → rest ≡ drop 1 xs → slice_get xs 0 ≡ Some x → opens_block x ≡ true → IsBody rest
+    → Means number (take size xs) (drop size xs) (refuse number Unended)
+unended-means [] x number size rest n r e opens body = absurd (cc e)
+unended-means (y ∷ ys) x number size rest n r e opens body =
+    let same : y ≡ x = cc in
+    let all : length (y ∷ ys) ≤ size = omega arith in
+    inr (inr (record {
+      opening = x;
+      body = ys;
+      whole = take_all size (y ∷ ys) all ∙ ap (λ z. z ∷ ys) same;
+      opens = opens;
+      inside = subst IsBody r body;
+      last = drop_all size (y ∷ ys) all;
+      means = refl;
+    }))

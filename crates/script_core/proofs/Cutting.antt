@@ -49,7 +49,7 @@ cut-more from (end ∷ ends) xs ys (h, more) =
     ap (λ l. l ∷ cut end (ends ++ (length xs + length ys) ∷ []) (xs ++ ys)) (part-append from end xs ys h (EndsAt-from end ends (length xs) more))
     ∙ ap (λ l. take (end - from) (drop from xs) ∷ l) (cut-more end ends xs ys more)
 
-slice_get-drop : {X : Type 0} (m : ℕ) (xs : List X) (i : ℕ) → slice_get (drop m xs) i ≡ slice_get xs (m + i)
+pub slice_get-drop : {X : Type 0} (m : ℕ) (xs : List X) (i : ℕ) → slice_get (drop m xs) i ≡ slice_get xs (m + i)
 slice_get-drop zero xs i = let e : 0 + i ≡ i = omega arith in rw e refl
 slice_get-drop (suc m) [] i = refl
 slice_get-drop (suc m) (x ∷ xs) i = let e : suc m + i ≡ suc (m + i) = omega arith in rw e (slice_get-drop m xs i)

@@ -1,13 +1,14 @@
 -- Answers, printed record by record.
-use Rattle.std.proofs.Common.{◌≡◌, ℕ, suc, ◌+◌, ◌<◌, ℤ, subst, take, length-take, List, [], ◌∷◌, ◌++◌, Option, length, refl, sym, ap, ◌∙◌, arith, append_assoc, cond}
+use Rattle.std.proofs.Common.{◌≡◌, ℕ, suc, ◌+◌, ◌<◌, ℤ, subst, take, length-take, List, [], ◌∷◌, ◌++◌, Option, length, refl, sym, ap, ◌∙◌, arith, append_assoc, cond, map}
 use Rattle.std.specs.Prelude.{codes, decimal}
 use Rattle.std.proofs.lemmas.List.Concat.{flat_map-append}
 use Rattle.std.proofs.lemmas.List.Sums.{sum_by-cons}
 use Rattle.std.proofs.Math.Seq.{take-suc}
 use Rattle.csv.specs.Writing.{row_text}
+use Rattle.row_core.specs.declared.row.Row.{Row}
 use Rattle.dip_core.specs.Division.{class_at}
 use Rattle.dip_core.specs.declared.item.Item.{Item}
-use Rattle.script_core.specs.Answer.{instant_text, part_record, part_records}
+use Rattle.script_core.specs.Answer.{end_record, instant_text, part_record, part_records, row_record, row_records}
 use Rattle.script_core.specs.Draft.{Adds, Draft}
 use Rattle.script_core.specs.Records.{Record, answer_writer, bytes_of}
 use Rattle.script_core.specs.Words.{begins, errors_in}
@@ -53,3 +54,12 @@ Adds-part a b c heading classes k items lt is first second =
     let parts : part_records 0 (take (k + 1) classes) ≡ part_records 0 (take k classes) ++ part_record k items ∷ [] =
     ap (part_records 0) front ∙ (part_records-more 0 (take k classes) items ∙ ap (λ n. part_records 0 (take k classes) ++ part_record n items ∷ []) size) in
     subst (Adds a c) (sym (ap (λ l. heading ∷ l) parts)) (Adds-trans a b c (heading ∷ part_records 0 (take k classes)) (part_record k items ∷ []) first second)
+
+-- rows tell of no refusal
+errors_in-rows : (rows : List Row) (count : ℕ) → errors_in (map row_record rows ++ end_record count ∷ []) ≡ 0
+errors_in-rows [] count = refl
+errors_in-rows (row ∷ rows) count =
+    omega (arith, sum_by-cons (λ (line : Record). cond (begins (codes "error") line) 1 0) (row_record row) (map row_record rows ++ end_record count ∷ []), errors_in-rows rows count)
+
+pub errors_in-row_records : (rows : List Row) → errors_in (row_records rows) ≡ 0
+errors_in-row_records rows = errors_in-rows rows (length rows)

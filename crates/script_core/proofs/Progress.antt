@@ -9,7 +9,7 @@ use Rattle.script_core.specs.Answer.{Answers}
 use Rattle.script_core.specs.Meaning.{Meaning, Means}
 use Rattle.script_core.specs.Records.{Record, bytes_of}
 use Rattle.script_core.specs.Script.{Done, Place, Step, Steps, start_of, output_of, Tells, ExplainsAnswering, WritesPart}
-use Rattle.script_core.specs.State.{State}
+use Rattle.book_core.specs.History.{History}
 use Rattle.script_core.specs.Words.{errors_in}
 use Rattle.script_core.specs.Faults.{ExplainsWriting}
 use Rattle.script_core.specs.declared.fault.RunFault.{RunFault}
@@ -17,13 +17,13 @@ use Rattle.script_core.specs.declared.fault.RunFault.TheVariants.{ReadFault, Too
 use Rattle.script_core.specs.declared.outcome.Outcome.{Outcome}
 
 -- the place before the record of this index
-abbrev pub place_at : List Record → State → ℕ → Place
-place_at records state at = record { state = state; number = at + 1; left = drop at records }
+abbrev pub place_at : List Record → History → ℕ → Place
+place_at records history at = record { history = history; number = at + 1; left = drop at records }
 
 -- the commands before the record of this index are done, their answers written, and this is told of them
-pub record Progress (records : List Record) (old now : Option (List ℕ)) (state : State) (at : ℕ) (outcome : Outcome) : Type 0 where
+pub record Progress (records : List Record) (old now : Option (List ℕ)) (history : History) (at : ℕ) (outcome : Outcome) : Type 0 where
   pub dones : List Done
-  pub steps : Steps (start_of records) dones (place_at records state at)
+  pub steps : Steps (start_of records) dones (place_at records history at)
   pub written : Appends old now (output_of dones)
   pub tells : Tells outcome dones
 
@@ -36,7 +36,7 @@ pub output-more : (dones : List Done) (next : Done) → output_of (dones ++ next
 output-more dones next = flat_map-append (λ (done : Done). bytes_of done.answer) dones (next ∷ []) ∙ ap (λ bytes. output_of dones ++ bytes) (append-nil (bytes_of next.answer))
 
 -- the command at a place, by what it takes and how it is answered
-pub step-at : (records : List Record) (before after : State) (at taken : ℕ) (meaning : Meaning) (answer : List Record) → taken ≤ length (drop at records)
+pub step-at : (records : List Record) (before after : History) (at taken : ℕ) (meaning : Meaning) (answer : List Record) → taken ≤ length (drop at records)
     → Means (at + 1) (take taken (drop at records)) (drop taken (drop at records)) meaning → Answers before (at + 1) meaning answer after
     → Step (place_at records before at) (record { meaning = meaning; answer = answer }) (place_at records after (at + taken))
 step-at records before after at taken meaning answer within means answers =
@@ -50,7 +50,7 @@ step-at records before after at taken meaning answer within means answers =
     }
 
 -- one more command is done
-pub progress-more : (records : List Record) (old mid new : Option (List ℕ)) (before after : State) (at taken : ℕ) (sofar outcome : Outcome) (meaning : Meaning) (answer : List Record)
+pub progress-more : (records : List Record) (old mid new : Option (List ℕ)) (before after : History) (at taken : ℕ) (sofar outcome : Outcome) (meaning : Meaning) (answer : List Record)
     → Progress records old mid before at sofar → taken ≤ length (drop at records) → Means (at + 1) (take taken (drop at records)) (drop taken (drop at records)) meaning
     → Answers before (at + 1) meaning answer after → Appends mid new (bytes_of answer)
     → outcome.commands ≡ sofar.commands + 1 → outcome.errors ≡ sofar.errors + errors_in answer → Progress records old new after (at + taken) outcome
@@ -68,7 +68,7 @@ progress-more records old mid new before after at taken sofar outcome meaning an
     }
 
 -- a prefix of the next command's answer was written
-pub progress-part : (records : List Record) (old mid new : Option (List ℕ)) (before after : State) (at taken : ℕ) (sofar : Outcome) (meaning : Meaning) (answer : List Record) (size : ℕ)
+pub progress-part : (records : List Record) (old mid new : Option (List ℕ)) (before after : History) (at taken : ℕ) (sofar : Outcome) (meaning : Meaning) (answer : List Record) (size : ℕ)
     → Progress records old mid before at sofar → taken ≤ length (drop at records) → Means (at + 1) (take taken (drop at records)) (drop taken (drop at records)) meaning
     → Answers before (at + 1) meaning answer after → Appends mid new (take size (bytes_of answer)) → WritesPart records old new
 progress-part records old mid new before after at taken sofar meaning answer size p within means answers writes = record {
@@ -83,7 +83,7 @@ progress-part records old mid new before after at taken sofar meaning answer siz
 }
 
 -- why the writing of a command's answer stopped
-pub progress-stopped : (records : List Record) (old mid new : Option (List ℕ)) (before after : State) (at taken : ℕ) (sofar : Outcome) (meaning : Meaning) (answer : List Record) (first second third : ℕ) (fault : RunFault)
+pub progress-stopped : (records : List Record) (old mid new : Option (List ℕ)) (before after : History) (at taken : ℕ) (sofar : Outcome) (meaning : Meaning) (answer : List Record) (first second third : ℕ) (fault : RunFault)
     → Progress records old mid before at sofar → taken ≤ length (drop at records) → Means (at + 1) (take taken (drop at records)) (drop taken (drop at records)) meaning
     → Answers before (at + 1) meaning answer after → first ≤ second → ExplainsWriting mid new second third (bytes_of answer) fault → ExplainsAnswering records old new first third fault
 progress-stopped records old mid new before after at taken sofar meaning answer first second third ReadFault p within means answers le why = why

@@ -1,14 +1,19 @@
--- The records that answer a command, and the state after it.
-use Rattle.std.specs.Prelude.{ℕ, ◌+◌, ◌≡◌, ◌↔◌, ℤ, List, [], ◌∷◌, All, IfSome, IsNone, Option, Some, None, Result, Ok, Err, codes, decimal, length, map, pos}
+-- The records that answer a command, and the history after it.
+use Rattle.std.specs.Prelude.{ℕ, ◌+◌, ◌≡◌, ◌↔◌, ℤ, List, [], ◌∷◌, ◌++◌, All, IfSome, IsNone, Option, Some, None, Result, Ok, Err, codes, decimal, length, map}
+use Rattle.std.specs.Fmt.{signed_decimal}
 use Rattle.period_core.specs.Point.{point_text}
-use Rattle.period_core.specs.declared.period.Period.{Period}
+use Rattle.row_core.specs.declared.row.Row.{Row}
+use Rattle.row_core.specs.declared.value.Value.{Value}
+use Rattle.row_core.specs.declared.value.Value.TheVariants.{Int, Text}
+use Rattle.book_core.specs.History.{History}
 use Rattle.dip_core.specs.Division.{IsDivision, IsInstant, IsLeast, IsPlaced}
 use Rattle.dip_core.specs.Item.{IsRising}
 use Rattle.dip_core.specs.declared.item.Item.{Item}
-use Rattle.script_core.specs.Meaning.{Meaning, Refuse, Make, Load, Dip}
+use Rattle.query_core.specs.Query.{items_of}
+use Rattle.script_core.specs.Meaning.{Meaning, Refuse, Make, Load, Rows, At, Dip}
 use Rattle.script_core.specs.Records.{Record}
 use Rattle.script_core.specs.Refusal.{fault, refusal_text}
-use Rattle.script_core.specs.State.{State, load_in, make_in, place_of, rows_at}
+use Rattle.script_core.specs.State.{load_in, make_in, rows_named, rows_on}
 use Rattle.script_core.specs.declared.refusal.Fault.{Fault}
 use Rattle.script_core.specs.declared.refusal.Refusal.TheVariants.{NoTable}
 
@@ -18,22 +23,20 @@ error_record wrong = codes "error" ∷ decimal wrong.number ∷ refusal_text wro
 abbrev pub ok_record : ℕ → Record
 ok_record commit = codes "ok" ∷ decimal commit ∷ []
 
--- the command is refused, and changes nothing
-abbrev pub Refuses : State → Fault → List Record → State → Type 0
-Refuses before wrong answer after = (answer ≡ error_record wrong ∷ []) × (after ≡ before)
+abbrev pub end_record : ℕ → Record
+end_record count = codes "end" ∷ decimal count ∷ []
 
--- a change is answered by the number of its commit, or refused
-abbrev pub AnswersChange : State → Result State Fault → List Record → State → Type 0
-AnswersChange before (Ok next) answer after = (answer ≡ ok_record next.commits ∷ []) × (after ≡ next)
-AnswersChange before (Err wrong) answer after = Refuses before wrong answer after
+-- a value as it is printed: a number in decimal, a text as it was read
+abbrev pub value_text : Value → List ℕ
+value_text (Int number) = signed_decimal number
+value_text (Text bytes) = bytes
 
--- the rows of a table, numbered on from k
-abbrev pub items_from : ℕ → List Period → List Item
-items_from k [] = []
-items_from k (period ∷ periods) = record { period = period; id = k + 1; class = 0; amount = pos 0 } ∷ items_from (k + 1) periods
+abbrev pub row_record : Row → Record
+row_record row = codes "row" ∷ decimal row.id ∷ point_text row.period.from ∷ point_text row.period.to ∷ map value_text row.values
 
-abbrev pub items_of : List Period → List Item
-items_of rows = items_from 0 rows
+-- one record for each row, and how many there are
+abbrev pub row_records : List Row → List Record
+row_records rows = map row_record rows ++ end_record (length rows) ∷ []
 
 -- an instant as it is printed, `-` where there is none
 abbrev pub instant_text : Option ℤ → List ℕ
@@ -65,15 +68,28 @@ pub record PrintsDivision (items : List Item) (answer : List Record) : Type 0 wh
   pub crowded : IfSome instant (IsInstant items (length classes))
   pub printed : answer ≡ division_records (length items) classes instant
 
--- a query reads the table at a place, and changes nothing
-abbrev pub AnswersDip : ℕ → State → Option ℕ → List Record → State → Type 0
-AnswersDip number before None answer after = Refuses before (fault number NoTable) answer after
-AnswersDip number before (Some place) answer after =
-    PrintsDivision (items_of (rows_at before.tables place)) answer × (after ≡ before)
+-- the command is refused, and changes nothing
+abbrev pub Refuses : History → Fault → List Record → History → Type 0
+Refuses before wrong answer after = (answer ≡ error_record wrong ∷ []) × (after ≡ before)
 
--- the answer to a command, whose first record has this number, and the state after it
-abbrev pub Answers : State → ℕ → Meaning → List Record → State → Type 0
+-- a change is answered by the number of its commit, or refused
+abbrev pub AnswersChange : History → Result History Fault → List Record → History → Type 0
+AnswersChange before (Ok next) answer after = (answer ≡ ok_record (length next) ∷ []) × (after ≡ next)
+AnswersChange before (Err wrong) answer after = Refuses before wrong answer after
+
+-- a query reads the rows of a table, where there is such a table, and changes nothing
+abbrev pub AnswersQuery : ℕ → History → Option (List Row) → (List Row → List Record → Type 0) → List Record → History → Type 0
+AnswersQuery number before None Tells answer after = Refuses before (fault number NoTable) answer after
+AnswersQuery number before (Some rows) Tells answer after = Tells rows answer × (after ≡ before)
+
+-- the answer to a command, whose first record has this number, and the history after it
+abbrev pub Answers : History → ℕ → Meaning → List Record → History → Type 0
 Answers before number (Refuse wrong) answer after = Refuses before wrong answer after
-Answers before number (Make name) answer after = AnswersChange before (make_in number before name) answer after
+Answers before number (Make name columns) answer after = AnswersChange before (make_in number before name columns) answer after
 Answers before number (Load name body) answer after = AnswersChange before (load_in number before name body) answer after
-Answers before number (Dip name) answer after = AnswersDip number before (place_of before.tables name) answer after
+Answers before number (Rows name) answer after =
+    AnswersQuery number before (rows_named before name) (λ rows printed. printed ≡ row_records rows) answer after
+Answers before number (At name point) answer after =
+    AnswersQuery number before (rows_named before name) (λ rows printed. printed ≡ row_records (rows_on point rows)) answer after
+Answers before number (Dip name) answer after =
+    AnswersQuery number before (rows_named before name) (λ rows printed. PrintsDivision (items_of rows) printed) answer after

@@ -5,21 +5,21 @@ use Rattle.script_core.specs.Records.{Record, AreScriptRecords, bytes_of}
 use Rattle.script_core.specs.Words.{errors_in}
 use Rattle.script_core.specs.Meaning.{Meaning, Means}
 use Rattle.script_core.specs.Answer.{Answers}
-use Rattle.script_core.specs.State.{State, empty_state}
+use Rattle.book_core.specs.History.{History}
 use Rattle.script_core.specs.declared.input.TheConstants.{SCRIPT_LIMIT}
 use Rattle.script_core.specs.Faults.{HasGrown, HasReadTooMuch}
 use Rattle.script_core.specs.declared.fault.RunFault.{RunFault}
 use Rattle.script_core.specs.declared.fault.RunFault.TheVariants.{ReadFault, TooLong, NoMemory, WriteFault}
 use Rattle.script_core.specs.declared.outcome.Outcome.{Outcome}
 
--- where a script stands: the state, the number of its next record, and the records that are left
+-- where a script stands: the book's history, the number of its next record, and the records that are left
 pub record Place : Type 0 where
-  pub state : State
+  pub history : History
   pub number : ℕ
   pub left : List Record
 
 abbrev pub start_of : List Record → Place
-start_of records = record { state = empty_state; number = 1; left = records }
+start_of records = record { history = []; number = 1; left = records }
 
 -- a command that was done, and its answer
 pub record Done : Type 0 where
@@ -32,7 +32,7 @@ pub record Step (old : Place) (done : Done) (new : Place) : Type 0 where
   pub taken : old.left ≡ own ++ new.left
   pub number : new.number ≡ old.number + length own
   pub means : Means old.number own new.left done.meaning
-  pub answers : Answers old.state old.number done.meaning done.answer new.state
+  pub answers : Answers old.history old.number done.meaning done.answer new.history
 
 -- these commands were done, one after another
 abbrev pub Steps : Place → List Done → Place → Type 0

@@ -2,7 +2,7 @@
 use Rattle.std.specs.Prelude.{ℕ, List, [], ◌∷◌, Bool, false, Option, Some, None, bytes_eq, codes, count_by, if◌then◌else◌}
 use Rattle.script_core.specs.Records.{Record}
 use Rattle.script_core.specs.declared.words.Verb.{Verb}
-use Rattle.script_core.specs.declared.words.Verb.TheVariants.{Table, Load, Dip}
+use Rattle.script_core.specs.declared.words.Verb.TheVariants.{Table, Load, Rows, At, Dip}
 
 -- the first field is this word
 abbrev pub begins : List ℕ → Record → Bool
@@ -14,15 +14,10 @@ abbrev pub verb_of : Record → Option Verb
 verb_of line =
     if begins (codes "table") line then Some Table
     else if begins (codes "load") line then Some Load
+    else if begins (codes "rows") line then Some Rows
+    else if begins (codes "at") line then Some At
     else if begins (codes "dip") line then Some Dip
     else None
-
--- the field behind the word, where there is no other
-abbrev pub argument_of : Record → Option (List ℕ)
-argument_of [] = None
-argument_of (word ∷ []) = None
-argument_of (word ∷ argument ∷ []) = Some argument
-argument_of (word ∷ argument ∷ third ∷ rest) = None
 
 -- the record of the one field `end`
 abbrev pub is_end : Record → Bool

@@ -1,5 +1,6 @@
 //! Makes the bytes of answers, record by record.
 ghost use Rattle.std.specs.Prelude.{◌≡◌, ◌+◌, ◌<◌, ◌≤◌, ◌++◌, ◌∷◌, [], ℕ, false, IfErr, IfOk, OnErr, OnOk, decimal, length, take};
+ghost use Rattle.std.specs.Fmt.{signed_decimal};
 ghost use Rattle.std.specs.Io.KnownBytes.{Appends, Keeps};
 ghost use Rattle.csv.specs.Records.{fields_of, partial_of};
 ghost use Rattle.csv.specs.Writing.{fields_written, has_written, row_text, writer_pending, writer_setup, writer_under};
@@ -78,6 +79,14 @@ impl AnswerWriter {
     /// Adds a number to the record at hand.
     pub(crate) fn number(&mut self, number: u64) -> Result<(), NoMemory>
         ensures { OnOk result (self.new ≡ record self.old { fields = self.old.fields ++ decimal number ∷ [] }) }
+    {
+        let mut digits = Buffer::new();
+        push(&mut self.row, digits.format(number).as_bytes())
+    }
+
+    /// Adds a number that may be negative to the record at hand.
+    pub(crate) fn signed(&mut self, number: i64) -> Result<(), NoMemory>
+        ensures { OnOk result (self.new ≡ record self.old { fields = self.old.fields ++ signed_decimal number ∷ [] }) }
     {
         let mut digits = Buffer::new();
         push(&mut self.row, digits.format(number).as_bytes())

@@ -2,22 +2,23 @@
 #![tactic(auto)]
 
 mod answer;
+mod changes;
 mod command;
 mod counted;
 mod failure;
 mod fault;
 mod input;
 mod lines;
-mod name;
 mod outcome;
 mod output;
 mod patience;
 mod print;
+mod queries;
 mod records;
 mod refusal;
 mod rows;
 mod session;
-mod tables;
+mod table_command;
 mod words;
 
 pub use counted::Counted;

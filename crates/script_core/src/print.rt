@@ -1,14 +1,15 @@
 //! Prints answers.
-ghost use Rattle.std.specs.Prelude.{◌≡◌, [], ◌∷◌, IfOk, OnOk, codes, decimal};
-ghost use Rattle.script_core.specs.Answer.{division_records, error_record, instant_text, ok_record, part_record};
+ghost use Rattle.std.specs.Prelude.{◌≡◌, [], ◌∷◌, ◌++◌, IfOk, OnOk, codes, decimal, map};
+ghost use Rattle.script_core.specs.Answer.{division_records, end_record, error_record, instant_text, ok_record, part_record, row_record, row_records, value_text};
 ghost use Rattle.script_core.specs.Draft.{Adds};
-ghost use Rattle.script_core.specs.Printed.{PrintsChange};
+ghost use Rattle.script_core.specs.Printed.{PrintsChange, PrintsDivided, PrintsRows};
 
 use crate::answer::AnswerWriter;
 use crate::failure::Failure;
 use crate::refusal::Fault;
 use dip_core::{Division, Part};
 use period_core::{NoMemory, Point};
+use row_core::{Row, RowList, Value};
 
 impl AnswerWriter {
     /// The answer to a command that is refused.
@@ -40,6 +41,102 @@ impl AnswerWriter {
         match outcome {
             Ok(commit) => {
                 self.accept(commit)?;
+                Ok(0)
+            }
+            Err(Failure::Refused(fault)) => {
+                self.refuse(fault)?;
+                Ok(1)
+            }
+            Err(Failure::NoMemory) => Err(std::alloc::AllocError),
+        }
+    }
+
+    /// The answer to a query for rows, and how many of its records tell of a refusal.
+    pub(crate) fn rows(&mut self, given: Result<RowList, Failure>) -> Result<u64, NoMemory>
+        requires { self.old.fields ≡ [] }
+        ensures { IfOk result (PrintsRows given self.old self.new) }
+    {
+        match given {
+            Ok(rows) => {
+                self.row_list(&rows)?;
+                Ok(0)
+            }
+            Err(Failure::Refused(fault)) => {
+                self.refuse(fault)?;
+                Ok(1)
+            }
+            Err(Failure::NoMemory) => Err(std::alloc::AllocError),
+        }
+    }
+
+    fn row_list(&mut self, rows: &RowList) -> Result<(), NoMemory>
+        requires { self.old.fields ≡ [] }
+        ensures { OnOk result (Adds self.old self.new (row_records rows.now)) }
+    {
+        self.row_items(rows.as_slice())?;
+        self.end(rows.len() as u64)
+    }
+
+    fn row_items(&mut self, rows: &[Row]) -> Result<(), NoMemory>
+        requires { self.old.fields ≡ [] }
+        ensures { OnOk result (Adds self.old self.new (map row_record rows.now)) }
+    {
+        for row in rows {
+            self.row(row)?;
+        }
+        Ok(())
+    }
+
+    fn row(&mut self, row: &Row) -> Result<(), NoMemory>
+        requires { self.old.fields ≡ [] }
+        ensures { OnOk result (Adds self.old self.new (row_record row.now ∷ [])) }
+    {
+        self.field(b"row")?;
+        self.number(row.id)?;
+        self.point(row.period.from)?;
+        self.point(row.period.to)?;
+        self.values(row.values.as_slice())?;
+        self.end_record()
+    }
+
+    fn values(&mut self, values: &[Value]) -> Result<(), NoMemory>
+        ensures { OnOk result (self.new ≡ record self.old { fields = self.old.fields ++ map value_text values.now }) }
+    {
+        for value in values {
+            self.value(value)?;
+        }
+        Ok(())
+    }
+
+    fn value(&mut self, value: &Value) -> Result<(), NoMemory>
+        ensures { OnOk result (self.new ≡ record self.old { fields = self.old.fields ++ value_text value.now ∷ [] }) }
+    {
+        match value {
+            Value::Int(number) => self.signed(*number),
+            Value::Text(text) => self.field(text.as_bytes()),
+        }
+    }
+
+    fn end(&mut self, count: u64) -> Result<(), NoMemory>
+        requires { self.old.fields ≡ [] }
+        ensures { OnOk result (Adds self.old self.new (end_record count ∷ [])) }
+    {
+        self.field(b"end")?;
+        self.number(count)?;
+        self.end_record()
+    }
+
+    /// The answer to a query for a division, and how many of its records tell of a refusal.
+    pub(crate) fn divided(
+        &mut self,
+        given: Result<(usize, Division), Failure>,
+    ) -> Result<u64, NoMemory>
+        requires { self.old.fields ≡ [] }
+        ensures { IfOk result (PrintsDivided given self.old self.new) }
+    {
+        match given {
+            Ok((rows, division)) => {
+                self.division(rows, &division, division.instant())?;
                 Ok(0)
             }
             Err(Failure::Refused(fault)) => {

@@ -7,13 +7,19 @@ ghost use Rattle.script_core.specs.Refusal.{refusal_text};
 pub enum Refusal {
     BadCommand,
     BadName,
+    BadNumber,
     BadPeriod,
     BadPoint,
+    BadUtf8,
     Full,
+    NoColumn,
     NoTable,
     TableExists,
+    TooLong,
     TooMany,
+    TwiceNamed,
     Unended,
+    WrongKind,
     WrongWidth,
 }
 
@@ -32,13 +38,19 @@ impl Refusal {
         match self {
             Refusal::BadCommand => b"BadCommand",
             Refusal::BadName => b"BadName",
+            Refusal::BadNumber => b"BadNumber",
             Refusal::BadPeriod => b"BadPeriod",
             Refusal::BadPoint => b"BadPoint",
+            Refusal::BadUtf8 => b"BadUtf8",
             Refusal::Full => b"Full",
+            Refusal::NoColumn => b"NoColumn",
             Refusal::NoTable => b"NoTable",
             Refusal::TableExists => b"TableExists",
+            Refusal::TooLong => b"TooLong",
             Refusal::TooMany => b"TooMany",
+            Refusal::TwiceNamed => b"TwiceNamed",
             Refusal::Unended => b"Unended",
+            Refusal::WrongKind => b"WrongKind",
             Refusal::WrongWidth => b"WrongWidth",
         }
     }

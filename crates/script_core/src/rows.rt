@@ -1,68 +1,56 @@
 //! The rows of a load.
-ghost use Rattle.std.specs.Prelude.{◌≡◌, ◌+◌, ◌<◌, ◌^◌, Ok, Err, MatchResult, length};
-ghost use Rattle.period_core.specs.Point.{point_of};
+ghost use Rattle.std.specs.Prelude.{◌≡◌, ◌+◌, ◌<◌, ◌^◌, IfOk, Ok, MatchResult, drop, length, map};
+ghost use Rattle.script_core.specs.Failure.{IsFailureOf, IsRowFailure};
 ghost use Rattle.script_core.specs.Lines.{fields_in, lines_in};
-ghost use Rattle.script_core.specs.State.{period_of, row_of, row_of_fields, rows_of};
-ghost use Rattle.script_core.specs.Failure.{IsFailureOf};
+ghost use Rattle.script_core.specs.State.{row_of, rows_of};
 
-use crate::failure::Failure;
+use crate::failure::{Failure, refused, row_failure};
 use crate::lines::{Line, Lines};
-use crate::refusal::{Fault, Refusal};
+use crate::refusal::Refusal;
 use crate::words::begins;
-use period_core::{Period, Point};
-use std::alloc::Global;
+use row_core::{Draft, Drafts, Schema};
+use std::alloc::{AllocError, Global};
 
-/// The period from one point on and before another, of the points' texts.
-fn period_of(from: &[u8], to: &[u8]) -> Result<Period, Refusal>
-    ensures { result ≡ period_of (point_of from.now) (point_of to.now) }
+/// The fields behind a record's word.
+fn fields_behind<'a>(alloc: Global, line: Line<'a>) -> Result<Vec<&'a [u8]>, AllocError>
+    ensures { IfOk result (λ fields. map (λ f. f.now) fields.items ≡ drop 1 (fields_in line.entry)) }
 {
-    let Ok(from) = Point::parse(from) else {
-        return Err(Refusal::BadPoint);
-    };
-    let Ok(to) = Point::parse(to) else {
-        return Err(Refusal::BadPoint);
-    };
-    match Period::new(from, to) {
-        Ok(period) => Ok(period),
-        Err(_) => Err(Refusal::BadPeriod),
+    let mut fields = Vec::new(alloc);
+    for place in 1..line.len() {
+        if let Some(field) = line.get(place) {
+            fields.push(field)?;
+        }
     }
+    Ok(fields)
 }
 
-/// The row that a record of the word `row` gives.
-fn row_of_fields(line: Line<'_>) -> Result<Period, Refusal>
-    ensures { result ≡ row_of_fields (fields_in line.entry) }
+/// The row that a record of a load gives, whose number is this one.
+fn row_of(alloc: Global, schema: &Schema, line: Line<'_>, number: u64) -> Result<Draft, Failure>
+    ensures { MatchResult result (λ row. row_of schema.now (fields_in line.entry) ≡ Ok row) (IsRowFailure number (row_of schema.now (fields_in line.entry))) }
 {
-    match (line.get(1), line.get(2), line.get(3)) {
-        (Some(from), Some(to), None) => period_of(from, to),
-        _ => Err(Refusal::WrongWidth),
+    if !begins(line, b"row") {
+        return Err(refused(number, Refusal::BadCommand));
     }
-}
-
-/// The row that a record of a load gives.
-fn row_of(line: Line<'_>) -> Result<Period, Refusal>
-    ensures { result ≡ row_of (fields_in line.entry) }
-{
-    if begins(line, b"row") {
-        row_of_fields(line)
-    } else {
-        Err(Refusal::BadCommand)
-    }
+    let fields = fields_behind(alloc, line)?;
+    schema
+        .read_row(alloc, &fields)
+        .map_err(|why| row_failure(number, why))
 }
 
 /// The rows of a load's records, the first of them of this number.
-pub(crate) fn rows_of(alloc: Global, lines: Lines<'_>, number: u64) -> Result<Vec<Period>, Failure>
+pub(crate) fn rows_of(
+    alloc: Global,
+    schema: &Schema,
+    lines: Lines<'_>,
+    number: u64,
+) -> Result<Drafts, Failure>
     requires { number + length (lines_in lines) < 2 ^ 64 }
-    ensures { MatchResult result (λ rows. rows_of number (lines_in lines.entry) ≡ Ok rows.items) (IsFailureOf (rows_of number (lines_in lines.entry))) }
+    ensures { MatchResult result (λ rows. rows_of schema.now number (lines_in lines.entry) ≡ Ok rows) (IsFailureOf (rows_of schema.now number (lines_in lines.entry))) }
 {
-    let mut rows = Vec::new(alloc);
+    let mut rows = Drafts::new(alloc);
     for place in 0..lines.len() {
-        match row_of(lines.get(place)) {
-            Ok(row) => rows.push(row)?,
-            Err(refusal) => {
-                let number = number + place as u64;
-                return Err(Failure::Refused(Fault { number, refusal }));
-            }
-        }
+        let row = row_of(alloc, schema, lines.get(place), number + place as u64)?;
+        rows.push(row)?;
     }
     Ok(rows)
 }

@@ -3,60 +3,38 @@ ghost use Rattle.std.specs.Prelude.{◌≡◌, ◌+◌, ◌≤◌, ◌<◌, ◌^
 ghost use Rattle.script_core.specs.Command.{meaning_of};
 ghost use Rattle.script_core.specs.Count.{last_count};
 ghost use Rattle.script_core.specs.Counted.{failures_of, inner_of};
-ghost use Rattle.script_core.specs.Meaning.{Dip, behind_length};
+ghost use Rattle.script_core.specs.Meaning.{behind_length};
 ghost use Rattle.script_core.specs.Printed.{Answered};
 ghost use Rattle.script_core.specs.Script.{ExplainsAnswering, ExplainsRun, RunsAll, WritesAll};
 
 use crate::answer::AnswerWriter;
-use crate::command::{Command, next_command};
+use crate::changes::{load, make};
+use crate::command::{Command, Cut, next_command};
 use crate::counted::Counted;
-use crate::failure::Failure;
 use crate::fault::RunFault;
 use crate::input::read_script;
 use crate::lines::Lines;
 use crate::outcome::Outcome;
 use crate::patience::Patience;
+use crate::queries::{divide, rows, rows_on};
 use crate::records::{Records, read_records};
-use crate::tables::Tables;
+use book_core::Book;
 use period_core::NoMemory;
 use std::alloc::Global;
 use std::io::{Read, Write};
 
-/// Answers a query for a division, and tells how many records of the answer tell of a refusal.
-fn answer_dip(
-    tables: &Tables,
-    number: u64,
-    name: &[u8],
-    answer: &mut AnswerWriter,
-) -> Result<u64, NoMemory>
-    requires { answer.old.fields ≡ [] }
-    ensures answered { IfOk result (Answered tables.now number (Dip name.now) tables.now answer.old answer.new) }
-    ensures few { IfOk result (λ errors. errors ≤ 1) }
-{
-    match tables.divide(number, name) {
-        Ok((rows, division)) => {
-            answer.division(rows, &division, division.instant())?;
-            Ok(0)
-        }
-        Err(Failure::Refused(fault)) => {
-            answer.refuse(fault)?;
-            Ok(1)
-        }
-        Err(Failure::NoMemory) => Err(std::alloc::AllocError),
-    }
-}
-
 /// Does a command, whose first record has this number, and answers it; tells how many records of the
 /// answer tell of a refusal.
 fn answer_command(
-    tables: &mut Tables,
+    alloc: Global,
+    book: &mut Book,
     number: u64,
     command: Command<'_>,
     answer: &mut AnswerWriter,
 ) -> Result<u64, NoMemory>
     requires numbers { number + behind_length (meaning_of command) < 2 ^ 64 }
     requires begins { answer.old.fields ≡ [] }
-    ensures answered { IfOk result (Answered tables.old number (meaning_of command.entry) tables.new answer.old answer.new) }
+    ensures answered { IfOk result (Answered book.old number (meaning_of command.entry) book.new answer.old answer.new) }
     ensures few { IfOk result (λ errors. errors ≤ 1) }
 {
     match command {
@@ -64,9 +42,11 @@ fn answer_command(
             answer.refuse(fault)?;
             Ok(1)
         }
-        Command::Make(name) => answer.change(tables.make(number, name)),
-        Command::Load(name, body) => answer.change(tables.load(number, name, body)),
-        Command::Dip(name) => answer_dip(tables, number, name, answer),
+        Command::Make(table, schema) => answer.change(make(book, number, table, schema)),
+        Command::Load(table, body) => answer.change(load(alloc, book, number, table, body)),
+        Command::Rows(table) => answer.rows(rows(book, number, table)),
+        Command::At(table, point) => answer.rows(rows_on(alloc, book, number, table, point)),
+        Command::Dip(table) => answer.divided(divide(alloc, book, number, table)),
     }
 }
 
@@ -81,7 +61,7 @@ fn answer_all<W: Write>(
     ensures fault { IfErr result (ExplainsAnswering records.now (W.contents (inner_of writer.old)) (W.contents (inner_of writer.new)) (failures_of writer.old) (failures_of writer.new)) }
 {
     let lines = Lines::all(records);
-    let mut tables = Tables::new(alloc);
+    let mut book = Book::new(alloc);
     let mut answer = AnswerWriter::new(alloc);
     let mut outcome = Outcome {
         commands: 0,
@@ -90,12 +70,12 @@ fn answer_all<W: Write>(
     let mut at = 0;
     while at < lines.len() {
         let number = at as u64 + 1;
-        let cut = next_command(lines.range(at, lines.len()), number);
-        let errors = answer_command(&mut tables, number, cut.command, &mut answer)?;
+        let Cut { command, taken } = next_command(alloc, lines.range(at, lines.len()), number)?;
+        let errors = answer_command(alloc, &mut book, number, command, &mut answer)?;
         answer.write_to(writer, patience)?;
         outcome.commands += 1;
         outcome.errors += errors;
-        at += cut.taken;
+        at += taken;
     }
     Ok(outcome)
 }

@@ -1,7 +1,7 @@
 //! What a record says by its words.
-ghost use Rattle.std.specs.Prelude.{◌≡◌, option_map};
+ghost use Rattle.std.specs.Prelude.{◌≡◌};
 ghost use Rattle.script_core.specs.Lines.{fields_in};
-ghost use Rattle.script_core.specs.Words.{argument_of, begins, is_end, opens_block, verb_of};
+ghost use Rattle.script_core.specs.Words.{begins, is_end, opens_block, verb_of};
 
 use crate::lines::Line;
 
@@ -10,6 +10,8 @@ use crate::lines::Line;
 pub enum Verb {
     Table,
     Load,
+    Rows,
+    At,
     Dip,
 }
 
@@ -31,18 +33,15 @@ pub(crate) fn verb_of(line: Line<'_>) -> Option<Verb>
         Some(Verb::Table)
     } else if begins(line, b"load") {
         Some(Verb::Load)
+    } else if begins(line, b"rows") {
+        Some(Verb::Rows)
+    } else if begins(line, b"at") {
+        Some(Verb::At)
     } else if begins(line, b"dip") {
         Some(Verb::Dip)
     } else {
         None
     }
-}
-
-/// The field behind the word, where there is no other.
-pub(crate) fn argument_of(line: Line<'_>) -> Option<&[u8]>
-    ensures { option_map (λ s. s.now) result ≡ argument_of (fields_in line.entry) }
-{
-    if line.len() == 2 { line.get(1) } else { None }
 }
 
 /// Whether the record is the one field `end`.

@@ -26,26 +26,26 @@ answer_command-requires-clause-numbers g c =
     let left = left_is (lines_in c.all-lines.result) records (lines_in c.range.result) c.len-in-loop-at.result at c.all-lines.ensures c.len-in-loop-at.ensures c.range.ensures in
     let size : length (lines_in c.range.result) ≡ length (drop at records) = ap length left in
     let all : c.len-in-loop-at.result ≡ length records = c.len-in-loop-at.ensures ∙ ap length c.all-lines.ensures in
-    omega (arith, c.next_command-cut.ensures.behind, size, length-drop at records, all, c.len-in-loop-at.type_inv, c.loop-at.invariant.within, c.loop-at-test.true)
+    omega (arith, c.in_ok-command.ensures.behind, size, length-drop at records, all, c.len-in-loop-at.type_inv, c.loop-at.invariant.within, c.loop-at-test.true)
 
 pub returns-in_err-write_to-clause-fault : goal.returns-in_err-write_to-clause-fault
 returns-in_err-write_to-clause-fault g c =
     let records = c.args.records.now in
     let at = c.loop-at.at in
     let left = left_is (lines_in c.all-lines.result) records (lines_in c.range.result) c.len-in-loop-at.result at c.all-lines.ensures c.len-in-loop-at.ensures c.range.ensures in
-    let found = rw left at c.next_command-cut.ensures in
+    let found = rw left at c.in_ok-command.ensures in
     let answered = c.in_ok-errors.ensures.answered in
     let text = text_is c.loop-at.answer c.answer_command.new.answer (bytes_of answered.answer) c.loop-at.invariant.begins answered.printed in
     let why = rw text at c.in_err-write_to.ensures in
     let p = err_from_is_err_and c.from_residual-in_err-write_to.result c.from_residual-in_err-write_to.ensures.1 in
-    rw (p.1, p.2) (progress-stopped _ _ _ _ _ _ at c.next_command-cut.result.taken c.loop-at.outcome _ answered.answer _ _ _ _ c.loop-at.invariant.progress found.within found.means answered.answers c.loop-at.invariant.counts why.fault)
+    rw (p.1, p.2) (progress-stopped _ _ _ _ _ _ at c.in_ok-command.field-0.taken c.loop-at.outcome _ answered.answer _ _ _ _ c.loop-at.invariant.progress found.within found.means answered.answers c.loop-at.invariant.counts why.fault)
 
 pub loop-at-preserved : goal.loop-at-preserved
 loop-at-preserved g c =
     let records = c.args.records.now in
     let at = c.loop-at.at in
     let left = left_is (lines_in c.all-lines.result) records (lines_in c.range.result) c.len-in-loop-at.result at c.all-lines.ensures c.len-in-loop-at.ensures c.range.ensures in
-    let found = rw left at c.next_command-cut.ensures in
+    let found = rw left at c.in_ok-command.ensures in
     let answered = c.in_ok-errors.ensures.answered in
     let text = text_is c.loop-at.answer c.answer_command.new.answer (bytes_of answered.answer) c.loop-at.invariant.begins answered.printed in
     let wrote = subst (Appends (g.W.Write.contents (inner_of c.loop-at.writer)) (g.W.Write.contents (inner_of c.write_to.new.writer))) text c.in_ok-write_to.ensures.ok in
@@ -55,6 +55,6 @@ loop-at-preserved g c =
       fewer = omega (arith, c.in_ok-errors.ensures.few);
       counts = omega arith;
       begins = c.in_ok-write_to.ensures.begins;
-      progress = progress-more _ _ _ _ _ _ at c.next_command-cut.result.taken c.loop-at.outcome _ _ answered.answer c.loop-at.invariant.progress found.within found.means answered.answers wrote refl
+      progress = progress-more _ _ _ _ _ _ at c.in_ok-command.field-0.taken c.loop-at.outcome _ _ answered.answer c.loop-at.invariant.progress found.within found.means answered.answers wrote refl
           (ap (λ n. c.loop-at.outcome.errors + n) answered.counted);
     }

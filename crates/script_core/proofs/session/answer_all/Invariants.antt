@@ -11,7 +11,7 @@ invariant-loop-at g l = record {
   fewer : l.outcome.errors ≤ l.outcome.commands;
   counts : failures_of l.fn.writer ≤ failures_of l.writer;
   begins : l.answer ≡ record { text = []; fields = [] };
-  progress : Progress l.records (g.W.Write.contents (inner_of l.fn.writer)) (g.W.Write.contents (inner_of l.writer)) l.tables l.at l.outcome;
+  progress : Progress l.records (g.W.Write.contents (inner_of l.fn.writer)) (g.W.Write.contents (inner_of l.writer)) l.book l.at l.outcome;
 }
 
 abbrev pub decreases-loop-at : goal.decreases-loop-at

@@ -1,0 +1,14 @@
+pub mod Applying
+pub mod EnactLemmas
+pub mod Ids
+pub mod Logging
+pub mod MakingLemmas
+pub mod OpenLemmas
+pub mod Past
+pub mod Portions
+pub mod Reading
+pub mod Refusals
+pub mod Seen
+pub mod Shown
+pub mod Sound
+pub mod Tables

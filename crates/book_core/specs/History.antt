@@ -1,0 +1,39 @@
+-- Histories: what was accepted, oldest first, and what it shows.
+use Rattle.std.specs.Prelude.{◌≡◌, ℕ, List, [], ◌∷◌, length, fold, take, Bool, Option, Some, None, is_none, option_map, slice_get, nat_lt}
+use Rattle.row_core.specs.declared.row.Row.{Row}
+use Rattle.row_core.specs.declared.schema.Column.{Column}
+use Rattle.book_core.specs.State.{State, after, table_of, rows_of, refusal_of}
+use Rattle.row_core.specs.Refusals.{first_of}
+use Rattle.book_core.specs.declared.change.Commit.{Commit}
+use Rattle.book_core.specs.declared.book.RowsRefused.{RowsRefused}
+use Rattle.book_core.specs.declared.book.RowsRefused.TheVariants.{Future, NoTable}
+use Rattle.book_core.specs.declared.book.VersionsRefused.{VersionsRefused}
+use Rattle.book_core.specs.declared.book.VersionsRefused.TheVariants as no_versions
+
+-- the accepted changes, oldest first
+abbrev pub History : Type 0
+History = List Commit
+
+-- the state after all changes of a history
+abbrev pub state_after : History → State
+state_after h = fold (λ s c. after s c.change) [] h
+
+-- each change was accepted in its place
+abbrev pub IsLegal : History → Type 0
+IsLegal h = (n : ℕ) (c : Commit) → slice_get h n ≡ Some c → refusal_of n (state_after (take n h)) c.change ≡ None
+
+-- the rows of a table in the state after the first n changes
+abbrev pub rows_at : History → ℕ → List ℕ → List Row
+rows_at h n name = rows_of (state_after (take n h)) name
+
+-- the columns of a table in the newest state
+abbrev pub schema_in : History → List ℕ → Option (List Column)
+schema_in h name = option_map (λ t. t.schema) (table_of (state_after h) name)
+
+-- why rows are not given, if they are not
+abbrev pub rows_refusal : History → ℕ → List ℕ → Option RowsRefused
+rows_refusal h n name = first_of ((nat_lt (length h) n, Future) ∷ (is_none (table_of (state_after h) name), NoTable) ∷ [])
+
+-- why versions are not given, if they are not
+abbrev pub versions_refusal : History → ℕ → Bool → List ℕ → Option VersionsRefused
+versions_refusal h at is_bad name = first_of ((nat_lt (length h) at, no_versions.Future) ∷ (is_bad, no_versions.BadPeriod) ∷ (is_none (table_of (state_after h) name), no_versions.NoTable) ∷ [])

@@ -1,0 +1,5 @@
+pub mod History
+pub mod Kept
+pub mod Open
+pub mod State
+pub mod Versions

@@ -1,0 +1,75 @@
+-- Versions and the log, read from a history alone.
+use Rattle.std.specs.Prelude.{ℕ, ◌+◌, ◌≤◌, ◌<◌, List, [], ◌∷◌, map, Option, MatchOption, Contains, count_by, not, ◌↔◌, nat_eq, AllPairs}
+use Rattle.std.specs.List.{list_any}
+use Rattle.row_core.specs.declared.row.Row.{Row}
+use Rattle.book_core.specs.State.{table_named}
+use Rattle.book_core.specs.History.{History, rows_at}
+use Rattle.book_core.specs.declared.change.Change.{Change}
+use Rattle.book_core.specs.declared.change.Change.TheVariants.{Make, Load, Update, Delete}
+use Rattle.book_core.specs.declared.change.Commit.{Commit}
+use Rattle.book_core.specs.declared.log.ChangeKind.{ChangeKind}
+use Rattle.book_core.specs.declared.log.ChangeKind.TheVariants as kind
+use Rattle.book_core.specs.declared.log.Entry.{Entry}
+use Rattle.book_core.specs.declared.version.Version.{Version}
+
+-- commit n shows a row of the table with the id
+abbrev pub HasId : History → List ℕ → ℕ → ℕ → Type 0
+HasId h name n id = Contains (map (λ row. row.id) (rows_at h n name)) id
+
+-- the version of the first `at` commits: its first commit is the least that has its id, its end the
+-- least later one that lacks it, and open where there is none
+pub record IsVersion (h : History) (at : ℕ) (name : List ℕ) (v : Version) : Type 0 where
+  pub within : v.sysfrom ≤ at
+  pub row : Contains (rows_at h v.sysfrom name) v.row
+  pub first : (n : ℕ) → n < v.sysfrom → HasId h name n v.row.id → ⊥
+  pub end : MatchOption v.systo
+      ((n : ℕ) → v.sysfrom ≤ n → n ≤ at → HasId h name n v.row.id)
+      (λ to. (v.sysfrom < to) × (to ≤ at) × (HasId h name to v.row.id → ⊥) × ((n : ℕ) → v.sysfrom ≤ n → n < to → HasId h name n v.row.id))
+
+-- an open end is after every commit
+abbrev pub IsAfter : Option ℕ → ℕ → Type 0
+IsAfter systo m = MatchOption systo (Unit {0}) (λ to. m < to)
+
+-- the versions of the first `at` commits that are selected, each once, by rising id
+pub record AreVersions (h : History) (at : ℕ) (name : List ℕ) (Selected : Version → Type 0) (vs : List Version) : Type 0 where
+  pub rising : AllPairs (λ v w. v.row.id < w.row.id) vs
+  pub exactly : (v : Version) → Contains vs v ↔ (IsVersion h at name v × Selected v)
+
+-- those that some commit from m to n shows
+abbrev pub AreBetween : History → ℕ → ℕ → ℕ → List ℕ → List Version → Type 0
+AreBetween h at m n name vs = AreVersions h at name (λ v. (v.sysfrom ≤ n) × IsAfter v.systo m) vs
+
+-- those that some commit from m on and before n shows
+abbrev pub AreFromTo : History → ℕ → ℕ → ℕ → List ℕ → List Version → Type 0
+AreFromTo h at m n name vs = AreVersions h at name (λ v. (v.sysfrom < n) × IsAfter v.systo m) vs
+
+-- how many of the ids of xs are not among those of ys
+abbrev pub new_ids : List Row → List Row → ℕ
+new_ids xs ys = count_by (λ x. not (list_any (λ y. nat_eq y.id x.id) ys)) xs
+
+-- the kind of a change
+abbrev pub kind_of : Change → ChangeKind
+kind_of (Make table schema) = kind.Make
+kind_of (Load table rows) = kind.Load
+kind_of (Update table portion sets conds) = kind.Update
+kind_of (Delete table portion conds) = kind.Delete
+
+-- what the log has of commit n + 1: whose it is, and how many versions it made and closed
+abbrev pub entry_at : History → ℕ → Commit → Entry
+entry_at h n c = let table = table_named c.change in record {
+  number = n + 1;
+  by = c.by;
+  kind = kind_of c.change;
+  table = table;
+  added = new_ids (rows_at h (n + 1) table) (rows_at h n table);
+  closed = new_ids (rows_at h n table) (rows_at h (n + 1) table);
+}
+
+-- the entries of the commits that follow the first n
+abbrev pub entries_from : History → ℕ → History → List Entry
+entries_from h n [] = []
+entries_from h n (c ∷ cs) = entry_at h n c ∷ entries_from h (n + 1) cs
+
+-- one entry for each commit of a history, oldest first
+abbrev pub log_of : History → List Entry
+log_of h = entries_from h 0 h

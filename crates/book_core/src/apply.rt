@@ -1,0 +1,196 @@
+ghost use Rattle.std.specs.Prelude.{◌≡◌, ◌+◌, ◌≤◌, ◌<◌, ◌++◌, ◌||◌, length, find, flat_map, IfSome, IfOk, OnErr, OnOk, nat_le, nat_lt};
+ghost use Rattle.std.specs.List.{list_all, AllByRecursion};
+ghost use Rattle.std.specs.Option.{option_map_or};
+ghost use Rattle.row_core.specs.Name.{same_name};
+ghost use Rattle.row_core.specs.Refusals.{first_of};
+ghost use Rattle.row_core.specs.Schema.{fits};
+ghost use Rattle.book_core.specs.State.{tests_of, pair_tests, full_tests, parts_in, numbered, table_named};
+ghost use Rattle.book_core.specs.Kept.{table_at, shown, made, at_kept, kept_after, added_in, closed_in, parts_added, rewritten, HasRoom, IsTimely, IsWellKept};
+
+use crate::book::BookRefused;
+use crate::change::Change;
+use crate::portion::pairs_refusal;
+use crate::table::{Table, place_of};
+use crate::versions::{Counts, Versions};
+use row_core::{Draft, Name, NoMemory, Schema, Value};
+use std::alloc::Global;
+
+/// The most commits of a book, and the most versions of a table.
+pub const LIMIT: usize = 1_000_000;
+
+/// What refuses a change of a table's rows, after the first commits.
+pub fn refusal_in(table: &Table, commits: usize, change: &Change) -> Option<BookRefused>
+    requires { IsWellKept commits table.now }
+    ensures { result ≡ first_of (tests_of commits change.now (table_at commits table.now)) }
+{
+    match change {
+        Change::Make { .. } => None,
+        Change::Load { rows, .. } => {
+            if !all_fit(&table.schema, rows.as_slice()) {
+                Some(BookRefused::WrongKind)
+            } else if is_full(commits, table.versions.len(), rows.len()) {
+                Some(BookRefused::Full)
+            } else {
+                None
+            }
+        }
+        Change::Update { sets, conds, .. } => {
+            match pairs_refusal(&table.schema, sets.as_slice()) {
+                Some(refused) => Some(refused),
+                None => portion_refusal(
+                    &table.schema,
+                    &table.versions,
+                    commits,
+                    change,
+                    conds.as_slice(),
+                ),
+            }
+        }
+        Change::Delete { conds, .. } => {
+            portion_refusal(
+                &table.schema,
+                &table.versions,
+                commits,
+                change,
+                conds.as_slice(),
+            )
+        }
+    }
+}
+
+// What refuses a change of a portion, once its settings are allowed.
+fn portion_refusal(
+    schema: &Schema,
+    versions: &Versions,
+    commits: usize,
+    change: &Change,
+    conds: &[(Name, Value)],
+) -> Option<BookRefused>
+    requires { AllByRecursion (IsTimely commits) versions.now }
+    ensures { result ≡ first_of (flat_map (pair_tests schema.now) conds.now ++ full_tests commits (length versions.now + length (parts_in change.now schema.now (shown commits versions.now)))) }
+{
+    if let Some(refused) = pairs_refusal(schema, conds) {
+        return Some(refused);
+    }
+    if is_full_by_parts(schema, versions, commits, change) {
+        Some(BookRefused::Full)
+    } else {
+        None
+    }
+}
+
+// The parts are counted only where the commit and the versions there leave room for some.
+fn is_full_by_parts(schema: &Schema, versions: &Versions, commits: usize, change: &Change) -> bool
+    requires { AllByRecursion (IsTimely commits) versions.now }
+    ensures { result ≡ (nat_le 1000000 commits || nat_lt 1000000 (length versions.now + length (parts_in change.now schema.now (shown commits versions.now)))) }
+{
+    if versions.len() > LIMIT {
+        return true;
+    }
+    let more = versions.count_parts(schema, change);
+    is_full(commits, versions.len(), more)
+}
+
+fn all_fit(schema: &Schema, rows: &[Draft]) -> bool
+    ensures { result ≡ list_all (λ d. fits schema.now d.values) rows.now }
+{
+    rows.iter().all(|row| schema.fits(&row.values))
+}
+
+/// No commit may follow, or the versions would be too many.
+pub fn is_full(commits: usize, versions: usize, more: usize) -> bool
+    ensures { result ≡ (nat_le 1000000 commits || nat_lt 1000000 (versions + more)) }
+{
+    commits >= LIMIT || versions > LIMIT || more > LIMIT - versions
+}
+
+/// Makes the tables after one more commit, and answers how many versions it made and closed.
+pub fn enact(
+    alloc: Global,
+    tables: &mut Vec<Table>,
+    commits: u64,
+    change: &Change,
+) -> Result<Counts, NoMemory>
+    requires few { commits < 1000000 }
+    requires room { HasRoom commits change.now tables.old.items }
+    requires well { IfSome (find (λ t. same_name t.name (table_named change.now)) tables.old.items) (IsWellKept commits) }
+    ensures ok { OnOk result (tables.new.items ≡ kept_after commits tables.old.items change.now) }
+    ensures added { IfOk result (λ counts. counts.added ≡ added_in commits change.now (find (λ t. same_name t.name (table_named change.now)) tables.old.items)) }
+    ensures closed { IfOk result (λ counts. counts.closed ≡ closed_in commits change.now (find (λ t. same_name t.name (table_named change.now)) tables.old.items)) }
+    ensures err { OnErr result (tables.new.items ≡ tables.old.items) }
+{
+    match change {
+        Change::Make { table, schema } => {
+            let schema = schema.copy(alloc)?;
+            tables.push(Table {
+                name: *table,
+                schema,
+                versions: Versions::new(alloc),
+            })?;
+            Ok(Counts {
+                added: 0,
+                closed: 0,
+            })
+        }
+        Change::Load { table, rows } => load(alloc, tables, commits, *table, rows.as_slice()),
+        Change::Update { table, .. } => renew(alloc, tables, commits, *table, change),
+        Change::Delete { table, .. } => renew(alloc, tables, commits, *table, change),
+    }
+}
+
+// Adds rows to a table.
+fn load(
+    alloc: Global,
+    tables: &mut Vec<Table>,
+    commits: u64,
+    name: Name,
+    rows: &[Draft],
+) -> Result<Counts, NoMemory>
+    requires few { commits < 1000000 }
+    requires room { IfSome (find (λ t. same_name t.name name) tables.old.items) (λ t. length t.versions + length rows.now ≤ 1000000) }
+    ensures ok { OnOk result (tables.new.items ≡ at_kept name (λ t. record t { versions = t.versions ++ made (commits + 1) (numbered (length t.versions) rows.now) }) tables.old.items) }
+    ensures added { IfOk result (λ counts. counts.added ≡ option_map_or (λ t. length rows.now) (find (λ t. same_name t.name name) tables.old.items) 0) }
+    ensures closed { IfOk result (λ counts. counts.closed ≡ 0) }
+    ensures err { OnErr result (tables.new.items ≡ tables.old.items) }
+{
+    let Some(at) = place_of(tables, name) else {
+        return Ok(Counts {
+            added: 0,
+            closed: 0,
+        });
+    };
+    let table = &mut tables[at];
+    table.versions.load(alloc, commits + 1, rows)?;
+    Ok(Counts {
+        added: rows.len() as u64,
+        closed: 0,
+    })
+}
+
+// Changes a portion of a table.
+fn renew(
+    alloc: Global,
+    tables: &mut Vec<Table>,
+    commits: u64,
+    name: Name,
+    change: &Change,
+) -> Result<Counts, NoMemory>
+    requires few { commits < 1000000 }
+    requires room { IfSome (find (λ t. same_name t.name name) tables.old.items) (λ t. length t.versions ≤ 1000000) }
+    requires well { IfSome (find (λ t. same_name t.name name) tables.old.items) (IsWellKept commits) }
+    ensures ok { OnOk result (tables.new.items ≡ at_kept name (λ t. record t { versions = rewritten commits change.now t.schema t.versions }) tables.old.items) }
+    ensures added { IfOk result (λ counts. counts.added ≡ parts_added commits change.now (find (λ t. same_name t.name name) tables.old.items)) }
+    ensures closed { IfOk result (λ counts. counts.closed ≡ closed_in commits change.now (find (λ t. same_name t.name name) tables.old.items)) }
+    ensures err { OnErr result (tables.new.items ≡ tables.old.items) }
+{
+    let Some(at) = place_of(tables, name) else {
+        return Ok(Counts {
+            added: 0,
+            closed: 0,
+        });
+    };
+    let table = &mut tables[at];
+    table
+        .versions
+        .renew(alloc, &table.schema, commits + 1, change)
+}

@@ -1,0 +1,318 @@
+ghost use Rattle.std.specs.Prelude.{◌≡◌, ◌+◌, ◌≤◌, ℕ, List, [], ◌∷◌, ◌++◌, length, map, All, IfOk, IsTrue, IfSome, IfNone, OnOk, OnErr, IsOkUnless, nat_lt, nat_le};
+ghost use Rattle.row_core.specs.Rows.{IdsRise};
+ghost use Rattle.row_core.specs.Schema.{fits};
+ghost use Rattle.book_core.specs.State.{refusal_of, table_of};
+ghost use Rattle.book_core.specs.Kept.{IsTableOf};
+ghost use Rattle.book_core.specs.History.{History, IsLegal, state_after, rows_at, rows_refusal, versions_refusal, schema_in};
+ghost use Rattle.book_core.specs.Versions.{AreBetween, AreFromTo, log_of};
+
+use crate::apply::{LIMIT, enact, refusal_in};
+use crate::change::{Change, Commit, copy_history};
+use crate::log::{Entry, Log, entry_of};
+use crate::table::{Table, copy_tables, find_table};
+use crate::version::{VersionList, rows_shown, versions_seen};
+use row_core::{Name, NoMemory, RowList, Schema};
+use std::alloc::Global;
+use std::marker::Model;
+
+/// The most tables of a book.
+const MAX_TABLES: usize = 64;
+
+/// Why a change is not made, in the order of the tests.
+#[derive(Clone, Copy, Debug, PartialEq, Eq)]
+pub enum BookRefused {
+    /// A table of that name is there.
+    TableExists,
+    /// 64 tables are there.
+    TooMany,
+    /// 1,000,000 commits are there, or the table would have more than 1,000,000 versions.
+    Full,
+    /// No table of that name is there.
+    NoTable,
+    /// The table has no column of that name.
+    NoColumn,
+    /// A value is not of its column's kind, or a row does not fit the table's columns.
+    WrongKind,
+    NoMemory,
+}
+
+impl From<NoMemory> for BookRefused {
+    ghost use Rattle.std.specs.Prelude.{◌≡◌};
+    ghost use Rattle.book_core.specs.declared.book.BookRefused.TheVariants as refused;
+
+    ghost from_gives = { λ _ e. e ≡ refused.NoMemory };
+
+    fn from(_error: NoMemory) -> BookRefused {
+        BookRefused::NoMemory
+    }
+}
+
+/// Why the rows of a table are not given, in the order of the tests.
+#[derive(Clone, Copy, Debug, PartialEq, Eq)]
+pub enum RowsRefused {
+    /// There are fewer commits.
+    Future,
+    /// No table of that name is there.
+    NoTable,
+    NoMemory,
+}
+
+impl From<NoMemory> for RowsRefused {
+    ghost use Rattle.std.specs.Prelude.{◌≡◌};
+    ghost use Rattle.book_core.specs.declared.book.RowsRefused.TheVariants as refused;
+
+    ghost from_gives = { λ _ e. e ≡ refused.NoMemory };
+
+    fn from(_error: NoMemory) -> RowsRefused {
+        RowsRefused::NoMemory
+    }
+}
+
+/// Why the versions of a table are not given, in the order of the tests.
+#[derive(Clone, Copy, Debug, PartialEq, Eq)]
+pub enum VersionsRefused {
+    /// There are fewer commits.
+    Future,
+    /// The two commits are not in order.
+    BadPeriod,
+    /// No table of that name is there.
+    NoTable,
+    NoMemory,
+}
+
+impl From<NoMemory> for VersionsRefused {
+    ghost use Rattle.std.specs.Prelude.{◌≡◌};
+    ghost use Rattle.book_core.specs.declared.book.VersionsRefused.TheVariants as refused;
+
+    ghost from_gives = { λ _ e. e ≡ refused.NoMemory };
+
+    fn from(_error: NoMemory) -> VersionsRefused {
+        VersionsRefused::NoMemory
+    }
+}
+
+/// No table has that name.
+#[derive(Clone, Copy, Debug, PartialEq, Eq)]
+pub struct NoTable;
+
+/// A book. Contracts see its history: the changes that it accepted, oldest first.
+#[derive(Debug, Drop)]
+pub struct Book {
+    alloc: Global,
+    history: Vec<Commit>,
+    tables: Vec<Table>,
+    log: Vec<Entry>,
+}
+
+impl Model for Book {
+    ghost use Rattle.book_core.specs.History.{History};
+    ghost use Rattle.book_core.specs.Kept.{IsBook};
+
+    ghost Value = { History };
+
+    ghost view = { λ b. b.history.items };
+
+    ghost invariant = { λ b. IsBook b.history.items b.tables.items b.log.items };
+}
+
+impl Book {
+    /// The book without a table.
+    pub fn new(alloc: Global) -> Self
+        ensures { result ≡ [] }
+    {
+        Book {
+            alloc,
+            history: Vec::new(alloc),
+            tables: Vec::new(alloc),
+            log: Vec::new(alloc),
+        }
+    }
+
+    /// A book with the same history.
+    pub fn copy(&self, alloc: Global) -> Result<Book, NoMemory>
+        ensures { IfOk result (λ book. book ≡ self.now) }
+    {
+        Ok(Book {
+            alloc,
+            history: copy_history(alloc, &self.history)?,
+            tables: copy_tables(alloc, &self.tables)?,
+            log: Vec::from_slice(alloc, &self.log)?,
+        })
+    }
+
+    /// How many changes were accepted.
+    pub fn commits(&self) -> u64
+        ensures count { result ≡ length self.now }
+        ensures few { result ≤ 1000000 }
+
+        // Each of them was accepted in its place.
+        ensures legal { IsLegal self.now }
+    {
+        self.history.len() as u64
+    }
+
+    /// Makes a change of the caller with the number `by`, and answers the commit's number, from 1
+    /// on. After a refusal the book is unchanged.
+    pub fn apply(&mut self, by: u32, change: Change) -> Result<u64, BookRefused>
+        // It is refused by name exactly where the state says so.
+        ensures refused { IfSome (refusal_of (length self.old) (state_after self.old) change) (λ name. result ≡ Err name) }
+        ensures accepted { IfNone (refusal_of (length self.old) (state_after self.old) change) (IsOkUnless result BookRefused.NoMemory) }
+
+        ensures number { IfOk result (λ number. number ≡ length self.old + 1) }
+        ensures ok { OnOk result (self.new ≡ self.old ++ record { by = by; change = change } ∷ []) }
+        ensures err { OnErr result (self.new ≡ self.old) }
+    {
+        if let Some(refused) = self.refusal(&change) {
+            return Err(refused);
+        }
+        self.history.reserve(1)?;
+        self.log.reserve(1)?;
+        let commits = self.history.len() as u64;
+        let counts = enact(self.alloc, &mut self.tables, commits, &change)?;
+        let entry = entry_of(commits, by, &change, counts);
+        match self.log.push(entry) {
+            Ok(()) => match self.history.push(Commit { by, change }) {
+                Ok(()) => Ok(commits + 1),
+                Err(_) => unreachable!(),
+            },
+            Err(_) => unreachable!(),
+        }
+    }
+
+    // What refuses a change, if anything does.
+    fn refusal(&self, change: &Change) -> Option<BookRefused>
+        ensures { result ≡ refusal_of (length self.now) (state_after self.now) change.now }
+    {
+        let commits = self.history.len();
+        match change {
+            Change::Make { table, .. } => {
+                if self.table(*table).is_some() {
+                    Some(BookRefused::TableExists)
+                } else if self.tables.len() >= MAX_TABLES {
+                    Some(BookRefused::TooMany)
+                } else if commits >= LIMIT {
+                    Some(BookRefused::Full)
+                } else {
+                    None
+                }
+            }
+            Change::Load { table, .. } => match self.table(*table) {
+                None => Some(BookRefused::NoTable),
+                Some(table) => refusal_in(table, commits, change),
+            },
+            Change::Update { table, .. } => match self.table(*table) {
+                None => Some(BookRefused::NoTable),
+                Some(table) => refusal_in(table, commits, change),
+            },
+            Change::Delete { table, .. } => match self.table(*table) {
+                None => Some(BookRefused::NoTable),
+                Some(table) => refusal_in(table, commits, change),
+            },
+        }
+    }
+
+    // The table of that name.
+    fn table(&self, name: Name) -> Option<&Table>
+        ensures found { IfSome result (λ table. IsTableOf self.now name table.now) }
+        ensures absent { IfNone result (table_of (state_after self.now) name ≡ None) }
+    {
+        find_table(&self.tables, name)
+    }
+
+    /// The columns of a table.
+    pub fn schema(&self, name: Name) -> Result<&Schema, NoTable>
+        ensures found { IfOk result (λ schema. schema_in self.now name ≡ Some schema.now) }
+        ensures absent { OnErr result (schema_in self.now name ≡ None) }
+    {
+        match self.table(name) {
+            Some(table) => Ok(&table.schema),
+            None => Err(NoTable),
+        }
+    }
+
+    /// The rows of a table that commit n shows, by rising id.
+    pub fn rows_at(&self, n: u64, name: Name) -> Result<RowList, RowsRefused>
+        ensures refused { IfSome (rows_refusal self.now n name) (λ name. result ≡ Err name) }
+        ensures given { IfNone (rows_refusal self.now n name) (IsOkUnless result RowsRefused.NoMemory) }
+        ensures rows { IfOk result (λ rows. rows ≡ rows_at self.now n name) }
+
+        // They are at most 1,000,000, and each fits the table's columns.
+        ensures few { IfOk result (λ rows. length rows ≤ 1000000) }
+        ensures rise { IfOk result IdsRise }
+        ensures fit { IfOk result (λ rows. IfSome (schema_in self.now name) (λ columns. All (λ row. IsTrue (fits columns row.values)) rows)) }
+    {
+        if n > self.commits() {
+            return Err(RowsRefused::Future);
+        }
+        match self.table(name) {
+            None => Err(RowsRefused::NoTable),
+            Some(table) => Ok(rows_shown(self.alloc, table.versions.as_slice(), n)?),
+        }
+    }
+
+    /// The versions of the first `at` commits that some commit from m to n shows, by rising id. An
+    /// end past `at` is shown as open.
+    pub fn between(
+        &self,
+        at: u64,
+        m: u64,
+        n: u64,
+        name: Name,
+    ) -> Result<VersionList, VersionsRefused>
+        ensures refused { IfSome (versions_refusal self.now at (nat_lt n m) name) (λ name. result ≡ Err name) }
+        ensures given { IfNone (versions_refusal self.now at (nat_lt n m) name) (IsOkUnless result VersionsRefused.NoMemory) }
+        ensures versions { IfOk result (λ versions. AreBetween self.now at m n name versions) }
+
+        // At one commit they are those whose rows it shows.
+        ensures at_once { m ≡ n → n ≤ at → IfOk result (λ versions. map (λ v. v.row) versions ≡ rows_at self.now n name) }
+    {
+        if at > self.commits() {
+            return Err(VersionsRefused::Future);
+        }
+        if m > n {
+            return Err(VersionsRefused::BadPeriod);
+        }
+        match self.table(name) {
+            None => Err(VersionsRefused::NoTable),
+            Some(table) => Ok(versions_seen(self.alloc, table.versions.as_slice(), at, m, n)?),
+        }
+    }
+
+    /// The versions of the first `at` commits that some commit from m on and before n shows, by
+    /// rising id. An end past `at` is shown as open.
+    pub fn from_to(
+        &self,
+        at: u64,
+        m: u64,
+        n: u64,
+        name: Name,
+    ) -> Result<VersionList, VersionsRefused>
+        ensures refused { IfSome (versions_refusal self.now at (nat_le n m) name) (λ name. result ≡ Err name) }
+        ensures given { IfNone (versions_refusal self.now at (nat_le n m) name) (IsOkUnless result VersionsRefused.NoMemory) }
+        ensures versions { IfOk result (λ versions. AreFromTo self.now at m n name versions) }
+    {
+        if at > self.commits() {
+            return Err(VersionsRefused::Future);
+        }
+        if m >= n {
+            return Err(VersionsRefused::BadPeriod);
+        }
+        match self.table(name) {
+            None => Err(VersionsRefused::NoTable),
+            Some(table) => Ok(versions_seen(self.alloc, table.versions.as_slice(), at, m, n - 1)?),
+        }
+    }
+
+    /// The commits, oldest first, each with the number of versions that it made and closed.
+    pub fn log(&self) -> Result<Log, NoMemory>
+        ensures { IfOk result (λ log. log ≡ log_of self.now) }
+    {
+        Log::of(self.alloc, &self.log)
+    }
+}
+
+/// The past does not change: what a commit shows is the same in each history that goes on from
+/// one with that commit.
+pub fn past_stays()
+    ensures { (h more : History) (n : ℕ) (name : List ℕ) → n ≤ length h → rows_at (h ++ more) n name ≡ rows_at h n name }
+{}

@@ -1,0 +1,238 @@
+ghost use Rattle.std.specs.Prelude.{◌≡◌, ◌+◌, ◌≤◌, ◌++◌, ◌&&◌, List, length, fold, flat_map, is_some, if◌then◌else◌, IfOk, OnOk};
+ghost use Rattle.std.specs.List.{list_all};
+ghost use Rattle.period_core.specs.Period.{before, meet, after as later};
+ghost use Rattle.row_core.specs.Refusals.{first_of};
+ghost use Rattle.row_core.specs.declared.schema.Column.{Column};
+ghost use Rattle.book_core.specs.Open.{AddsDrafts};
+ghost use Rattle.book_core.specs.State.{pair_tests, kind_in, is_touched, is_equal_at, removes, same_value, part, parts_of, set_at};
+
+use crate::book::BookRefused;
+use crate::change::Change;
+use crate::making::NewVersions;
+use period_core::Period;
+use row_core::{Kind, Name, NoMemory, Row, Schema, Value, Values};
+use std::alloc::Global;
+
+/// The first pair that the schema refuses.
+pub fn pairs_refusal(schema: &Schema, pairs: &[(Name, Value)]) -> Option<BookRefused>
+    ensures { result ≡ first_of (flat_map (pair_tests schema.now) pairs.now) }
+{
+    for pair in pairs {
+        let refused = pair_refusal(schema, pair);
+        if refused.is_some() {
+            return refused;
+        }
+    }
+    None
+}
+
+fn pair_refusal(schema: &Schema, pair: &(Name, Value)) -> Option<BookRefused>
+    ensures { result ≡ first_of (pair_tests schema.now pair.now) }
+{
+    match column_kind(schema, pair.0) {
+        None => Some(BookRefused::NoColumn),
+        Some(kind) => {
+            if pair.1.is_of(kind) {
+                None
+            } else {
+                Some(BookRefused::WrongKind)
+            }
+        }
+    }
+}
+
+// The kind of the column of that name.
+fn column_kind(schema: &Schema, name: Name) -> Option<Kind>
+    ensures { result ≡ kind_in schema.now name }
+{
+    match schema.column(name) {
+        None => None,
+        Some(i) => {
+            if i < schema.width() {
+                Some(schema.kind(i))
+            } else {
+                None
+            }
+        }
+    }
+}
+
+/// How many parts of the row the change leaves or makes.
+pub fn count_of(change: &Change, row: &Row) -> usize
+    ensures parts { (columns : List Column) → result ≡ length (parts_of change.now columns row.now) }
+    ensures few { result ≤ 3 }
+{
+    match change {
+        Change::Make { .. } => 0,
+        Change::Load { .. } => 0,
+        Change::Update { portion, .. } => {
+            let (before, after) = row.period.minus(portion);
+            let inside = row.period.meet(portion);
+            one_if(before) + one_if(inside) + one_if(after)
+        }
+        Change::Delete { portion, .. } => {
+            let (before, after) = row.period.minus(portion);
+            one_if(before) + one_if(after)
+        }
+    }
+}
+
+fn one_if(period: Option<Period>) -> usize
+    ensures { result ≡ (if is_some period then 1 else 0) }
+{
+    match period {
+        None => 0,
+        Some(_) => 1,
+    }
+}
+
+/// Adds what comes in the place of a row that the change takes out.
+pub fn push_parts(
+    alloc: Global,
+    new: &mut NewVersions,
+    schema: &Schema,
+    change: &Change,
+    row: &Row,
+) -> Result<(), NoMemory>
+    ensures { OnOk result (AddsDrafts new.old new.new (parts_of change.now schema.now row.now)) }
+{
+    match change {
+        Change::Make { .. } => Ok(()),
+        Change::Load { .. } => Ok(()),
+        Change::Update { portion, sets, .. } => {
+            push_changed(alloc, new, schema, portion, sets.as_slice(), row)
+        }
+        Change::Delete { portion, .. } => push_outside(alloc, new, portion, row),
+    }
+}
+
+// Adds the parts of a row before, inside and after the portion, with the settings inside.
+fn push_changed(
+    alloc: Global,
+    new: &mut NewVersions,
+    schema: &Schema,
+    portion: &Period,
+    sets: &[(Name, Value)],
+    row: &Row,
+) -> Result<(), NoMemory>
+    ensures { OnOk result (AddsDrafts new.old new.new (part (before row.now.period portion.now) row.now.values
+        ++ (part (meet row.now.period portion.now) (fold (set_at schema.now) row.now.values sets.now) ++ part (later row.now.period portion.now) row.now.values))) }
+{
+    let (earlier, rest) = row.period.minus(portion);
+    let values = values_set(alloc, schema, &row.values, sets)?;
+    push_part(alloc, new, earlier, &row.values)?;
+    push_values(new, row.period.meet(portion), values)?;
+    push_part(alloc, new, rest, &row.values)?;
+    Ok(())
+}
+
+// Adds the parts of a row before and after the portion.
+fn push_outside(
+    alloc: Global,
+    new: &mut NewVersions,
+    portion: &Period,
+    row: &Row,
+) -> Result<(), NoMemory>
+    ensures { OnOk result (AddsDrafts new.old new.new (part (before row.now.period portion.now) row.now.values ++ part (later row.now.period portion.now) row.now.values)) }
+{
+    let (before, after) = row.period.minus(portion);
+    push_part(alloc, new, before, &row.values)?;
+    push_part(alloc, new, after, &row.values)?;
+    Ok(())
+}
+
+// Adds the period, if there is one, with a copy of the values.
+fn push_part(
+    alloc: Global,
+    new: &mut NewVersions,
+    period: Option<Period>,
+    values: &Values,
+) -> Result<(), NoMemory>
+    ensures { OnOk result (AddsDrafts new.old new.new (part period values.now)) }
+{
+    match period {
+        Some(period) => new.push(period, values.copy(alloc)?),
+        None => Ok(()),
+    }
+}
+
+// Adds the period, if there is one, with the values.
+fn push_values(
+    new: &mut NewVersions,
+    period: Option<Period>,
+    values: Values,
+) -> Result<(), NoMemory>
+    ensures { OnOk result (AddsDrafts new.old new.new (part period values)) }
+{
+    match period {
+        Some(period) => new.push(period, values),
+        None => Ok(()),
+    }
+}
+
+// The values after the settings, from left to right.
+fn values_set(
+    alloc: Global,
+    schema: &Schema,
+    values: &Values,
+    sets: &[(Name, Value)],
+) -> Result<Values, NoMemory>
+    ensures { IfOk result (λ now. now ≡ fold (set_at schema.now) values.now sets.now) }
+{
+    let mut now = values.copy(alloc)?;
+    for pair in sets {
+        let value = pair.1.copy(alloc)?;
+        if let Some(i) = schema.column(pair.0) {
+            now.set(i as usize, value);
+        }
+    }
+    Ok(now)
+}
+
+/// Whether the change takes out the row.
+pub fn is_removed(schema: &Schema, change: &Change, row: &Row) -> bool
+    ensures { result ≡ removes change.now schema.now row.now }
+{
+    match change {
+        Change::Make { .. } => false,
+        Change::Load { .. } => false,
+        Change::Update { portion, conds, .. } => is_touched(schema, portion, conds.as_slice(), row),
+        Change::Delete { portion, conds, .. } => is_touched(schema, portion, conds.as_slice(), row),
+    }
+}
+
+// Whether the row meets all conditions and overlaps the portion.
+fn is_touched(schema: &Schema, portion: &Period, conds: &[(Name, Value)], row: &Row) -> bool
+    ensures { result ≡ is_touched schema.now portion.now conds.now row.now }
+{
+    meets_all(schema, &row.values, conds) && row.period.meet(portion).is_some()
+}
+
+fn meets_all(schema: &Schema, values: &Values, conds: &[(Name, Value)]) -> bool
+    ensures { result ≡ list_all (is_equal_at schema.now values.now) conds.now }
+{
+    conds.iter().all(|pair| is_equal_at(schema, values, pair))
+}
+
+// Whether the row's value in the pair's column is the pair's.
+fn is_equal_at(schema: &Schema, values: &Values, pair: &(Name, Value)) -> bool
+    ensures { result ≡ is_equal_at schema.now values.now pair.now }
+{
+    match schema.column(pair.0) {
+        None => false,
+        Some(i) => match values.get(i as usize) {
+            None => false,
+            Some(value) => is_same(&pair.1, value),
+        },
+    }
+}
+
+fn is_same(a: &Value, b: &Value) -> bool
+    ensures { result ≡ same_value a.now b.now }
+{
+    match (a, b) {
+        (Value::Int(x), Value::Int(y)) => *x == *y,
+        (Value::Text(x), Value::Text(y)) => *x == *y,
+        _ => false,
+    }
+}

@@ -1,0 +1,68 @@
+ghost use Rattle.std.specs.Prelude.{◌≡◌, IfOk, find, position};
+ghost use Rattle.std.specs.Option.{option_copied};
+ghost use Rattle.row_core.specs.Name.{same_name};
+
+use crate::versions::Versions;
+use row_core::{Name, NoMemory, Schema};
+use std::alloc::Global;
+use std::marker::Model;
+
+/// A table with all versions of its rows.
+#[derive(Debug, Drop)]
+pub struct Table {
+    pub name: Name,
+    pub schema: Schema,
+    pub versions: Versions,
+}
+
+impl Model for Table {
+    ghost use Rattle.book_core.specs.Kept.{Kept};
+
+    ghost Value = { Kept };
+
+    ghost view = { λ t. record { name = t.name; schema = t.schema; versions = t.versions } };
+}
+
+/// The table of that name.
+pub fn find_table(tables: &[Table], name: Name) -> Option<&Table>
+    ensures { option_copied result ≡ find (λ t. same_name t.name name) tables.now }
+{
+    tables.iter().find(|table| is_named(table, name))
+}
+
+/// The place of the table of that name.
+pub fn place_of(tables: &[Table], name: Name) -> Option<usize>
+    ensures { result ≡ position (λ t. same_name t.name name) tables.now }
+{
+    tables.iter().position(|table| is_named(table, name))
+}
+
+fn is_named(table: &Table, name: Name) -> bool
+    ensures { result ≡ same_name table.now.name name }
+{
+    table.name == name
+}
+
+impl Table {
+    /// A table equal to this one.
+    pub fn copy(&self, alloc: Global) -> Result<Table, NoMemory>
+        ensures { IfOk result (λ table. table ≡ self.now) }
+    {
+        Ok(Table {
+            name: self.name,
+            schema: self.schema.copy(alloc)?,
+            versions: self.versions.copy(alloc)?,
+        })
+    }
+}
+
+/// Copies tables.
+pub fn copy_tables(alloc: Global, tables: &[Table]) -> Result<Vec<Table>, NoMemory>
+    ensures { IfOk result (λ copy. copy.items ≡ tables.now) }
+{
+    let mut copy = Vec::new(alloc);
+    for table in tables {
+        copy.push(table.copy(alloc)?)?;
+    }
+    Ok(copy)
+}

@@ -1,0 +1,9 @@
+pub mod CutLemmas
+pub mod IdsLemmas
+pub mod PlacesLemmas
+pub mod OverlapLemmas
+pub mod SearchLemmas
+pub mod ClaimLemmas
+pub mod PassesLemmas
+pub mod VerdictLemmas
+pub mod OneLemmas

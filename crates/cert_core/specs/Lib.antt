@@ -1,0 +1,6 @@
+pub mod Cut
+pub mod Claim
+pub mod Ids
+pub mod Places
+pub mod Verdict
+pub mod Passes

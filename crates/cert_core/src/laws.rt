@@ -1,0 +1,17 @@
+ghost use Rattle.std.specs.Prelude.{◌≡◌, ℕ, List};
+ghost use Rattle.dip_core.specs.declared.item.Item.{Item};
+ghost use Rattle.dip_core.specs.Item.{IdsRise};
+ghost use Rattle.dip_core.specs.Division.{IsLeast};
+ghost use Rattle.cert_core.specs.declared.verdict.Certificate.{Certificate};
+ghost use Rattle.cert_core.specs.declared.verdict.Verdict.{Verdict};
+ghost use Rattle.cert_core.specs.Verdict.{IsVerdict, IsCertified};
+
+/// The law by which Yes proves a division to be least: what is certified has the least number of parts.
+pub fn certified_division_is_least()
+    ensures { (items : List Item) (claim : List (List ℕ)) (certificate : Certificate) → IsCertified items claim certificate → IsLeast items certificate.parts }
+{}
+
+/// Of items whose ids rise, a claim and a certificate, one verdict at most is the first that applies.
+pub fn verdict_is_one()
+    ensures { (items : List Item) (claim : List (List ℕ)) (certificate : Certificate) (one other : Verdict) → IdsRise items → IsVerdict items claim certificate one → IsVerdict items claim certificate other → one ≡ other }
+{}

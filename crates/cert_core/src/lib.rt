@@ -1,0 +1,18 @@
+#![tactic(auto)]
+
+//! Checks that a claimed division of items is one, and that its certificate shows it to be least,
+//! whoever made them.
+
+mod check;
+mod claim;
+mod laws;
+mod marks;
+mod overlap;
+mod places;
+mod verdict;
+
+pub use check::check_division;
+pub use claim::Claim;
+pub use laws::{certified_division_is_least, verdict_is_one};
+pub use period_core::NoMemory;
+pub use verdict::{Certificate, Verdict};

@@ -1,0 +1,34 @@
+ghost use Rattle.std.specs.Prelude.{◌≡◌, ◌≢◌, ℕ, ◌<◌, [], length, vec_len, MatchOption, IfOk};
+ghost use Rattle.dip_core.specs.Item.{IdsRise};
+ghost use Rattle.cert_core.specs.Places.{id_at, ArePlaces};
+ghost use Rattle.cert_core.specs.Verdict.{IsUnknown};
+
+use crate::NoMemory;
+use dip_core::Item;
+
+// The place of the item that has the id.
+fn place_of(items: &[Item], id: u64) -> Option<usize>
+    requires { IdsRise items.now }
+    ensures { MatchOption result ((p : ℕ) → p < length items.now → id_at items.now p ≢ id) (λ p. (p < length items.now) × (id_at items.now p ≡ id)) }
+{
+    items.binary_search_by_key(&id, |item| item.id).ok()
+}
+
+// Finds the place of each id's item, and answers the first id that no item has.
+pub fn find_places(
+    items: &[Item],
+    ids: &[u64],
+    places: &mut Vec<usize>,
+) -> Result<Option<u64>, NoMemory>
+    requires rise { IdsRise items.now }
+    requires empty { places.old.items ≡ [] }
+    ensures { IfOk result (λ unknown. MatchOption unknown (ArePlaces items.now ids.now places.new.items) (IsUnknown items.now ids.now)) }
+{
+    for id in ids {
+        let Some(place) = place_of(items, *id) else {
+            return Ok(Some(*id));
+        };
+        places.push(place)?;
+    }
+    Ok(None)
+}

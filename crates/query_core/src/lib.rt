@@ -1,0 +1,10 @@
+#![tactic(auto)]
+
+//! Queries over the rows of tables: what held on a day, and the division of a table's rows.
+
+mod query;
+mod side;
+
+pub use period_core::NoMemory;
+pub use query::{at, dip};
+pub use side::Side;

@@ -1,0 +1,7 @@
+pub mod NumberLemmas
+pub mod NameLemmas
+pub mod TextLemmas
+pub mod FitsLemmas
+pub mod ReadingLemmas
+pub mod SchemaLemmas
+pub mod PeriodLemmas

@@ -1,0 +1,22 @@
+#![tactic(auto)]
+
+//! Names, values, schemas and rows, and how they are read from bytes.
+
+mod draft;
+mod name;
+mod number;
+mod reading;
+mod row;
+mod schema;
+mod text;
+mod value;
+
+pub use draft::{Draft, Drafts};
+pub use name::{BadName, Name};
+pub use number::{BadNumber, read_number};
+pub use period_core::NoMemory;
+pub use reading::{Field, RowRefused};
+pub use row::{Row, RowList};
+pub use schema::{Column, Schema, SchemaRefused};
+pub use text::{Text, TextRefused};
+pub use value::{Kind, Value, ValueRefused, Values};

@@ -1,0 +1,120 @@
+ghost use Rattle.std.specs.Prelude.{◌≡◌, ◌&&◌, ◌≤◌, IsTrue, ◌==◌, length, nat_eq, not, position};
+ghost use Rattle.std.specs.List.{list_all};
+ghost use Rattle.std.specs.Result.{result_ok};
+ghost use Rattle.std.specs.Cmp.{partial_equiv_from_equiv};
+ghost use Rattle.std.specs.Cmp.Lexicographic.{nat_list_eq_equiv, pointwise};
+ghost use Rattle.row_core.specs.Name.{is_letter, is_name, is_name_byte, is_reserved, name_of, padded, starts_with_letter};
+
+use std::marker::Model;
+
+/// The most bytes of a name.
+const MAX_LEN: usize = 32;
+
+/// What a script has at a place where a name may stand.
+const RESERVED: [&[u8]; 6] = [b"asof", b"by", b"key", b"on", b"set", b"where"];
+
+/// A name of a table or a column: 1 to 32 bytes of `a` to `z`, `0` to `9` and `_`, the first a
+/// letter, and no reserved word. Contracts see its text.
+#[derive(Clone, Copy, Debug)]
+pub struct Name {
+    // Zeros stand behind the text.
+    bytes: [u8; 32],
+}
+
+impl Model for Name {
+    ghost use Rattle.std.specs.Prelude.{ℕ, List, IsTrue, ◌≡◌};
+    ghost use Rattle.std.proofs.Common.{ap};
+    ghost use Rattle.row_core.specs.Name.{is_name, padded, unpadded};
+
+    ghost Value = { List ℕ };
+
+    ghost view = { λ name. unpadded name.bytes };
+
+    ghost invariant = { λ name. IsTrue (is_name (unpadded name.bytes)) × (padded (unpadded name.bytes) ≡ name.bytes) };
+
+    ghost inverse = { λ text. record { bytes = padded text } };
+
+    ghost inverse_ok = { λ name h. ap (λ bytes. record { bytes = bytes }) h.1 };
+}
+
+/// The bytes are no name.
+#[derive(Clone, Copy, Debug, PartialEq, Eq)]
+pub struct BadName;
+
+impl Name {
+    /// The name with that text. The reserved words `asof`, `by`, `key`, `on`, `set` and `where`
+    /// are no names.
+    pub fn parse(text: &[u8]) -> Result<Name, BadName>
+        ensures { result_ok result ≡ name_of text.now }
+    {
+        if !is_name(text) {
+            return Err(BadName);
+        }
+        let mut bytes = [0; MAX_LEN];
+        bytes[..text.len()].copy_from_slice(text);
+        Ok(Name { bytes })
+    }
+
+    /// The name's text.
+    pub fn as_bytes(&self) -> &[u8]
+        ensures text { result.now ≡ self.now }
+        ensures name { IsTrue (is_name result.now) }
+    {
+        let len = first_zero(&self.bytes).unwrap_or(MAX_LEN);
+        &self.bytes[..len]
+    }
+}
+
+impl PartialEq for Name {
+    ghost eq = { λ a b. pointwise nat_eq a b };
+
+    ghost laws = { partial_equiv_from_equiv nat_list_eq_equiv };
+
+    fn eq(&self, other: &Name) -> bool {
+        self.bytes == other.bytes
+    }
+}
+
+impl Eq for Name {
+    ghost laws = { nat_list_eq_equiv };
+}
+
+fn is_name(text: &[u8]) -> bool
+    ensures { result ≡ is_name text.now }
+{
+    starts_with_letter(text) && text.len() <= MAX_LEN && are_name_bytes(text) && !is_reserved(text)
+}
+
+fn starts_with_letter(text: &[u8]) -> bool
+    ensures { result ≡ starts_with_letter text.now }
+{
+    match text {
+        [first, ..] => first.is_ascii_lowercase(),
+        [] => false,
+    }
+}
+
+fn are_name_bytes(text: &[u8]) -> bool
+    ensures { result ≡ list_all is_name_byte text.now }
+{
+    text.iter().all(|byte| is_name_byte(*byte))
+}
+
+fn is_name_byte(byte: u8) -> bool
+    ensures { result ≡ is_name_byte byte }
+{
+    byte.is_ascii_lowercase() || byte.is_ascii_digit() || byte == b'_'
+}
+
+fn is_reserved(text: &[u8]) -> bool
+    ensures { result ≡ is_reserved text.now }
+{
+    RESERVED.contains(&text)
+}
+
+// The place of the first zero.
+fn first_zero(bytes: &[u8]) -> Option<usize>
+    ensures { result ≡ position (λ byte. byte == 0) bytes.now }
+{
+    bytes.iter().position(|byte| *byte == 0)
+}

@@ -1,0 +1,185 @@
+ghost use Rattle.std.specs.Prelude.{◌≡◌, ◌≢◌, ◌≤◌, length, map, IfOk, MatchResult};
+ghost use Rattle.std.specs.Result.{result_err};
+ghost use Rattle.row_core.specs.Refusals.{IsAnswerUnless};
+ghost use Rattle.row_core.specs.Reading.{period_of, row_of, values_of};
+
+use crate::NoMemory;
+use crate::draft::Draft;
+use crate::schema::{Column, Schema};
+use crate::value::{Value, ValueRefused, Values};
+use period_core::{BadPeriod, BadPoint, Period, Point};
+use std::alloc::Global;
+use std::convert::AsSlice;
+use std::marker::Model;
+
+/// The bytes of a record's field.
+#[derive(Debug, Drop)]
+pub struct Field {
+    bytes: Vec<u8>,
+}
+
+impl Model for Field {
+    ghost use Rattle.std.specs.Prelude.{ℕ, List};
+
+    ghost Value = { List ℕ };
+
+    ghost view = { λ f. f.bytes.items };
+}
+
+impl Field {
+    /// A field of those bytes.
+    pub fn new(alloc: Global, bytes: &[u8]) -> Result<Field, NoMemory>
+        ensures { IfOk result (λ field. field ≡ bytes.now) }
+    {
+        Ok(Field {
+            bytes: Vec::from_slice(alloc, bytes)?,
+        })
+    }
+}
+
+impl AsSlice<u8> for Field {
+    ghost items = { λ field. field };
+
+    fn as_slice(&self) -> &[u8] {
+        &self.bytes
+    }
+}
+
+/// Why a record's fields are no row, in the order of the tests.
+#[derive(Clone, Copy, Debug, PartialEq, Eq)]
+pub enum RowRefused {
+    /// There are not two fields more than columns.
+    WrongWidth,
+    /// The first or the second field is no date.
+    BadPoint,
+    /// The first date is not before the second.
+    BadPeriod,
+    /// The field of a number column is not what is printed of a number of 64 bits.
+    BadNumber,
+    /// The field of a text column has more than 4,096 bytes.
+    TooLong,
+    /// It is no UTF-8.
+    BadUtf8,
+    NoMemory,
+}
+
+impl From<NoMemory> for RowRefused {
+    ghost use Rattle.std.specs.Prelude.{◌≡◌};
+    ghost use Rattle.row_core.specs.declared.reading.RowRefused.TheVariants as refused;
+
+    ghost from_gives = { λ _ e. e ≡ refused.NoMemory };
+
+    fn from(_error: NoMemory) -> RowRefused {
+        RowRefused::NoMemory
+    }
+}
+
+impl From<BadPoint> for RowRefused {
+    ghost use Rattle.std.specs.Prelude.{◌≡◌};
+    ghost use Rattle.row_core.specs.declared.reading.RowRefused.TheVariants as refused;
+
+    ghost from_gives = { λ _ e. e ≡ refused.BadPoint };
+
+    fn from(_error: BadPoint) -> RowRefused {
+        RowRefused::BadPoint
+    }
+}
+
+impl From<BadPeriod> for RowRefused {
+    ghost use Rattle.std.specs.Prelude.{◌≡◌};
+    ghost use Rattle.row_core.specs.declared.reading.RowRefused.TheVariants as refused;
+
+    ghost from_gives = { λ _ e. e ≡ refused.BadPeriod };
+
+    fn from(_error: BadPeriod) -> RowRefused {
+        RowRefused::BadPeriod
+    }
+}
+
+impl From<ValueRefused> for RowRefused {
+    ghost use Rattle.std.specs.Prelude.{◌≡◌};
+    ghost use Rattle.row_core.specs.Reading.{refusal_of_value};
+
+    ghost from_gives = { λ value e. e ≡ refusal_of_value value };
+
+    fn from(error: ValueRefused) -> RowRefused {
+        match error {
+            ValueRefused::BadNumber => RowRefused::BadNumber,
+            ValueRefused::TooLong => RowRefused::TooLong,
+            ValueRefused::BadUtf8 => RowRefused::BadUtf8,
+            ValueRefused::NoMemory => RowRefused::NoMemory,
+        }
+    }
+}
+
+impl Schema {
+    /// The row of the fields: two dates, and one field for each column. Want of memory is
+    /// answered only where no field is refused.
+    pub fn read_row<F: AsSlice<u8>>(&self, alloc: Global, fields: &[F]) -> Result<Draft, RowRefused>
+        ensures { IsAnswerUnless result RowRefused.NoMemory (row_of self.now (map F.items fields.now)) }
+    {
+        let columns = self.as_slice();
+        if fields.len() != columns.len() + 2 {
+            return Err(RowRefused::WrongWidth);
+        }
+        let period = read_period(fields[0].as_slice(), fields[1].as_slice())?;
+        let values = read_values(alloc, columns, &fields[2..])?;
+        Ok(Draft { period, values })
+    }
+}
+
+// The period of two dates.
+fn read_period(from: &[u8], to: &[u8]) -> Result<Period, RowRefused>
+    ensures { result ≡ period_of from.now to.now }
+{
+    let from = Point::parse(from)?;
+    let to = Point::parse(to)?;
+    Ok(Period::new(from, to)?)
+}
+
+// The fields' values in their columns. Memory is missed only where no field is refused.
+fn read_values<F: AsSlice<u8>>(
+    alloc: Global,
+    columns: &[Column],
+    fields: &[F],
+) -> Result<Values, RowRefused>
+    requires { length columns.now ≤ length fields.now }
+    ensures { IsAnswerUnless result RowRefused.NoMemory (values_of columns.now (map F.items fields.now)) }
+{
+    match collect_values(alloc, columns, fields) {
+        Err(RowRefused::NoMemory) => {
+            check_values(columns, fields)?;
+            Err(RowRefused::NoMemory)
+        }
+        answer => answer,
+    }
+}
+
+// The fields' values in their columns, or what refuses the first that is refused anything.
+fn collect_values<F: AsSlice<u8>>(
+    alloc: Global,
+    columns: &[Column],
+    fields: &[F],
+) -> Result<Values, RowRefused>
+    requires { length columns.now ≤ length fields.now }
+    ensures { MatchResult result (λ values. values_of columns.now (map F.items fields.now) ≡ Ok values)
+        (λ refusal. (refusal ≢ RowRefused.NoMemory) → values_of columns.now (map F.items fields.now) ≡ Err refusal) }
+{
+    let mut values = Values::new(alloc);
+    for i in 0..columns.len() {
+        let value = Value::read(alloc, columns[i].kind, fields[i].as_slice())?;
+        values.push(value)?;
+    }
+    Ok(values)
+}
+
+// Whether each field is a value of its column.
+fn check_values<F: AsSlice<u8>>(columns: &[Column], fields: &[F]) -> Result<(), RowRefused>
+    requires { length columns.now ≤ length fields.now }
+    ensures { result_err result ≡ result_err (values_of columns.now (map F.items fields.now)) }
+{
+    for i in 0..columns.len() {
+        Value::check(columns[i].kind, fields[i].as_slice())?;
+    }
+    Ok(())
+}

@@ -1,0 +1,221 @@
+ghost use Rattle.std.specs.Prelude.{◌≡◌, ◌++◌, ◌==◌, [], ◌∷◌, length, IfOk, OnOk, OnErr, slice_get, slice_set};
+ghost use Rattle.std.specs.Option.{option_copied};
+ghost use Rattle.std.specs.Result.{result_err};
+ghost use Rattle.row_core.specs.Refusals.{IsAnswerUnless};
+ghost use Rattle.row_core.specs.Value.{kind_of, same_kind, value_of};
+
+use crate::NoMemory;
+use crate::number::{BadNumber, read_number};
+use crate::text::{Text, TextRefused, checked_text};
+use std::alloc::Global;
+use std::marker::Model;
+
+/// The kind of a value, and of a column.
+#[derive(Clone, Copy, Debug, PartialEq, Eq)]
+pub enum Kind {
+    Int,
+    Text,
+}
+
+/// A value. Numbers come before texts, numbers by value and texts by their bytes.
+#[derive(Debug, Drop, PartialEq, Eq, PartialOrd, Ord)]
+pub enum Value {
+    Int(i64),
+    Text(Text),
+}
+
+/// Why bytes are no value of a kind, in the order of the tests.
+#[derive(Clone, Copy, Debug, PartialEq, Eq)]
+pub enum ValueRefused {
+    /// They are not what is printed of a number of 64 bits.
+    BadNumber,
+    /// There are more than 4,096 bytes.
+    TooLong,
+    /// They are no UTF-8.
+    BadUtf8,
+    NoMemory,
+}
+
+impl From<NoMemory> for ValueRefused {
+    ghost use Rattle.std.specs.Prelude.{◌≡◌};
+    ghost use Rattle.row_core.specs.declared.value.ValueRefused.TheVariants as refused;
+
+    ghost from_gives = { λ _ e. e ≡ refused.NoMemory };
+
+    fn from(_error: NoMemory) -> ValueRefused {
+        ValueRefused::NoMemory
+    }
+}
+
+impl From<BadNumber> for ValueRefused {
+    ghost use Rattle.std.specs.Prelude.{◌≡◌};
+    ghost use Rattle.row_core.specs.declared.value.ValueRefused.TheVariants as refused;
+
+    ghost from_gives = { λ _ e. e ≡ refused.BadNumber };
+
+    fn from(_error: BadNumber) -> ValueRefused {
+        ValueRefused::BadNumber
+    }
+}
+
+impl From<TextRefused> for ValueRefused {
+    ghost use Rattle.std.specs.Prelude.{◌≡◌};
+    ghost use Rattle.row_core.specs.Value.{refusal_of_text};
+
+    ghost from_gives = { λ text e. e ≡ refusal_of_text text };
+
+    fn from(error: TextRefused) -> ValueRefused {
+        match error {
+            TextRefused::TooLong => ValueRefused::TooLong,
+            TextRefused::BadUtf8 => ValueRefused::BadUtf8,
+            TextRefused::NoMemory => ValueRefused::NoMemory,
+        }
+    }
+}
+
+impl Value {
+    /// The value of the kind that the bytes write: a number as it is printed, or a text of at
+    /// most 4,096 bytes of UTF-8.
+    pub fn read(alloc: Global, kind: Kind, bytes: &[u8]) -> Result<Value, ValueRefused>
+        ensures { IsAnswerUnless result ValueRefused.NoMemory (value_of kind bytes.now) }
+    {
+        match kind {
+            Kind::Int => Ok(Value::Int(read_number(bytes)?)),
+            Kind::Text => Ok(Value::Text(Text::new(alloc, bytes)?)),
+        }
+    }
+
+    /// Whether the bytes write a value of the kind, which takes no memory.
+    pub(crate) fn check(kind: Kind, bytes: &[u8]) -> Result<(), ValueRefused>
+        ensures { result_err result ≡ result_err (value_of kind bytes.now) }
+    {
+        match kind {
+            Kind::Int => {
+                read_number(bytes)?;
+            }
+            Kind::Text => {
+                checked_text(bytes)?;
+            }
+        }
+        Ok(())
+    }
+
+    /// The kind of the value.
+    pub fn kind(&self) -> Kind
+        ensures { result ≡ kind_of self.now }
+    {
+        match self {
+            Value::Int(_) => Kind::Int,
+            Value::Text(_) => Kind::Text,
+        }
+    }
+
+    /// Whether the value is of the kind.
+    pub fn is_of(&self, kind: Kind) -> bool
+        ensures { result ≡ same_kind kind (kind_of self.now) }
+    {
+        match self {
+            Value::Int(_) => matches!(kind, Kind::Int),
+            Value::Text(_) => matches!(kind, Kind::Text),
+        }
+    }
+
+    /// A value equal to this one.
+    pub fn copy(&self, alloc: Global) -> Result<Value, NoMemory>
+        ensures { IfOk result (λ value. value ≡ self.now) }
+    {
+        match self {
+            Value::Int(number) => Ok(Value::Int(*number)),
+            Value::Text(text) => Ok(Value::Text(text.copy(alloc)?)),
+        }
+    }
+}
+
+/// The values of a row, one for each column.
+#[derive(Debug, Drop)]
+pub struct Values {
+    items: Vec<Value>,
+}
+
+impl Model for Values {
+    ghost use Rattle.std.specs.Prelude.{List};
+    ghost use Rattle.row_core.specs.declared.value.Value.{Value as AnyValue};
+
+    ghost Value = { List AnyValue };
+
+    ghost view = { λ v. v.items.items };
+}
+
+impl Values {
+    /// The empty list.
+    pub fn new(alloc: Global) -> Self
+        ensures { result ≡ [] }
+    {
+        Values {
+            items: Vec::new(alloc),
+        }
+    }
+
+    /// How many there are.
+    pub fn len(&self) -> usize
+        ensures { result ≡ length self.now }
+    {
+        self.items.len()
+    }
+
+    /// Whether there are none.
+    pub fn is_empty(&self) -> bool
+        ensures { result ≡ (length self.now == 0) }
+    {
+        self.items.is_empty()
+    }
+
+    /// The value at that place.
+    pub fn get(&self, i: usize) -> Option<&Value>
+        ensures { option_copied result ≡ slice_get self.now i }
+    {
+        self.items.get(i)
+    }
+
+    /// All values, in their order.
+    pub fn as_slice(&self) -> &[Value]
+        ensures { result.now ≡ self.now }
+    {
+        &self.items
+    }
+
+    /// Adds a value at the end. On `NoMemory` the list is as before, and the value is dropped.
+    pub fn push(&mut self, value: Value) -> Result<(), NoMemory>
+        ensures ok { OnOk result (self.new ≡ self.old ++ value ∷ []) }
+        ensures err { OnErr result (self.new ≡ self.old) }
+    {
+        self.items.push(value)?;
+        Ok(())
+    }
+
+    /// Writes the value at that place, where there is one.
+    pub fn set(&mut self, i: usize, value: Value)
+        ensures { self.new ≡ slice_set self.old i value }
+    {
+        set_value(&mut self.items, i, value);
+    }
+
+    /// A list equal to this one.
+    pub fn copy(&self, alloc: Global) -> Result<Values, NoMemory>
+        ensures { IfOk result (λ values. values ≡ self.now) }
+    {
+        let mut items = Vec::new(alloc);
+        for value in &self.items {
+            items.push(value.copy(alloc)?)?;
+        }
+        Ok(Values { items })
+    }
+}
+
+fn set_value(values: &mut [Value], i: usize, value: Value)
+    ensures { values.new ≡ slice_set values.old i value }
+{
+    if i < values.len() {
+        values[i] = value;
+    }
+}

@@ -1,0 +1,56 @@
+//! The changes that commands ask for.
+ghost use Rattle.std.specs.Prelude.{◌≡◌, ◌+◌, ◌<◌, ◌^◌, length};
+ghost use Rattle.script_core.specs.Failure.{Changes};
+ghost use Rattle.script_core.specs.Lines.{lines_in};
+ghost use Rattle.script_core.specs.State.{change_in, load_in, make_in};
+
+use crate::failure::{Failure, book_failure, refused};
+use crate::lines::Lines;
+use crate::refusal::Refusal;
+use crate::rows::rows_of;
+use book_core::{Book, Change};
+use row_core::{Name, Schema};
+use std::alloc::Global;
+
+/// A script's changes are all made by its one pass.
+const PASS: u32 = 1;
+
+/// Makes a change, which the command of this number asks for.
+fn apply(book: &mut Book, number: u64, change: Change) -> Result<u64, Failure>
+    ensures { Changes (change_in number book.old change) book.old book.new result }
+{
+    match book.apply(PASS, change) {
+        Ok(commit) => Ok(commit),
+        Err(why) => Err(book_failure(number, why)),
+    }
+}
+
+/// Makes a table.
+pub(crate) fn make(
+    book: &mut Book,
+    number: u64,
+    table: Name,
+    schema: Schema,
+) -> Result<u64, Failure>
+    ensures { Changes (make_in number book.old table schema) book.old book.new result }
+{
+    apply(book, number, Change::Make { table, schema })
+}
+
+/// Adds the rows of a load's records to a table, the first of them with the number behind this one.
+pub(crate) fn load(
+    alloc: Global,
+    book: &mut Book,
+    number: u64,
+    table: Name,
+    body: Lines<'_>,
+) -> Result<u64, Failure>
+    requires { number + 1 + length (lines_in body) < 2 ^ 64 }
+    ensures { Changes (load_in number book.old table (lines_in body.entry)) book.old book.new result }
+{
+    let rows = match book.schema(table) {
+        Ok(schema) => rows_of(alloc, schema, body, number + 1)?,
+        Err(_) => return Err(refused(number, Refusal::NoTable)),
+    };
+    apply(book, number, Change::Load { table, rows })
+}
