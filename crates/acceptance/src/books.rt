@@ -147,3 +147,22 @@ fn a_table_has_a_million_rows(rt: HostRuntime) -> Result<(), Fail> {
     assert_eq!(rt; rows.get(999_999).map(|row| row.id), Some(1_000_000));
     Ok(())
 }
+
+#[test]
+fn has_a_million_commits(rt: HostRuntime) -> Result<(), Fail> {
+    let table = Name::parse(b"t")?;
+    let mut book = Book::new(rt.alloc());
+    assert_eq!(rt; book.apply(1, make(rt.alloc(), b"t")?), Ok(1));
+    for _ in 1..1_000_000 {
+        book.apply(1, load(rt.alloc(), 1)?)?;
+    }
+    assert_eq!(rt; book.commits(), 1_000_000);
+    assert_eq!(rt; book.apply(1, load(rt.alloc(), 0)?), Err(BookRefused::Full));
+    assert_eq!(rt;
+        book.apply(1, make(rt.alloc(), b"u")?),
+        Err(BookRefused::Full)
+    );
+    assert_eq!(rt; book.rows_at(1_000_000, table)?.len(), 999_999);
+    assert_eq!(rt; book.rows_at(2, table)?.len(), 1);
+    Ok(())
+}

@@ -1,17 +1,7 @@
 //! Scripts whose tables have columns, and the order in which their faults are told.
 
-use script_core::{Counted, run};
-use std::alloc::Global;
-use std::process::Abort;
+use crate::runs::check;
 use std::test::Fail;
-
-fn check(rt: &(impl Abort + Alloc<A = Global>), script: &[u8], answers: &[u8]) -> Result<(), Fail> {
-    let mut reader = Counted::new(script);
-    let mut writer = Counted::new(Vec::new(rt.alloc()));
-    run(rt.alloc(), &mut reader, &mut writer, 4)?;
-    assert_eq!(rt; writer.into_inner().as_slice(), answers);
-    Ok(())
-}
 
 #[test]
 fn lists_rows(rt: HostRuntime) -> Result<(), Fail> {

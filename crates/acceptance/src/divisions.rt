@@ -11,8 +11,8 @@ use std::cmp::Ordering;
 use std::process::Abort;
 use std::test::Fail;
 
-// A row of January 2024, by the days of its start and its end.
-fn item(rt: &impl Abort, id: u64, from: &[u8; 2], to: &[u8; 2]) -> Item {
+/// A row of January 2024, by the days of its start and its end.
+pub fn item(rt: &impl Abort, id: u64, from: &[u8; 2], to: &[u8; 2]) -> Item {
     let from = Point::parse(&[
         b'2', b'0', b'2', b'4', b'-', b'0', b'1', b'-', from[0], from[1],
     ])

@@ -1,6 +1,6 @@
 -- Lemmas for the functions that change a book.
-use Rattle.std.proofs.Common.{◌≡◌, ℕ, ◌+◌, ◌<◌, ◌≤◌, List, [], ◌∷◌, ◌++◌, length, map, Bool, true, false, ◌&&◌, ◌||◌, not, cond, Option, Some, None, Result, Ok, Err, refl, ap, sym, ◌∙◌, inl, inr, subst, arith, ltb, leb, get_or, set, zero, suc}
-use Rattle.std.specs.Prelude.{IfSome, find, is_none, OnOk, option_map, slice_get, flat_map, position}
+use Rattle.std.proofs.Common.{◌≡◌, ℕ, ◌+◌, ◌<◌, ◌≤◌, List, [], ◌∷◌, ◌++◌, length, map, Bool, true, false, ◌&&◌, ◌||◌, not, cond, Option, Some, None, refl, ap, sym, ◌∙◌, inl, inr, subst, arith, ltb, leb, get_or, set, zero, suc}
+use Rattle.std.specs.Prelude.{IfSome, is_none, option_map, slice_get, flat_map, position}
 use Rattle.std.specs.List.{position_from, AllByRecursion, list_all}
 use Rattle.std.proofs.lemmas.Bool.{or_parts, leb-false, ltb-false, cases_lt}
 use Rattle.std.proofs.lemmas.List.{take-append-le, take_all}
@@ -11,7 +11,7 @@ use Rattle.row_core.specs.declared.draft.Draft.{Draft}
 use Rattle.book_core.specs.State.{State, Table, table_of, refusal_of, tests_of, with_table, changed, numbered, pair_tests}
 use Rattle.row_core.specs.Refusals.{first_of}
 use Rattle.book_core.specs.History.{History, IsLegal, state_after}
-use Rattle.book_core.specs.Kept.{Kept, table_at, at_kept, kept_after, kept_from, closed, HasRoom, AreKept}
+use Rattle.book_core.specs.Kept.{kept_table, Kept, table_at, at_kept, kept_after, kept_from, closed, HasRoom, AreKept}
 use Rattle.book_core.specs.declared.change.Change.{Change}
 use Rattle.book_core.specs.declared.change.Change.TheVariants.{Make, Load, Update, Delete}
 use Rattle.book_core.specs.declared.change.Commit.{Commit}
@@ -20,12 +20,6 @@ use Rattle.book_core.specs.declared.book.BookRefused.{BookRefused}
 use Rattle.book_core.specs.declared.book.BookRefused.TheVariants.{Full, TableExists, TooMany, WrongKind}
 use Rattle.book_core.proofs.Reading.{table_of-map}
 use Rattle.book_core.proofs.Shown.{newest-kept}
-
--- results
-
-pub on_ok_map : {T E : Type 0} (P Q : Type 0) (r : Result T E) → (P → Q) → OnOk r P → OnOk r Q
-on_ok_map P Q (Ok x) f h = f h
-on_ok_map P Q (Err x) f h = tt
 
 -- the new versions
 
@@ -50,9 +44,9 @@ pub record Found (o : Option Kept) (g : (Kept → Kept) → List Kept) (ts : Lis
   pub found : (d : Kept) → o ≡ Some (get_or ts j d)
   pub changes : (f : Kept → Kept) (d : Kept) → g f ≡ set ts j (f (get_or ts j d))
 
-found_from : (name : List ℕ) (ts : List Kept) (i k : ℕ) → position_from (λ t. same_name t.name name) i ts ≡ Some k → (j : ℕ) × (k ≡ i + j) × Found (find (λ t. same_name t.name name) ts) (λ f. at_kept name f ts) ts j
+found_from : (name : List ℕ) (ts : List Kept) (i k : ℕ) → position_from (λ t. same_name t.name name) i ts ≡ Some k → (j : ℕ) × (k ≡ i + j) × Found (kept_table name ts) (λ f. at_kept name f ts) ts j
 found_from name [] i k = λ h. absurd (cc)
-found_from name (t ∷ ts) i k = elim (same_name t.name name) as (λ b. cond b (Some i) (position_from (λ t. same_name t.name name) (i + 1) ts) ≡ Some k → (j : ℕ) × (k ≡ i + j) × Found (cond b (Some t) (find (λ t. same_name t.name name) ts)) (λ f. cond b (f t ∷ ts) (t ∷ at_kept name f ts)) (t ∷ ts) j) [
+found_from name (t ∷ ts) i k = elim (same_name t.name name) as (λ b. cond b (Some i) (position_from (λ t. same_name t.name name) (i + 1) ts) ≡ Some k → (j : ℕ) × (k ≡ i + j) × Found (cond b (Some t) (kept_table name ts)) (λ f. cond b (f t ∷ ts) (t ∷ at_kept name f ts)) (t ∷ ts) j) [
   | true ↦ λ h. (0, (let e : i ≡ k = cc in omega arith), record { in_range = omega arith; found = λ d. refl; changes = λ f d. refl })
   | false ↦ λ h. let r = found_from name ts (i + 1) k h in (suc r.0, omega (arith, r.1), record { in_range = let l = r.2.in_range in omega (arith, l); found = r.2.found; changes = λ f d. ap (λ l. t ∷ l) (r.2.changes f d) })
 ]
@@ -90,7 +84,7 @@ room_in : (n : ℕ) (o : Option Kept) (tests : Table → List (Bool × BookRefus
 room_in n None tests used h = tt
 room_in n (Some t) tests used h = ltb-false 1000000 (used (table_at n t)) (or_parts _ _ (last_of _ (tests (table_at n t)) _ (first_of-none _ h))).1
 
-found_in : (n : ℕ) (s : State) (ts : List Kept) (name : List ℕ) → s ≡ map (table_at n) ts → option_map (table_at n) (find (λ t. same_name t.name name) ts) ≡ table_of s name
+found_in : (n : ℕ) (s : State) (ts : List Kept) (name : List ℕ) → s ≡ map (table_at n) ts → option_map (table_at n) (kept_table name ts) ≡ table_of s name
 found_in n s ts name e = sym (table_of-map n ts name) ∙ ap (λ s. table_of s name) (sym e)
 
 unit_if : {X : Type 0} (o : Option X) → IfSome o (λ x. Unit {0})
@@ -99,18 +93,18 @@ unit_if (Some x) = tt
 
 -- an accepted change has room
 pub room : (n : ℕ) (s : State) (ts : List Kept) (c : Change) → s ≡ map (table_at n) ts → refusal_of n s c ≡ None → HasRoom n c ts
-room n s ts (Make name schema) e h = unit_if (find (λ t. same_name t.name name) ts)
-room n s ts (Load name rows) e h = room_in n (find (λ t. same_name t.name name) ts) (λ t. (not (list_all (λ d. fits t.schema d.values) rows), WrongKind) ∷ []) (λ t. (changed (Load name rows) t).used) (ap (λ o. with_table o (λ t. first_of (tests_of n (Load name rows) t))) (found_in n s ts name e) ∙ h)
-room n s ts (Update name portion sets conds) e h = room_in n (find (λ t. same_name t.name name) ts) (λ t. flat_map (pair_tests t.schema) (sets ++ conds)) (λ t. (changed (Update name portion sets conds) t).used) (ap (λ o. with_table o (λ t. first_of (tests_of n (Update name portion sets conds) t))) (found_in n s ts name e) ∙ h)
-room n s ts (Delete name portion conds) e h = room_in n (find (λ t. same_name t.name name) ts) (λ t. flat_map (pair_tests t.schema) conds) (λ t. (changed (Delete name portion conds) t).used) (ap (λ o. with_table o (λ t. first_of (tests_of n (Delete name portion conds) t))) (found_in n s ts name e) ∙ h)
+room n s ts (Make name schema) e h = unit_if (kept_table name ts)
+room n s ts (Load name rows) e h = room_in n (kept_table name ts) (λ t. (not (list_all (λ d. fits t.schema d.values) rows), WrongKind) ∷ []) (λ t. (changed (Load name rows) t).used) (ap (λ o. with_table o (λ t. first_of (tests_of n (Load name rows) t))) (found_in n s ts name e) ∙ h)
+room n s ts (Update name portion sets conds) e h = room_in n (kept_table name ts) (λ t. flat_map (pair_tests t.schema) (sets ++ conds)) (λ t. (changed (Update name portion sets conds) t).used) (ap (λ o. with_table o (λ t. first_of (tests_of n (Update name portion sets conds) t))) (found_in n s ts name e) ∙ h)
+room n s ts (Delete name portion conds) e h = room_in n (kept_table name ts) (λ t. flat_map (pair_tests t.schema) conds) (λ t. (changed (Delete name portion conds) t).used) (ap (λ o. with_table o (λ t. first_of (tests_of n (Delete name portion conds) t))) (found_in n s ts name e) ∙ h)
 
 -- a place
 
-pub place : (name : List ℕ) (ts : List Kept) (at : ℕ) → position (λ t. same_name t.name name) ts ≡ Some at → Found (find (λ t. same_name t.name name) ts) (λ f. at_kept name f ts) ts at
+pub place : (name : List ℕ) (ts : List Kept) (at : ℕ) → position (λ t. same_name t.name name) ts ≡ Some at → Found (kept_table name ts) (λ f. at_kept name f ts) ts at
 place name ts at e =
     let r = found_from name ts 0 at (sym (position_from-zero (λ t. same_name t.name name) ts) ∙ e) in
     let same : r.0 ≡ at = omega (arith, r.1) in
-    subst (λ j. Found (find (λ t. same_name t.name name) ts) (λ f. at_kept name f ts) ts j) same r.2
+    subst (λ j. Found (kept_table name ts) (λ f. at_kept name f ts) ts j) same r.2
 
 pub at_some : {X : Type 0} (P : X → Type 0) (o : Option X) (x : X) → o ≡ Some x → IfSome o P → P x
 at_some P None x e h = absurd (cc)

@@ -1,6 +1,6 @@
 -- One commit in the tables.
 use Rattle.std.proofs.Common.{◌≡◌, ℕ, ◌+◌, List, [], ◌∷◌, ◌++◌, true, false, cond, Option, Some, None, length, map, get_or, set, refl, ap, sym, ◌∙◌, arith}
-use Rattle.std.specs.Prelude.{find, position, count_by, IfSome}
+use Rattle.std.specs.Prelude.{position, count_by, IfSome}
 use Rattle.std.specs.List.{position_from}
 use Rattle.std.proofs.lemmas.Iterator.Adapters.{position_from-zero}
 use Rattle.row_core.specs.Name.{same_name}
@@ -8,7 +8,7 @@ use Rattle.row_core.specs.declared.draft.Draft.{Draft}
 use Rattle.row_core.specs.declared.row.Row.{Row}
 use Rattle.row_core.specs.declared.schema.Column.{Column}
 use Rattle.book_core.specs.State.{numbered, parts_in, removes}
-use Rattle.book_core.specs.Kept.{IsWellKept, Kept, at_kept, closed, closed_in, kept_after, kept_changed, made, parts_added, rewritten, shown}
+use Rattle.book_core.specs.Kept.{kept_table, IsWellKept, Kept, at_kept, closed, closed_in, kept_after, kept_changed, made, parts_added, rewritten, shown}
 use Rattle.book_core.specs.Open.{current, renewed}
 use Rattle.book_core.specs.declared.change.Change.{Change}
 use Rattle.book_core.specs.declared.change.Change.TheVariants.{Make, Load}
@@ -16,15 +16,15 @@ use Rattle.book_core.proofs.Applying.{absent_from, at_some, map-closed_none, pla
 use Rattle.book_core.proofs.OpenLemmas.{shown-current}
 use Rattle.book_core.proofs.Portions.{count-cons}
 
-find-absent_from : (name : List ℕ) (ts : List Kept) (i : ℕ) → position_from (λ t. same_name t.name name) i ts ≡ None → find (λ t. same_name t.name name) ts ≡ None
+find-absent_from : (name : List ℕ) (ts : List Kept) (i : ℕ) → position_from (λ t. same_name t.name name) i ts ≡ None → kept_table name ts ≡ None
 find-absent_from name [] i = λ h. refl
-find-absent_from name (t ∷ ts) i = elim (same_name t.name name) as (λ b. cond b (Some i) (position_from (λ t. same_name t.name name) (i + 1) ts) ≡ None → cond b (Some t) (find (λ t. same_name t.name name) ts) ≡ None) [
+find-absent_from name (t ∷ ts) i = elim (same_name t.name name) as (λ b. cond b (Some i) (position_from (λ t. same_name t.name name) (i + 1) ts) ≡ None → cond b (Some t) (kept_table name ts) ≡ None) [
   | true ↦ λ h. absurd (cc)
   | false ↦ λ h. find-absent_from name ts (i + 1) h
 ]
 
 -- without a place there is no table
-pub find-absent : (name : List ℕ) (ts : List Kept) → position (λ t. same_name t.name name) ts ≡ None → find (λ t. same_name t.name name) ts ≡ None
+pub find-absent : (name : List ℕ) (ts : List Kept) → position (λ t. same_name t.name name) ts ≡ None → kept_table name ts ≡ None
 find-absent name ts e = find-absent_from name ts 0 (sym (position_from-zero (λ t. same_name t.name name) ts) ∙ e)
 
 -- and nothing changes
@@ -32,12 +32,12 @@ pub at_kept-absent : (name : List ℕ) (f : Kept → Kept) (ts : List Kept) → 
 at_kept-absent name f ts e = sym (absent_from name f ts 0 (sym (position_from-zero (λ t. same_name t.name name) ts) ∙ e))
 
 -- the table at the place is the one that is found
-pub find-place : (name : List ℕ) (ts : List Kept) (at : ℕ) (t : Kept) → position (λ t. same_name t.name name) ts ≡ Some at → t ≡ get_or ts at t → find (λ t. same_name t.name name) ts ≡ Some t
+pub find-place : (name : List ℕ) (ts : List Kept) (at : ℕ) (t : Kept) → position (λ t. same_name t.name name) ts ≡ Some at → t ≡ get_or ts at t → kept_table name ts ≡ Some t
 find-place name ts at t e g = (place name ts at e).found t ∙ ap Some (sym g)
 
 -- what holds of the table of that name
-pub holds-place : (P : Kept → Type 0) (name : List ℕ) (ts : List Kept) (at : ℕ) (t : Kept) → position (λ t. same_name t.name name) ts ≡ Some at → t ≡ get_or ts at t → IfSome (find (λ t. same_name t.name name) ts) P → P t
-holds-place P name ts at t e g h = at_some P (find (λ t. same_name t.name name) ts) t (find-place name ts at t e g) h
+pub holds-place : (P : Kept → Type 0) (name : List ℕ) (ts : List Kept) (at : ℕ) (t : Kept) → position (λ t. same_name t.name name) ts ≡ Some at → t ≡ get_or ts at t → IfSome (kept_table name ts) P → P t
+holds-place P name ts at t e g h = at_some P (kept_table name ts) t (find-place name ts at t e g) h
 
 -- a table that is written in its place
 pub at_kept-place : (name : List ℕ) (f : Kept → Kept) (ts : List Kept) (at : ℕ) (t new : Kept) → position (λ t. same_name t.name name) ts ≡ Some at → t ≡ get_or ts at t → new ≡ f t → set ts at new ≡ at_kept name f ts

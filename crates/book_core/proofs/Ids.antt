@@ -1,6 +1,6 @@
 -- The ids of versions and rows, and the times of versions.
 use Rattle.std.proofs.Common.{◌≡◌, ℕ, ◌+◌, ◌<◌, ◌≤◌, List, [], ◌∷◌, ◌++◌, length, map, Bool, true, false, ◌&&◌, ◌||◌, not, cond, Option, Some, None, refl, ap, sym, ◌∙◌, arith, suc, subst}
-use Rattle.std.specs.Prelude.{filter, count_by, is_none, IfSome, nat_eq, find}
+use Rattle.std.specs.Prelude.{filter, count_by, is_none, IfSome, nat_eq}
 use Rattle.std.specs.List.{cons_option, list_any, AllByRecursion}
 use Rattle.std.proofs.lemmas.Bool.{eq-eqb, ne_eqb}
 use Rattle.std.proofs.lemmas.List.{length-map}
@@ -11,7 +11,7 @@ use Rattle.row_core.specs.declared.row.Row.{Row}
 use Rattle.book_core.specs.State.{numbered, drafts_of, removes}
 use Rattle.book_core.specs.History.{History}
 use Rattle.book_core.specs.Versions.{new_ids}
-use Rattle.book_core.specs.Kept.{Kept, shows, shown, made, closed, kept_changed, at_kept, kept_after, kept_from, IsNumbered, IsTimely, IsWellKept}
+use Rattle.book_core.specs.Kept.{kept_table, Kept, shows, shown, made, closed, kept_changed, at_kept, kept_after, kept_from, IsNumbered, IsTimely, IsWellKept}
 use Rattle.book_core.specs.declared.change.Change.{Change}
 use Rattle.book_core.specs.declared.change.Change.TheVariants.{Make, Load, Update, Delete}
 use Rattle.book_core.specs.declared.version.Version.{Version}
@@ -232,6 +232,6 @@ all_from n ts (c ∷ cs) h = let e : n + 1 + length cs ≡ n + suc (length cs) =
 pub all_well_kept : (h : History) → AllByRecursion (IsWellKept (length h)) (kept_from 0 [] h)
 all_well_kept h = let e : 0 + length h ≡ length h = omega arith in subst (λ m. AllByRecursion (IsWellKept m) (kept_from 0 [] h)) e (all_from 0 [] h tt)
 
-pub found_well : (n : ℕ) (name : List ℕ) (ts : List Kept) → AllByRecursion (IsWellKept n) ts → IfSome (find (λ t. same_name t.name name) ts) (IsWellKept n)
+pub found_well : (n : ℕ) (name : List ℕ) (ts : List Kept) → AllByRecursion (IsWellKept n) ts → IfSome (kept_table name ts) (IsWellKept n)
 found_well n name [] h = tt
-found_well n name (t ∷ ts) h = elim (same_name t.name name) as (λ b. IfSome (cond b (Some t) (find (λ t. same_name t.name name) ts)) (IsWellKept n)) [ true ↦ h.0 | false ↦ found_well n name ts h.1 ]
+found_well n name (t ∷ ts) h = elim (same_name t.name name) as (λ b. IfSome (cond b (Some t) (kept_table name ts)) (IsWellKept n)) [ true ↦ h.0 | false ↦ found_well n name ts h.1 ]

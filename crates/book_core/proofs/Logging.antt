@@ -1,13 +1,13 @@
 -- The log of a history with one more commit.
 use Rattle.std.proofs.Common.{◌≡◌, ℕ, ◌+◌, ◌<◌, ◌≤◌, List, [], ◌∷◌, ◌++◌, length, map, Bool, true, false, not, cond, Option, Some, None, refl, ap, sym, ◌∙◌, arith, suc, leb, length-append}
-use Rattle.std.specs.Prelude.{find, option_map, unwrap_or, IfSome, is_none}
+use Rattle.std.specs.Prelude.{option_map, unwrap_or, IfSome, is_none}
 use Rattle.std.proofs.lemmas.List.{take_all}
 use Rattle.row_core.specs.Name.{same_name}
 use Rattle.row_core.specs.declared.schema.Column.{Column}
 use Rattle.book_core.specs.State.{State, Table, table_named, table_of, rows_of, at_table, after, changed, refusal_of, removes, drafts_of}
 use Rattle.book_core.specs.History.{History, state_after, rows_at}
 use Rattle.book_core.specs.Versions.{new_ids, kind_of, entry_at, entries_from, log_of}
-use Rattle.book_core.specs.Kept.{Kept, IsBook, shown, table_at, kept_from, IsWellKept, added_in, closed_in}
+use Rattle.book_core.specs.Kept.{kept_table, Kept, IsBook, shown, table_at, kept_from, IsWellKept, added_in, closed_in}
 use Rattle.book_core.specs.declared.change.Change.{Change}
 use Rattle.book_core.specs.declared.change.Change.TheVariants.{Make, Load, Update, Delete}
 use Rattle.book_core.specs.declared.change.Commit.{Commit}
@@ -61,19 +61,19 @@ closed_of n c (Some t) w = ids_taken (removes c t.schema) (length t.versions) (s
 
 -- the new entry has those numbers
 
-portion_added : (n : ℕ) (c : Change) (name : List ℕ) (s : State) (ts : List Kept) → s ≡ map (table_at n) ts → IfSome (find (λ t. same_name t.name name) ts) (IsWellKept n) → new_ids (rows_of (at_table name (changed c) s) name) (rows_of s name) ≡ added_in n c (find (λ t. same_name t.name name) ts)
+portion_added : (n : ℕ) (c : Change) (name : List ℕ) (s : State) (ts : List Kept) → s ≡ map (table_at n) ts → IfSome (kept_table name ts) (IsWellKept n) → new_ids (rows_of (at_table name (changed c) s) name) (rows_of s name) ≡ added_in n c (kept_table name ts)
 portion_added n c name s ts e w =
     let there = ap (λ s. table_of s name) e ∙ table_of-map n ts name in
     ap (λ rows. new_ids rows (rows_of s name)) (rows-at_table name c s)
     ∙ ap (λ o. new_ids (unwrap_or (option_map (λ t. (changed c t).rows) o) []) (unwrap_or (option_map (λ t. t.rows) o) [])) there
-    ∙ added_of n c (find (λ t. same_name t.name name) ts) w
+    ∙ added_of n c (kept_table name ts) w
 
-portion_closed : (n : ℕ) (c : Change) (name : List ℕ) (s : State) (ts : List Kept) → s ≡ map (table_at n) ts → IfSome (find (λ t. same_name t.name name) ts) (IsWellKept n) → new_ids (rows_of s name) (rows_of (at_table name (changed c) s) name) ≡ closed_in n c (find (λ t. same_name t.name name) ts)
+portion_closed : (n : ℕ) (c : Change) (name : List ℕ) (s : State) (ts : List Kept) → s ≡ map (table_at n) ts → IfSome (kept_table name ts) (IsWellKept n) → new_ids (rows_of s name) (rows_of (at_table name (changed c) s) name) ≡ closed_in n c (kept_table name ts)
 portion_closed n c name s ts e w =
     let there = ap (λ s. table_of s name) e ∙ table_of-map n ts name in
     ap (λ rows. new_ids (rows_of s name) rows) (rows-at_table name c s)
     ∙ ap (λ o. new_ids (unwrap_or (option_map (λ t. t.rows) o) []) (unwrap_or (option_map (λ t. (changed c t).rows) o) [])) there
-    ∙ closed_of n c (find (λ t. same_name t.name name) ts) w
+    ∙ closed_of n c (kept_table name ts) w
 
 -- a table that was not there has no rows before and after it is made
 
@@ -98,12 +98,12 @@ nothing_found : (n : ℕ) (c : Change) (o : Option Kept) (asked : Option Table) 
 nothing_found n c None asked h e = (refl, refl)
 nothing_found n c (Some t) asked h e = absurd (let k : is_none (Some (table_at n t)) ≡ true = ap is_none (sym e) ∙ h in cc)
 
-entry_added : (n : ℕ) (s : State) (ts : List Kept) (c : Change) → s ≡ map (table_at n) ts → refusal_of n s c ≡ None → IfSome (find (λ t. same_name t.name (table_named c)) ts) (IsWellKept n) → (new_ids (rows_of (after s c) (table_named c)) (rows_of s (table_named c)) ≡ added_in n c (find (λ t. same_name t.name (table_named c)) ts)) × (new_ids (rows_of s (table_named c)) (rows_of (after s c) (table_named c)) ≡ closed_in n c (find (λ t. same_name t.name (table_named c)) ts))
+entry_added : (n : ℕ) (s : State) (ts : List Kept) (c : Change) → s ≡ map (table_at n) ts → refusal_of n s c ≡ None → IfSome (kept_table (table_named c) ts) (IsWellKept n) → (new_ids (rows_of (after s c) (table_named c)) (rows_of s (table_named c)) ≡ added_in n c (kept_table (table_named c) ts)) × (new_ids (rows_of s (table_named c)) (rows_of (after s c) (table_named c)) ≡ closed_in n c (kept_table (table_named c) ts))
 entry_added n s ts (Make name schema) e r w =
     let gone = table_absent n s name schema r in
     let before = no_rows (table_of s name) gone in
     let later = rows-made name schema s ∙ before in
-    let none_there = nothing_found n (Make name schema) (find (λ t. same_name t.name name) ts) (table_of s name) gone (ap (λ s. table_of s name) e ∙ table_of-map n ts name) in (
+    let none_there = nothing_found n (Make name schema) (kept_table name ts) (table_of s name) gone (ap (λ s. table_of s name) e ∙ table_of-map n ts name) in (
       ap (λ xs. new_ids xs (rows_of s name)) later ∙ sym none_there.0,
       ap (λ xs. new_ids xs (rows_of (after s (Make name schema)) name)) before ∙ sym none_there.1,
     )
@@ -125,14 +125,14 @@ rows_at-old h c name =
     ∙ ap (λ l. rows_of (state_after l) name) (take_all (length h) h (omega arith))
 
 abbrev pub new_entry : ℕ → ℕ → Change → List Kept → Entry
-new_entry n by c ts = record { number = n + 1; by = by; kind = kind_of c; table = table_named c; added = added_in n c (find (λ t. same_name t.name (table_named c)) ts); closed = closed_in n c (find (λ t. same_name t.name (table_named c)) ts) }
+new_entry n by c ts = record { number = n + 1; by = by; kind = kind_of c; table = table_named c; added = added_in n c (kept_table (table_named c) ts); closed = closed_in n c (kept_table (table_named c) ts) }
 
 -- an entry of those counts
-pub entry_same : (n m by added took : ℕ) (c : Change) (ts : List Kept) (entry : Entry) → n ≡ m → added ≡ added_in n c (find (λ t. same_name t.name (table_named c)) ts) → took ≡ closed_in n c (find (λ t. same_name t.name (table_named c)) ts)
+pub entry_same : (n m by added took : ℕ) (c : Change) (ts : List Kept) (entry : Entry) → n ≡ m → added ≡ added_in n c (kept_table (table_named c) ts) → took ≡ closed_in n c (kept_table (table_named c) ts)
     → entry ≡ record { number = n + 1; by = by; kind = kind_of c; table = table_named c; added = added; closed = took } → entry ≡ new_entry m by c ts
 entry_same n m by added took c ts entry e a b h =
     h ∙ ap (λ k. record { number = n + 1; by = by; kind = kind_of c; table = table_named c; added = k; closed = took }) a
-    ∙ ap (λ k. record { number = n + 1; by = by; kind = kind_of c; table = table_named c; added = added_in n c (find (λ t. same_name t.name (table_named c)) ts); closed = k }) b
+    ∙ ap (λ k. record { number = n + 1; by = by; kind = kind_of c; table = table_named c; added = added_in n c (kept_table (table_named c) ts); closed = k }) b
     ∙ ap (λ k. new_entry k by c ts) e
 
 -- the log with the new entry
@@ -142,13 +142,13 @@ log-push h now new ts log logged c k v r n l =
     let name = table_named c.change in
     let s = newest_of h h ts k.kept refl in
     let well = found_well (length h) name (kept_from 0 [] h) (all_well_kept h) in
-    let there : IfSome (find (λ t. same_name t.name name) ts) (IsWellKept (length h)) = rw k.kept.tables well in
+    let there : IfSome (kept_table name ts) (IsWellKept (length h)) = rw k.kept.tables well in
     let both = entry_added (length h) (state_after h) ts c.change s accepted there in
     let was = ap (λ xs. new_ids xs (rows_at (h ++ c ∷ []) (length h) name)) (rows_at-new h c name) ∙ ap (λ xs. new_ids (rows_of (after (state_after h) c.change) name) xs) (rows_at-old h c name) ∙ both.0 in
     let went = ap (λ xs. new_ids xs (rows_at (h ++ c ∷ []) (length h + 1) name)) (rows_at-old h c name) ∙ ap (λ xs. new_ids (rows_of (state_after h) name) xs) (rows_at-new h c name) ∙ both.1 in
     l
     ∙ ap (λ old. old ++ new_entry (length h) c.by c.change ts ∷ []) k.logged
-    ∙ ap (λ k. log_of h ++ record { number = length h + 1; by = c.by; kind = kind_of c.change; table = name; added = k; closed = closed_in (length h) c.change (find (λ t. same_name t.name name) ts) } ∷ []) (sym was)
+    ∙ ap (λ k. log_of h ++ record { number = length h + 1; by = c.by; kind = kind_of c.change; table = name; added = k; closed = closed_in (length h) c.change (kept_table name ts) } ∷ []) (sym was)
     ∙ ap (λ k. log_of h ++ record { number = length h + 1; by = c.by; kind = kind_of c.change; table = name; added = new_ids (rows_at (h ++ c ∷ []) (length h + 1) name) (rows_at (h ++ c ∷ []) (length h) name); closed = k } ∷ []) (sym went)
     ∙ sym (log_of-push h c)
     ∙ ap log_of (sym n)

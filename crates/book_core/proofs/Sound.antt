@@ -1,6 +1,6 @@
 -- Rows fit their table's columns and are at most a million, since each change was accepted.
 use Rattle.std.proofs.Common.{◌≡◌, ℕ, ◌+◌, ◌≤◌, List, [], ◌∷◌, ◌++◌, length, map, Bool, true, false, ◌&&◌, ◌||◌, not, cond, Option, Some, None, refl, ap, ◌∙◌, arith, zero, suc, take, get_or, leb, ltb}
-use Rattle.std.specs.Prelude.{All, IfSome, IsTrue, filter, find, flat_map, fold, is_none, option_map, option_and_then, slice_get, slice_set, unwrap_or}
+use Rattle.std.specs.Prelude.{All, IfSome, IsTrue, filter, flat_map, fold, is_none, option_map, option_and_then, slice_get, slice_set, unwrap_or}
 use Rattle.std.specs.List.{AllByRecursion, cons_option, list_all}
 use Rattle.std.proofs.lemmas.Bool.{ltb-false, or_parts}
 use Rattle.std.proofs.lemmas.List.Elements.{All-from_recursion}
@@ -18,7 +18,7 @@ use Rattle.row_core.specs.declared.schema.Column.{Column}
 use Rattle.row_core.specs.declared.value.Value.{Value}
 use Rattle.book_core.specs.State.{Pair, State, Table, after, changed, drafts_of, full_tests, is_of_kind, is_touched, numbered, pair_tests, part, parts_of, refusal_of, removes, set_at, table_of, tests_of, with_table}
 use Rattle.book_core.specs.History.{History, IsLegal, schema_in, state_after}
-use Rattle.book_core.specs.Kept.{IsSound, IsTableOf, Kept, at_kept, closed, kept_after, kept_changed, kept_from, made, shown, shows, table_at}
+use Rattle.book_core.specs.Kept.{kept_table, IsSound, IsTableOf, Kept, at_kept, closed, kept_after, kept_changed, kept_from, made, shown, shows, table_at}
 use Rattle.book_core.specs.declared.book.BookRefused.{BookRefused}
 use Rattle.book_core.specs.declared.book.BookRefused.TheVariants.{Full, WrongKind}
 use Rattle.book_core.specs.declared.change.Change.{Change}
@@ -224,9 +224,9 @@ few_commits (c ∷ cs) legal =
 
 -- what is shown of a sound table
 
-pub found_sound : (name : List ℕ) (ts : List Kept) → AllByRecursion IsSound ts → IfSome (find (λ t. same_name t.name name) ts) IsSound
+pub found_sound : (name : List ℕ) (ts : List Kept) → AllByRecursion IsSound ts → IfSome (kept_table name ts) IsSound
 found_sound name [] h = tt
-found_sound name (t ∷ ts) h = elim (same_name t.name name) as (λ b. IfSome (cond b (Some t) (find (λ t. same_name t.name name) ts)) IsSound) [ true ↦ h.0 | false ↦ found_sound name ts h.1 ]
+found_sound name (t ∷ ts) h = elim (same_name t.name name) as (λ b. IfSome (cond b (Some t) (kept_table name ts)) IsSound) [ true ↦ h.0 | false ↦ found_sound name ts h.1 ]
 
 few_shown : (n : ℕ) (vs : List Version) → length (shown n vs) ≤ length vs
 few_shown n [] = omega arith

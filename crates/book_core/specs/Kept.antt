@@ -19,6 +19,10 @@ pub record Kept : Type 0 where
   pub schema : List Column
   pub versions : List Version
 
+-- the table of that name, as it is kept
+abbrev pub kept_table : List ℕ → List Kept → Option Kept
+kept_table name ts = find (λ t. same_name t.name name) ts
+
 -- the end of a system period lies behind n
 abbrev pub is_behind : Option ℕ → ℕ → Bool
 is_behind None n = true
@@ -113,7 +117,7 @@ HasRoomIn n (Delete table portion conds) t = (changed (Delete table portion cond
 
 -- so will the table of the change
 abbrev pub HasRoom : ℕ → Change → List Kept → Type 0
-HasRoom n c ts = IfSome (find (λ t. same_name t.name (table_named c)) ts) (HasRoomIn n c)
+HasRoom n c ts = IfSome (kept_table (table_named c) ts) (HasRoomIn n c)
 
 -- the versions' ids are those that follow k
 abbrev pub IsNumbered : ℕ → List Version → Type 0

@@ -1,11 +1,12 @@
-ghost use Rattle.std.specs.Prelude.{◌≡◌, ◌+◌, ◌≤◌, ◌<◌, ◌++◌, ◌||◌, length, find, flat_map, IfSome, IfOk, OnErr, OnOk, nat_le, nat_lt};
+//! Tests a change of a table, and makes it.
+
+ghost use Rattle.std.specs.Prelude.{◌≡◌, ◌+◌, ◌≤◌, ◌<◌, ◌++◌, ◌||◌, length, flat_map, IfSome, IfOk, OnErr, OnOk, nat_le, nat_lt};
 ghost use Rattle.std.specs.List.{list_all, AllByRecursion};
 ghost use Rattle.std.specs.Option.{option_map_or};
-ghost use Rattle.row_core.specs.Name.{same_name};
 ghost use Rattle.row_core.specs.Refusals.{first_of};
 ghost use Rattle.row_core.specs.Schema.{fits};
 ghost use Rattle.book_core.specs.State.{tests_of, pair_tests, full_tests, parts_in, numbered, table_named};
-ghost use Rattle.book_core.specs.Kept.{table_at, shown, made, at_kept, kept_after, added_in, closed_in, parts_added, rewritten, HasRoom, IsTimely, IsWellKept};
+ghost use Rattle.book_core.specs.Kept.{kept_table, table_at, shown, made, at_kept, kept_after, added_in, closed_in, parts_added, rewritten, HasRoom, IsTimely, IsWellKept};
 
 use crate::book::BookRefused;
 use crate::change::Change;
@@ -58,7 +59,7 @@ pub fn refusal_in(table: &Table, commits: usize, change: &Change) -> Option<Book
     }
 }
 
-// What refuses a change of a portion, once its settings are allowed.
+/// What refuses a change of a portion, once its settings are allowed.
 fn portion_refusal(
     schema: &Schema,
     versions: &Versions,
@@ -67,7 +68,9 @@ fn portion_refusal(
     conds: &[(Name, Value)],
 ) -> Option<BookRefused>
     requires { AllByRecursion (IsTimely commits) versions.now }
-    ensures { result ≡ first_of (flat_map (pair_tests schema.now) conds.now ++ full_tests commits (length versions.now + length (parts_in change.now schema.now (shown commits versions.now)))) }
+    ensures { result ≡ first_of (flat_map (pair_tests schema.now) conds.now
+        ++ full_tests commits (length versions.now
+        + length (parts_in change.now schema.now (shown commits versions.now)))) }
 {
     if let Some(refused) = pairs_refusal(schema, conds) {
         return Some(refused);
@@ -79,10 +82,11 @@ fn portion_refusal(
     }
 }
 
-// The parts are counted only where the commit and the versions there leave room for some.
+/// Whether the parts of a change leave no room. In a table without room none are counted.
 fn is_full_by_parts(schema: &Schema, versions: &Versions, commits: usize, change: &Change) -> bool
     requires { AllByRecursion (IsTimely commits) versions.now }
-    ensures { result ≡ (nat_le 1000000 commits || nat_lt 1000000 (length versions.now + length (parts_in change.now schema.now (shown commits versions.now)))) }
+    ensures { result ≡ (nat_le 1000000 commits || nat_lt 1000000 (length versions.now
+        + length (parts_in change.now schema.now (shown commits versions.now)))) }
 {
     if versions.len() > LIMIT {
         return true;
@@ -91,6 +95,7 @@ fn is_full_by_parts(schema: &Schema, versions: &Versions, commits: usize, change
     is_full(commits, versions.len(), more)
 }
 
+/// Whether each row has one value of its kind for each column.
 fn all_fit(schema: &Schema, rows: &[Draft]) -> bool
     ensures { result ≡ list_all (λ d. fits schema.now d.values) rows.now }
 {
@@ -113,10 +118,13 @@ pub fn enact(
 ) -> Result<Counts, NoMemory>
     requires few { commits < 1000000 }
     requires room { HasRoom commits change.now tables.old.items }
-    requires well { IfSome (find (λ t. same_name t.name (table_named change.now)) tables.old.items) (IsWellKept commits) }
+    requires well { IfSome (kept_table (table_named change.now) tables.old.items)
+        (IsWellKept commits) }
     ensures ok { OnOk result (tables.new.items ≡ kept_after commits tables.old.items change.now) }
-    ensures added { IfOk result (λ counts. counts.added ≡ added_in commits change.now (find (λ t. same_name t.name (table_named change.now)) tables.old.items)) }
-    ensures closed { IfOk result (λ counts. counts.closed ≡ closed_in commits change.now (find (λ t. same_name t.name (table_named change.now)) tables.old.items)) }
+    ensures added { IfOk result (λ counts. counts.added
+        ≡ added_in commits change.now (kept_table (table_named change.now) tables.old.items)) }
+    ensures closed { IfOk result (λ counts. counts.closed
+        ≡ closed_in commits change.now (kept_table (table_named change.now) tables.old.items)) }
     ensures err { OnErr result (tables.new.items ≡ tables.old.items) }
 {
     match change {
@@ -138,7 +146,7 @@ pub fn enact(
     }
 }
 
-// Adds rows to a table.
+/// Adds rows to the table of that name.
 fn load(
     alloc: Global,
     tables: &mut Vec<Table>,
@@ -147,9 +155,16 @@ fn load(
     rows: &[Draft],
 ) -> Result<Counts, NoMemory>
     requires few { commits < 1000000 }
-    requires room { IfSome (find (λ t. same_name t.name name) tables.old.items) (λ t. length t.versions + length rows.now ≤ 1000000) }
-    ensures ok { OnOk result (tables.new.items ≡ at_kept name (λ t. record t { versions = t.versions ++ made (commits + 1) (numbered (length t.versions) rows.now) }) tables.old.items) }
-    ensures added { IfOk result (λ counts. counts.added ≡ option_map_or (λ t. length rows.now) (find (λ t. same_name t.name name) tables.old.items) 0) }
+    requires room { IfSome (kept_table name tables.old.items)
+        (λ t. length t.versions + length rows.now ≤ 1000000) }
+    ensures ok { OnOk result (tables.new.items ≡ at_kept name
+        (λ t. record t {
+          versions = t.versions
+              ++ made (commits + 1) (numbered (length t.versions) rows.now);
+        })
+        tables.old.items) }
+    ensures added { IfOk result (λ counts. counts.added
+        ≡ option_map_or (λ t. length rows.now) (kept_table name tables.old.items) 0) }
     ensures closed { IfOk result (λ counts. counts.closed ≡ 0) }
     ensures err { OnErr result (tables.new.items ≡ tables.old.items) }
 {
@@ -167,7 +182,7 @@ fn load(
     })
 }
 
-// Changes a portion of a table.
+/// Changes a portion of the table of that name.
 fn renew(
     alloc: Global,
     tables: &mut Vec<Table>,
@@ -176,11 +191,15 @@ fn renew(
     change: &Change,
 ) -> Result<Counts, NoMemory>
     requires few { commits < 1000000 }
-    requires room { IfSome (find (λ t. same_name t.name name) tables.old.items) (λ t. length t.versions ≤ 1000000) }
-    requires well { IfSome (find (λ t. same_name t.name name) tables.old.items) (IsWellKept commits) }
-    ensures ok { OnOk result (tables.new.items ≡ at_kept name (λ t. record t { versions = rewritten commits change.now t.schema t.versions }) tables.old.items) }
-    ensures added { IfOk result (λ counts. counts.added ≡ parts_added commits change.now (find (λ t. same_name t.name name) tables.old.items)) }
-    ensures closed { IfOk result (λ counts. counts.closed ≡ closed_in commits change.now (find (λ t. same_name t.name name) tables.old.items)) }
+    requires room { IfSome (kept_table name tables.old.items) (λ t. length t.versions ≤ 1000000) }
+    requires well { IfSome (kept_table name tables.old.items) (IsWellKept commits) }
+    ensures ok { OnOk result (tables.new.items ≡ at_kept name
+        (λ t. record t { versions = rewritten commits change.now t.schema t.versions })
+        tables.old.items) }
+    ensures added { IfOk result (λ counts. counts.added
+        ≡ parts_added commits change.now (kept_table name tables.old.items)) }
+    ensures closed { IfOk result (λ counts. counts.closed
+        ≡ closed_in commits change.now (kept_table name tables.old.items)) }
     ensures err { OnErr result (tables.new.items ≡ tables.old.items) }
 {
     let Some(at) = place_of(tables, name) else {

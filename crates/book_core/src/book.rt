@@ -1,3 +1,5 @@
+//! Books: the history of accepted changes, what refuses one more, and what each commit shows.
+
 ghost use Rattle.std.specs.Prelude.{◌≡◌, ◌+◌, ◌≤◌, ℕ, List, [], ◌∷◌, ◌++◌, length, map, All, IfOk, IsTrue, IfSome, IfNone, OnOk, OnErr, IsOkUnless, nat_lt, nat_le};
 ghost use Rattle.row_core.specs.Rows.{IdsRise};
 ghost use Rattle.row_core.specs.Schema.{fits};
@@ -155,8 +157,10 @@ impl Book {
     /// on. After a refusal the book is unchanged.
     pub fn apply(&mut self, by: u32, change: Change) -> Result<u64, BookRefused>
         // It is refused by name exactly where the state says so.
-        ensures refused { IfSome (refusal_of (length self.old) (state_after self.old) change) (λ name. result ≡ Err name) }
-        ensures accepted { IfNone (refusal_of (length self.old) (state_after self.old) change) (IsOkUnless result BookRefused.NoMemory) }
+        ensures refused { IfSome (refusal_of (length self.old) (state_after self.old) change)
+            (λ name. result ≡ Err name) }
+        ensures accepted { IfNone (refusal_of (length self.old) (state_after self.old) change)
+            (IsOkUnless result BookRefused.NoMemory) }
 
         ensures number { IfOk result (λ number. number ≡ length self.old + 1) }
         ensures ok { OnOk result (self.new ≡ self.old ++ record { by = by; change = change } ∷ []) }
@@ -179,7 +183,7 @@ impl Book {
         }
     }
 
-    // What refuses a change, if anything does.
+    /// What refuses a change, if anything does.
     fn refusal(&self, change: &Change) -> Option<BookRefused>
         ensures { result ≡ refusal_of (length self.now) (state_after self.now) change.now }
     {
@@ -211,7 +215,7 @@ impl Book {
         }
     }
 
-    // The table of that name.
+    /// The table of that name, with what the history says of it.
     fn table(&self, name: Name) -> Option<&Table>
         ensures found { IfSome result (λ table. IsTableOf self.now name table.now) }
         ensures absent { IfNone result (table_of (state_after self.now) name ≡ None) }
@@ -233,13 +237,15 @@ impl Book {
     /// The rows of a table that commit n shows, by rising id.
     pub fn rows_at(&self, n: u64, name: Name) -> Result<RowList, RowsRefused>
         ensures refused { IfSome (rows_refusal self.now n name) (λ name. result ≡ Err name) }
-        ensures given { IfNone (rows_refusal self.now n name) (IsOkUnless result RowsRefused.NoMemory) }
+        ensures given { IfNone (rows_refusal self.now n name)
+            (IsOkUnless result RowsRefused.NoMemory) }
         ensures rows { IfOk result (λ rows. rows ≡ rows_at self.now n name) }
 
         // They are at most 1,000,000, and each fits the table's columns.
         ensures few { IfOk result (λ rows. length rows ≤ 1000000) }
         ensures rise { IfOk result IdsRise }
-        ensures fit { IfOk result (λ rows. IfSome (schema_in self.now name) (λ columns. All (λ row. IsTrue (fits columns row.values)) rows)) }
+        ensures fit { IfOk result (λ rows. IfSome (schema_in self.now name)
+            (λ columns. All (λ row. IsTrue (fits columns row.values)) rows)) }
     {
         if n > self.commits() {
             return Err(RowsRefused::Future);
@@ -259,12 +265,15 @@ impl Book {
         n: u64,
         name: Name,
     ) -> Result<VersionList, VersionsRefused>
-        ensures refused { IfSome (versions_refusal self.now at (nat_lt n m) name) (λ name. result ≡ Err name) }
-        ensures given { IfNone (versions_refusal self.now at (nat_lt n m) name) (IsOkUnless result VersionsRefused.NoMemory) }
+        ensures refused { IfSome (versions_refusal self.now at (nat_lt n m) name)
+            (λ name. result ≡ Err name) }
+        ensures given { IfNone (versions_refusal self.now at (nat_lt n m) name)
+            (IsOkUnless result VersionsRefused.NoMemory) }
         ensures versions { IfOk result (λ versions. AreBetween self.now at m n name versions) }
 
         // At one commit they are those whose rows it shows.
-        ensures at_once { m ≡ n → n ≤ at → IfOk result (λ versions. map (λ v. v.row) versions ≡ rows_at self.now n name) }
+        ensures at_once { m ≡ n → n ≤ at
+            → IfOk result (λ versions. map (λ v. v.row) versions ≡ rows_at self.now n name) }
     {
         if at > self.commits() {
             return Err(VersionsRefused::Future);
@@ -287,8 +296,10 @@ impl Book {
         n: u64,
         name: Name,
     ) -> Result<VersionList, VersionsRefused>
-        ensures refused { IfSome (versions_refusal self.now at (nat_le n m) name) (λ name. result ≡ Err name) }
-        ensures given { IfNone (versions_refusal self.now at (nat_le n m) name) (IsOkUnless result VersionsRefused.NoMemory) }
+        ensures refused { IfSome (versions_refusal self.now at (nat_le n m) name)
+            (λ name. result ≡ Err name) }
+        ensures given { IfNone (versions_refusal self.now at (nat_le n m) name)
+            (IsOkUnless result VersionsRefused.NoMemory) }
         ensures versions { IfOk result (λ versions. AreFromTo self.now at m n name versions) }
     {
         if at > self.commits() {
@@ -314,5 +325,6 @@ impl Book {
 /// The past does not change: what a commit shows is the same in each history that goes on from
 /// one with that commit.
 pub fn past_stays()
-    ensures { (h more : History) (n : ℕ) (name : List ℕ) → n ≤ length h → rows_at (h ++ more) n name ≡ rows_at h n name }
+    ensures { (h more : History) (n : ℕ) (name : List ℕ)
+        → n ≤ length h → rows_at (h ++ more) n name ≡ rows_at h n name }
 {}

@@ -1,3 +1,5 @@
+//! Changes of the book, and the commits that keep them.
+
 ghost use Rattle.std.specs.Prelude.{◌≡◌, ◌==◌, ◌++◌, [], ◌∷◌, length, IfOk, OnOk, OnErr, slice_get};
 ghost use Rattle.std.specs.Option.{option_copied};
 
@@ -83,20 +85,24 @@ impl Pairs {
 /// A change of the book.
 #[derive(Debug, Drop)]
 pub enum Change {
+    /// A new table, without rows.
     Make {
         table: Name,
         schema: Schema,
     },
+    /// More rows, with the ids that follow.
     Load {
         table: Name,
         rows: Drafts,
     },
+    /// Other values, within the portion, for the rows that meet all conditions.
     Update {
         table: Name,
         portion: Period,
         sets: Pairs,
         conds: Pairs,
     },
+    /// The rows that meet all conditions don't hold within the portion.
     Delete {
         table: Name,
         portion: Period,

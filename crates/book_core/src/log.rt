@@ -1,3 +1,5 @@
+//! The log: what each commit did, and by whom.
+
 ghost use Rattle.std.specs.Prelude.{◌≡◌, ◌+◌, ◌<◌, ◌==◌, length, slice_get, IfOk};
 ghost use Rattle.std.specs.Option.{option_copied};
 ghost use Rattle.book_core.specs.State.{table_named};
@@ -45,6 +47,7 @@ impl Model for Log {
 }
 
 impl Log {
+    /// A copy of the entries that a book keeps.
     pub(crate) fn of(alloc: Global, entries: &[Entry]) -> Result<Log, NoMemory>
         ensures { IfOk result (λ log. log ≡ entries.now) }
     {
@@ -85,7 +88,14 @@ impl Log {
 /// What the log has of one more commit.
 pub fn entry_of(commits: u64, by: u32, change: &Change, counts: Counts) -> Entry
     requires { commits < 1000000 }
-    ensures { result ≡ record { number = commits + 1; by = by; kind = kind_of change.now; table = table_named change.now; added = counts.added; closed = counts.closed } }
+    ensures { result ≡ record {
+      number = commits + 1;
+      by = by;
+      kind = kind_of change.now;
+      table = table_named change.now;
+      added = counts.added;
+      closed = counts.closed;
+    } }
 {
     Entry {
         number: commits + 1,
@@ -97,6 +107,7 @@ pub fn entry_of(commits: u64, by: u32, change: &Change, counts: Counts) -> Entry
     }
 }
 
+/// What the log calls the change.
 fn kind_of(change: &Change) -> ChangeKind
     ensures { result ≡ kind_of change.now }
 {
@@ -108,6 +119,7 @@ fn kind_of(change: &Change) -> ChangeKind
     }
 }
 
+/// The name of the table that a change makes or changes.
 fn table_of(change: &Change) -> Name
     ensures { result ≡ table_named change.now }
 {

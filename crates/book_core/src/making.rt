@@ -1,3 +1,5 @@
+//! New versions of a table, which take the ids that follow.
+
 ghost use Rattle.std.specs.Prelude.{◌≡◌, ◌≤◌, ◌++◌, [], ◌∷◌, length, IfOk, OnOk};
 ghost use Rattle.std.specs.List.{list_all};
 ghost use Rattle.row_core.specs.declared.draft.Draft.{Draft as AnyDraft};
@@ -26,9 +28,17 @@ impl Model for NewVersions {
 
     ghost Value = { Making };
 
-    ghost view = { λ m. record { before = m.before; commit = m.commit; drafts = map draft_of m.items.items } };
+    ghost view = { λ m. record {
+      before = m.before;
+      commit = m.commit;
+      drafts = map draft_of m.items.items;
+    } };
 
-    ghost invariant = { λ m. (m.before ≤ 1000000) × (m.items.items ≡ made_of (record { before = m.before; commit = m.commit; drafts = map draft_of m.items.items })) };
+    ghost invariant = { λ m. (m.before ≤ 1000000) × (m.items.items ≡ made_of (record {
+      before = m.before;
+      commit = m.commit;
+      drafts = map draft_of m.items.items;
+    })) };
 }
 
 impl NewVersions {
@@ -53,7 +63,9 @@ impl NewVersions {
 
     /// Adds the version of the row with the next id.
     pub fn push(&mut self, period: Period, values: Values) -> Result<(), NoMemory>
-        ensures { OnOk result (self.new ≡ record self.old { drafts = self.old.drafts ++ record { period = period; values = values } ∷ [] }) }
+        ensures { OnOk result (self.new ≡ record self.old {
+          drafts = self.old.drafts ++ record { period = period; values = values } ∷ [];
+        }) }
     {
         let id = (self.before + self.items.len() + 1) as u64;
         self.items.push(Version {

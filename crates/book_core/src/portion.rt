@@ -1,3 +1,5 @@
+//! Changes of a portion of time: which rows they take out, and what comes in the place of each.
+
 ghost use Rattle.std.specs.Prelude.{◌≡◌, ◌+◌, ◌≤◌, ◌++◌, ◌&&◌, List, length, fold, flat_map, is_some, if◌then◌else◌, IfOk, OnOk};
 ghost use Rattle.std.specs.List.{list_all};
 ghost use Rattle.period_core.specs.Period.{before, meet, after as later};
@@ -26,6 +28,7 @@ pub fn pairs_refusal(schema: &Schema, pairs: &[(Name, Value)]) -> Option<BookRef
     None
 }
 
+/// What refuses a pair: its column is missing, or of the other kind.
 fn pair_refusal(schema: &Schema, pair: &(Name, Value)) -> Option<BookRefused>
     ensures { result ≡ first_of (pair_tests schema.now pair.now) }
 {
@@ -41,7 +44,7 @@ fn pair_refusal(schema: &Schema, pair: &(Name, Value)) -> Option<BookRefused>
     }
 }
 
-// The kind of the column of that name.
+/// The kind of the column of that name.
 fn column_kind(schema: &Schema, name: Name) -> Option<Kind>
     ensures { result ≡ kind_in schema.now name }
 {
@@ -59,7 +62,8 @@ fn column_kind(schema: &Schema, name: Name) -> Option<Kind>
 
 /// How many parts of the row the change leaves or makes.
 pub fn count_of(change: &Change, row: &Row) -> usize
-    ensures parts { (columns : List Column) → result ≡ length (parts_of change.now columns row.now) }
+    ensures parts { (columns : List Column)
+        → result ≡ length (parts_of change.now columns row.now) }
     ensures few { result ≤ 3 }
 {
     match change {
@@ -77,6 +81,7 @@ pub fn count_of(change: &Change, row: &Row) -> usize
     }
 }
 
+/// A part counts only where its period has an instant.
 fn one_if(period: Option<Period>) -> usize
     ensures { result ≡ (if is_some period then 1 else 0) }
 {
@@ -106,7 +111,7 @@ pub fn push_parts(
     }
 }
 
-// Adds the parts of a row before, inside and after the portion, with the settings inside.
+/// Adds the parts of a row before, inside and after the portion, with the settings inside.
 fn push_changed(
     alloc: Global,
     new: &mut NewVersions,
@@ -115,8 +120,11 @@ fn push_changed(
     sets: &[(Name, Value)],
     row: &Row,
 ) -> Result<(), NoMemory>
-    ensures { OnOk result (AddsDrafts new.old new.new (part (before row.now.period portion.now) row.now.values
-        ++ (part (meet row.now.period portion.now) (fold (set_at schema.now) row.now.values sets.now) ++ part (later row.now.period portion.now) row.now.values))) }
+    ensures { OnOk result (AddsDrafts new.old new.new (
+        part (before row.now.period portion.now) row.now.values
+        ++ (part (meet row.now.period portion.now)
+        (fold (set_at schema.now) row.now.values sets.now)
+        ++ part (later row.now.period portion.now) row.now.values))) }
 {
     let (earlier, rest) = row.period.minus(portion);
     let values = values_set(alloc, schema, &row.values, sets)?;
@@ -126,14 +134,16 @@ fn push_changed(
     Ok(())
 }
 
-// Adds the parts of a row before and after the portion.
+/// Adds the parts of a row before and after the portion.
 fn push_outside(
     alloc: Global,
     new: &mut NewVersions,
     portion: &Period,
     row: &Row,
 ) -> Result<(), NoMemory>
-    ensures { OnOk result (AddsDrafts new.old new.new (part (before row.now.period portion.now) row.now.values ++ part (later row.now.period portion.now) row.now.values)) }
+    ensures { OnOk result (AddsDrafts new.old new.new (
+        part (before row.now.period portion.now) row.now.values
+        ++ part (later row.now.period portion.now) row.now.values)) }
 {
     let (before, after) = row.period.minus(portion);
     push_part(alloc, new, before, &row.values)?;
@@ -141,7 +151,7 @@ fn push_outside(
     Ok(())
 }
 
-// Adds the period, if there is one, with a copy of the values.
+/// Adds the period, if there is one, with a copy of the values.
 fn push_part(
     alloc: Global,
     new: &mut NewVersions,
@@ -156,7 +166,7 @@ fn push_part(
     }
 }
 
-// Adds the period, if there is one, with the values.
+/// Adds the period, if there is one, with the values.
 fn push_values(
     new: &mut NewVersions,
     period: Option<Period>,
@@ -170,7 +180,7 @@ fn push_values(
     }
 }
 
-// The values after the settings, from left to right.
+/// The values after the settings, from left to right.
 fn values_set(
     alloc: Global,
     schema: &Schema,
@@ -201,20 +211,21 @@ pub fn is_removed(schema: &Schema, change: &Change, row: &Row) -> bool
     }
 }
 
-// Whether the row meets all conditions and overlaps the portion.
+/// Whether the row meets all conditions and overlaps the portion.
 fn is_touched(schema: &Schema, portion: &Period, conds: &[(Name, Value)], row: &Row) -> bool
     ensures { result ≡ is_touched schema.now portion.now conds.now row.now }
 {
     meets_all(schema, &row.values, conds) && row.period.meet(portion).is_some()
 }
 
+/// Whether the values meet all conditions. Where there are none, all rows do.
 fn meets_all(schema: &Schema, values: &Values, conds: &[(Name, Value)]) -> bool
     ensures { result ≡ list_all (is_equal_at schema.now values.now) conds.now }
 {
     conds.iter().all(|pair| is_equal_at(schema, values, pair))
 }
 
-// Whether the row's value in the pair's column is the pair's.
+/// Whether the row's value in the pair's column is the pair's.
 fn is_equal_at(schema: &Schema, values: &Values, pair: &(Name, Value)) -> bool
     ensures { result ≡ is_equal_at schema.now values.now pair.now }
 {
@@ -227,6 +238,7 @@ fn is_equal_at(schema: &Schema, values: &Values, pair: &(Name, Value)) -> bool
     }
 }
 
+/// Whether both are one value: a number is never a text.
 fn is_same(a: &Value, b: &Value) -> bool
     ensures { result ≡ same_value a.now b.now }
 {

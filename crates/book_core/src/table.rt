@@ -1,6 +1,9 @@
-ghost use Rattle.std.specs.Prelude.{◌≡◌, IfOk, find, position};
+//! A table as the book keeps it, and the look-up of one by its name.
+
+ghost use Rattle.std.specs.Prelude.{◌≡◌, IfOk, position};
 ghost use Rattle.std.specs.Option.{option_copied};
 ghost use Rattle.row_core.specs.Name.{same_name};
+ghost use Rattle.book_core.specs.Kept.{kept_table};
 
 use crate::versions::Versions;
 use row_core::{Name, NoMemory, Schema};
@@ -25,7 +28,7 @@ impl Model for Table {
 
 /// The table of that name.
 pub fn find_table(tables: &[Table], name: Name) -> Option<&Table>
-    ensures { option_copied result ≡ find (λ t. same_name t.name name) tables.now }
+    ensures { option_copied result ≡ kept_table name tables.now }
 {
     tables.iter().find(|table| is_named(table, name))
 }
@@ -37,6 +40,7 @@ pub fn place_of(tables: &[Table], name: Name) -> Option<usize>
     tables.iter().position(|table| is_named(table, name))
 }
 
+/// Whether a look-up of the name finds the table.
 fn is_named(table: &Table, name: Name) -> bool
     ensures { result ≡ same_name table.now.name name }
 {

@@ -1,3 +1,5 @@
+//! Versions of rows, and those that a commit or a range of commits shows.
+
 ghost use Rattle.std.specs.Prelude.{◌≡◌, ◌&&◌, ◌==◌, IfOk, length, slice_get, nat_le};
 ghost use Rattle.std.specs.Option.{option_copied};
 ghost use Rattle.book_core.specs.Kept.{shows, shown, seen, end_at, is_behind};
@@ -119,6 +121,7 @@ pub fn versions_seen(
     })
 }
 
+/// What `versions_seen` wraps.
 fn seen_items(
     alloc: Global,
     versions: &[Version],
@@ -142,6 +145,7 @@ fn seen_items(
     Ok(items)
 }
 
+/// The end as the first `at` commits know it: one past them is open.
 fn end_at(at: u64, systo: Option<u64>) -> Option<u64>
     ensures { result ≡ end_at at systo }
 {
@@ -151,6 +155,7 @@ fn end_at(at: u64, systo: Option<u64>) -> Option<u64>
     }
 }
 
+/// Whether a version begins up to `at` and up to `last`, and is not over by m.
 fn is_seen(sysfrom: u64, end: Option<u64>, at: u64, m: u64, last: u64) -> bool
     ensures { result ≡ (nat_le sysfrom at && (nat_le sysfrom last && is_behind end m)) }
 {

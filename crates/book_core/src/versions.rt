@@ -1,3 +1,5 @@
+//! All versions of a table, with the places of the open ones.
+
 ghost use Rattle.std.specs.Prelude.{◌≡◌, ◌+◌, ◌≤◌, ◌<◌, ◌^◌, ◌++◌, [], length, fold, count_by, All, IfOk, OnErr, OnOk};
 ghost use Rattle.std.specs.List.{range_with_len};
 ghost use Rattle.book_core.specs.Kept.{made};
@@ -23,7 +25,7 @@ pub struct Counts {
 #[derive(Debug, Drop)]
 pub struct Versions {
     items: Vec<Version>,
-    // The places of the open ones, so that a change goes over no closed one.
+    /// The places of the open ones, so that a change goes over no closed one.
     open_at: Vec<usize>,
 }
 
@@ -85,7 +87,8 @@ impl Versions {
     /// Adds the drafts as versions that the commit makes.
     pub fn load(&mut self, alloc: Global, commit: u64, drafts: &[Draft]) -> Result<(), NoMemory>
         requires { length self.old + length drafts.now ≤ 1000000 }
-        ensures ok { OnOk result (self.new ≡ self.old ++ made commit (numbered (length self.old) drafts.now)) }
+        ensures ok { OnOk result (self.new
+            ≡ self.old ++ made commit (numbered (length self.old) drafts.now)) }
         ensures err { OnErr result (self.new ≡ self.old) }
     {
         let before = self.items.len();
@@ -109,7 +112,8 @@ impl Versions {
     ) -> Result<Counts, NoMemory>
         requires { length self.old ≤ 1000000 }
         ensures ok { OnOk result (self.new ≡ renewed commit change.now schema.now self.old) }
-        ensures counts { IfOk result (λ counts. (counts.added ≡ length (parts_in change.now schema.now (current self.old)))
+        ensures counts { IfOk result (λ counts.
+            (counts.added ≡ length (parts_in change.now schema.now (current self.old)))
             × (counts.closed ≡ count_by (removes change.now schema.now) (current self.old))) }
         ensures err { OnErr result (self.new ≡ self.old) }
     {
@@ -132,8 +136,8 @@ impl Versions {
     }
 }
 
-// What a change of a portion does to versions: those that it makes, and the places of the open
-// ones that it takes out and of those that it leaves.
+/// What a change of a portion does to versions: those that it makes, and the places of the open
+/// ones that it takes out and of those that it leaves.
 #[derive(Drop)]
 struct Plan {
     new: Vec<Version>,
@@ -141,6 +145,7 @@ struct Plan {
     left: Vec<usize>,
 }
 
+/// Works out a change without making it, so that a refusal of memory leaves all as it was.
 fn make_plan(
     alloc: Global,
     schema: &Schema,
@@ -151,9 +156,12 @@ fn make_plan(
 ) -> Result<Plan, NoMemory>
     requires few { length versions.now ≤ 1000000 }
     requires places { places.now ≡ open_places versions.now }
-    ensures new { IfOk result (λ plan. plan.new.items ≡ made commit (numbered (length versions.now) (parts_in change.now schema.now (current versions.now)))) }
-    ensures taken { IfOk result (λ plan. plan.taken.items ≡ places_from (is_taken change.now schema.now) 0 versions.now) }
-    ensures left { IfOk result (λ plan. plan.left.items ≡ places_from (is_left change.now schema.now) 0 versions.now) }
+    ensures new { IfOk result (λ plan. plan.new.items ≡ made commit
+        (numbered (length versions.now) (parts_in change.now schema.now (current versions.now)))) }
+    ensures taken { IfOk result (λ plan. plan.taken.items
+        ≡ places_from (is_taken change.now schema.now) 0 versions.now) }
+    ensures left { IfOk result (λ plan. plan.left.items
+        ≡ places_from (is_left change.now schema.now) 0 versions.now) }
 {
     let mut new = NewVersions::new(alloc, versions.len(), commit);
     let mut taken = Vec::new(alloc);
@@ -174,7 +182,7 @@ fn make_plan(
     })
 }
 
-// How many rows come in the place of those that the change takes out.
+/// How many rows come in the place of those that the change takes out.
 fn count_parts(schema: &Schema, versions: &[Version], places: &[usize], change: &Change) -> usize
     requires few { length versions.now ≤ 1000000 }
     requires places { places.now ≡ open_places versions.now }
@@ -190,7 +198,7 @@ fn count_parts(schema: &Schema, versions: &[Version], places: &[usize], change: 
     count
 }
 
-// Adds the places from one on, as many. On refusal there are none more.
+/// Adds `count` places from `first` on. On refusal there are none more.
 fn push_places(places: &mut Vec<usize>, first: usize, count: usize) -> Result<(), NoMemory>
     requires { first + count < 2 ^ 63 }
     ensures ok { OnOk result (places.new.items ≡ places.old.items ++ range_with_len first count) }
@@ -206,7 +214,7 @@ fn push_places(places: &mut Vec<usize>, first: usize, count: usize) -> Result<()
     Ok(())
 }
 
-// Ends the versions at those places with the commit.
+/// Ends the versions at those places with the commit.
 fn close_all(versions: &mut [Version], places: &[usize], commit: u64)
     requires { All (λ place. place < length versions.old) places.now }
     ensures { versions.new ≡ fold (closed_at commit) versions.old places.now }

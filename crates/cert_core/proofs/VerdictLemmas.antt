@@ -85,26 +85,6 @@ first_verdict items claim certificate i small f0 f1 f2 f3 f4 f5 f6 (Overlap a b)
 first_verdict items claim certificate i small f0 f1 f2 f3 f4 f5 f6 (NotCrowded n) less is = f6 n less is
 first_verdict items claim certificate i small f0 f1 f2 f3 f4 f5 f6 Yes less is = omega arith
 
-pub wrong_count-first : (items : List Item) (claim : List (List ℕ)) (certificate : Certificate) (n : ℕ) → IsWrongCount claim certificate n → IsVerdict items claim certificate (WrongCount n)
-wrong_count-first items claim certificate n is = record {
-  applies = is;
-  first = first_verdict items claim certificate 0 (omega arith) (λ n h. absurd (omega arith)) (λ k h. absurd (omega arith)) (λ id h. absurd (omega arith)) (λ id h. absurd (omega arith)) (λ id h. absurd (omega arith)) (λ a b h. absurd (omega arith)) (λ n h. absurd (omega arith));
-}
-
-pub empty_part-first : (items : List Item) (claim : List (List ℕ)) (certificate : Certificate) (k : ℕ) → length claim ≡ certificate.parts
-    → IsEmptyPart claim k → IsVerdict items claim certificate (EmptyPart k)
-empty_part-first items claim certificate k counted is = record {
-  applies = is;
-  first = first_verdict items claim certificate 1 (omega arith) (λ n h. not_wrong claim certificate n counted) (λ k h. absurd (omega arith)) (λ id h. absurd (omega arith)) (λ id h. absurd (omega arith)) (λ id h. absurd (omega arith)) (λ a b h. absurd (omega arith)) (λ n h. absurd (omega arith));
-}
-
-pub unknown-first : (items : List Item) (claim : List (List ℕ)) (certificate : Certificate) (id : ℕ) → length claim ≡ certificate.parts → All (λ part. 0 < length part) claim
-    → IsUnknown items (ids_of claim) id → IsVerdict items claim certificate (Unknown id)
-unknown-first items claim certificate id counted filled is = record {
-  applies = is;
-  first = first_verdict items claim certificate 2 (omega arith) (λ n h. not_wrong claim certificate n counted) (λ k h. not_empty claim k filled) (λ id h. absurd (omega arith)) (λ id h. absurd (omega arith)) (λ id h. absurd (omega arith)) (λ a b h. absurd (omega arith)) (λ n h. absurd (omega arith));
-}
-
 pub twice-first : (items : List Item) (claim : List (List ℕ)) (certificate : Certificate) (id : ℕ) → length claim ≡ certificate.parts → All (λ part. 0 < length part) claim → All (HasItem items) (ids_of claim)
     → IsTwice (ids_of claim) id → IsVerdict items claim certificate (Twice id)
 twice-first items claim certificate id counted filled known is = record {

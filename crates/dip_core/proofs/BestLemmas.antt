@@ -1,6 +1,6 @@
 -- One more part, in the search for the best of those that have ended.
 use Rattle.std.proofs.Common.{◌≡◌, ℕ, ◌+◌, ◌<◌, ◌≤◌, ℤ, ◌≤ℤ◌, ◌<ℤ◌, List, [], get_or, length, Some, arith, inl, inr, ◌⊎◌, subst}
-use Rattle.std.proofs.lemmas.Int.{ints, by_lt_z}
+use Rattle.std.proofs.lemmas.Int.{ints}
 use Rattle.std.proofs.lemmas.Bool.{cases_lt}
 use Rattle.std.proofs.lemmas.List.{get_or_read}
 use Rattle.dip_core.specs.declared.item.Item.{Item}
@@ -10,9 +10,6 @@ use Rattle.dip_core.specs.Placing.{last_end, IsBestPartBelow, NoPartIsFreeBelow}
 -- two ends of one part are one
 pub same_end : (part : List Item) (e f : ℤ) → last_end part ≡ Some e → last_end part ≡ Some f → e ≡ f
 same_end part e f p q = cc
-
-cases_int : (a b : ℤ) → (a <ℤ b) ⊎ (b ≤ℤ a)
-cases_int a b = by_lt_z a b (λ h. inl h) (λ h. inr h)
 
 split_last : (P : ℕ → Type 0) (n : ℕ) → ((j : ℕ) → j < n → P j) → P n → (j : ℕ) → j < n + 1 → P j
 split_last P n below here j h =

@@ -6,7 +6,7 @@ use period_core::Point;
 use std::alloc::Global;
 use std::marker::Model;
 
-// The items of one part, at least one, with the last one's end at hand, which each placing looks at. Contracts see the list of the items.
+/// A part's items, at least one, with the last end at hand for placing. Contracts see their list.
 #[derive(Drop)]
 pub struct Class {
     items: Vec<Item>,
@@ -26,7 +26,7 @@ impl Model for Class {
 }
 
 impl Class {
-    // A class of one item.
+    /// A part begins with its first item, so none is ever empty.
     pub fn open(alloc: Global, item: &Item) -> Result<Class, NoMemory>
         ensures { IfOk result (λ class. class ≡ item.now ∷ []) }
     {
@@ -38,7 +38,7 @@ impl Class {
         })
     }
 
-    // Adds the item at the end.
+    /// Adds the item at the end. On NoMemory the part is as before, so it can be placed again.
     pub fn push(&mut self, item: &Item) -> Result<(), NoMemory>
         ensures ok { OnOk result (self.new ≡ self.old ++ item.now ∷ []) }
         ensures err { OnErr result (self.new ≡ self.old) }
@@ -48,13 +48,14 @@ impl Class {
         Ok(())
     }
 
-    // The end of the last item.
+    /// From when on the part can take an item: where its last one ends.
     pub fn last_end(&self) -> Point
         ensures { last_end self.now ≡ Some result }
     {
         self.end
     }
 
+    /// Lent to the parts of a division, which copy none.
     pub fn items(&self) -> &[Item]
         ensures { result.now ≡ self.now }
     {

@@ -29,7 +29,7 @@ impl Model for Division {
 }
 
 impl Division {
-    // The parts that were placed.
+    /// The only way to a division: a placer ends with parts of which the type's facts hold.
     pub(crate) fn from_classes(classes: Vec<Class>) -> Division
         requires { IsDivided classes.items }
         ensures { result ≡ classes.items }
@@ -72,7 +72,7 @@ impl Division {
     }
 }
 
-// The start of the last class's first item.
+/// The start of the last part's first item: that part was opened because each other one went on.
 fn instant_of(classes: &[Class]) -> Option<Point>
     requires { ArePlaced classes.now }
     ensures none { IsNone result ↔ (classes.now ≡ []) }

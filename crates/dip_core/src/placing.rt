@@ -6,14 +6,14 @@ use crate::{Item, NoMemory};
 use period_core::Point;
 use std::alloc::Global;
 
-// A part, and where it ends.
+/// A part and where it ends, so that the best part's end is not looked up at each step.
 #[derive(Clone, Copy)]
 struct Ended {
     number: usize,
     end: Point,
 }
 
-// The best of the first `number + 1` parts, from the best of the first `number`.
+/// One step of `best_part`. Of equal ends the first stays, so the lowest number is found.
 fn better(classes: &[Class], start: Point, number: usize, best: Option<Ended>) -> Option<Ended>
     requires number_in { number < length classes.now }
     requires best_so_far { MatchOption best (NoPartIsFreeBelow classes.now start number) (λ b. IsBestPartBelow classes.now start number b.number b.end) }
@@ -33,7 +33,7 @@ fn better(classes: &[Class], start: Point, number: usize, best: Option<Ended>) -
     }
 }
 
-// Of the parts that have ended by `start`, the one that ended first, and of several the lowest.
+/// The placing rule's choice among the parts that have ended by `start`: first to end, then lowest.
 fn best_part(classes: &[Class], start: Point) -> Option<usize>
     ensures { MatchOption result (NoPartIsFree classes.now start) (IsBestPart classes.now start) }
 {
@@ -45,7 +45,7 @@ fn best_part(classes: &[Class], start: Point) -> Option<usize>
     Some(best.number)
 }
 
-// Adds the item to that part.
+/// Adds the item to that part, and answers the number as `open_part` does.
 fn join_part(classes: &mut Vec<Class>, number: usize, item: &Item) -> Result<usize, NoMemory>
     requires { number < vec_len classes.old }
     ensures number { IfOk result (λ k. k ≡ number) }
@@ -56,7 +56,7 @@ fn join_part(classes: &mut Vec<Class>, number: usize, item: &Item) -> Result<usi
     Ok(number)
 }
 
-// Adds the item as a new last part.
+/// Adds the item as a new last part, so that the others keep their numbers.
 fn open_part(alloc: Global, classes: &mut Vec<Class>, item: &Item) -> Result<usize, NoMemory>
     ensures number { IfOk result (λ k. k ≡ vec_len classes.old) }
     ensures ok { OnOk result (classes.new.items ≡ added classes.old.items (vec_len classes.old) item.now) }
@@ -68,7 +68,7 @@ fn open_part(alloc: Global, classes: &mut Vec<Class>, item: &Item) -> Result<usi
     Ok(number)
 }
 
-// Adds the item where it is placed, and answers the number of that part.
+/// Adds the item where the placing rule says, and answers the number of that part.
 pub fn place_item(alloc: Global, classes: &mut Vec<Class>, item: &Item) -> Result<usize, NoMemory>
     ensures place { IfOk result (IsPlaceFor classes.old.items item.now.period.from) }
     ensures added { IfOk result (λ k. classes.new.items ≡ added classes.old.items k item.now) }

@@ -1,15 +1,13 @@
 -- What the ends of periods say of their instants, and instants of the ends.
-use Rattle.std.proofs.Common.{◌≡◌, refl, sym, ap, subst, ◌≤ℤ◌, ◌<ℤ◌, ◌-ℤ◌, ℤ, pos, arith, ◌↔◌, Bool, true, false, Some, None, Result, Ok, Err, IsOk, IfOk}
+use Rattle.std.proofs.Common.{◌≡◌, refl, sym, ap, subst, ◌≤ℤ◌, ◌<ℤ◌, ◌-ℤ◌, ℤ, pos, arith, ◌↔◌, Bool, true, false, Some}
 use Rattle.std.specs.Prelude.{int_lt}
 use Rattle.std.proofs.Common.{cond}
 use Rattle.std.specs.Ordering.{is_lt, int_cmp, ord_max, ord_min}
 use Rattle.std.specs.declared.cmp.Ordering.TheVariants.{Less, Equal, Greater}
 use Rattle.std.specs.Int.{int_min, int_max}
-use Rattle.std.specs.Result.{result_ok}
 use Rattle.std.proofs.lemmas.Int.{ints, clamps, by_lt_z}
 use Rattle.std.proofs.Props.{props}
 use Rattle.period_core.specs.declared.period.Period.{Period}
-use Rattle.period_core.specs.declared.period.BadPeriod.{BadPeriod}
 use Rattle.period_core.specs.Period.{Holds, HoldsIn, Overlap, Precedes, PrecedesAtOnce, between, between_if, meet, before, after}
 
 -- the later of the two starts lies in both
@@ -74,18 +72,7 @@ Period-same p q from to =
     let a : A p.from = λ h. subst B to b h in
     subst A from a q.ordered
 
--- periods with the same instants are the same
-pub Period-by_instants : (p q : Period) → ((t : ℤ) → Holds p t ↔ Holds q t) → p ≡ q
-Period-by_instants p q alike =
-    let one : p.from <ℤ p.to = p.ordered in
-    let other : q.from <ℤ q.to = q.ordered in
-    let a : Holds q p.from = (alike p.from).0 (omega (arith, ints), one) in
-    let b : Holds p q.from = (alike q.from).1 (omega (arith, ints), other) in
-    let c : Holds q (p.to -ℤ pos 1) = (alike (p.to -ℤ pos 1)).0 (omega (arith, ints), omega (arith, ints)) in
-    let d : Holds p (q.to -ℤ pos 1) = (alike (q.to -ℤ pos 1)).1 (omega (arith, ints), omega (arith, ints)) in
-    Period-same p q (omega (arith, ints)) (omega (arith, ints))
-
--- what lies between two points is a period exactly where they are in order
+-- a period is what lies between its ends
 between_if-some : (a b : ℤ) (test : Bool) (e : int_lt a b ≡ test) (p : Period) → p.from ≡ a → p.to ≡ b → between_if a b test e ≡ Some p
 between_if-some a b true e p from to = ap Some (Period-same _ p (sym from) (sym to))
 between_if-some a b false e p from to =
@@ -94,13 +81,6 @@ between_if-some a b false e p from to =
 
 pub between-some : (a b : ℤ) (p : Period) → p.from ≡ a → p.to ≡ b → between a b ≡ Some p
 between-some a b p from to = between_if-some a b (int_lt a b) refl p from to
-
-between_if-none : (a b : ℤ) (test : Bool) (e : int_lt a b ≡ test) → b ≤ℤ a → between_if a b test e ≡ None
-between_if-none a b true e h = absurd (grind (arith, ints))
-between_if-none a b false e h = refl
-
-pub between-none : (a b : ℤ) → b ≤ℤ a → between a b ≡ None
-between-none a b h = between_if-none a b (int_lt a b) refl h
 
 between_if-holds : (a b : ℤ) (test : Bool) (e : int_lt a b ≡ test) (t : ℤ) → HoldsIn (between_if a b test e) t ↔ ((a ≤ℤ t) × (t <ℤ b))
 between_if-holds a b true e t = (λ h. h, λ h. h)
@@ -139,12 +119,6 @@ after-holds x y t =
       λ h. let a : x.from ≤ℤ t = h.0.0 in let b : t <ℤ x.to = h.0.1 in let c : y.to ≤ℤ t = h.1 in
           it.1 (omega (arith, ints, clamps), omega (arith, ints, clamps)),
     )
-
--- what a fallible constructor gives
-pub between-from_new : (a b : ℤ) (r : Result Period BadPeriod) → IsOk r ↔ (a <ℤ b) → IfOk r (λ p. (p.from ≡ a) × (p.to ≡ b)) → result_ok r ≡ between a b
-between-from_new a b (Ok p) succeeds value = sym (between-some a b p value.0 value.1)
-between-from_new a b (Err e) succeeds value =
-    sym (between-none a b (by_lt_z a b (λ lt. let no : IsOk {T = Period} {E = BadPeriod} (Err e) = succeeds.1 lt in absurd (cc)) (λ le. le)))
 
 is_lt-test : (t u : Bool) → is_lt (cond t Less (cond u Greater Equal)) ≡ t
 is_lt-test true u = refl

@@ -6,5 +6,5 @@ mod query;
 mod side;
 
 pub use period_core::NoMemory;
-pub use query::{at, dip};
+pub use query::{at, dip, items};
 pub use side::Side;

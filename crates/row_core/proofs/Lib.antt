@@ -4,4 +4,3 @@ pub mod TextLemmas
 pub mod FitsLemmas
 pub mod ReadingLemmas
 pub mod SchemaLemmas
-pub mod PeriodLemmas

@@ -1,10 +1,4 @@
 pub mod Answering
-pub mod Cuts
-pub mod Cutting
-pub mod Fields
 pub mod Loading
 pub mod Printing
 pub mod Progress
-pub mod Shrinking
-pub mod NamedColumns
-pub mod TableLemmas

@@ -1,54 +1,62 @@
--- The rows of a load, read one after another.
-use Rattle.std.proofs.Common.{◌≡◌, ℕ, ◌+◌, ◌≤◌, List, [], ◌∷◌, ◌++◌, length, drop, Some, Result, Ok, Err, refl, sym, ap, ◌∙◌, arith, append_assoc}
+-- Records that are read one after another, each alone.
+use Rattle.std.proofs.Common.{◌≡◌, ℕ, ◌+◌, List, [], ◌∷◌, ◌++◌, drop, Some, Result, Ok, Err, refl, sym, ap, ◌∙◌, arith, append_assoc}
 use Rattle.std.specs.List.{slice_get}
-use Rattle.std.proofs.lemmas.List.{append-nil, drop_all}
-use Rattle.row_core.specs.declared.draft.Draft.{Draft}
-use Rattle.row_core.specs.declared.schema.Column.{Column}
-use Rattle.script_core.specs.Failure.{IsFailureOf, IsRowFailure}
-use Rattle.script_core.specs.Records.{Record}
-use Rattle.script_core.specs.Refusal.{fault}
-use Rattle.script_core.specs.State.{row_before, row_of, rows_of}
+use Rattle.std.specs.Result.{result_map_both}
+use Rattle.row_core.specs.Refusals.{result_and_then}
+use Rattle.script_core.specs.Failure.{IsFailureOf, IsRecordFailure}
+use Rattle.command_core.specs.Records.{Record}
+use Rattle.command_core.specs.Refusal.{fault}
+use Rattle.script_core.specs.State.{before_others, told_by}
 use Rattle.script_core.specs.declared.failure.Failure.{Failure}
 use Rattle.script_core.specs.declared.failure.Failure.TheVariants.{Refused, NoMemory}
-use Rattle.script_core.specs.declared.refusal.Fault.{Fault}
-use Rattle.script_core.specs.declared.refusal.Refusal.{Refusal}
-use Rattle.script_core.proofs.Cutting.{drop-slice_get}
+use Rattle.command_core.specs.declared.refusal.Fault.{Fault}
+use Rattle.command_core.specs.declared.refusal.Refusal.{Refusal}
+use Rattle.command_core.proofs.Cutting.{drop-slice_get}
 
--- rows that were read, and those that the rest gives
-abbrev pub behind : List Draft → Result (List Draft) Fault → Result (List Draft) Fault
-behind rows (Ok more) = Ok (rows ++ more)
-behind rows (Err wrong) = Err wrong
+-- what was read, and what the rest gives
+abbrev pub behind : {T E : Type 0} → List T → Result (List T) E → Result (List T) E
+behind had (Ok more) = Ok (had ++ more)
+behind had (Err wrong) = Err wrong
 
-behind-row : (rows : List Draft) (number : ℕ) (row : Draft) (rest : Result (List Draft) Fault) → behind rows (row_before number (Ok row) rest) ≡ behind (rows ++ row ∷ []) rest
-behind-row rows number row (Ok more) = ap Ok (sym (append_assoc rows (row ∷ []) more))
-behind-row rows number row (Err wrong) = refl
+-- what one gives before what the others do
+abbrev then_others : {T E : Type 0} → Result T E → Result (List T) E → Result (List T) E
+then_others first others = result_and_then (λ x. result_map_both (λ more. x ∷ more) (λ e. e) others) first
 
-next_row : (columns : List Column) (number place : ℕ) (lines : List Record) (line : Record) → slice_get lines place ≡ Some line
-    → rows_of columns (number + place) (drop place lines) ≡ row_before (number + place) (row_of columns line) (rows_of columns (number + (place + 1)) (drop (place + 1) lines))
-next_row columns number place lines line e =
+-- one more was read
+pub behind-next : {T E : Type 0} (had : List T) (first : Result T E) (x : T) (others : Result (List T) E) → first ≡ Ok x → behind had (then_others first others) ≡ behind (had ++ x ∷ []) others
+behind-next had first x (Ok more) good = ap (λ r. behind had (then_others r (Ok more))) good ∙ ap Ok (sym (append_assoc had (x ∷ []) more))
+behind-next had first x (Err wrong) good = ap (λ r. behind had (then_others r (Err wrong))) good
+
+-- the next is refused
+pub behind-refused : {T E : Type 0} (had : List T) (first : Result T E) (wrong : E) (others : Result (List T) E) → first ≡ Err wrong → behind had (then_others first others) ≡ Err wrong
+behind-refused had first wrong others bad = ap (λ r. behind had (then_others r others)) bad
+
+behind-first : {T : Type 0} (had : List T) (number : ℕ) (first : T) (rest : Result (List T) Fault) → behind had (before_others number (Ok first) rest) ≡ behind (had ++ first ∷ []) rest
+behind-first had number first (Ok more) = behind-next {E = Fault} had (Ok first) first (Ok more) refl
+behind-first had number first (Err wrong) = refl
+
+next_record : {T : Type 0} (read : Record → Result T Refusal) (number place : ℕ) (lines : List Record) (line : Record) → slice_get lines place ≡ Some line
+    → told_by read (number + place) (drop place lines) ≡ before_others (number + place) (read line) (told_by read (number + (place + 1)) (drop (place + 1) lines))
+next_record read number place lines line e =
     let next : number + place + 1 ≡ number + (place + 1) = omega arith in
-    ap (rows_of columns (number + place)) (drop-slice_get lines place line e) ∙ ap (λ n. row_before (number + place) (row_of columns line) (rows_of columns n (drop (place + 1) lines))) next
+    ap (told_by read (number + place)) (drop-slice_get lines place line e) ∙ ap (λ n. before_others (number + place) (read line) (told_by read n (drop (place + 1) lines))) next
 
--- one more row was read
-pub behind-more : (columns : List Column) (number place : ℕ) (lines : List Record) (line : Record) (rows : List Draft) (row : Draft) → slice_get lines place ≡ Some line → row_of columns line ≡ Ok row
-    → behind rows (rows_of columns (number + place) (drop place lines)) ≡ behind (rows ++ row ∷ []) (rows_of columns (number + (place + 1)) (drop (place + 1) lines))
-behind-more columns number place lines line rows row e good =
-    let rest = rows_of columns (number + (place + 1)) (drop (place + 1) lines) in
-    ap (behind rows) (next_row columns number place lines line e ∙ ap (λ r. row_before (number + place) r rest) good) ∙ behind-row rows (number + place) row rest
+-- one more record was read
+pub behind-more : {T : Type 0} (read : Record → Result T Refusal) (number place : ℕ) (lines : List Record) (line : Record) (had : List T) (first : T) → slice_get lines place ≡ Some line → read line ≡ Ok first
+    → behind had (told_by read (number + place) (drop place lines)) ≡ behind (had ++ first ∷ []) (told_by read (number + (place + 1)) (drop (place + 1) lines))
+behind-more read number place lines line had first e good =
+    let rest = told_by read (number + (place + 1)) (drop (place + 1) lines) in
+    ap (behind had) (next_record read number place lines line e ∙ ap (λ r. before_others (number + place) r rest) good) ∙ behind-first had (number + place) first rest
 
-behind-wrong : (columns : List Column) (number place : ℕ) (lines : List Record) (line : Record) (rows : List Draft) (refusal : Refusal) → slice_get lines place ≡ Some line → row_of columns line ≡ Err refusal
-    → behind rows (rows_of columns (number + place) (drop place lines)) ≡ Err (fault (number + place) refusal)
-behind-wrong columns number place lines line rows refusal e bad =
-    let rest = rows_of columns (number + (place + 1)) (drop (place + 1) lines) in
-    ap (behind rows) (next_row columns number place lines line e ∙ ap (λ r. row_before (number + place) r rest) bad)
+behind-wrong : {T : Type 0} (read : Record → Result T Refusal) (number place : ℕ) (lines : List Record) (line : Record) (had : List T) (refusal : Refusal) → slice_get lines place ≡ Some line → read line ≡ Err refusal
+    → behind had (told_by read (number + place) (drop place lines)) ≡ Err (fault (number + place) refusal)
+behind-wrong read number place lines line had refusal e bad =
+    let rest = told_by read (number + (place + 1)) (drop (place + 1) lines) in
+    ap (behind had) (next_record read number place lines line e ∙ ap (λ r. before_others (number + place) r rest) bad)
 
--- a record gives no row
-pub behind-failed : (columns : List Column) (number place : ℕ) (lines : List Record) (line : Record) (rows : List Draft) (meant : Result (List Draft) Fault) (failure : Failure) → slice_get lines place ≡ Some line
-    → meant ≡ behind rows (rows_of columns (number + place) (drop place lines)) → IsRowFailure (number + place) (row_of columns line) failure → IsFailureOf meant failure
-behind-failed columns number place lines line rows meant (Refused wrong) e is (refusal, bad, same) =
-    is ∙ (behind-wrong columns number place lines line rows refusal e bad ∙ ap Err (sym same))
-behind-failed columns number place lines line rows meant NoMemory e is h = tt
-
--- all rows were read
-pub behind-all : (columns : List Column) (number place : ℕ) (lines : List Record) (rows : List Draft) → length lines ≤ place → behind rows (rows_of columns (number + place) (drop place lines)) ≡ Ok rows
-behind-all columns number place lines rows h = ap (λ l. behind rows (rows_of columns (number + place) l)) (drop_all place lines h) ∙ ap Ok (append-nil rows)
+-- a record is refused
+pub behind-failed : {T : Type 0} (read : Record → Result T Refusal) (number place : ℕ) (lines : List Record) (line : Record) (had : List T) (meant : Result (List T) Fault) (failure : Failure) → slice_get lines place ≡ Some line
+    → meant ≡ behind had (told_by read (number + place) (drop place lines)) → IsRecordFailure (number + place) (read line) failure → IsFailureOf meant failure
+behind-failed read number place lines line had meant (Refused wrong) e is (refusal, bad, same) =
+    is ∙ (behind-wrong read number place lines line had refusal e bad ∙ ap Err (sym same))
+behind-failed read number place lines line had meant NoMemory e is h = tt

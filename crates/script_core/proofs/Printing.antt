@@ -1,17 +1,22 @@
 -- Answers, printed record by record.
-use Rattle.std.proofs.Common.{◌≡◌, ℕ, suc, ◌+◌, ◌<◌, ℤ, subst, take, length-take, List, [], ◌∷◌, ◌++◌, Option, length, refl, sym, ap, ◌∙◌, arith, append_assoc, cond, map}
+use Rattle.std.proofs.Common.{◌≡◌, ℕ, suc, ◌+◌, ◌<◌, ℤ, subst, take, length-take, List, [], ◌∷◌, ◌++◌, Option, false, length, refl, sym, ap, ◌∙◌, arith, append_assoc, cond, map}
 use Rattle.std.specs.Prelude.{codes, decimal}
 use Rattle.std.proofs.lemmas.List.Concat.{flat_map-append}
 use Rattle.std.proofs.lemmas.List.Sums.{sum_by-cons}
 use Rattle.std.proofs.Math.Seq.{take-suc}
 use Rattle.csv.specs.Writing.{row_text}
 use Rattle.row_core.specs.declared.row.Row.{Row}
+use Rattle.book_core.specs.declared.log.Entry.{Entry}
+use Rattle.book_core.specs.declared.version.Version.{Version}
+use Rattle.cert_core.specs.declared.verdict.Verdict.{Verdict}
+use Rattle.cert_core.specs.declared.verdict.Verdict.TheVariants.{WrongCount, EmptyPart, Unknown, Twice, Missing, Overlap, NotCrowded, Yes}
 use Rattle.dip_core.specs.Division.{class_at}
 use Rattle.dip_core.specs.declared.item.Item.{Item}
-use Rattle.script_core.specs.Answer.{end_record, instant_text, part_record, part_records, row_record, row_records}
 use Rattle.script_core.specs.Draft.{Adds, Draft}
-use Rattle.script_core.specs.Records.{Record, answer_writer, bytes_of}
-use Rattle.script_core.specs.Words.{begins, errors_in}
+use Rattle.script_core.specs.PrintedRecords.{commit_record, commit_records, end_record, instant_text, part_record, part_records, row_record, row_records, verdict_record, version_record, version_records}
+use Rattle.command_core.specs.Records.{Record}
+use Rattle.script_core.specs.Records.{answer_writer, bytes_of, errors_in}
+use Rattle.command_core.specs.Words.{begins}
 
 abbrev pub heading_record : ℕ → List (List Item) → Option ℤ → Record
 heading_record rows classes instant = codes "dip" ∷ decimal rows ∷ decimal (length classes) ∷ instant_text instant ∷ []
@@ -55,11 +60,29 @@ Adds-part a b c heading classes k items lt is first second =
     ap (part_records 0) front ∙ (part_records-more 0 (take k classes) items ∙ ap (λ n. part_records 0 (take k classes) ++ part_record n items ∷ []) size) in
     subst (Adds a c) (sym (ap (λ l. heading ∷ l) parts)) (Adds-trans a b c (heading ∷ part_records 0 (take k classes)) (part_record k items ∷ []) first second)
 
--- rows tell of no refusal
-errors_in-rows : (rows : List Row) (count : ℕ) → errors_in (map row_record rows ++ end_record count ∷ []) ≡ 0
-errors_in-rows [] count = refl
-errors_in-rows (row ∷ rows) count =
-    omega (arith, sum_by-cons (λ (line : Record). cond (begins (codes "error") line) 1 0) (row_record row) (map row_record rows ++ end_record count ∷ []), errors_in-rows rows count)
+-- a list of records of which none tells of a refusal, and its end
+errors_in-list : {T : Type 0} (record_of : T → Record) → ((x : T) → begins (codes "error") (record_of x) ≡ false) → (xs : List T) (count : ℕ)
+    → errors_in (map record_of xs ++ end_record count ∷ []) ≡ 0
+errors_in-list record_of quiet [] count = refl
+errors_in-list record_of quiet (x ∷ xs) count =
+    omega (arith, sum_by-cons (λ (line : Record). cond (begins (codes "error") line) 1 0) (record_of x) (map record_of xs ++ end_record count ∷ []), ap {B = ℕ} (λ b. cond b 1 0) (quiet x), errors_in-list record_of quiet xs count)
 
 pub errors_in-row_records : (rows : List Row) → errors_in (row_records rows) ≡ 0
-errors_in-row_records rows = errors_in-rows rows (length rows)
+errors_in-row_records rows = errors_in-list row_record (λ row. refl) rows (length rows)
+
+pub errors_in-version_records : (versions : List Version) → errors_in (version_records versions) ≡ 0
+errors_in-version_records versions = errors_in-list version_record (λ v. refl) versions (length versions)
+
+pub errors_in-commit_records : (entries : List Entry) → errors_in (commit_records entries) ≡ 0
+errors_in-commit_records entries = errors_in-list commit_record (λ e. refl) entries (length entries)
+
+-- a verdict tells of no refusal, whichever it is
+pub errors_in-verdict : (v : Verdict) → errors_in (verdict_record v ∷ []) ≡ 0
+errors_in-verdict (WrongCount n) = refl
+errors_in-verdict (EmptyPart k) = refl
+errors_in-verdict (Unknown id) = refl
+errors_in-verdict (Twice id) = refl
+errors_in-verdict (Missing id) = refl
+errors_in-verdict (Overlap a b) = refl
+errors_in-verdict (NotCrowded n) = refl
+errors_in-verdict Yes = refl

@@ -6,11 +6,12 @@ use Rattle.std.proofs.lemmas.List.Sums.{sum_by-append}
 use Rattle.std.proofs.KnownBytes.{Appends-kept, Appends-trans}
 use Rattle.std.proofs.lemmas.List.{take-append-drop, append-nil, length-append, length-take, drop-drop}
 use Rattle.script_core.specs.Answer.{Answers}
-use Rattle.script_core.specs.Meaning.{Meaning, Means}
-use Rattle.script_core.specs.Records.{Record, bytes_of}
+use Rattle.command_core.specs.Meaning.{Meaning, Means}
+use Rattle.command_core.specs.Records.{Record}
+use Rattle.script_core.specs.Records.{bytes_of}
 use Rattle.script_core.specs.Script.{Done, Place, Step, Steps, start_of, output_of, Tells, ExplainsAnswering, WritesPart}
 use Rattle.book_core.specs.History.{History}
-use Rattle.script_core.specs.Words.{errors_in}
+use Rattle.script_core.specs.Records.{errors_in}
 use Rattle.script_core.specs.Faults.{ExplainsWriting}
 use Rattle.script_core.specs.declared.fault.RunFault.{RunFault}
 use Rattle.script_core.specs.declared.fault.RunFault.TheVariants.{ReadFault, TooLong, NoMemory, WriteFault}

@@ -1,6 +1,7 @@
 -- An answer that is being made.
 use Rattle.std.specs.Prelude.{ℕ, ◌≡◌, List, [], ◌++◌}
-use Rattle.script_core.specs.Records.{Record, bytes_of}
+use Rattle.command_core.specs.Records.{Record}
+use Rattle.script_core.specs.Records.{bytes_of}
 
 -- the bytes of the records so far, and the fields so far of the next one
 pub record Draft : Type 0 where

@@ -1,48 +1,22 @@
--- The names of refusals, and those of the crates below as a script tells them.
-use Rattle.std.specs.Prelude.{ℕ, List, Option, Some, None, Result, Ok, Err, codes}
+-- The refusals of the crates below, as a script tells them.
+use Rattle.std.specs.Prelude.{Option, Some, None, Result, Ok, Err}
 use Rattle.row_core.specs.declared.reading.RowRefused.{RowRefused}
 use Rattle.row_core.specs.declared.reading.RowRefused.TheVariants as row
-use Rattle.row_core.specs.declared.schema.SchemaRefused.{SchemaRefused}
-use Rattle.row_core.specs.declared.schema.SchemaRefused.TheVariants as schema
+use Rattle.row_core.specs.declared.value.ValueRefused.{ValueRefused}
+use Rattle.row_core.specs.declared.value.ValueRefused.TheVariants as value
 use Rattle.book_core.specs.declared.book.BookRefused.{BookRefused}
 use Rattle.book_core.specs.declared.book.BookRefused.TheVariants as book
-use Rattle.script_core.specs.declared.refusal.Fault.{Fault}
-use Rattle.script_core.specs.declared.refusal.Refusal.{Refusal}
-use Rattle.script_core.specs.declared.refusal.Refusal.TheVariants.{BadCommand, BadName, BadNumber, BadPeriod, BadPoint, BadUtf8, Full, NoColumn, NoTable, TableExists, TooLong, TooMany, TwiceNamed, Unended, WrongKind, WrongWidth}
-
--- a refusal as it is printed
-abbrev pub refusal_text : Refusal → List ℕ
-refusal_text BadCommand = codes "BadCommand"
-refusal_text BadName = codes "BadName"
-refusal_text BadNumber = codes "BadNumber"
-refusal_text BadPeriod = codes "BadPeriod"
-refusal_text BadPoint = codes "BadPoint"
-refusal_text BadUtf8 = codes "BadUtf8"
-refusal_text Full = codes "Full"
-refusal_text NoColumn = codes "NoColumn"
-refusal_text NoTable = codes "NoTable"
-refusal_text TableExists = codes "TableExists"
-refusal_text TooLong = codes "TooLong"
-refusal_text TooMany = codes "TooMany"
-refusal_text TwiceNamed = codes "TwiceNamed"
-refusal_text Unended = codes "Unended"
-refusal_text WrongKind = codes "WrongKind"
-refusal_text WrongWidth = codes "WrongWidth"
-
--- what is wrong with the record of this number
-abbrev pub fault : ℕ → Refusal → Fault
-fault number refusal = record { number = number; refusal = refusal }
+use Rattle.book_core.specs.declared.book.RowsRefused.{RowsRefused}
+use Rattle.book_core.specs.declared.book.RowsRefused.TheVariants as rows
+use Rattle.book_core.specs.declared.book.VersionsRefused.{VersionsRefused}
+use Rattle.book_core.specs.declared.book.VersionsRefused.TheVariants as versions
+use Rattle.command_core.specs.declared.refusal.Refusal.{Refusal}
+use Rattle.command_core.specs.declared.refusal.Refusal.TheVariants.{BadNumber, BadPeriod, BadPoint, BadUtf8, Full, Future, NoColumn, NoTable, TableExists, TooLong, TooMany, WrongKind, WrongWidth}
 
 -- the value, unless something is wrong with it
 abbrev pub unless : {T E : Type 0} → Option E → T → Result T E
 unless None value = Ok value
 unless (Some wrong) value = Err wrong
-
--- what is wrong with columns; want of memory is none of it, and stands for nothing
-abbrev pub schema_refusal : SchemaRefused → Refusal
-schema_refusal schema.TooMany = TooMany
-schema_refusal schema.TwiceNamed = TwiceNamed
-schema_refusal schema.NoMemory = Full
 
 -- what is wrong with a row
 abbrev pub row_refusal : RowRefused → Refusal
@@ -63,3 +37,23 @@ book_refusal book.NoTable = NoTable
 book_refusal book.NoColumn = NoColumn
 book_refusal book.WrongKind = WrongKind
 book_refusal book.NoMemory = Full
+
+-- what is wrong with a value
+abbrev pub value_refusal : ValueRefused → Refusal
+value_refusal value.BadNumber = BadNumber
+value_refusal value.TooLong = TooLong
+value_refusal value.BadUtf8 = BadUtf8
+value_refusal value.NoMemory = Full
+
+-- what is wrong with a commit or a table that is asked for
+abbrev pub rows_refusal : RowsRefused → Refusal
+rows_refusal rows.Future = Future
+rows_refusal rows.NoTable = NoTable
+rows_refusal rows.NoMemory = Full
+
+-- what is wrong with versions that are asked for
+abbrev pub versions_refusal : VersionsRefused → Refusal
+versions_refusal versions.Future = Future
+versions_refusal versions.BadPeriod = BadPeriod
+versions_refusal versions.NoTable = NoTable
+versions_refusal versions.NoMemory = Full

@@ -1,9 +1,10 @@
 -- The output of a script: what its commands answer, one after another.
 use Rattle.std.specs.Prelude.{ℕ, ◌+◌, ◌≡◌, ◌≤◌, ◌<◌, ◌⊎◌, List, [], ◌∷◌, ◌++◌, Option, length, take, flat_map, sum_by}
 use Rattle.std.specs.Io.KnownBytes.{Appends, Consumes, IsAtEnd, Keeps}
-use Rattle.script_core.specs.Records.{Record, AreScriptRecords, bytes_of}
-use Rattle.script_core.specs.Words.{errors_in}
-use Rattle.script_core.specs.Meaning.{Meaning, Means}
+use Rattle.command_core.specs.Records.{Record, AreScriptRecords}
+use Rattle.script_core.specs.Records.{bytes_of}
+use Rattle.script_core.specs.Records.{errors_in}
+use Rattle.command_core.specs.Meaning.{Meaning, Means}
 use Rattle.script_core.specs.Answer.{Answers}
 use Rattle.book_core.specs.History.{History}
 use Rattle.script_core.specs.declared.input.TheConstants.{SCRIPT_LIMIT}

@@ -1,21 +1,32 @@
 -- What a script's changes make of the book, and what its queries read of it.
-use Rattle.std.specs.Prelude.{ℕ, ◌+◌, ℤ, List, [], ◌∷◌, ◌++◌, Option, Some, None, Result, Ok, Err, codes, drop, filter, length, option_map, if◌then◌else◌}
+use Rattle.std.specs.Prelude.{ℕ, ◌+◌, ℤ, List, [], ◌∷◌, ◌++◌, Bool, Option, Some, None, Result, Ok, Err, codes, drop, filter, length, option_map, unwrap_or, if◌then◌else◌}
+use Rattle.std.specs.Option.{ok_or}
 use Rattle.std.specs.Result.{result_map_both}
 use Rattle.period_core.specs.Period.{holds_at}
+use Rattle.period_core.specs.declared.period.Period.{Period}
 use Rattle.row_core.specs.Reading as reading
+use Rattle.row_core.specs.Refusals.{result_and_then}
+use Rattle.row_core.specs.Value.{value_of}
 use Rattle.row_core.specs.declared.draft.Draft.{Draft}
 use Rattle.row_core.specs.declared.row.Row.{Row}
 use Rattle.row_core.specs.declared.schema.Column.{Column}
+use Rattle.row_core.specs.declared.value.Kind.{Kind}
 use Rattle.book_core.specs.History.{History, rows_at, schema_in, state_after}
-use Rattle.book_core.specs.State.{refusal_of}
+use Rattle.book_core.specs.History as history
+use Rattle.book_core.specs.State.{Pair, kind_in, refusal_of}
 use Rattle.book_core.specs.declared.change.Change.{Change}
 use Rattle.book_core.specs.declared.change.Change.TheVariants as change
-use Rattle.script_core.specs.Records.{Record}
-use Rattle.script_core.specs.Refusal.{book_refusal, fault, row_refusal, unless}
-use Rattle.script_core.specs.Words.{begins}
-use Rattle.script_core.specs.declared.refusal.Fault.{Fault}
-use Rattle.script_core.specs.declared.refusal.Refusal.{Refusal}
-use Rattle.script_core.specs.declared.refusal.Refusal.TheVariants.{BadCommand, NoTable}
+use Rattle.command_core.specs.Fields.{both, natural_in}
+use Rattle.command_core.specs.Pairs.{TextPair}
+use Rattle.command_core.specs.Records.{Record}
+use Rattle.command_core.specs.Refusal.{fault}
+use Rattle.command_core.specs.Words.{begins}
+use Rattle.command_core.specs.declared.refusal.Fault.{Fault}
+use Rattle.command_core.specs.declared.refusal.Refusal.{Refusal}
+use Rattle.command_core.specs.declared.refusal.Refusal.TheVariants.{BadCommand, NoColumn, NoTable}
+use Rattle.script_core.specs.Refusal.{book_refusal, row_refusal, rows_refusal, unless, value_refusal, versions_refusal}
+
+-- ---- changes
 
 -- the history with one more change, by the one pass of a script, or the fault of the command of this
 -- number that asks for it
@@ -28,40 +39,95 @@ change_in number h c =
 abbrev pub make_in : ℕ → History → List ℕ → List Column → Result History Fault
 make_in number h name columns = change_in number h (change.Make name columns)
 
+-- the columns of a table, or the fault of the command of this number that names it
+abbrev pub columns_told : ℕ → History → List ℕ → Result (List Column) Fault
+columns_told number h name = ok_or (schema_in h name) (fault number NoTable)
+
+-- what one record gives before what the others do, unless something is wrong with it or else with them
+abbrev pub before_others : {T : Type 0} → ℕ → Result T Refusal → Result (List T) Fault → Result (List T) Fault
+before_others number (Err refusal) others = Err (fault number refusal)
+before_others number (Ok first) (Err wrong) = Err wrong
+before_others number (Ok first) (Ok others) = Ok (first ∷ others)
+
+-- what records give, each read alone, the first of them of this number, or the first fault
+abbrev pub told_by : {T : Type 0} → (Record → Result T Refusal) → ℕ → List Record → Result (List T) Fault
+told_by read number [] = Ok []
+told_by read number (line ∷ lines) = before_others number (read line) (told_by read (number + 1) lines)
+
 -- the row that a record of a load gives
 abbrev pub row_of : List Column → Record → Result Draft Refusal
 row_of columns line =
     if begins (codes "row") line then result_map_both (λ row. row) row_refusal (reading.row_of columns (drop 1 line))
     else Err BadCommand
 
--- one more row before others, unless something is wrong with it or else with them
-abbrev pub row_before : ℕ → Result Draft Refusal → Result (List Draft) Fault → Result (List Draft) Fault
-row_before number (Err refusal) rows = Err (fault number refusal)
-row_before number (Ok row) (Err wrong) = Err wrong
-row_before number (Ok row) (Ok rows) = Ok (row ∷ rows)
-
 -- the rows of a load's records, the first of them of this number, or the first fault
 abbrev pub rows_of : List Column → ℕ → List Record → Result (List Draft) Fault
-rows_of columns number [] = Ok []
-rows_of columns number (line ∷ lines) = row_before number (row_of columns line) (rows_of columns (number + 1) lines)
+rows_of columns number lines = told_by (row_of columns) number lines
 
--- the history with those rows in a table
-abbrev pub load_rows : ℕ → History → List ℕ → Result (List Draft) Fault → Result History Fault
-load_rows number h name (Err wrong) = Err wrong
-load_rows number h name (Ok rows) = change_in number h (change.Load name rows)
-
--- the history with the rows of a load's records in a table of those columns, if there is one
-abbrev pub load_into : ℕ → History → List ℕ → Option (List Column) → List Record → Result History Fault
-load_into number h name None body = Err (fault number NoTable)
-load_into number h name (Some columns) body = load_rows number h name (rows_of columns (number + 1) body)
-
+-- the history with the rows of a load's records in a table
 abbrev pub load_in : ℕ → History → List ℕ → List Record → Result History Fault
-load_in number h name body = load_into number h name (schema_in h name) body
+load_in number h name body =
+    result_and_then (λ columns. result_and_then (λ rows. change_in number h (change.Load name rows)) (rows_of columns (number + 1) body))
+    (columns_told number h name)
 
--- the rows of a table in the newest state, where there is such a table
-abbrev pub rows_named : History → List ℕ → Option (List Row)
-rows_named h name = option_map (λ columns. rows_at h (length h) name) (schema_in h name)
+-- the value that a text is in a column of that kind, under its name
+abbrev pub value_in : List ℕ → List ℕ → Option Kind → Result Pair Refusal
+value_in name text None = Err NoColumn
+value_in name text (Some kind) = result_map_both (λ value. (name, value)) value_refusal (value_of kind text)
+
+abbrev pub pair_read : List Column → TextPair → Result Pair Refusal
+pair_read columns pair = value_in pair.0 pair.1 (kind_in columns pair.0)
+
+-- the values of pairs in a table's columns, or the first refusal from the left
+abbrev pub pairs_read : List Column → List TextPair → Result (List Pair) Refusal
+pairs_read columns [] = Ok []
+pairs_read columns (pair ∷ pairs) =
+    result_and_then (λ first. result_map_both (λ others. first ∷ others) (λ e. e) (pairs_read columns pairs)) (pair_read columns pair)
+
+-- the same, with the fault of the command of this number
+abbrev pub pairs_told : ℕ → List Column → List TextPair → Result (List Pair) Fault
+pairs_told number columns pairs = result_map_both (λ values. values) (fault number) (pairs_read columns pairs)
+
+-- the history with a portion of a table's rows changed
+abbrev pub update_in : ℕ → History → List ℕ → Period → List TextPair → List TextPair → Result History Fault
+update_in number h name portion sets conds =
+    result_and_then (λ columns. result_and_then (λ pairs. change_in number h (change.Update name portion pairs.0 pairs.1))
+    (both (pairs_told number columns sets) (pairs_told number columns conds)))
+    (columns_told number h name)
+
+-- the history with a portion of a table's rows taken out
+abbrev pub delete_in : ℕ → History → List ℕ → Period → List TextPair → Result History Fault
+delete_in number h name portion conds =
+    result_and_then (λ columns. result_and_then (λ pairs. change_in number h (change.Delete name portion pairs)) (pairs_told number columns conds))
+    (columns_told number h name)
+
+-- ---- queries
+
+-- the rows of a table that a commit shows, the newest where none is told, or the fault of the command
+-- of this number
+abbrev pub rows_told : ℕ → History → Option ℕ → List ℕ → Result (List Row) Fault
+rows_told number h asof name = let n = unwrap_or asof (length h) in
+    unless (option_map (λ refused. fault number (rows_refusal refused)) (history.rows_refusal h n name)) (rows_at h n name)
 
 -- those that hold on a day
 abbrev pub rows_on : ℤ → List Row → List Row
 rows_on point rows = filter (λ row. holds_at point row.period) rows
+
+-- whether the versions of a table may be read, between two commits that are in order, or the fault of
+-- the command of this number
+abbrev pub versions_told : ℕ → History → Bool → List ℕ → Result (Unit {0}) Fault
+versions_told number h is_bad name =
+    unless (option_map (λ refused. fault number (versions_refusal refused)) (history.versions_refusal h (length h) is_bad name)) tt
+
+-- the numbers of fields
+abbrev pub naturals_in : Record → Result (List ℕ) Refusal
+naturals_in [] = Ok []
+naturals_in (text ∷ texts) = result_and_then (λ first. result_map_both (λ others. first ∷ others) (λ e. e) (naturals_in texts)) (natural_in text)
+
+-- the ids of a part that a record claims
+abbrev pub part_of : Record → Result (List ℕ) Refusal
+part_of line = if begins (codes "part") line then naturals_in (drop 1 line) else Err BadCommand
+
+-- the parts of a check's records, the first of them of this number, or the first fault
+abbrev pub claim_of : ℕ → List Record → Result (List (List ℕ)) Fault
+claim_of number lines = told_by part_of number lines

@@ -1,14 +1,16 @@
 //! The changes that commands ask for.
 ghost use Rattle.std.specs.Prelude.{◌≡◌, ◌+◌, ◌<◌, ◌^◌, length};
 ghost use Rattle.script_core.specs.Failure.{Changes};
-ghost use Rattle.script_core.specs.Lines.{lines_in};
-ghost use Rattle.script_core.specs.State.{change_in, load_in, make_in};
+ghost use Rattle.command_core.specs.Lines.{lines_in};
+ghost use Rattle.command_core.specs.PairsIn.{pairs_in};
+ghost use Rattle.script_core.specs.State.{change_in, delete_in, load_in, make_in, update_in};
 
 use crate::failure::{Failure, book_failure, refused};
-use crate::lines::Lines;
-use crate::refusal::Refusal;
+use crate::pairs::read_pairs;
 use crate::rows::rows_of;
 use book_core::{Book, Change};
+use command_core::{Lines, Refusal, TextPairs};
+use period_core::Period;
 use row_core::{Name, Schema};
 use std::alloc::Global;
 
@@ -53,4 +55,53 @@ pub(crate) fn load(
         Err(_) => return Err(refused(number, Refusal::NoTable)),
     };
     apply(book, number, Change::Load { table, rows })
+}
+
+/// Changes a portion of a table's rows.
+pub(crate) fn update(
+    alloc: Global,
+    book: &mut Book,
+    number: u64,
+    table: Name,
+    portion: Period,
+    sets: TextPairs<'_>,
+    conds: TextPairs<'_>,
+) -> Result<u64, Failure>
+    ensures { Changes (update_in number book.old table portion (pairs_in sets.entry) (pairs_in conds.entry)) book.old book.new result }
+{
+    let Ok(schema) = book.schema(table) else {
+        return Err(refused(number, Refusal::NoTable));
+    };
+    let sets = read_pairs(alloc, schema, number, sets)?;
+    let conds = read_pairs(alloc, schema, number, conds)?;
+    let change = Change::Update {
+        table,
+        portion,
+        sets,
+        conds,
+    };
+    apply(book, number, change)
+}
+
+/// Takes a portion of a table's rows out.
+pub(crate) fn delete(
+    alloc: Global,
+    book: &mut Book,
+    number: u64,
+    table: Name,
+    portion: Period,
+    conds: TextPairs<'_>,
+) -> Result<u64, Failure>
+    ensures { Changes (delete_in number book.old table portion (pairs_in conds.entry)) book.old book.new result }
+{
+    let Ok(schema) = book.schema(table) else {
+        return Err(refused(number, Refusal::NoTable));
+    };
+    let conds = read_pairs(alloc, schema, number, conds)?;
+    let change = Change::Delete {
+        table,
+        portion,
+        conds,
+    };
+    apply(book, number, change)
 }

@@ -1,11 +1,11 @@
 //! Why a command is not done: it is refused, or memory is.
 ghost use Rattle.std.specs.Prelude.{◌≡◌};
 ghost use Rattle.script_core.specs.declared.failure.Failure.TheVariants.{NoMemory};
-ghost use Rattle.script_core.specs.Failure.{book_failure, row_failure, refused};
+ghost use Rattle.script_core.specs.Failure.{book_failure, refused, row_failure, rows_failure, value_failure, versions_failure};
 
-use crate::refusal::{Fault, Refusal};
-use book_core::BookRefused;
-use row_core::RowRefused;
+use book_core::{BookRefused, RowsRefused, VersionsRefused};
+use command_core::{Fault, Refusal};
+use row_core::{RowRefused, ValueRefused};
 use std::alloc::{AllocError, AllocFailed};
 
 /// Why a command is not done.
@@ -34,6 +34,41 @@ pub(crate) fn row_failure(number: u64, why: RowRefused) -> Failure
         RowRefused::TooLong => refused(number, Refusal::TooLong),
         RowRefused::BadUtf8 => refused(number, Refusal::BadUtf8),
         RowRefused::NoMemory => Failure::NoMemory,
+    }
+}
+
+/// A value's refusal, of the record of this number.
+pub(crate) fn value_failure(number: u64, why: ValueRefused) -> Failure
+    ensures { result ≡ value_failure number why }
+{
+    match why {
+        ValueRefused::BadNumber => refused(number, Refusal::BadNumber),
+        ValueRefused::TooLong => refused(number, Refusal::TooLong),
+        ValueRefused::BadUtf8 => refused(number, Refusal::BadUtf8),
+        ValueRefused::NoMemory => Failure::NoMemory,
+    }
+}
+
+/// A query's refusal, of the command of this number.
+pub(crate) fn rows_failure(number: u64, why: RowsRefused) -> Failure
+    ensures { result ≡ rows_failure number why }
+{
+    match why {
+        RowsRefused::Future => refused(number, Refusal::Future),
+        RowsRefused::NoTable => refused(number, Refusal::NoTable),
+        RowsRefused::NoMemory => Failure::NoMemory,
+    }
+}
+
+/// The refusal of versions, of the command of this number.
+pub(crate) fn versions_failure(number: u64, why: VersionsRefused) -> Failure
+    ensures { result ≡ versions_failure number why }
+{
+    match why {
+        VersionsRefused::Future => refused(number, Refusal::Future),
+        VersionsRefused::BadPeriod => refused(number, Refusal::BadPeriod),
+        VersionsRefused::NoTable => refused(number, Refusal::NoTable),
+        VersionsRefused::NoMemory => Failure::NoMemory,
     }
 }
 

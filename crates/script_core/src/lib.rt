@@ -3,23 +3,21 @@
 
 mod answer;
 mod changes;
-mod command;
+mod claims;
 mod counted;
 mod failure;
 mod fault;
 mod input;
-mod lines;
 mod outcome;
 mod output;
+mod pairs;
 mod patience;
 mod print;
+mod print_division;
+mod print_log;
 mod queries;
-mod records;
-mod refusal;
 mod rows;
 mod session;
-mod table_command;
-mod words;
 
 pub use counted::Counted;
 pub use fault::RunFault;

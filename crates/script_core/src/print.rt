@@ -1,19 +1,20 @@
-//! Prints answers.
-ghost use Rattle.std.specs.Prelude.{◌≡◌, [], ◌∷◌, ◌++◌, IfOk, OnOk, codes, decimal, map};
-ghost use Rattle.script_core.specs.Answer.{division_records, end_record, error_record, instant_text, ok_record, part_record, row_record, row_records, value_text};
+//! Prints refusals, accepted changes, rows and versions.
+ghost use Rattle.std.specs.Prelude.{◌≡◌, [], ◌∷◌, ◌++◌, IfOk, OnOk, map};
 ghost use Rattle.script_core.specs.Draft.{Adds};
-ghost use Rattle.script_core.specs.Printed.{PrintsChange, PrintsDivided, PrintsRows};
+ghost use Rattle.script_core.specs.Printed.{Prints, PrintsFailure};
+ghost use Rattle.script_core.specs.PrintedRecords.{end_record, end_text, error_record, ok_record, row_record, row_records, value_text, version_record, version_records};
 
 use crate::answer::AnswerWriter;
 use crate::failure::Failure;
-use crate::refusal::Fault;
-use dip_core::{Division, Part};
-use period_core::{NoMemory, Point};
+use book_core::{Version, VersionList};
+use command_core::Fault;
+use period_core::NoMemory;
 use row_core::{Row, RowList, Value};
+use std::alloc::AllocError;
 
 impl AnswerWriter {
     /// The answer to a command that is refused.
-    pub(crate) fn refuse(&mut self, fault: Fault) -> Result<(), NoMemory>
+    fn refuse(&mut self, fault: Fault) -> Result<(), NoMemory>
         requires { self.old.fields ≡ [] }
         ensures { OnOk result (Adds self.old self.new (error_record fault ∷ [])) }
     {
@@ -24,7 +25,7 @@ impl AnswerWriter {
     }
 
     /// The answer to a change that is accepted.
-    pub(crate) fn accept(&mut self, commit: u64) -> Result<(), NoMemory>
+    fn accept(&mut self, commit: u64) -> Result<(), NoMemory>
         requires { self.old.fields ≡ [] }
         ensures { OnOk result (Adds self.old self.new (ok_record commit ∷ [])) }
     {
@@ -33,42 +34,63 @@ impl AnswerWriter {
         self.end_record()
     }
 
+    /// The answer to a command that is not done: a refusal is printed, and is one.
+    pub(crate) fn failure(&mut self, failure: Failure) -> Result<u64, NoMemory>
+        requires { self.old.fields ≡ [] }
+        ensures { IfOk result (PrintsFailure failure self.old self.new) }
+    {
+        match failure {
+            Failure::Refused(fault) => {
+                self.refuse(fault)?;
+                Ok(1)
+            }
+            Failure::NoMemory => Err(AllocError),
+        }
+    }
+
     /// The answer to a change, and how many of its records tell of a refusal.
     pub(crate) fn change(&mut self, outcome: Result<u64, Failure>) -> Result<u64, NoMemory>
         requires { self.old.fields ≡ [] }
-        ensures { IfOk result (PrintsChange outcome self.old self.new) }
+        ensures { IfOk result (Prints (λ commit. ok_record commit ∷ []) outcome self.old self.new) }
     {
         match outcome {
             Ok(commit) => {
                 self.accept(commit)?;
                 Ok(0)
             }
-            Err(Failure::Refused(fault)) => {
-                self.refuse(fault)?;
-                Ok(1)
-            }
-            Err(Failure::NoMemory) => Err(std::alloc::AllocError),
+            Err(failure) => self.failure(failure),
         }
     }
 
     /// The answer to a query for rows, and how many of its records tell of a refusal.
     pub(crate) fn rows(&mut self, given: Result<RowList, Failure>) -> Result<u64, NoMemory>
         requires { self.old.fields ≡ [] }
-        ensures { IfOk result (PrintsRows given self.old self.new) }
+        ensures { IfOk result (Prints row_records given self.old self.new) }
     {
         match given {
             Ok(rows) => {
                 self.row_list(&rows)?;
                 Ok(0)
             }
-            Err(Failure::Refused(fault)) => {
-                self.refuse(fault)?;
-                Ok(1)
-            }
-            Err(Failure::NoMemory) => Err(std::alloc::AllocError),
+            Err(failure) => self.failure(failure),
         }
     }
 
+    /// The answer to a query for versions, and how many of its records tell of a refusal.
+    pub(crate) fn versions(&mut self, given: Result<VersionList, Failure>) -> Result<u64, NoMemory>
+        requires { self.old.fields ≡ [] }
+        ensures { IfOk result (Prints version_records given self.old self.new) }
+    {
+        match given {
+            Ok(versions) => {
+                self.version_list(&versions)?;
+                Ok(0)
+            }
+            Err(failure) => self.failure(failure),
+        }
+    }
+
+    /// Rows, and how many there are.
     fn row_list(&mut self, rows: &RowList) -> Result<(), NoMemory>
         requires { self.old.fields ≡ [] }
         ensures { OnOk result (Adds self.old self.new (row_records rows.now)) }
@@ -99,6 +121,48 @@ impl AnswerWriter {
         self.end_record()
     }
 
+    /// Versions, and how many there are.
+    fn version_list(&mut self, versions: &VersionList) -> Result<(), NoMemory>
+        requires { self.old.fields ≡ [] }
+        ensures { OnOk result (Adds self.old self.new (version_records versions.now)) }
+    {
+        self.version_items(versions.as_slice())?;
+        self.end(versions.len() as u64)
+    }
+
+    fn version_items(&mut self, versions: &[Version]) -> Result<(), NoMemory>
+        requires { self.old.fields ≡ [] }
+        ensures { OnOk result (Adds self.old self.new (map version_record versions.now)) }
+    {
+        for version in versions {
+            self.version(version)?;
+        }
+        Ok(())
+    }
+
+    fn version(&mut self, version: &Version) -> Result<(), NoMemory>
+        requires { self.old.fields ≡ [] }
+        ensures { OnOk result (Adds self.old self.new (version_record version.now ∷ [])) }
+    {
+        self.field(b"version")?;
+        self.number(version.row.id)?;
+        self.point(version.row.period.from)?;
+        self.point(version.row.period.to)?;
+        self.number(version.sysfrom)?;
+        self.system_end(version.systo)?;
+        self.values(version.row.values.as_slice())?;
+        self.end_record()
+    }
+
+    fn system_end(&mut self, end: Option<u64>) -> Result<(), NoMemory>
+        ensures { OnOk result (self.new ≡ record self.old { fields = self.old.fields ++ end_text end ∷ [] }) }
+    {
+        match end {
+            Some(commit) => self.number(commit),
+            None => self.field(b"-"),
+        }
+    }
+
     fn values(&mut self, values: &[Value]) -> Result<(), NoMemory>
         ensures { OnOk result (self.new ≡ record self.old { fields = self.old.fields ++ map value_text values.now }) }
     {
@@ -117,76 +181,13 @@ impl AnswerWriter {
         }
     }
 
-    fn end(&mut self, count: u64) -> Result<(), NoMemory>
+    /// Ends the records of a list, of which there are so many.
+    pub(crate) fn end(&mut self, count: u64) -> Result<(), NoMemory>
         requires { self.old.fields ≡ [] }
         ensures { OnOk result (Adds self.old self.new (end_record count ∷ [])) }
     {
         self.field(b"end")?;
         self.number(count)?;
-        self.end_record()
-    }
-
-    /// The answer to a query for a division, and how many of its records tell of a refusal.
-    pub(crate) fn divided(
-        &mut self,
-        given: Result<(usize, Division), Failure>,
-    ) -> Result<u64, NoMemory>
-        requires { self.old.fields ≡ [] }
-        ensures { IfOk result (PrintsDivided given self.old self.new) }
-    {
-        match given {
-            Ok((rows, division)) => {
-                self.division(rows, &division, division.instant())?;
-                Ok(0)
-            }
-            Err(Failure::Refused(fault)) => {
-                self.refuse(fault)?;
-                Ok(1)
-            }
-            Err(Failure::NoMemory) => Err(std::alloc::AllocError),
-        }
-    }
-
-    /// A division of so many rows, and its instant.
-    pub(crate) fn division(
-        &mut self,
-        rows: usize,
-        division: &Division,
-        instant: Option<Point>,
-    ) -> Result<(), NoMemory>
-        requires { self.old.fields ≡ [] }
-        ensures { OnOk result (Adds self.old self.new (division_records rows division.now instant)) }
-    {
-        self.heading(rows, division.parts(), instant)?;
-        for number in 0..division.parts() {
-            self.part(number, division.part(number))?;
-        }
-        Ok(())
-    }
-
-    fn heading(&mut self, rows: usize, parts: u32, instant: Option<Point>) -> Result<(), NoMemory>
-        requires { self.old.fields ≡ [] }
-        ensures { OnOk result (Adds self.old self.new ((codes "dip" ∷ decimal rows ∷ decimal parts ∷ instant_text instant ∷ []) ∷ [])) }
-    {
-        self.field(b"dip")?;
-        self.number(rows as u64)?;
-        self.number(u64::from(parts))?;
-        match instant {
-            Some(instant) => self.point(instant)?,
-            None => self.field(b"-")?,
-        }
-        self.end_record()
-    }
-
-    fn part(&mut self, number: u32, part: Part<'_>) -> Result<(), NoMemory>
-        requires { self.old.fields ≡ [] }
-        ensures { OnOk result (Adds self.old self.new (part_record number part.entry.items.now ∷ [])) }
-    {
-        self.field(b"part")?;
-        self.number(u64::from(number))?;
-        for item in part.items() {
-            self.number(item.id)?;
-        }
         self.end_record()
     }
 }

@@ -1,13 +1,11 @@
 //! The rows of a load.
 ghost use Rattle.std.specs.Prelude.{◌≡◌, ◌+◌, ◌<◌, ◌^◌, IfOk, Ok, MatchResult, drop, length, map};
-ghost use Rattle.script_core.specs.Failure.{IsFailureOf, IsRowFailure};
-ghost use Rattle.script_core.specs.Lines.{fields_in, lines_in};
+ghost use Rattle.script_core.specs.Failure.{IsFailureOf, IsRecordFailure};
+ghost use Rattle.command_core.specs.Lines.{fields_in, lines_in};
 ghost use Rattle.script_core.specs.State.{row_of, rows_of};
 
 use crate::failure::{Failure, refused, row_failure};
-use crate::lines::{Line, Lines};
-use crate::refusal::Refusal;
-use crate::words::begins;
+use command_core::{Line, Lines, Refusal, begins};
 use row_core::{Draft, Drafts, Schema};
 use std::alloc::{AllocError, Global};
 
@@ -26,7 +24,7 @@ fn fields_behind<'a>(alloc: Global, line: Line<'a>) -> Result<Vec<&'a [u8]>, All
 
 /// The row that a record of a load gives, whose number is this one.
 fn row_of(alloc: Global, schema: &Schema, line: Line<'_>, number: u64) -> Result<Draft, Failure>
-    ensures { MatchResult result (λ row. row_of schema.now (fields_in line.entry) ≡ Ok row) (IsRowFailure number (row_of schema.now (fields_in line.entry))) }
+    ensures { MatchResult result (λ row. row_of schema.now (fields_in line.entry) ≡ Ok row) (IsRecordFailure number (row_of schema.now (fields_in line.entry))) }
 {
     if !begins(line, b"row") {
         return Err(refused(number, Refusal::BadCommand));

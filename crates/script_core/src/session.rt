@@ -1,24 +1,24 @@
 //! The commands of a script, one after another.
 ghost use Rattle.std.specs.Prelude.{◌≡◌, ◌+◌, ◌≤◌, ◌<◌, ◌^◌, [], IfErr, IfOk};
-ghost use Rattle.script_core.specs.Command.{meaning_of};
+ghost use Rattle.command_core.specs.Command.{meaning_of};
 ghost use Rattle.script_core.specs.Count.{last_count};
 ghost use Rattle.script_core.specs.Counted.{failures_of, inner_of};
-ghost use Rattle.script_core.specs.Meaning.{behind_length};
+ghost use Rattle.command_core.specs.Meaning.{behind_length};
 ghost use Rattle.script_core.specs.Printed.{Answered};
 ghost use Rattle.script_core.specs.Script.{ExplainsAnswering, ExplainsRun, RunsAll, WritesAll};
 
 use crate::answer::AnswerWriter;
-use crate::changes::{load, make};
-use crate::command::{Command, Cut, next_command};
+use crate::changes::{delete, load, make, update};
 use crate::counted::Counted;
+use crate::failure::Failure;
 use crate::fault::RunFault;
 use crate::input::read_script;
-use crate::lines::Lines;
 use crate::outcome::Outcome;
 use crate::patience::Patience;
-use crate::queries::{divide, rows, rows_on};
-use crate::records::{Records, read_records};
+use crate::queries::{between, check, divide, from_to, rows, rows_on};
 use book_core::Book;
+use cert_core::Certificate;
+use command_core::{Command, Cut, Lines, Records, next_command, read_records};
 use period_core::NoMemory;
 use std::alloc::Global;
 use std::io::{Read, Write};
@@ -38,15 +38,45 @@ fn answer_command(
     ensures few { IfOk result (λ errors. errors ≤ 1) }
 {
     match command {
-        Command::Refused(fault) => {
-            answer.refuse(fault)?;
-            Ok(1)
+        Command::Refused(fault) => answer.failure(Failure::Refused(fault)),
+        Command::Make { table, schema } => answer.change(make(book, number, table, schema)),
+        Command::Load { table, body } => answer.change(load(alloc, book, number, table, body)),
+        Command::Update {
+            table,
+            portion,
+            sets,
+            conds,
+        } => answer.change(update(alloc, book, number, table, portion, sets, conds)),
+        Command::Delete {
+            table,
+            portion,
+            conds,
+        } => answer.change(delete(alloc, book, number, table, portion, conds)),
+        Command::Rows { table, asof } => answer.rows(rows(book, number, table, asof)),
+        Command::At { table, point, asof } => {
+            answer.rows(rows_on(alloc, book, number, table, point, asof))
         }
-        Command::Make(table, schema) => answer.change(make(book, number, table, schema)),
-        Command::Load(table, body) => answer.change(load(alloc, book, number, table, body)),
-        Command::Rows(table) => answer.rows(rows(book, number, table)),
-        Command::At(table, point) => answer.rows(rows_on(alloc, book, number, table, point)),
-        Command::Dip(table) => answer.divided(divide(alloc, book, number, table)),
+        Command::Between { table, first, last } => {
+            answer.versions(between(book, number, table, first, last))
+        }
+        Command::FromTo { table, first, end } => {
+            answer.versions(from_to(book, number, table, first, end))
+        }
+        Command::Dip { table, asof } => answer.divided(divide(alloc, book, number, table, asof)),
+        Command::Check {
+            table,
+            parts,
+            instant,
+            asof,
+            body,
+        } => {
+            let certificate = Certificate { parts, instant };
+            answer.checked(check(alloc, book, number, table, certificate, asof, body))
+        }
+        Command::Log => {
+            answer.log(&book.log()?)?;
+            Ok(0)
+        }
     }
 }
 

@@ -1,12 +1,11 @@
 use Rattle.std.proofs.Common.{◌≡◌, ◌≤◌, ◌+◌, ◌∙◌, ap, sym, subst, length, None, List}
 use Rattle.std.specs.Prelude.{position, count_by}
-use Rattle.std.proofs.lemmas.Result.{IfOk-weaker}
+use Rattle.std.proofs.lemmas.Result.{IfOk-weaker, on_ok_weaker}
 use Rattle.row_core.specs.Name.{same_name}
 use Rattle.book_core.specs.Kept.{IsWellKept, Kept, closed_in, parts_added}
 use Rattle.book_core.specs.Open.{current, renewed}
 use Rattle.book_core.specs.State.{parts_in, removes}
 use Rattle.book_core.specs.declared.version.Version.{Version}
-use Rattle.book_core.proofs.Applying.{on_ok_map}
 use Rattle.book_core.proofs.EnactLemmas.{at_kept-absent, at_kept-place, find-absent, find-place, holds-place, parts-current, renewed-rewritten, taken-current}
 use Rattle.book_core.proofs.Portions.{portion_kept}
 use Rattle.book_core.proofs.apply.renew.Goals as goal
@@ -44,7 +43,7 @@ returns-clause-ok c =
     let at = sym (c.place_of.ensures ∙ ap (position (λ t. same_name t.name c.args.name)) c.deref.ensures.value) ∙ c.in-Some.is in
     let ts = c.args.tables.now.items in
     let change = c.args.change.now in
-    on_ok_map _ _ c.renew.result
+    on_ok_weaker c.renew.result
     (λ e. at_kept-place c.args.name (portion_kept c.args.commits change) ts c.in-Some.at c.index_mut-table.result.now _ at c.index_mut-table.ensures.value
     (ap (λ vs. with_versions (record { name = c.table.inside.name; schema = c.table.inside.schema; versions = c.table.inside.versions }) vs) e
     ∙ ap (λ t. with_versions t (renewed (c.args.commits + 1) change t.schema t.versions)) c.table.view_is

@@ -1,8 +1,8 @@
 use Rattle.std.proofs.Common.{Bor, ◌≡◌, ◌+◌, ◌-◌, ◌++◌, ◌∷◌, ◌<◌, ◌∙◌, [], List, ℕ, Some, ap, sym, arith, drop, take}
 use Rattle.std.specs.List.{slice_get}
 use Rattle.std.proofs.lemmas.List.{map-append}
-use Rattle.script_core.specs.Lines.{fields_in}
-use Rattle.script_core.proofs.Cutting.{slice_get-drop, slice_get-there, take-slice_get}
+use Rattle.command_core.specs.Lines.{fields_in}
+use Rattle.command_core.proofs.Cutting.{slice_get-drop, slice_get-there, take-slice_get}
 use Rattle.script_core.proofs.rows.fields_behind.Goals as goal
 use Rattle.script_core.proofs.rows.fields_behind.Goals.{in-Some+in_ok-push, in_default}
 

@@ -1,6 +1,6 @@
 -- The fields before this place are found.
 use Rattle.std.proofs.Common.{◌≡◌, ◌-◌, drop, map, take}
-use Rattle.script_core.specs.Lines.{fields_in}
+use Rattle.command_core.specs.Lines.{fields_in}
 use Rattle.script_core.proofs.rows.fields_behind.Given as goal
 
 abbrev pub invariant-loop-place : goal.invariant-loop-place

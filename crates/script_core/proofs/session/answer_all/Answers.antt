@@ -4,8 +4,9 @@ use Rattle.std.specs.Io.KnownBytes.{Appends}
 use Rattle.std.proofs.lemmas.List.{take_all}
 use Rattle.script_core.specs.Counted.{inner_of}
 use Rattle.script_core.specs.Draft.{Draft}
-use Rattle.script_core.specs.Lines.{lines_in}
-use Rattle.script_core.specs.Records.{Record, bytes_of}
+use Rattle.command_core.specs.Lines.{lines_in}
+use Rattle.command_core.specs.Records.{Record}
+use Rattle.script_core.specs.Records.{bytes_of}
 use Rattle.script_core.proofs.Progress.{progress-more, progress-stopped}
 use Rattle.script_core.proofs.session.answer_all.Goals as goal
 

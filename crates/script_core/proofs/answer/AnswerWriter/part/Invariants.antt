@@ -1,6 +1,6 @@
 -- The ids so far are fields.
 use Rattle.std.proofs.Common.{◌≡◌, take}
-use Rattle.script_core.specs.Answer.{part_record}
+use Rattle.script_core.specs.PrintedRecords.{part_record}
 use Rattle.script_core.proofs.answer.AnswerWriter.part.Given as goal
 
 abbrev pub invariant-loop-item : goal.invariant-loop-item

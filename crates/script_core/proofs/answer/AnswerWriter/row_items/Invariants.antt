@@ -1,6 +1,6 @@
 -- The rows so far are printed.
 use Rattle.std.proofs.Common.{map, take}
-use Rattle.script_core.specs.Answer.{row_record}
+use Rattle.script_core.specs.PrintedRecords.{row_record}
 use Rattle.script_core.specs.Draft.{Adds}
 use Rattle.script_core.proofs.answer.AnswerWriter.row_items.Given as goal
 

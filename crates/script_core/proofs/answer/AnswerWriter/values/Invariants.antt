@@ -1,6 +1,6 @@
 -- The values so far are fields.
 use Rattle.std.proofs.Common.{◌≡◌, ◌++◌, map, take}
-use Rattle.script_core.specs.Answer.{value_text}
+use Rattle.script_core.specs.PrintedRecords.{value_text}
 use Rattle.script_core.proofs.answer.AnswerWriter.values.Given as goal
 
 abbrev pub invariant-loop-value : goal.invariant-loop-value

@@ -1,0 +1,247 @@
+//! Changes of a portion of time: what commits show of them, their versions, the log, and copies.
+
+use book_core::{Book, BookRefused, Change, ChangeKind, Entry, Pairs, Version, VersionsRefused};
+use period_core::{Period, Point};
+use row_core::{Draft, Drafts, Kind, Name, Row, Schema, Text, Value, Values};
+use std::alloc::Global;
+use std::test::Fail;
+
+fn period(from: &[u8], to: &[u8]) -> Result<Period, Fail> {
+    Ok(Period::new(Point::parse(from)?, Point::parse(to)?)?)
+}
+
+fn text(alloc: Global, bytes: &[u8]) -> Result<Value, Fail> {
+    Ok(Value::Text(Text::new(alloc, bytes)?))
+}
+
+// The list of a column and a value.
+fn pair(alloc: Global, column: &[u8], value: Value) -> Result<Pairs, Fail> {
+    let mut pairs = Pairs::new(alloc);
+    pairs.push((Name::parse(column)?, value))?;
+    Ok(pairs)
+}
+
+// The change that sets the text `y` on two days, under conditions.
+fn update(alloc: Global, conds: Pairs) -> Result<Change, Fail> {
+    Ok(Change::Update {
+        table: Name::parse(b"u")?,
+        portion: period(b"2024-01-04", b"2024-01-06")?,
+        sets: pair(alloc, b"v", text(alloc, b"y")?)?,
+        conds,
+    })
+}
+
+// The book of a table with a text column, of which the one row of nine days was updated.
+fn updated_book(alloc: Global) -> Result<Book, Fail> {
+    let table = Name::parse(b"u")?;
+    let schema = Schema::new(alloc, &[(Name::parse(b"v")?, Kind::Text)])?;
+    let mut values = Values::new(alloc);
+    values.push(text(alloc, b"x")?)?;
+    let mut rows = Drafts::new(alloc);
+    rows.push(Draft {
+        period: period(b"2024-01-01", b"2024-01-10")?,
+        values,
+    })?;
+    let mut book = Book::new(alloc);
+    book.apply(1, Change::Make { table, schema })?;
+    book.apply(1, Change::Load { table, rows })?;
+    book.apply(1, update(alloc, Pairs::new(alloc))?)?;
+    Ok(book)
+}
+
+// The ids and periods of rows.
+fn portions(alloc: Global, rows: &[Row]) -> Result<Vec<(u64, Period)>, Fail> {
+    Ok(rows.iter().map(|row| (row.id, row.period)).collect(alloc)?)
+}
+
+// The ids of versions, and the commits that show them.
+fn spans(alloc: Global, versions: &[Version]) -> Result<Vec<(u64, u64, Option<u64>)>, Fail> {
+    Ok(
+        versions
+            .iter()
+            .map(|version| (version.row.id, version.sysfrom, version.systo))
+            .collect(alloc)?,
+    )
+}
+
+#[test]
+fn puts_parts_in_place_of_a_row(rt: HostRuntime) -> Result<(), Fail> {
+    let table = Name::parse(b"u")?;
+    let book = updated_book(rt.alloc())?;
+    let before = [(1, period(b"2024-01-01", b"2024-01-10")?)];
+    let after = [
+        (2, period(b"2024-01-01", b"2024-01-04")?),
+        (3, period(b"2024-01-04", b"2024-01-06")?),
+        (4, period(b"2024-01-06", b"2024-01-10")?),
+    ];
+    let rows = book.rows_at(2, table)?;
+    assert_eq!(rt;
+        portions(rt.alloc(), rows.as_slice())?.as_slice(),
+        before.as_slice()
+    );
+    let rows = book.rows_at(3, table)?;
+    assert_eq!(rt;
+        portions(rt.alloc(), rows.as_slice())?.as_slice(),
+        after.as_slice()
+    );
+    for (row, value) in rows.as_slice().iter().zip([b"x", b"y", b"x"]) {
+        let want = [text(rt.alloc(), value)?];
+        assert_eq!(rt; row.values.as_slice(), want.as_slice());
+    }
+    Ok(())
+}
+
+#[test]
+fn gives_versions(rt: HostRuntime) -> Result<(), Fail> {
+    let table = Name::parse(b"u")?;
+    let book = updated_book(rt.alloc())?;
+    for (versions, want) in [
+        (book.between(2, 2, 9, table)?, &[(1, 2, None)][..]),
+        (book.from_to(3, 2, 3, table)?, &[(1, 2, Some(3))]),
+        (book.from_to(3, 0, 2, table)?, &[]),
+        (
+            book.between(3, 3, 3, table)?,
+            &[(2, 3, None), (3, 3, None), (4, 3, None)],
+        ),
+        (
+            book.between(3, 0, 9, table)?,
+            &[(1, 2, Some(3)), (2, 3, None), (3, 3, None), (4, 3, None)],
+        ),
+    ] {
+        assert_eq!(rt; spans(rt.alloc(), versions.as_slice())?.as_slice(), want);
+    }
+    Ok(())
+}
+
+#[test]
+fn refuses_versions(rt: HostRuntime) -> Result<(), Fail> {
+    let table = Name::parse(b"u")?;
+    let other = Name::parse(b"t")?;
+    let book = updated_book(rt.alloc())?;
+    for (refused, want) in [
+        (book.between(4, 3, 2, other), VersionsRefused::Future),
+        (book.from_to(4, 3, 3, other), VersionsRefused::Future),
+        (book.between(3, 3, 2, other), VersionsRefused::BadPeriod),
+        (book.from_to(3, 3, 3, other), VersionsRefused::BadPeriod),
+        (book.between(3, 3, 3, other), VersionsRefused::NoTable),
+        (book.from_to(3, 3, 4, other), VersionsRefused::NoTable),
+    ] {
+        assert_eq!(rt; refused.err(), Some(want));
+    }
+    assert!(rt; book.rows_at(4, table).is_err());
+    Ok(())
+}
+
+#[test]
+fn logs_what_commits_did(rt: HostRuntime) -> Result<(), Fail> {
+    let table = Name::parse(b"u")?;
+    let mut book = updated_book(rt.alloc())?;
+    let delete = Change::Delete {
+        table,
+        portion: period(b"2024-01-04", b"2024-01-07")?,
+        conds: Pairs::new(rt.alloc()),
+    };
+    assert_eq!(rt; book.apply(2, delete), Ok(4));
+    let want = [
+        (1, 1, ChangeKind::Make, 0, 0),
+        (2, 1, ChangeKind::Load, 1, 0),
+        (3, 1, ChangeKind::Update, 3, 1),
+        (4, 2, ChangeKind::Delete, 1, 2),
+    ]
+    .map(|(number, by, kind, added, closed)| Entry {
+        number,
+        by,
+        kind,
+        table,
+        added,
+        closed,
+    });
+    assert_eq!(rt; book.log()?.as_slice(), want.as_slice());
+    Ok(())
+}
+
+#[test]
+fn refuses_settings_before_conditions(rt: HostRuntime) -> Result<(), Fail> {
+    let table = Name::parse(b"u")?;
+    let portion = period(b"2024-01-04", b"2024-01-06")?;
+    let mut book = updated_book(rt.alloc())?;
+    let absent = update(rt.alloc(), pair(rt.alloc(), b"w", Value::Int(1))?)?;
+    assert_eq!(rt; book.apply(1, absent), Err(BookRefused::NoColumn));
+    let number = update(rt.alloc(), pair(rt.alloc(), b"v", Value::Int(1))?)?;
+    assert_eq!(rt; book.apply(1, number), Err(BookRefused::WrongKind));
+    let both = Change::Update {
+        table,
+        portion,
+        sets: pair(rt.alloc(), b"v", Value::Int(1))?,
+        conds: pair(rt.alloc(), b"w", Value::Int(1))?,
+    };
+    assert_eq!(rt; book.apply(1, both), Err(BookRefused::WrongKind));
+    let delete = Change::Delete {
+        table,
+        portion,
+        conds: pair(rt.alloc(), b"w", Value::Int(1))?,
+    };
+    assert_eq!(rt; book.apply(1, delete), Err(BookRefused::NoColumn));
+    assert_eq!(rt; book.commits(), 3);
+    Ok(())
+}
+
+#[test]
+fn adds_pairs_at_the_end(rt: HostRuntime) -> Result<(), Fail> {
+    let name = Name::parse(b"v")?;
+    let other = Name::parse(b"w")?;
+    let mut pairs = Pairs::new(rt.alloc());
+    assert!(rt; pairs.is_empty());
+    pairs.push((name, Value::Int(1)))?;
+    pairs.push((other, Value::Int(2)))?;
+    assert_eq!(rt; pairs.len(), 2);
+    let want = [(name, Value::Int(1)), (other, Value::Int(2))];
+    assert_eq!(rt; pairs.as_slice(), want.as_slice());
+    assert_eq!(rt; pairs.get(1), Some(&want[1]));
+    assert_eq!(rt; pairs.copy(rt.alloc())?.as_slice(), want.as_slice());
+    Ok(())
+}
+
+#[test]
+fn copies_updates(rt: HostRuntime) -> Result<(), Fail> {
+    let conds = pair(rt.alloc(), b"v", text(rt.alloc(), b"x")?)?;
+    let update = update(rt.alloc(), conds)?;
+    let Change::Update {
+        table,
+        portion,
+        sets,
+        conds,
+    } = update.copy(rt.alloc())?
+    else {
+        panic!(rt; "another kind of change");
+    };
+    assert_eq!(rt; table, Name::parse(b"u")?);
+    assert_eq!(rt; portion, period(b"2024-01-04", b"2024-01-06")?);
+    let setting = [(Name::parse(b"v")?, text(rt.alloc(), b"y")?)];
+    let condition = [(Name::parse(b"v")?, text(rt.alloc(), b"x")?)];
+    assert_eq!(rt; sets.as_slice(), setting.as_slice());
+    assert_eq!(rt; conds.as_slice(), condition.as_slice());
+    Ok(())
+}
+
+#[test]
+fn copies_books_with_their_past(rt: HostRuntime) -> Result<(), Fail> {
+    let table = Name::parse(b"u")?;
+    let book = updated_book(rt.alloc())?;
+    let copy = book.copy(rt.alloc())?;
+    assert_eq!(rt; copy.commits(), book.commits());
+    assert_eq!(rt; copy.log()?.as_slice(), book.log()?.as_slice());
+    assert_eq!(rt;
+        spans(rt.alloc(), copy.between(3, 0, 3, table)?.as_slice())?.as_slice(),
+        spans(rt.alloc(), book.between(3, 0, 3, table)?.as_slice())?.as_slice()
+    );
+    for commit in 0..=3 {
+        let rows = copy.rows_at(commit, table)?;
+        let want = book.rows_at(commit, table)?;
+        assert_eq!(rt;
+            portions(rt.alloc(), rows.as_slice())?.as_slice(),
+            portions(rt.alloc(), want.as_slice())?.as_slice()
+        );
+    }
+    Ok(())
+}

@@ -1,0 +1,59 @@
+-- How the first records of some are one command's.
+use Rattle.std.proofs.Common.{◌≡◌, ℕ, zero, suc, ◌+◌, ◌<◌, ◌≤◌, List, [], ◌∷◌, ◌++◌, length, take, drop, true, false, All, Some, None, Option, refl, ap, subst, ◌∙◌, arith, inl, inr}
+use Rattle.std.specs.List.{slice_get}
+use Rattle.std.specs.Option.{IfSome}
+use Rattle.std.proofs.lemmas.List.{drop_all, take_all}
+use Rattle.std.proofs.lemmas.List.Elements.{All-append}
+use Rattle.command_core.specs.Records.{Record}
+use Rattle.command_core.specs.Words.{is_end, opens_block}
+use Rattle.command_core.specs.Meaning.{Meaning, Means, IsBody, block_meaning, refuse, told}
+use Rattle.command_core.specs.declared.refusal.Refusal.TheVariants.{Unended}
+use Rattle.command_core.proofs.Cutting.{slice_get-there, take-slice_get}
+
+-- a block up to its end
+pub block-means : (xs : List Record) (x : Record) (number n : ℕ) (meaning : Meaning) (rest : List Record) → rest ≡ drop 1 xs → slice_get xs 0 ≡ Some x → opens_block x ≡ true
+    → n < length rest → IsBody (take n rest) → IfSome (slice_get rest n) (λ line. is_end line ≡ true)
+    → meaning ≡ told number (block_meaning x (take n (drop 1 xs))) → Means number (take (n + 2) xs) (drop (n + 2) xs) meaning
+block-means [] x number n meaning rest r e opens within before last means = absurd (cc e)
+block-means (y ∷ ys) x number n meaning rest r e opens within before last means = by (slice_get ys n) refl
+  where
+    by : (o : Option Record) → slice_get ys n ≡ o → Means number (take (n + 2) (y ∷ ys)) (drop (n + 2) (y ∷ ys)) meaning
+    by None t = absurd (slice_get-there ys n (omega (arith, ap length r)) t)
+    by (Some z) t =
+        let same : y ≡ x = cc in
+        let two : n + 2 ≡ suc (n + 1) = omega arith in
+        inr (inl (record {
+          opening = x;
+          body = take n ys;
+          last = z;
+          whole = rw two (ap (λ l. y ∷ l) (take-slice_get ys n z t) ∙ ap (λ w. w ∷ (take n ys ++ z ∷ [])) same);
+          opens = opens;
+          inside = subst (λ l. IsBody (take n l)) r before;
+          closes = rw (r, t) at last;
+          means = means;
+        }))
+
+-- one more record that ends no block
+pub IsBody-more : (xs : List Record) (x : Record) → IsBody xs → is_end x ≡ false → IsBody (xs ++ x ∷ [])
+IsBody-more xs x body e = All-append (λ line. is_end line ≡ false) xs (x ∷ []) body one
+  where
+    one : All (λ line. is_end line ≡ false) (x ∷ [])
+    one zero d lt = e
+    one (suc k) d lt = absurd (omega arith)
+
+-- a block whose end is not among the records
+pub unended-means : (xs : List Record) (x : Record) (number size : ℕ) (rest : List Record) → size ≡ length xs → rest ≡ drop 1 xs → slice_get xs 0 ≡ Some x → opens_block x ≡ true → IsBody rest
+    → Means number (take size xs) (drop size xs) (refuse number Unended)
+unended-means [] x number size rest n r e opens body = absurd (cc e)
+unended-means (y ∷ ys) x number size rest n r e opens body =
+    let same : y ≡ x = cc in
+    let all : length (y ∷ ys) ≤ size = omega arith in
+    inr (inr (record {
+      opening = x;
+      body = ys;
+      whole = take_all size (y ∷ ys) all ∙ ap (λ z. z ∷ ys) same;
+      opens = opens;
+      inside = subst IsBody r body;
+      last = drop_all size (y ∷ ys) all;
+      means = refl;
+    }))

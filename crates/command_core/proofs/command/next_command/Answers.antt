@@ -1,0 +1,21 @@
+use Rattle.std.proofs.Common.{◌≤◌, arith, subst, sym}
+use Rattle.command_core.specs.Command.{meaning_of}
+use Rattle.command_core.specs.Lines.{fields_in}
+use Rattle.command_core.specs.Meaning.{behind_length, told}
+use Rattle.command_core.specs.Words.{verb_of}
+use Rattle.command_core.proofs.BehindLemmas.{record-behind}
+use Rattle.command_core.proofs.command.next_command.Goals.{in-Ok, in-Err-Refused}
+use Rattle.command_core.proofs.command.next_command.Goals as goal
+
+pub returns-clause-behind : goal.returns-clause-behind
+returns-clause-behind c =
+    let line = fields_in c.get-opening.result in
+    let none = record-behind c.args.number line (verb_of line) in
+    elim c.match-read_record.branch [
+      | in-Ok w ↦
+          let own : behind_length (meaning_of w.in-Ok.command) ≤ 0 = subst (λ r. behind_length (told c.args.number r) ≤ 0) w.in-Ok.ensures none in
+          rw w.command-is (omega (arith, own, c.requires))
+      | in-Err-Refused w ↦
+          let own : behind_length (meaning_of w.refused-command.result) ≤ 0 = subst (λ m. behind_length m ≤ 0) (sym w.refused-command.ensures) (omega arith) in
+          rw w.command-is (omega (arith, own, c.requires))
+    ]

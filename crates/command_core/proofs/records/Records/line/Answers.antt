@@ -1,0 +1,13 @@
+use Rattle.std.proofs.Common.{◌≡◌, arith, ap, length}
+use Rattle.csv.specs.Records.{fields_of}
+use Rattle.command_core.specs.Cut.{cut}
+use Rattle.command_core.proofs.Cutting.{length-cut}
+use Rattle.command_core.proofs.records.Records.line.Goals as goal
+
+pub line_at-requires-clause-place : goal.line_at-requires-clause-place
+line_at-requires-clause-place c =
+    let ends = c.self.inside.ends.items in
+    let size = length-cut 0 ends (fields_of c.self.inside.fields) in
+    let same : length (cut 0 ends (fields_of c.self.inside.fields)) ≡ length c.args.self.now = ap length c.self.view_is in
+    let count : length c.deref.result.now ≡ length ends = ap length c.deref.ensures.value in
+    omega (arith, c.requires, size, same, count)

@@ -1,0 +1,57 @@
+use Rattle.std.proofs.Common.{Bor, List, ℕ, ◌≡◌, ◌+◌, ◌++◌, ◌∙◌, ap, sym, refl, inl, inr, Some, ◌∷◌, [], length, length-append}
+use Rattle.csv.specs.Reading.{Reached, default_config, reader_state, strip_bom}
+use Rattle.csv.specs.Records.{fields_of}
+use Rattle.csv.specs.declared.parser.State.TheVariants as st
+use Rattle.csv.proofs.ReadFacts.{rows-more}
+use Rattle.command_core.specs.Cut.{cut}
+use Rattle.command_core.proofs.Cutting.{EndsAt-more, cut-more}
+use Rattle.command_core.proofs.Shrinking.{Reached-shrinks}
+use Rattle.command_core.proofs.records.read_records.Goals as goal
+
+pub loop-fields-init : goal.loop-fields-init
+unfolding Reached
+loop-fields-init c =
+    let fr = c.from_reader-reader.ensures in
+    let named = c.has_headers.ensures in
+    let flex = c.flexible.ensures in
+    record {
+      plain = rw (flex, named) at fr.trim ∙ c.new.ensures.trim;
+      ready = inr (inr (rw (flex, named) at fr.has_headers, fr.headers));
+      config = rw (flex, named) at fr.config ∙ c.new.ensures.config;
+      whole = c.new-fields.ensures.partial;
+      ends = rw c.new-ends.ensures.items (sym (ap length c.new-fields.ensures.fields));
+      left = strip_bom c.args.script.now;
+      source = fr.source;
+      reached = rw c.new-ends.ensures.items (sym fr.state, refl);
+    }
+
+pub loop-fields-smaller : goal.loop-fields-smaller
+unfolding Reached
+loop-fields-smaller c =
+    let inv = c.loop-fields.invariant in
+    let read = rw c.in-Ok-true.field-0-test at (c.in-Ok-true.ensures.reads inv.plain inv.ready) in
+    let one = rows-more (λ (s : Bor (List ℕ)). Some s.now) c.loop-fields.reader c.read_byte_record.new.self (fields_of c.read_byte_record.new.row) default_config (reader_state c.loop-fields.reader) inv.left inv.left [] inv.config inv.source (refl, refl) read in
+    rw (inv.source, one.1) (Reached-shrinks default_config (reader_state c.loop-fields.reader) (reader_state c.read_byte_record.new.self) (fields_of c.read_byte_record.new.row) inv.left one.0 one.2)
+
+pub loop-fields-preserved : goal.loop-fields-preserved
+loop-fields-preserved c =
+    let inv = c.loop-fields.invariant in
+    let before = fields_of c.loop-fields.fields in
+    let row = fields_of c.read_byte_record.new.row in
+    let ends = c.loop-fields.ends.items in
+    let read = rw c.in-Ok-true.field-0-test at (c.in-Ok-true.ensures.reads inv.plain inv.ready) in
+    let more = rows-more (λ (s : Bor (List ℕ)). Some s.now) c.loop-fields.reader c.read_byte_record.new.self row default_config st.StartRecord (strip_bom c.args.script.now) inv.left (cut 0 ends before) inv.config inv.source inv.reached read in
+    let added = c.in_ok-append-in-Ok-true.ensures in
+    let size : c.len.result ≡ length before + length row = c.len.ensures ∙ (ap length added.ok ∙ length-append before row) in
+    let pushed = c.in_ok-push-in-Ok-true.ensures.items in
+    let cuts : cut 0 c.push.new.self.items (fields_of c.append.new.fields) ≡ cut 0 ends before ++ row ∷ [] = rw (pushed, added.ok, size) (cut-more 0 ends before row inv.ends) in
+    record {
+      plain = read.3 ∙ inv.plain;
+      ready = inl (c.in-Ok-true.ensures.ready inv.plain);
+      config = read.2 ∙ inv.config;
+      whole = added.whole;
+      ends = rw (pushed, added.ok, size, length-append before row) (EndsAt-more 0 ends (length before) (length row) inv.ends);
+      left = more.0;
+      source = more.1;
+      reached = rw cuts more.2;
+    }

@@ -1,0 +1,25 @@
+-- The records so far are those that the reader took from the script.
+use Rattle.std.proofs.Common.{◌≡◌, ◌+◌, ◌*◌, ℕ, List, [], Some, length, cond}
+use Rattle.std.specs.Prelude.{option_map, unwrap_or}
+use Rattle.csv.specs.Machine.{ends_at_end}
+use Rattle.csv.specs.Reading.{Reached, Ready, default_config, reader_trim, source_of, strip_bom}
+use Rattle.csv.specs.Records.{fields_of, partial_of}
+use Rattle.csv.specs.declared.parser.State.TheVariants as st
+use Rattle.csv.specs.declared.reader.Trim.TheVariants as trim
+use Rattle.command_core.specs.Cut.{cut, EndsAt}
+use Rattle.command_core.proofs.records.read_records.Given as goal
+
+abbrev pub invariant-loop-fields : goal.invariant-loop-fields
+invariant-loop-fields l = record {
+  plain : reader_trim l.reader ≡ trim.None;
+  ready : Ready l.reader;
+  config : l.reader.config ≡ default_config;
+  whole : partial_of l.fields ≡ [];
+  ends : EndsAt 0 l.ends.items (length (fields_of l.fields));
+  left : List ℕ;
+  source : source_of (λ s. Some s.now) l.reader ≡ Some left;
+  reached : Reached default_config st.StartRecord (strip_bom l.fn.script) (cut 0 l.ends.items (fields_of l.fields)) l.reader.state left;
+}
+
+abbrev pub decreases-loop-fields : goal.decreases-loop-fields
+decreases-loop-fields l = 2 * unwrap_or (option_map length (source_of (λ s. Some s.now) l.reader)) 0 + cond (ends_at_end l.reader.state) 1 0

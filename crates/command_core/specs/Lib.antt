@@ -1,0 +1,12 @@
+pub mod Command
+pub mod Cut
+pub mod Fields
+pub mod Lines
+pub mod Meaning
+pub mod Pairs
+pub mod PairsIn
+pub mod Portions
+pub mod Records
+pub mod Refusal
+pub mod TableCommand
+pub mod Words

@@ -1,0 +1,37 @@
+-- The names of refusals.
+use Rattle.std.specs.Prelude.{ℕ, List, codes}
+use Rattle.row_core.specs.declared.schema.SchemaRefused.{SchemaRefused}
+use Rattle.row_core.specs.declared.schema.SchemaRefused.TheVariants as schema
+use Rattle.command_core.specs.declared.refusal.Fault.{Fault}
+use Rattle.command_core.specs.declared.refusal.Refusal.{Refusal}
+use Rattle.command_core.specs.declared.refusal.Refusal.TheVariants.{BadCommand, BadName, BadNumber, BadPeriod, BadPoint, BadUtf8, Full, Future, NoColumn, NoTable, TableExists, TooLong, TooMany, TwiceNamed, Unended, WrongKind, WrongWidth}
+
+-- a refusal as it is printed
+abbrev pub refusal_text : Refusal → List ℕ
+refusal_text BadCommand = codes "BadCommand"
+refusal_text BadName = codes "BadName"
+refusal_text BadNumber = codes "BadNumber"
+refusal_text BadPeriod = codes "BadPeriod"
+refusal_text BadPoint = codes "BadPoint"
+refusal_text BadUtf8 = codes "BadUtf8"
+refusal_text Full = codes "Full"
+refusal_text Future = codes "Future"
+refusal_text NoColumn = codes "NoColumn"
+refusal_text NoTable = codes "NoTable"
+refusal_text TableExists = codes "TableExists"
+refusal_text TooLong = codes "TooLong"
+refusal_text TooMany = codes "TooMany"
+refusal_text TwiceNamed = codes "TwiceNamed"
+refusal_text Unended = codes "Unended"
+refusal_text WrongKind = codes "WrongKind"
+refusal_text WrongWidth = codes "WrongWidth"
+
+-- what is wrong with the record of this number
+abbrev pub fault : ℕ → Refusal → Fault
+fault number refusal = record { number = number; refusal = refusal }
+
+-- what is wrong with columns; want of memory is none of it, and stands for nothing
+abbrev pub schema_refusal : SchemaRefused → Refusal
+schema_refusal schema.TooMany = TooMany
+schema_refusal schema.TwiceNamed = TwiceNamed
+schema_refusal schema.NoMemory = Full

@@ -1,0 +1,150 @@
+//! What the fields of a record give.
+ghost use Rattle.std.specs.Prelude.{◌≡◌, option_map};
+ghost use Rattle.command_core.specs.Fields.{asof_text, both, claimed, commit_told, dated, front_of, instant_in, name_in, named, natural_in, period_in, point_in, spanned};
+ghost use Rattle.command_core.specs.Lines.{fields_in};
+
+use crate::lines::Line;
+use crate::refusal::Refusal;
+use period_core::{Period, Point};
+use row_core::{Name, read_number};
+
+/// The name that a text is.
+pub(crate) fn name_in(text: &[u8]) -> Result<Name, Refusal>
+    ensures { result ≡ name_in text.now }
+{
+    match Name::parse(text) {
+        Ok(name) => Ok(name),
+        Err(_) => Err(Refusal::BadName),
+    }
+}
+
+/// The point that a text is.
+fn point_in(text: &[u8]) -> Result<Point, Refusal>
+    ensures { result ≡ point_in text.now }
+{
+    match Point::parse(text) {
+        Ok(point) => Ok(point),
+        Err(_) => Err(Refusal::BadPoint),
+    }
+}
+
+/// The number that a text is, written as a column's, and not negative.
+pub fn natural_in(text: &[u8]) -> Result<u64, Refusal>
+    ensures { result ≡ natural_in text.now }
+{
+    match read_number(text) {
+        Ok(number) if number >= 0 => Ok(number as u64),
+        _ => Err(Refusal::BadNumber),
+    }
+}
+
+/// The instant that a text is: a point, or `-` for none.
+fn instant_in(text: &[u8]) -> Result<Option<Point>, Refusal>
+    ensures { result ≡ instant_in text.now }
+{
+    if text == b"-".as_slice() {
+        Ok(None)
+    } else {
+        Ok(Some(point_in(text)?))
+    }
+}
+
+/// The period from one text's point on and before another's.
+pub(crate) fn period_in(from: &[u8], to: &[u8]) -> Result<Period, Refusal>
+    ensures { result ≡ period_in from.now to.now }
+{
+    match Period::new(point_in(from)?, point_in(to)?) {
+        Ok(period) => Ok(period),
+        Err(_) => Err(Refusal::BadPeriod),
+    }
+}
+
+/// The name that a record is on that has no other field behind its word.
+pub(crate) fn named(line: Line<'_>) -> Result<Name, Refusal>
+    ensures { result ≡ named (fields_in line.entry) }
+{
+    match (line.get(1), line.get(2)) {
+        (Some(name), None) => name_in(name),
+        _ => Err(Refusal::BadCommand),
+    }
+}
+
+/// The name and the point that two texts are.
+fn name_and_point(name: &[u8], point: &[u8]) -> Result<(Name, Point), Refusal>
+    ensures { result ≡ both (name_in name.now) (point_in point.now) }
+{
+    Ok((name_in(name)?, point_in(point)?))
+}
+
+/// The name and the point that a record of two fields behind its word is on.
+pub(crate) fn dated(line: Line<'_>) -> Result<(Name, Point), Refusal>
+    ensures { result ≡ dated (fields_in line.entry) }
+{
+    match (line.get(1), line.get(2), line.get(3)) {
+        (Some(name), Some(point), None) => name_and_point(name, point),
+        _ => Err(Refusal::BadCommand),
+    }
+}
+
+/// The name and the two numbers that texts are.
+fn name_and_span(name: &[u8], first: &[u8], last: &[u8]) -> Result<(Name, (u64, u64)), Refusal>
+    ensures { result ≡ both (name_in name.now) (both (natural_in first.now) (natural_in last.now)) }
+{
+    Ok((name_in(name)?, (natural_in(first)?, natural_in(last)?)))
+}
+
+/// The name and the two numbers that a record of three fields behind its word is on.
+pub(crate) fn spanned(line: Line<'_>) -> Result<(Name, (u64, u64)), Refusal>
+    ensures { result ≡ spanned (fields_in line.entry) }
+{
+    match (line.get(1), line.get(2), line.get(3), line.get(4)) {
+        (Some(name), Some(first), Some(last), None) => name_and_span(name, first, last),
+        _ => Err(Refusal::BadCommand),
+    }
+}
+
+/// The name, the number and the instant that texts are.
+fn name_and_claim(
+    name: &[u8],
+    parts: &[u8],
+    instant: &[u8],
+) -> Result<(Name, (u64, Option<Point>)), Refusal>
+    ensures { result ≡ both (name_in name.now) (both (natural_in parts.now) (instant_in instant.now)) }
+{
+    Ok((name_in(name)?, (natural_in(parts)?, instant_in(instant)?)))
+}
+
+/// The name, the number and the instant that a record of three fields behind its word is on.
+pub(crate) fn claimed(line: Line<'_>) -> Result<(Name, (u64, Option<Point>)), Refusal>
+    ensures { result ≡ claimed (fields_in line.entry) }
+{
+    match (line.get(1), line.get(2), line.get(3), line.get(4)) {
+        (Some(name), Some(parts), Some(instant), None) => name_and_claim(name, parts, instant),
+        _ => Err(Refusal::BadCommand),
+    }
+}
+
+/// A record without its suffix `asof,N`, and the text of that number.
+pub(crate) fn split_asof<'a>(line: Line<'a>) -> (Line<'a>, Option<&'a [u8]>)
+    ensures front { fields_in result.0 ≡ front_of (fields_in line.entry) }
+    ensures text { option_map (λ s. s.now) result.1 ≡ asof_text (fields_in line.entry) }
+{
+    let len = line.len();
+    if len < 2 {
+        return (line, None);
+    }
+    match line.get(len - 2) {
+        Some(word) if word == b"asof".as_slice() => (line.range(0, len - 2), line.get(len - 1)),
+        _ => (line, None),
+    }
+}
+
+/// The commit that a suffix tells, where there is one.
+pub(crate) fn commit_told(text: Option<&[u8]>) -> Result<Option<u64>, Refusal>
+    ensures { result ≡ commit_told (option_map (λ s. s.now) text.entry) }
+{
+    match text {
+        Some(text) => Ok(Some(natural_in(text)?)),
+        None => Ok(None),
+    }
+}

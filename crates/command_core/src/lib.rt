@@ -1,0 +1,21 @@
+//! The commands of a script: what their records mean, before any table is looked at.
+#![tactic(auto)]
+
+mod command;
+mod fields;
+mod lines;
+mod pairs;
+mod portions;
+mod queries;
+mod records;
+mod refusal;
+mod table_command;
+mod words;
+
+pub use command::{Command, Cut, next_command};
+pub use fields::natural_in;
+pub use lines::{Line, Lines};
+pub use pairs::TextPairs;
+pub use records::{Records, read_records};
+pub use refusal::{Fault, Refusal};
+pub use words::begins;

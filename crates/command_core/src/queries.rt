@@ -1,0 +1,67 @@
+//! What a record means that asks of the book.
+ghost use Rattle.std.specs.Prelude.{◌≡◌};
+ghost use Rattle.command_core.specs.Command.{meant_by};
+ghost use Rattle.command_core.specs.Lines.{fields_in};
+ghost use Rattle.command_core.specs.Meaning.{at_meaning, between_meaning, dip_meaning, from_to_meaning, log_meaning, rows_meaning};
+
+use crate::command::Command;
+use crate::fields::{commit_told, dated, named, spanned, split_asof};
+use crate::lines::Line;
+use crate::refusal::Refusal;
+
+/// What a record means whose word is `rows`.
+pub(crate) fn read_rows<'a>(line: Line<'a>) -> Result<Command<'a>, Refusal>
+    ensures { meant_by result ≡ rows_meaning (fields_in line.entry) }
+{
+    let (front, asof) = split_asof(line);
+    let table = named(front)?;
+    let asof = commit_told(asof)?;
+    Ok(Command::Rows { table, asof })
+}
+
+/// What a record means whose word is `at`.
+pub(crate) fn read_at<'a>(line: Line<'a>) -> Result<Command<'a>, Refusal>
+    ensures { meant_by result ≡ at_meaning (fields_in line.entry) }
+{
+    let (front, asof) = split_asof(line);
+    let (table, point) = dated(front)?;
+    let asof = commit_told(asof)?;
+    Ok(Command::At { table, point, asof })
+}
+
+/// What a record means whose word is `dip`.
+pub(crate) fn read_dip<'a>(line: Line<'a>) -> Result<Command<'a>, Refusal>
+    ensures { meant_by result ≡ dip_meaning (fields_in line.entry) }
+{
+    let (front, asof) = split_asof(line);
+    let table = named(front)?;
+    let asof = commit_told(asof)?;
+    Ok(Command::Dip { table, asof })
+}
+
+/// What a record means whose word is `between`.
+pub(crate) fn read_between<'a>(line: Line<'a>) -> Result<Command<'a>, Refusal>
+    ensures { meant_by result ≡ between_meaning (fields_in line.entry) }
+{
+    let (table, (first, last)) = spanned(line)?;
+    Ok(Command::Between { table, first, last })
+}
+
+/// What a record means whose word is `fromto`.
+pub(crate) fn read_from_to<'a>(line: Line<'a>) -> Result<Command<'a>, Refusal>
+    ensures { meant_by result ≡ from_to_meaning (fields_in line.entry) }
+{
+    let (table, (first, end)) = spanned(line)?;
+    Ok(Command::FromTo { table, first, end })
+}
+
+/// What a record means whose word is `log`.
+pub(crate) fn read_log<'a>(line: Line<'a>) -> Result<Command<'a>, Refusal>
+    ensures { meant_by result ≡ log_meaning (fields_in line.entry) }
+{
+    if line.len() == 1 {
+        Ok(Command::Log)
+    } else {
+        Err(Refusal::BadCommand)
+    }
+}

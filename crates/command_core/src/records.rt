@@ -1,0 +1,109 @@
+//! The records of a script, kept flat: all their fields in one record of `csv`, and where each
+//! record of the script ends among them.
+ghost use Rattle.std.specs.Prelude.{◌≡◌, ◌+◌, ◌<◌, ◌≤◌, ◌++◌, [], length, take, drop, slice_get, ◌-◌, IfOk, OnOk, OnErr, Some, option_map};
+ghost use Rattle.csv.specs.Records.{fields_of, partial_of};
+ghost use Rattle.command_core.specs.Cut.{cut, start_at, EndsAt};
+ghost use Rattle.command_core.specs.Lines.{fields_in};
+ghost use Rattle.command_core.specs.Records.{AreScriptRecords};
+
+use crate::lines::Line;
+use csv::{ByteRecord, ReaderBuilder};
+use period_core::NoMemory;
+use std::alloc::Global;
+use std::marker::Model;
+
+/// The records of a script, first to last. Contracts see the list of them, each the list of its
+/// fields' bytes.
+#[derive(Drop)]
+pub struct Records {
+    fields: ByteRecord,
+    ends: Vec<usize>,
+}
+
+impl Model for Records {
+    ghost use Rattle.std.specs.Prelude.{ℕ, List, length};
+    ghost use Rattle.csv.specs.Records.{fields_of};
+    ghost use Rattle.command_core.specs.Cut.{cut, EndsAt};
+
+    ghost Value = { List (List (List ℕ)) };
+
+    ghost view = { λ r. cut 0 r.ends.items (fields_of r.fields) };
+
+    ghost invariant = { λ r. EndsAt 0 r.ends.items (length (fields_of r.fields)) };
+}
+
+impl Records {
+    /// How many there are.
+    pub fn len(&self) -> usize
+        ensures { result ≡ length self.now }
+    {
+        self.ends.len()
+    }
+
+    /// The record at that place, from 0.
+    pub fn line(&self, place: usize) -> Line<'_>
+        requires { place < length self.now }
+        ensures { slice_get self.now place ≡ Some (fields_in result) }
+    {
+        line_at(&self.fields, &self.ends, place)
+    }
+}
+
+/// Where the part at a place starts among parts that end at these places.
+fn start_at(ends: &[usize], place: usize) -> usize
+    requires { place < length ends.now }
+    ensures { result ≡ start_at 0 ends.now place }
+{
+    if place == 0 { 0 } else { ends[place - 1] }
+}
+
+/// The record at a place.
+fn line_at<'a>(fields: &'a ByteRecord, ends: &[usize], place: usize) -> Line<'a>
+    requires place { place < length ends.now }
+    requires ends { EndsAt 0 ends.now (length (fields_of fields.now)) }
+    ensures { slice_get (cut 0 ends.now (fields_of fields.entry.now)) place ≡ Some (fields_in result) }
+{
+    Line::new(fields, start_at(ends, place), ends[place])
+}
+
+/// Adds the fields of a record at the end.
+fn append(fields: &mut ByteRecord, row: &ByteRecord) -> Result<(), NoMemory>
+    requires { partial_of fields.old ≡ [] }
+    ensures ok { OnOk result (fields_of fields.new ≡ fields_of fields.old ++ fields_of row.now) }
+    ensures whole { OnOk result (partial_of fields.new ≡ []) }
+{
+    for place in 0..row.len() {
+        if let Some(field) = row.get(place) {
+            fields.push_field(field)?;
+        }
+    }
+    Ok(())
+}
+
+/// The records of a script's bytes, as `csv` reads them, without a header and of any length. The
+/// bytes are in memory, so what fails is memory.
+///
+/// # Errors
+///
+/// `NoMemory` where a growth is refused.
+pub fn read_records(alloc: Global, script: &[u8]) -> Result<Records, NoMemory>
+    ensures { IfOk result (AreScriptRecords script.now) }
+{
+    let mut reader = ReaderBuilder::new()
+        .has_headers(false)
+        .flexible(true)
+        .from_reader(alloc, script);
+    let mut row = ByteRecord::new(alloc);
+    let mut fields = ByteRecord::new(alloc);
+    let mut ends = Vec::new(alloc);
+    loop {
+        match reader.read_byte_record(&mut row) {
+            Ok(true) => {
+                append(&mut fields, &row)?;
+                ends.push(fields.len())?;
+            }
+            Ok(false) => return Ok(Records { fields, ends }),
+            Err(_) => return Err(std::alloc::AllocError),
+        }
+    }
+}

@@ -1,0 +1,10 @@
+-- The claim is the old one with a last part, whose ids are those of the fields before this place.
+use Rattle.std.proofs.Common.{◌≡◌, ℕ, List, [], ◌∷◌, ◌++◌, drop}
+use Rattle.command_core.specs.Lines.{fields_in}
+use Rattle.script_core.specs.State.{naturals_in}
+use Rattle.script_core.proofs.Loading.{behind}
+use Rattle.script_core.proofs.claims.push_part.Given as goal
+
+abbrev pub invariant-loop-place : goal.invariant-loop-place
+invariant-loop-place l =
+    (ids : List ℕ) × (l.claim ≡ l.fn.claim ++ ids ∷ []) × (naturals_in (drop 1 (fields_in l.line)) ≡ behind ids (naturals_in (drop l.place (fields_in l.line))))

@@ -1,0 +1,10 @@
+-- The parts so far are those of the records before this place.
+use Rattle.std.proofs.Common.{◌≡◌, ◌+◌, drop}
+use Rattle.command_core.specs.Lines.{lines_in}
+use Rattle.script_core.specs.State.{claim_of}
+use Rattle.script_core.proofs.Loading.{behind}
+use Rattle.script_core.proofs.claims.read_claim.Given as goal
+
+abbrev pub invariant-loop-place : goal.invariant-loop-place
+invariant-loop-place l =
+    claim_of l.number (lines_in l.lines) ≡ behind l.claim (claim_of (l.number + l.place) (drop l.place (lines_in l.lines)))

@@ -1,0 +1,101 @@
+-- The records that answers are printed as.
+use Rattle.std.specs.Prelude.{ℕ, ◌+◌, ℤ, List, [], ◌∷◌, ◌++◌, Option, Some, None, codes, decimal, length, map}
+use Rattle.std.specs.Fmt.{signed_decimal}
+use Rattle.period_core.specs.Point.{point_text}
+use Rattle.row_core.specs.declared.row.Row.{Row}
+use Rattle.row_core.specs.declared.value.Value.{Value}
+use Rattle.row_core.specs.declared.value.Value.TheVariants.{Int, Text}
+use Rattle.book_core.specs.declared.log.ChangeKind.{ChangeKind}
+use Rattle.book_core.specs.declared.log.ChangeKind.TheVariants.{Make, Load, Update, Delete}
+use Rattle.book_core.specs.declared.log.Entry.{Entry}
+use Rattle.book_core.specs.declared.version.Version.{Version}
+use Rattle.cert_core.specs.declared.verdict.Verdict.{Verdict}
+use Rattle.cert_core.specs.declared.verdict.Verdict.TheVariants.{WrongCount, EmptyPart, Unknown, Twice, Missing, Overlap, NotCrowded, Yes}
+use Rattle.dip_core.specs.declared.item.Item.{Item}
+use Rattle.command_core.specs.Records.{Record}
+use Rattle.command_core.specs.Refusal.{refusal_text}
+use Rattle.command_core.specs.declared.refusal.Fault.{Fault}
+
+abbrev pub error_record : Fault → Record
+error_record wrong = codes "error" ∷ decimal wrong.number ∷ refusal_text wrong.refusal ∷ []
+
+abbrev pub ok_record : ℕ → Record
+ok_record commit = codes "ok" ∷ decimal commit ∷ []
+
+abbrev pub end_record : ℕ → Record
+end_record count = codes "end" ∷ decimal count ∷ []
+
+-- ---- rows and versions
+
+-- a value as it is printed: a number in decimal, a text as it was read
+abbrev pub value_text : Value → List ℕ
+value_text (Int number) = signed_decimal number
+value_text (Text bytes) = bytes
+
+abbrev pub row_record : Row → Record
+row_record row = codes "row" ∷ decimal row.id ∷ point_text row.period.from ∷ point_text row.period.to ∷ map value_text row.values
+
+-- one record for each row, and how many there are
+abbrev pub row_records : List Row → List Record
+row_records rows = map row_record rows ++ end_record (length rows) ∷ []
+
+-- an end as it is printed, `-` where it is open
+abbrev pub end_text : Option ℕ → List ℕ
+end_text None = codes "-"
+end_text (Some commit) = decimal commit
+
+abbrev pub version_record : Version → Record
+version_record v =
+    codes "version" ∷ decimal v.row.id ∷ point_text v.row.period.from ∷ point_text v.row.period.to
+    ∷ decimal v.sysfrom ∷ end_text v.systo ∷ map value_text v.row.values
+
+-- one record for each version, and how many there are
+abbrev pub version_records : List Version → List Record
+version_records versions = map version_record versions ++ end_record (length versions) ∷ []
+
+-- ---- the log
+
+-- a kind of change as it is printed
+abbrev pub kind_text : ChangeKind → List ℕ
+kind_text Make = codes "table"
+kind_text Load = codes "load"
+kind_text Update = codes "update"
+kind_text Delete = codes "delete"
+
+abbrev pub commit_record : Entry → Record
+commit_record e =
+    codes "commit" ∷ decimal e.number ∷ decimal e.by ∷ kind_text e.kind ∷ e.table ∷ decimal e.added ∷ decimal e.closed ∷ []
+
+-- one record for each commit, and how many there are
+abbrev pub commit_records : List Entry → List Record
+commit_records entries = map commit_record entries ++ end_record (length entries) ∷ []
+
+-- ---- divisions
+
+-- an instant as it is printed, `-` where there is none
+abbrev pub instant_text : Option ℤ → List ℕ
+instant_text None = codes "-"
+instant_text (Some instant) = point_text instant
+
+abbrev pub part_record : ℕ → List Item → Record
+part_record k class = codes "part" ∷ decimal k ∷ map (λ item. decimal item.id) class
+
+-- one record for each class, numbered on from k
+abbrev pub part_records : ℕ → List (List Item) → List Record
+part_records k [] = []
+part_records k (class ∷ classes) = part_record k class ∷ part_records (k + 1) classes
+
+abbrev pub division_records : ℕ → List (List Item) → Option ℤ → List Record
+division_records rows classes instant =
+    (codes "dip" ∷ decimal rows ∷ decimal (length classes) ∷ instant_text instant ∷ []) ∷ part_records 0 classes
+
+-- a verdict as it is printed: `yes`, or `no`, its name and its numbers
+abbrev pub verdict_record : Verdict → Record
+verdict_record (WrongCount n) = codes "no" ∷ codes "WrongCount" ∷ decimal n ∷ []
+verdict_record (EmptyPart k) = codes "no" ∷ codes "EmptyPart" ∷ decimal k ∷ []
+verdict_record (Unknown id) = codes "no" ∷ codes "Unknown" ∷ decimal id ∷ []
+verdict_record (Twice id) = codes "no" ∷ codes "Twice" ∷ decimal id ∷ []
+verdict_record (Missing id) = codes "no" ∷ codes "Missing" ∷ decimal id ∷ []
+verdict_record (Overlap a b) = codes "no" ∷ codes "Overlap" ∷ decimal a ∷ decimal b ∷ []
+verdict_record (NotCrowded n) = codes "no" ∷ codes "NotCrowded" ∷ decimal n ∷ []
+verdict_record Yes = codes "yes" ∷ []

@@ -1,0 +1,53 @@
+//! The values of a portion's settings and conditions.
+ghost use Rattle.std.specs.Prelude.{◌≡◌, Ok, MatchResult};
+ghost use Rattle.command_core.specs.PairsIn.{pairs_in};
+ghost use Rattle.script_core.specs.Failure.{IsFailureOf, IsRecordFailure};
+ghost use Rattle.script_core.specs.State.{pair_read, pairs_told};
+
+use crate::failure::{Failure, refused, value_failure};
+use book_core::Pairs;
+use command_core::{Refusal, TextPairs};
+use row_core::{Name, Schema, Value};
+use std::alloc::Global;
+
+/// The value that a text is in the column of that name.
+fn read_value(
+    alloc: Global,
+    schema: &Schema,
+    number: u64,
+    name: Name,
+    text: &[u8],
+) -> Result<Value, Failure>
+    ensures { MatchResult result
+        (λ value. pair_read schema.now (name, text.now) ≡ Ok (name, value))
+        (IsRecordFailure number (pair_read schema.now (name, text.now))) }
+{
+    let Some(place) = schema.column(name) else {
+        return Err(refused(number, Refusal::NoColumn));
+    };
+    match schema.read_value(alloc, place, text) {
+        Ok(value) => Ok(value),
+        Err(why) => Err(value_failure(number, why)),
+    }
+}
+
+/// The values of pairs in a table's columns, which the command of this number tells.
+pub(crate) fn read_pairs(
+    alloc: Global,
+    schema: &Schema,
+    number: u64,
+    texts: TextPairs<'_>,
+) -> Result<Pairs, Failure>
+    ensures { MatchResult result
+        (λ pairs. pairs_told number schema.now (pairs_in texts.entry) ≡ Ok pairs)
+        (IsFailureOf (pairs_told number schema.now (pairs_in texts.entry))) }
+{
+    let mut pairs = Pairs::new(alloc);
+    for place in 0..texts.len() {
+        if let Some(pair) = texts.get(place) {
+            let value = read_value(alloc, schema, number, pair.0, pair.1)?;
+            pairs.push((pair.0, value))?;
+        }
+    }
+    Ok(pairs)
+}
