@@ -71,6 +71,28 @@ impl Write for Narrow {
     }
 }
 
+// Takes all bytes, after so many interruptions.
+#[derive(Drop)]
+struct Busy {
+    taken: Vec<u8>,
+    interruptions: usize,
+}
+
+impl Write for Busy {
+    fn write(&mut self, buf: &[u8]) -> io::Result<usize> {
+        if self.interruptions > 0 {
+            self.interruptions -= 1;
+            return Err(io::Error::from(ErrorKind::Interrupted));
+        }
+        self.taken.extend_from_slice(buf)?;
+        Ok(buf.len())
+    }
+
+    fn flush(&mut self) -> io::Result<()> {
+        Ok(())
+    }
+}
+
 fn slowly(text: &[u8]) -> Slow<'_> {
     Slow {
         text,
@@ -96,6 +118,43 @@ fn takes_a_thousand_interruptions(rt: HostRuntime) -> Result<(), Fail> {
             written.as_slice(),
             if want.is_ok() { ANSWERS } else { b"" }
         );
+    }
+    Ok(())
+}
+
+#[test]
+fn reads_and_writes_share_the_thousand(rt: HostRuntime) -> Result<(), Fail> {
+    for (interruptions, want) in [(400, Ok(())), (401, Err(RunFault::WriteFault))] {
+        let mut reader = Counted::new(Slow {
+            interruptions: 600,
+            ..slowly(SCRIPT)
+        });
+        let mut writer = Counted::new(Busy {
+            taken: Vec::new(rt.alloc()),
+            interruptions,
+        });
+        let outcome = run(rt.alloc(), &mut reader, &mut writer, 1);
+        assert_eq!(rt; outcome.map(|_| ()), want);
+        assert_eq!(rt; reader.failures(), 600);
+        assert_eq!(rt; writer.failures(), interruptions as u64);
+        let written = writer.into_inner().taken;
+        assert_eq!(rt;
+            written.as_slice(),
+            if want.is_ok() { ANSWERS } else { b"" }
+        );
+    }
+    Ok(())
+}
+
+#[test]
+fn faults_have_texts(rt: HostRuntime) -> Result<(), Fail> {
+    for (fault, text) in [
+        (RunFault::ReadFault, "read fault"),
+        (RunFault::TooLong, "script too long"),
+        (RunFault::NoMemory, "out of memory"),
+        (RunFault::WriteFault, "write fault"),
+    ] {
+        assert_eq!(rt; fault.to_string(rt.alloc())?.as_str(), text);
     }
     Ok(())
 }

@@ -11,4 +11,5 @@ pub mod Refusals
 pub mod Seen
 pub mod Shown
 pub mod Sound
+pub mod SoughtLemmas
 pub mod Tables

@@ -1,22 +1,25 @@
 -- The places of open versions, and what a change does at them.
-use Rattle.std.proofs.Common.{◌≡◌, ℕ, ◌+◌, ◌<◌, ◌≤◌, List, [], ◌∷◌, ◌++◌, Bool, true, false, ◌&&◌, not, cond, Option, Some, None, length, map, take, get_or, set, zero, suc, add-one, refl, ap, sym, ◌∙◌, arith, append_assoc, length-append, leb}
+use Rattle.std.proofs.Common.{◌≡◌, ℕ, ◌+◌, ◌*◌, ◌<◌, ◌≤◌, List, [], ◌∷◌, ◌++◌, Bool, true, false, ◌&&◌, not, cond, Option, Some, None, length, map, take, get_or, set, zero, suc, add-one, refl, ap, sym, ◌∙◌, arith, append_assoc, length-append, leb}
 use Rattle.std.specs.Prelude.{slice_get, slice_set, filter, fold, count_by, unwrap_or, option_map, is_none, is_some, IfSome, flat_map, All}
 use Rattle.std.specs.List.{filter_map, cons_option, AllByRecursion, range_with_len}
 use Rattle.std.proofs.lemmas.Bool.{le-leb, le-ltb}
 use Rattle.std.proofs.lemmas.List.{append-nil, length-map, map-append, take_all, take_more}
 use Rattle.std.proofs.lemmas.List.Elements.{filter_map-append, filter-append, All-from_recursion}
-use Rattle.std.proofs.lemmas.List.Sums.{fold-append}
+use Rattle.std.proofs.lemmas.List.Concat.{flat_map-cons}
+use Rattle.std.proofs.lemmas.List.Sums.{count_by-le-length, fold-append, length-filter}
 use Rattle.std.proofs.lemmas.Option.{slice_get-get_or}
 use Rattle.std.proofs.Math.Seq.{set-append_seam}
+use Rattle.period_core.specs.Period.{before, meet, after as later}
 use Rattle.period_core.specs.declared.period.Period.{Period}
 use Rattle.row_core.specs.declared.value.Value.{Value}
 use Rattle.row_core.specs.declared.row.Row.{Row}
 use Rattle.row_core.specs.declared.draft.Draft.{Draft}
 use Rattle.row_core.specs.declared.schema.Column.{Column}
-use Rattle.book_core.specs.State.{numbered, part, parts_in, parts_of, removes}
+use Rattle.book_core.specs.State.{numbered, part, parts_in, parts_of, removes, set_at}
 use Rattle.book_core.specs.Kept.{IsTimely, closed, made, row_shown, shown}
 use Rattle.book_core.specs.Open.{AddsDrafts, Making, closed_at, current, is_left, is_open, is_taken, made_of, open_places, places_from, renewed}
 use Rattle.book_core.specs.declared.change.Change.{Change}
+use Rattle.book_core.specs.declared.change.Change.TheVariants.{Make, Load, Update, Delete}
 use Rattle.book_core.specs.declared.version.Version.{Version}
 use Rattle.book_core.proofs.Portions.{count-cons, parts-append}
 use Rattle.book_core.proofs.Applying.{length-numbered}
@@ -198,6 +201,52 @@ length-two_parts a b u v i j e f = omega (arith, length-append (part a u) (part 
 
 pub length-three_parts : (a b c : Option Period) (u v w : List Value) (i j k : ℕ) → i ≡ cond (is_some a) 1 0 → j ≡ cond (is_some b) 1 0 → k ≡ cond (is_some c) 1 0 → i + j + k ≡ length (part a u ++ (part b v ++ part c w))
 length-three_parts a b c u v w i j k e f g = omega (arith, length-append (part a u) (part b v ++ part c w), length-append (part b v) (part c w), one_or_none a u, one_or_none b v, one_or_none c w)
+
+part-few : (period : Option Period) (values : List Value) → length (part period values) ≤ 1
+part-few None values = omega arith
+part-few (Some p) values = omega arith
+
+parts_of-few : (c : Change) (schema : List Column) (row : Row) → length (parts_of c schema row) ≤ 3
+parts_of-few (Make name columns) schema row = omega arith
+parts_of-few (Load name drafts) schema row = omega arith
+parts_of-few (Update name portion sets conds) schema row =
+    let first = part (before row.period portion) row.values in
+    let inner = part (meet row.period portion) (fold (set_at schema) row.values sets) in
+    let last = part (later row.period portion) row.values in
+    omega (arith, length-append first (inner ++ last), length-append inner last, part-few (before row.period portion) row.values, part-few (meet row.period portion) (fold (set_at schema) row.values sets), part-few (later row.period portion) row.values)
+parts_of-few (Delete name portion conds) schema row =
+    let first = part (before row.period portion) row.values in
+    let last = part (later row.period portion) row.values in
+    omega (arith, length-append first last, part-few (before row.period portion) row.values, part-few (later row.period portion) row.values)
+
+parts-few : (c : Change) (schema : List Column) (rows : List Row) → length (parts_in c schema rows) ≤ 3 * length rows
+parts-few c schema [] = omega arith
+parts-few c schema (row ∷ rows) =
+    let rest = parts-few c schema rows in
+    elim (removes c schema row) as (λ b. length (flat_map (parts_of c schema) (cond b (row ∷ filter (removes c schema) rows) (filter (removes c schema) rows))) ≤ 3 * length (row ∷ rows)) [
+      | true ↦ rw (flat_map-cons (parts_of c schema) row (filter (removes c schema) rows)) (omega (arith, rest, length-append (parts_of c schema row) (parts_in c schema rows), parts_of-few c schema row))
+      | false ↦ omega (arith, rest)
+    ]
+
+length-open : (at : ℕ) (vs : List Version) → length (places_from is_open at vs) ≡ length (current vs)
+length-open at [] = refl
+length-open at (v ∷ vs) =
+    let rest = length-open (at + 1) vs in
+    elim (is_open v) as (λ b. length (cond b (at ∷ places_from is_open (at + 1) vs) (places_from is_open (at + 1) vs)) ≡ length (map (λ (v : Version). v.row) (cond b (v ∷ filter is_open vs) (filter is_open vs)))) [
+      | true ↦ omega (arith, rest)
+      | false ↦ rest
+    ]
+
+length-current : (vs : List Version) → length (current vs) ≤ length vs
+length-current vs = omega (arith, length-map (filter is_open vs) (λ (v : Version). v.row), length-filter is_open vs, count_by-le-length is_open vs)
+
+-- there are no more open versions than versions
+pub open_place-few : (vs : List Version) (places : List ℕ) → places ≡ open_places vs → length places ≤ length vs
+open_place-few vs places e = omega (arith, length-current vs, length-open 0 vs, ap length e)
+
+-- nor more than three parts for each open version
+pub parts-most : (c : Change) (schema : List Column) (vs : List Version) (places : List ℕ) → places ≡ open_places vs → length (parts_in c schema (current vs)) ≤ 3 * length places
+parts-most c schema vs places e = omega (arith, parts-few c schema (current vs), length-open 0 vs, ap length e)
 
 -- the parts of one row more
 

@@ -1,11 +1,13 @@
 -- The versions that are open, and a change of their rows.
-use Rattle.std.specs.Prelude.{◌≡◌, ℕ, ◌+◌, List, [], ◌∷◌, ◌++◌, length, map, filter, Bool, ◌&&◌, not, if◌then◌else◌, is_none, option_map, slice_get, slice_set, unwrap_or, Some}
+use Rattle.std.specs.Prelude.{◌≡◌, ℕ, ◌+◌, ◌<◌, List, [], ◌∷◌, ◌++◌, length, map, filter, Bool, ◌&&◌, not, if◌then◌else◌, is_none, option_map, slice_get, slice_set, unwrap_or, Option, Some}
+use Rattle.row_core.specs.Schema.{column_of}
 use Rattle.row_core.specs.declared.draft.Draft.{Draft}
 use Rattle.row_core.specs.declared.row.Row.{Row}
 use Rattle.row_core.specs.declared.schema.Column.{Column}
-use Rattle.book_core.specs.State.{numbered, parts_in, removes}
+use Rattle.book_core.specs.State.{Pair, numbered, parts_in, removes}
 use Rattle.book_core.specs.Kept.{closed, made}
 use Rattle.book_core.specs.declared.change.Change.{Change}
+use Rattle.book_core.specs.declared.change.Change.TheVariants.{Make, Load, Update, Delete}
 use Rattle.book_core.specs.declared.version.Version.{Version}
 
 -- no commit has closed the version
@@ -32,6 +34,17 @@ is_taken c schema v = is_open v && removes c schema v.row
 -- the version is open, and the change leaves its row
 abbrev pub is_left : Change → List Column → Version → Bool
 is_left c schema v = is_open v && not (removes c schema v.row)
+
+-- the conditions of a change
+abbrev pub conds_of : Change → List Pair
+conds_of (Make table schema) = []
+conds_of (Load table rows) = []
+conds_of (Update table portion sets conds) = conds
+conds_of (Delete table portion conds) = conds
+
+-- the places of the columns that the first 16 conditions name
+abbrev pub AreSought : List Column → List Pair → List (Option ℕ) → Type 0
+AreSought schema conds columns = (i : ℕ) → i < 16 → i < length conds → slice_get columns i ≡ option_map (λ (pair : Pair). column_of schema pair.0) (slice_get conds i)
 
 -- the versions after a change of a portion, made by that commit
 abbrev pub renewed : ℕ → Change → List Column → List Version → List Version

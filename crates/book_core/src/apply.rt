@@ -82,17 +82,22 @@ fn portion_refusal(
     }
 }
 
-/// Whether the parts of a change leave no room. In a table without room none are counted.
+/// Whether the parts of a change leave no room. They are counted only where that turns on them:
+/// not in a table without room, nor in one with room for all that there can be.
 fn is_full_by_parts(schema: &Schema, versions: &Versions, commits: usize, change: &Change) -> bool
     requires { AllByRecursion (IsTimely commits) versions.now }
     ensures { result ≡ (nat_le 1000000 commits || nat_lt 1000000 (length versions.now
         + length (parts_in change.now schema.now (shown commits versions.now)))) }
 {
-    if versions.len() > LIMIT {
+    let used = versions.len();
+    if commits >= LIMIT || used > LIMIT {
         return true;
     }
+    if versions.most_parts() <= LIMIT - used {
+        return false;
+    }
     let more = versions.count_parts(schema, change);
-    is_full(commits, versions.len(), more)
+    is_full(commits, used, more)
 }
 
 /// Whether each row has one value of its kind for each column.

@@ -1,19 +1,25 @@
 //! Changes of a portion of time: which rows they take out, and what comes in the place of each.
 
-ghost use Rattle.std.specs.Prelude.{◌≡◌, ◌+◌, ◌≤◌, ◌++◌, ◌&&◌, List, length, fold, flat_map, is_some, if◌then◌else◌, IfOk, OnOk};
+ghost use Rattle.std.specs.Prelude.{◌≡◌, ◌+◌, ◌≤◌, ◌<◌, ◌++◌, ◌&&◌, List, false, length, fold, flat_map, is_some, option_map, option_and_then, slice_get, unwrap_or, if◌then◌else◌, IfOk, IfSome, OnOk};
 ghost use Rattle.std.specs.List.{list_all};
 ghost use Rattle.period_core.specs.Period.{before, meet, after as later};
+ghost use Rattle.row_core.specs.Name.{same_name};
 ghost use Rattle.row_core.specs.Refusals.{first_of};
+ghost use Rattle.row_core.specs.Schema.{column_of};
 ghost use Rattle.row_core.specs.declared.schema.Column.{Column};
-ghost use Rattle.book_core.specs.Open.{AddsDrafts};
+ghost use Rattle.book_core.specs.Open.{AddsDrafts, AreSought, conds_of};
 ghost use Rattle.book_core.specs.State.{pair_tests, kind_in, is_touched, is_equal_at, removes, same_value, part, parts_of, set_at};
 
 use crate::book::BookRefused;
 use crate::change::Change;
 use crate::making::NewVersions;
 use period_core::Period;
-use row_core::{Kind, Name, NoMemory, Row, Schema, Value, Values};
+use row_core::{Kind, Name, NoMemory, Row, Schema, Text, Value, Values};
 use std::alloc::Global;
+
+/// How many conditions' columns are looked up before the rows are gone through. There may be more
+/// conditions, but a table has no more columns.
+pub const SOUGHT: usize = 16;
 
 /// The first pair that the schema refuses.
 pub fn pairs_refusal(schema: &Schema, pairs: &[(Name, Value)]) -> Option<BookRefused>
@@ -199,52 +205,148 @@ fn values_set(
     Ok(now)
 }
 
-/// Whether the change takes out the row.
-pub fn is_removed(schema: &Schema, change: &Change, row: &Row) -> bool
+/// The places of the columns that the first conditions of a change name. Looked up once, they make
+/// the test of each row cheap.
+pub fn columns_sought(schema: &Schema, change: &Change) -> [Option<u32>; SOUGHT]
+    ensures { AreSought schema.now (conds_of change.now) result }
+{
+    match change {
+        Change::Make { .. } => [None; SOUGHT],
+        Change::Load { .. } => [None; SOUGHT],
+        Change::Update { conds, .. } => columns_named(schema, conds.as_slice()),
+        Change::Delete { conds, .. } => columns_named(schema, conds.as_slice()),
+    }
+}
+
+/// The places of the columns that the first pairs name.
+fn columns_named(schema: &Schema, pairs: &[(Name, Value)]) -> [Option<u32>; SOUGHT]
+    ensures { AreSought schema.now pairs.now result }
+{
+    let mut columns = [None; SOUGHT];
+    for i in 0..pairs.len().min(SOUGHT) {
+        columns[i] = schema.column(pairs[i].0);
+    }
+    columns
+}
+
+/// Whether the change takes out the row. `columns` are those that its conditions name. This and what
+/// it calls become part of the loop over the rows, which a call for each would make slower.
+#[inline(always)]
+pub fn is_removed(
+    schema: &Schema,
+    change: &Change,
+    columns: &[Option<u32>; SOUGHT],
+    row: &Row,
+) -> bool
+    requires { AreSought schema.now (conds_of change.now) columns.now }
     ensures { result ≡ removes change.now schema.now row.now }
 {
     match change {
         Change::Make { .. } => false,
         Change::Load { .. } => false,
-        Change::Update { portion, conds, .. } => is_touched(schema, portion, conds.as_slice(), row),
-        Change::Delete { portion, conds, .. } => is_touched(schema, portion, conds.as_slice(), row),
+        Change::Update { portion, conds, .. } => {
+            is_touched(schema, portion, conds.as_slice(), columns, row)
+        }
+        Change::Delete { portion, conds, .. } => {
+            is_touched(schema, portion, conds.as_slice(), columns, row)
+        }
     }
 }
 
 /// Whether the row meets all conditions and overlaps the portion.
-fn is_touched(schema: &Schema, portion: &Period, conds: &[(Name, Value)], row: &Row) -> bool
+#[inline(always)]
+fn is_touched(
+    schema: &Schema,
+    portion: &Period,
+    conds: &[(Name, Value)],
+    columns: &[Option<u32>; SOUGHT],
+    row: &Row,
+) -> bool
+    requires { AreSought schema.now conds.now columns.now }
     ensures { result ≡ is_touched schema.now portion.now conds.now row.now }
 {
-    meets_all(schema, &row.values, conds) && row.period.meet(portion).is_some()
+    meets_all(schema, &row.values, conds, columns) && row.period.meet(portion).is_some()
 }
 
 /// Whether the values meet all conditions. Where there are none, all rows do.
-fn meets_all(schema: &Schema, values: &Values, conds: &[(Name, Value)]) -> bool
+#[inline(always)]
+fn meets_all(
+    schema: &Schema,
+    values: &Values,
+    conds: &[(Name, Value)],
+    columns: &[Option<u32>; SOUGHT],
+) -> bool
+    requires { AreSought schema.now conds.now columns.now }
     ensures { result ≡ list_all (is_equal_at schema.now values.now) conds.now }
 {
-    conds.iter().all(|pair| is_equal_at(schema, values, pair))
+    for i in 0..conds.len() {
+        let column = column_at(schema, conds, columns, i);
+        if !is_equal_in(values, column, &conds[i].1) {
+            return false;
+        }
+    }
+    true
 }
 
-/// Whether the row's value in the pair's column is the pair's.
-fn is_equal_at(schema: &Schema, values: &Values, pair: &(Name, Value)) -> bool
-    ensures { result ≡ is_equal_at schema.now values.now pair.now }
+/// The place of the column that the condition at place i names.
+#[inline(always)]
+fn column_at(
+    schema: &Schema,
+    conds: &[(Name, Value)],
+    columns: &[Option<u32>; SOUGHT],
+    i: usize,
+) -> Option<u32>
+    requires inside { i < length conds.now }
+    requires sought { AreSought schema.now conds.now columns.now }
+    ensures { IfSome (slice_get conds.now i) (λ pair. result ≡ column_of schema.now pair.0) }
 {
-    match schema.column(pair.0) {
+    if i < SOUGHT {
+        columns[i]
+    } else {
+        look_up(schema, conds[i].0)
+    }
+}
+
+/// The place of the column of that name. It stands apart, so that the loop over the rows stays small.
+#[cold]
+#[inline(never)]
+fn look_up(schema: &Schema, name: Name) -> Option<u32>
+    ensures { result ≡ column_of schema.now name }
+{
+    schema.column(name)
+}
+
+/// Whether the value of the column at that place is the one.
+#[inline(always)]
+fn is_equal_in(values: &Values, column: Option<u32>, value: &Value) -> bool
+    ensures { result ≡ unwrap_or (option_map (same_value value.now)
+        (option_and_then (slice_get values.now) column)) false }
+{
+    match column {
         None => false,
         Some(i) => match values.get(i as usize) {
             None => false,
-            Some(value) => is_same(&pair.1, value),
+            Some(found) => is_same(value, found),
         },
     }
 }
 
 /// Whether both are one value: a number is never a text.
+#[inline(always)]
 fn is_same(a: &Value, b: &Value) -> bool
     ensures { result ≡ same_value a.now b.now }
 {
     match (a, b) {
         (Value::Int(x), Value::Int(y)) => *x == *y,
-        (Value::Text(x), Value::Text(y)) => *x == *y,
+        (Value::Text(x), Value::Text(y)) => is_same_text(x, y),
         _ => false,
     }
+}
+
+/// Whether both are one text. It stands apart, as `look_up` does.
+#[inline(never)]
+fn is_same_text(a: &Text, b: &Text) -> bool
+    ensures { result ≡ same_name a.now b.now }
+{
+    *a == *b
 }

@@ -1,14 +1,16 @@
 //! All versions of a table, with the places of the open ones.
 
-ghost use Rattle.std.specs.Prelude.{◌≡◌, ◌+◌, ◌≤◌, ◌<◌, ◌^◌, ◌++◌, [], length, fold, count_by, All, IfOk, OnErr, OnOk};
+ghost use Rattle.std.specs.Prelude.{◌≡◌, ◌+◌, ◌≤◌, ◌<◌, ◌^◌, ◌++◌, List, [], length, fold, count_by, All, IfOk, OnErr, OnOk};
 ghost use Rattle.std.specs.List.{range_with_len};
+ghost use Rattle.row_core.specs.declared.schema.Column.{Column};
 ghost use Rattle.book_core.specs.Kept.{made};
 ghost use Rattle.book_core.specs.Open.{closed_at, current, is_left, is_taken, open_places, places_from, renewed};
 ghost use Rattle.book_core.specs.State.{numbered, parts_in, removes};
+ghost use Rattle.book_core.specs.declared.change.Change.{Change};
 
 use crate::change::Change;
 use crate::making::{NewVersions, versions_of};
-use crate::portion::{count_of, is_removed, push_parts};
+use crate::portion::{columns_sought, count_of, is_removed, push_parts};
 use crate::version::{Version, copy_versions};
 use row_core::{Draft, NoMemory, Schema};
 use std::alloc::Global;
@@ -74,6 +76,15 @@ impl Versions {
             items: copy_versions(alloc, &self.items)?,
             open_at: Vec::from_slice(alloc, &self.open_at)?,
         })
+    }
+
+    /// How many rows a change can put in the place of those that it takes out: three of each.
+    pub fn most_parts(&self) -> usize
+        requires { length self.now ≤ 1000000 }
+        ensures { (change : Change) (columns : List Column)
+            → length (parts_in change columns (current self.now)) ≤ result }
+    {
+        3 * self.open_at.len()
     }
 
     /// How many rows come in the place of those that the change takes out.
@@ -166,9 +177,10 @@ fn make_plan(
     let mut new = NewVersions::new(alloc, versions.len(), commit);
     let mut taken = Vec::new(alloc);
     let mut left = Vec::new(alloc);
+    let columns = columns_sought(schema, change);
     for place in places {
         let version = &versions[*place];
-        if is_removed(schema, change, &version.row) {
+        if is_removed(schema, change, &columns, &version.row) {
             push_parts(alloc, &mut new, schema, change, &version.row)?;
             taken.push(*place)?;
         } else {
@@ -189,9 +201,10 @@ fn count_parts(schema: &Schema, versions: &[Version], places: &[usize], change: 
     ensures { result ≡ length (parts_in change.now schema.now (current versions.now)) }
 {
     let mut count = 0;
+    let columns = columns_sought(schema, change);
     for place in places {
         let version = &versions[*place];
-        if is_removed(schema, change, &version.row) {
+        if is_removed(schema, change, &columns, &version.row) {
             count += count_of(change, &version.row);
         }
     }

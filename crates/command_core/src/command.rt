@@ -21,7 +21,9 @@ use std::alloc::{AllocError, Global};
 /// A query's `asof` is the commit that it reads, and without one it reads the newest.
 #[derive(Drop)]
 pub enum Command<'a> {
+    /// It is refused, whatever the tables are.
     Refused(Fault),
+    /// A new table.
     Make {
         table: Name,
         schema: Schema,
@@ -31,43 +33,48 @@ pub enum Command<'a> {
         table: Name,
         body: Lines<'a>,
     },
+    /// Other values for a portion of the rows that have the conditions' values.
     Update {
         table: Name,
         portion: Period,
         sets: TextPairs<'a>,
         conds: TextPairs<'a>,
     },
+    /// A portion taken out of the rows that have the conditions' values.
     Delete {
         table: Name,
         portion: Period,
         conds: TextPairs<'a>,
     },
+    /// All rows.
     Rows {
         table: Name,
         asof: Option<u64>,
     },
+    /// The rows that hold on a day.
     At {
         table: Name,
         point: Point,
         asof: Option<u64>,
     },
-    /// The first and the last commit.
+    /// The versions that some commit from the first to the last shows.
     Between {
         table: Name,
         first: u64,
         last: u64,
     },
-    /// The first commit, and the first behind the last.
+    /// The versions that some commit from the first on and before the end shows.
     FromTo {
         table: Name,
         first: u64,
         end: u64,
     },
+    /// The division of the rows.
     Dip {
         table: Name,
         asof: Option<u64>,
     },
-    /// The body is the parts of the claimed division.
+    /// A check of a division: its number of parts, its instant, and in the body its parts.
     Check {
         table: Name,
         parts: u64,
@@ -75,13 +82,16 @@ pub enum Command<'a> {
         asof: Option<u64>,
         body: Lines<'a>,
     },
+    /// What each commit did.
     Log,
 }
 
 /// A command, and how many records it takes.
 #[derive(Drop)]
 pub struct Cut<'a> {
+    /// The command.
     pub command: Command<'a>,
+    /// How many records it takes: one, a block up to its `end`, or all where there is none.
     pub taken: usize,
 }
 
@@ -163,7 +173,8 @@ fn body_len(lines: Lines<'_>) -> Option<usize>
     None
 }
 
-/// The next command of some records, the first of them of this number.
+/// The next command of some records, of which there is one at least, the first of them of this
+/// number.
 ///
 /// # Errors
 ///

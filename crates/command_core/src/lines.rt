@@ -8,9 +8,11 @@ use csv::ByteRecord;
 /// One record of a script.
 #[derive(Clone, Copy)]
 pub struct Line<'a> {
-    /// Fields one after another, of which these from one place on and before another are the record's.
+    /// Fields one after another.
     pub fields: &'a ByteRecord,
+    /// The place of the record's first field among them.
     pub from: usize,
+    /// The place behind its last.
     pub to: usize,
     pub ghost ordered: { from ≤ to },
     pub ghost within: { to ≤ length (fields_of fields.now) },
@@ -19,9 +21,11 @@ pub struct Line<'a> {
 /// Some records of a script, one after another.
 #[derive(Clone, Copy)]
 pub struct Lines<'a> {
-    /// The records of which these are, from one place on and before another.
+    /// Records one after another.
     pub records: &'a Records,
+    /// The place of the first of these among them.
     pub from: usize,
+    /// The place behind the last.
     pub to: usize,
     pub ghost ordered: { from ≤ to },
     pub ghost within: { to ≤ length records.now },

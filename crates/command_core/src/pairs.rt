@@ -13,6 +13,7 @@ use row_core::Name;
 /// Pairs of a column's name and the text of a value, as fields tell them in turn.
 #[derive(Clone, Copy)]
 pub struct TextPairs<'a> {
+    /// The fields, column and text in turn.
     pub fields: Line<'a>,
     pub ghost named: { IsTrue (all_columns (pairs_of (fields_in fields))) },
 }

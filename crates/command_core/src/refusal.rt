@@ -8,29 +8,48 @@ use std::alloc::{AllocError, AllocFailed};
 /// Why a command is refused.
 #[derive(Clone, Copy, Debug, PartialEq, Eq)]
 pub enum Refusal {
+    /// The word is no command, or its record or a record of its block has not the right form.
     BadCommand,
+    /// A table's or a column's name is none.
     BadName,
+    /// A text is not the number that it should be.
     BadNumber,
+    /// A start is not before its end, or two commits are not in order.
     BadPeriod,
+    /// A text is no date.
     BadPoint,
+    /// A text value is no UTF-8.
     BadUtf8,
+    /// There are 1,000,000 commits, or a table would have more than 1,000,000 versions.
     Full,
+    /// There are fewer commits.
     Future,
+    /// The table has no column of that name.
     NoColumn,
+    /// There is no table of that name.
     NoTable,
+    /// There is a table of that name.
     TableExists,
+    /// A text value has more than 4,096 bytes.
     TooLong,
+    /// There would be more than 16 columns, or more than 64 tables.
     TooMany,
+    /// Two columns have one name.
     TwiceNamed,
+    /// A block has no end.
     Unended,
+    /// A value is not of its column's kind.
     WrongKind,
+    /// A row has not one value for each column.
     WrongWidth,
 }
 
-/// The number of the record at fault, from 1 on, and what is wrong with it.
+/// A record at fault.
 #[derive(Clone, Copy, Debug, PartialEq, Eq)]
 pub struct Fault {
+    /// The number of the record, from 1 on.
     pub number: u64,
+    /// What is wrong with it.
     pub refusal: Refusal,
 }
 

@@ -1,4 +1,5 @@
 pub mod Answering
+pub mod Counting
 pub mod Loading
 pub mod Printing
 pub mod Progress

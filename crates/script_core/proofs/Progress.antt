@@ -1,15 +1,15 @@
 -- What a run has done of its script so far.
-use Rattle.std.proofs.Common.{◌≡◌, ℕ, ◌+◌, ◌≤◌, List, [], ◌∷◌, ◌++◌, Option, length, take, drop, refl, sym, ap, subst, ◌∙◌, arith}
+use Rattle.std.proofs.Common.{◌≡◌, ℕ, ◌+◌, ◌<◌, ◌≤◌, List, [], ◌∷◌, ◌++◌, Option, length, take, drop, refl, sym, ap, subst, ◌∙◌, arith}
 use Rattle.std.specs.Io.KnownBytes.{Appends}
 use Rattle.std.proofs.lemmas.List.Concat.{flat_map-append}
 use Rattle.std.proofs.lemmas.List.Sums.{sum_by-append}
 use Rattle.std.proofs.KnownBytes.{Appends-kept, Appends-trans}
-use Rattle.std.proofs.lemmas.List.{take-append-drop, append-nil, length-append, length-take, drop-drop}
+use Rattle.std.proofs.lemmas.List.{take-append-drop, append-nil, length-append, length-drop, length-take, drop-drop}
 use Rattle.script_core.specs.Answer.{Answers}
 use Rattle.command_core.specs.Meaning.{Meaning, Means}
 use Rattle.command_core.specs.Records.{Record}
 use Rattle.script_core.specs.Records.{bytes_of}
-use Rattle.script_core.specs.Script.{Done, Place, Step, Steps, start_of, output_of, Tells, ExplainsAnswering, WritesPart}
+use Rattle.script_core.specs.Script.{Done, Place, Step, Steps, start_of, output_of, Tells, ExplainsAnswering, WritesBegun, WritesPart}
 use Rattle.book_core.specs.History.{History}
 use Rattle.script_core.specs.Records.{errors_in}
 use Rattle.script_core.specs.Faults.{ExplainsWriting}
@@ -68,11 +68,20 @@ progress-more records old mid new before after at taken sofar outcome meaning an
       };
     }
 
--- a prefix of the next command's answer was written
+-- the answers to the commands before this index were written, and there are more
+pub progress-begun : (records : List Record) (old now : Option (List ℕ)) (history : History) (at : ℕ) (outcome : Outcome) → at < length records → Progress records old now history at outcome → WritesBegun records old now
+progress-begun records old now history at outcome below p = record {
+  dones = p.dones;
+  begun = record { place = place_at records history at; steps = p.steps };
+  more = omega (arith, length-drop at records);
+  written = p.written;
+}
+
+-- a front of the next command's answer was written
 pub progress-part : (records : List Record) (old mid new : Option (List ℕ)) (before after : History) (at taken : ℕ) (sofar : Outcome) (meaning : Meaning) (answer : List Record) (size : ℕ)
     → Progress records old mid before at sofar → taken ≤ length (drop at records) → Means (at + 1) (take taken (drop at records)) (drop taken (drop at records)) meaning
-    → Answers before (at + 1) meaning answer after → Appends mid new (take size (bytes_of answer)) → WritesPart records old new
-progress-part records old mid new before after at taken sofar meaning answer size p within means answers writes = record {
+    → Answers before (at + 1) meaning answer after → size < length (bytes_of answer) → Appends mid new (take size (bytes_of answer)) → WritesPart records old new
+progress-part records old mid new before after at taken sofar meaning answer size p within means answers short writes = record {
   dones = p.dones;
   place = place_at records before at;
   steps = p.steps;
@@ -80,19 +89,21 @@ progress-part records old mid new before after at taken sofar meaning answer siz
   after = place_at records after (at + taken);
   step = step-at records before after at taken meaning answer within means answers;
   size = size;
+  short = short;
   written = Appends-trans old mid new _ _ p.written writes;
 }
 
 -- why the writing of a command's answer stopped
 pub progress-stopped : (records : List Record) (old mid new : Option (List ℕ)) (before after : History) (at taken : ℕ) (sofar : Outcome) (meaning : Meaning) (answer : List Record) (first second third : ℕ) (fault : RunFault)
     → Progress records old mid before at sofar → taken ≤ length (drop at records) → Means (at + 1) (take taken (drop at records)) (drop taken (drop at records)) meaning
-    → Answers before (at + 1) meaning answer after → first ≤ second → ExplainsWriting mid new second third (bytes_of answer) fault → ExplainsAnswering records old new first third fault
-progress-stopped records old mid new before after at taken sofar meaning answer first second third ReadFault p within means answers le why = why
-progress-stopped records old mid new before after at taken sofar meaning answer first second third TooLong p within means answers le why = why
-progress-stopped records old mid new before after at taken sofar meaning answer first second third NoMemory p within means answers le why = record {
+    → Answers before (at + 1) meaning answer after → 0 < length (drop at records) → first ≤ second → ExplainsWriting mid new second third (bytes_of answer) fault → ExplainsAnswering records old new first third fault
+progress-stopped records old mid new before after at taken sofar meaning answer first second third ReadFault p within means answers more le why = why
+progress-stopped records old mid new before after at taken sofar meaning answer first second third TooLong p within means answers more le why = why
+progress-stopped records old mid new before after at taken sofar meaning answer first second third NoMemory p within means answers more le why = record {
   dones = p.dones;
   begun = record { place = place_at records before at; steps = p.steps };
+  more = more;
   written = Appends-kept old mid new (output_of p.dones) p.written why;
 }
-progress-stopped records old mid new before after at taken sofar meaning answer first second third WriteFault p within means answers le (grown, size, writes) =
-    (progress-part records old mid new before after at taken sofar meaning answer size p within means answers writes, omega (arith, grown))
+progress-stopped records old mid new before after at taken sofar meaning answer first second third WriteFault p within means answers more le (grown, size, short, writes) =
+    (progress-part records old mid new before after at taken sofar meaning answer size p within means answers short writes, omega (arith, grown))

@@ -67,13 +67,14 @@ pub record WritesAll (records : List Record) (old new : Option (List ℕ)) (outc
   pub written : Appends old new (output_of dones)
   pub tells : Tells outcome dones
 
--- what a writer was given are the answers to the first commands
+-- what a writer was given are the answers to the first commands, and there are more
 pub record WritesBegun (records : List Record) (old new : Option (List ℕ)) : Type 0 where
   pub dones : List Done
   pub begun : Begun records dones
+  pub more : 0 < length begun.place.left
   pub written : Appends old new (output_of dones)
 
--- the same, and then a prefix of the answer to the next command
+-- the same, and then a front of the answer to the next command
 pub record WritesPart (records : List Record) (old new : Option (List ℕ)) : Type 0 where
   pub dones : List Done
   pub place : Place
@@ -82,6 +83,7 @@ pub record WritesPart (records : List Record) (old new : Option (List ℕ)) : Ty
   pub after : Place
   pub step : Step place next after
   pub size : ℕ
+  pub short : size < length (bytes_of next.answer)
   pub written : Appends old new (output_of dones ++ take size (bytes_of next.answer))
 
 -- why the answering of records stopped
@@ -107,7 +109,7 @@ RunsAll unread left old new outcome = (records : List Record) × ReadsScript unr
 abbrev pub RunsBegun : Option (List ℕ) → Option (List ℕ) → Option (List ℕ) → Option (List ℕ) → Type 0
 RunsBegun unread left old new = Keeps old new ⊎ ((records : List Record) × ReadsScript unread left records × WritesBegun records old new)
 
--- the answers to some first commands and a prefix of the next one's were written
+-- the answers to some first commands and a front of the next one's were written
 abbrev pub RunsPart : Option (List ℕ) → Option (List ℕ) → Option (List ℕ) → Option (List ℕ) → Type 0
 RunsPart unread left old new = (records : List Record) × ReadsScript unread left records × WritesPart records old new
 

@@ -7,7 +7,7 @@ ghost use Rattle.csv.specs.Writing.{fields_written, has_written, row_text, write
 ghost use Rattle.period_core.specs.Point.{point_text};
 ghost use Rattle.script_core.specs.Counted.{failures_of, inner_of};
 ghost use Rattle.script_core.specs.Draft.{Draft};
-ghost use Rattle.script_core.specs.Faults.{ExplainsWriting};
+ghost use Rattle.script_core.specs.Faults.{ExplainsWriting, last_failures};
 ghost use Rattle.script_core.specs.Records.{answer_writer};
 
 use crate::counted::Counted;
@@ -123,6 +123,7 @@ impl AnswerWriter {
         ensures begins { OnOk result (self.new ≡ record { text = []; fields = [] }) }
         ensures fault { IfErr result (ExplainsWriting (W.contents (inner_of writer.old)) (W.contents (inner_of writer.new)) (failures_of writer.old) (failures_of writer.new) self.old.text) }
         ensures counts { failures_of writer.old ≤ failures_of writer.new }
+        ensures tries { failures_of writer.new + patience.new.left ≤ failures_of writer.old + patience.old.left + last_failures result }
     {
         if self.writer.flush().is_err() {
             *self = AnswerWriter::new(self.alloc);

@@ -10,7 +10,7 @@ use std::alloc::{AllocError, AllocFailed};
 
 /// Why a command is not done.
 #[derive(Clone, Copy, Debug, PartialEq, Eq)]
-pub enum Failure {
+pub(crate) enum Failure {
     Refused(Fault),
     NoMemory,
 }

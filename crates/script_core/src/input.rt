@@ -1,8 +1,8 @@
 //! Reads a script whole.
-ghost use Rattle.std.specs.Prelude.{◌≡◌, ◌≤◌, ◌<◌, IfOk, IfErr, OnOk, OnErr, take, length};
+ghost use Rattle.std.specs.Prelude.{◌≡◌, ◌+◌, ◌≤◌, ◌<◌, IfOk, IfErr, OnOk, OnErr, take, length};
 ghost use Rattle.std.specs.Io.KnownBytes.{Consumes, IsAtEnd, Keeps};
 ghost use Rattle.script_core.specs.Counted.{inner_of, failures_of};
-ghost use Rattle.script_core.specs.Faults.{HasGrown, ExplainsReading};
+ghost use Rattle.script_core.specs.Faults.{HasGrown, ExplainsReading, last_failures};
 
 use crate::counted::Counted;
 use crate::fault::RunFault;
@@ -11,11 +11,11 @@ use std::alloc::Global;
 use std::io::{ErrorKind, Read};
 
 /// The most bytes of a script.
-pub const SCRIPT_LIMIT: usize = 67_108_864;
+pub(crate) const SCRIPT_LIMIT: usize = 67_108_864;
 
 const CHUNK: usize = 8192;
 
-// One read, tried again where it was interrupted.
+/// One read, tried again where it was interrupted.
 fn read_some<R: Read>(
     reader: &mut Counted<R>,
     patience: &mut Patience,
@@ -27,6 +27,7 @@ fn read_some<R: Read>(
     ensures err { OnErr result (Keeps (R.remaining (inner_of reader.old)) (R.remaining (inner_of reader.new))) }
     ensures fault { IfErr result (λ e. (e ≡ RunFault.ReadFault) × HasGrown (failures_of reader.old) (failures_of reader.new)) }
     ensures counts { failures_of reader.old ≤ failures_of reader.new }
+    ensures tries { failures_of reader.new + patience.new.left ≤ failures_of reader.old + patience.old.left + last_failures result }
 {
     loop {
         match reader.read(chunk) {
@@ -50,6 +51,7 @@ pub(crate) fn read_script<R: Read>(
     ensures end { OnOk result (IsAtEnd (R.remaining (inner_of reader.new))) }
     ensures fault { IfErr result (ExplainsReading (R.remaining (inner_of reader.old)) (R.remaining (inner_of reader.new)) (failures_of reader.old) (failures_of reader.new)) }
     ensures counts { failures_of reader.old ≤ failures_of reader.new }
+    ensures tries { failures_of reader.new + patience.new.left ≤ failures_of reader.old + patience.old.left + last_failures result }
 {
     let mut script = Vec::new(alloc);
     let mut chunk = [0; CHUNK];

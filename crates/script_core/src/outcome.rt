@@ -3,7 +3,7 @@
 /// How many commands a run answered, and how many `error` records.
 #[derive(Clone, Copy, Debug, PartialEq, Eq)]
 pub struct Outcome {
-    /// The commands, refused ones and unknown words too.
+    /// The commands: a block is one, and refused ones, unknown words and a stray `end` count too.
     pub commands: u64,
     /// The `error` records among the answers.
     pub errors: u64,

@@ -1,15 +1,15 @@
 //! Writes an answer.
-ghost use Rattle.std.specs.Prelude.{◌≡◌, ℕ, ◌≤◌, ◌<◌, IfOk, IfErr, OnOk, OnErr, take, length};
+ghost use Rattle.std.specs.Prelude.{◌≡◌, ℕ, ◌+◌, ◌≤◌, ◌<◌, IfOk, IfErr, OnOk, OnErr, take, length};
 ghost use Rattle.std.specs.Io.KnownBytes.{Appends, Keeps};
 ghost use Rattle.script_core.specs.Counted.{inner_of, failures_of};
-ghost use Rattle.script_core.specs.Faults.{HasGrown};
+ghost use Rattle.script_core.specs.Faults.{HasGrown, last_failures};
 
 use crate::counted::Counted;
 use crate::fault::RunFault;
 use crate::patience::Patience;
 use std::io::{ErrorKind, Write};
 
-// One write of some bytes, tried again where it was interrupted.
+/// One write of some bytes, tried again where it was interrupted.
 fn write_some<W: Write>(
     writer: &mut Counted<W>,
     patience: &mut Patience,
@@ -21,6 +21,7 @@ fn write_some<W: Write>(
     ensures err { OnErr result (Keeps (W.contents (inner_of writer.old)) (W.contents (inner_of writer.new))) }
     ensures fault { IfErr result (λ e. (e ≡ RunFault.WriteFault) × HasGrown (failures_of writer.old) (failures_of writer.new)) }
     ensures counts { failures_of writer.old ≤ failures_of writer.new }
+    ensures tries { failures_of writer.new + patience.new.left ≤ failures_of writer.old + patience.old.left + last_failures result }
 {
     loop {
         match writer.write(bytes) {
@@ -35,16 +36,17 @@ fn write_some<W: Write>(
     }
 }
 
-/// Writes all of the bytes, or a prefix of them where it fails.
+/// Writes all of the bytes, or a front of them where it fails.
 pub(crate) fn write_answer<W: Write>(
     writer: &mut Counted<W>,
     patience: &mut Patience,
     bytes: &[u8],
 ) -> Result<(), RunFault>
     ensures ok { OnOk result (Appends (W.contents (inner_of writer.old)) (W.contents (inner_of writer.new)) bytes.now) }
-    ensures prefix { OnErr result ((taken : ℕ) × Appends (W.contents (inner_of writer.old)) (W.contents (inner_of writer.new)) (take taken bytes.now)) }
+    ensures prefix { OnErr result ((taken : ℕ) × (taken < length bytes.now) × Appends (W.contents (inner_of writer.old)) (W.contents (inner_of writer.new)) (take taken bytes.now)) }
     ensures fault { IfErr result (λ e. (e ≡ RunFault.WriteFault) × HasGrown (failures_of writer.old) (failures_of writer.new)) }
     ensures counts { failures_of writer.old ≤ failures_of writer.new }
+    ensures tries { failures_of writer.new + patience.new.left ≤ failures_of writer.old + patience.old.left + last_failures result }
 {
     let mut taken = 0;
     while taken < bytes.len() {

@@ -1,5 +1,5 @@
 //! How many more interruptions a run takes.
-ghost use Rattle.std.specs.Prelude.{◌≡◌, ◌+◌, ◌<◌, ◌≤◌};
+ghost use Rattle.std.specs.Prelude.{◌≡◌, ◌+◌, ◌≤◌, nat_lt};
 ghost use Rattle.std.specs.Bool.{OnTrue};
 
 /// The most reads and writes of a run that are tried again.
@@ -20,6 +20,7 @@ impl Patience {
 
     /// Takes one try, if there is one left.
     pub(crate) fn try_again(&mut self) -> bool
+        ensures tries { result ≡ nat_lt 0 self.old.left }
         ensures spent { OnTrue result (self.new.left + 1 ≡ self.old.left) }
         ensures kept { self.new.left ≤ self.old.left }
     {

@@ -3,6 +3,7 @@ ghost use Rattle.std.specs.Prelude.{◌≡◌, ◌+◌, ◌≤◌, ◌<◌, ◌^
 ghost use Rattle.command_core.specs.Command.{meaning_of};
 ghost use Rattle.script_core.specs.Count.{last_count};
 ghost use Rattle.script_core.specs.Counted.{failures_of, inner_of};
+ghost use Rattle.script_core.specs.Faults.{last_failures};
 ghost use Rattle.command_core.specs.Meaning.{behind_length};
 ghost use Rattle.script_core.specs.Printed.{Answered};
 ghost use Rattle.script_core.specs.Script.{ExplainsAnswering, ExplainsRun, RunsAll, WritesAll};
@@ -89,6 +90,7 @@ fn answer_all<W: Write>(
 ) -> Result<Outcome, RunFault>
     ensures ok { IfOk result (WritesAll records.now (W.contents (inner_of writer.old)) (W.contents (inner_of writer.new))) }
     ensures fault { IfErr result (ExplainsAnswering records.now (W.contents (inner_of writer.old)) (W.contents (inner_of writer.new)) (failures_of writer.old) (failures_of writer.new)) }
+    ensures tries { failures_of writer.new + patience.new.left ≤ failures_of writer.old + patience.old.left + last_failures result }
 {
     let lines = Lines::all(records);
     let mut book = Book::new(alloc);
@@ -110,10 +112,12 @@ fn answer_all<W: Write>(
     Ok(outcome)
 }
 
-/// Reads a script whole, answers its commands in order, and writes each command's answer whole.
+/// Reads a script whole, answers its commands in order, and writes each command's answer whole;
+/// answers how many commands there were, and how many `error` records were written.
 ///
 /// A script has at most 67,108,864 bytes. A read or a write that was interrupted is tried again, at
-/// most 1,000 times in a run. The writer is not flushed.
+/// most 1,000 times in a run. The writer is not flushed. There are 1 to 64 workers, whose number has
+/// no effect yet.
 ///
 /// # Errors
 ///
@@ -139,6 +143,10 @@ pub fn run<R: Read, W: Write>(
         (W.contents (inner_of writer.old)) (W.contents (inner_of writer.new))
         (failures_of reader.old) (failures_of reader.new)
         (failures_of writer.old) (failures_of writer.new)) }
+
+    // A failed call is tried again at most 1,000 times in a run, and only the one that ends it isn't.
+    ensures tries { failures_of reader.new + failures_of writer.new
+        ≤ failures_of reader.old + failures_of writer.old + 1_000 + last_failures result }
 {
     let _ = workers;
     let mut patience = Patience::new();

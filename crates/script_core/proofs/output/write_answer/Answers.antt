@@ -15,4 +15,5 @@ loop-taken-preserved g c =
       within = omega (arith, more.bound, length-drop done bytes);
       written = subst (Appends _ _) (sym (take-add done n bytes)) (Appends-trans _ _ _ _ _ c.loop-taken.invariant.written more.ok);
       counts = omega arith;
+      tries = omega arith;
     }

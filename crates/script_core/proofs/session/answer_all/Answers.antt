@@ -1,4 +1,4 @@
-use Rattle.std.proofs.Common.{◌≡◌, ◌≤◌, ◌+◌, ◌-◌, ◌++◌, ◌∙◌, [], ap, subst, refl, arith, drop, length, take, length-drop, List, ℕ}
+use Rattle.std.proofs.Common.{◌≡◌, ◌<◌, ◌≤◌, ◌+◌, ◌-◌, ◌++◌, ◌∙◌, [], ap, subst, refl, arith, drop, length, take, length-drop, List, ℕ}
 use Rattle.std.proofs.lemmas.Result.{err_from_is_err_and}
 use Rattle.std.specs.Io.KnownBytes.{Appends}
 use Rattle.std.proofs.lemmas.List.{take_all}
@@ -7,7 +7,7 @@ use Rattle.script_core.specs.Draft.{Draft}
 use Rattle.command_core.specs.Lines.{lines_in}
 use Rattle.command_core.specs.Records.{Record}
 use Rattle.script_core.specs.Records.{bytes_of}
-use Rattle.script_core.proofs.Progress.{progress-more, progress-stopped}
+use Rattle.script_core.proofs.Progress.{progress-begun, progress-more, progress-stopped}
 use Rattle.script_core.proofs.session.answer_all.Goals as goal
 
 -- the records that are left are all of those behind a place
@@ -29,6 +29,18 @@ answer_command-requires-clause-numbers g c =
     let all : c.len-in-loop-at.result ≡ length records = c.len-in-loop-at.ensures ∙ ap length c.all-lines.ensures in
     omega (arith, c.in_ok-command.ensures.behind, size, length-drop at records, all, c.len-in-loop-at.type_inv, c.loop-at.invariant.within, c.loop-at-test.true)
 
+pub returns-in_err-command-clause-fault : goal.returns-in_err-command-clause-fault
+returns-in_err-command-clause-fault g c =
+    let below : c.loop-at.at < length c.args.records.now = omega (arith, c.loop-at-test.true, c.len.ensures, ap length c.all-lines.ensures) in
+    let p = err_from_is_err_and c.from_residual.result c.from_residual.ensures.1 in
+    rw (p.1, p.2) (progress-begun _ _ _ _ c.loop-at.at c.loop-at.outcome below c.loop-at.invariant.progress)
+
+pub returns-in_err-errors-clause-fault : goal.returns-in_err-errors-clause-fault
+returns-in_err-errors-clause-fault g c =
+    let below : c.loop-at.at < length c.args.records.now = omega (arith, c.loop-at-test.true, c.len.ensures, ap length c.all-lines.ensures) in
+    let p = err_from_is_err_and c.from_residual-in_err-errors.result c.from_residual-in_err-errors.ensures.1 in
+    rw (p.1, p.2) (progress-begun _ _ _ _ c.loop-at.at c.loop-at.outcome below c.loop-at.invariant.progress)
+
 pub returns-in_err-write_to-clause-fault : goal.returns-in_err-write_to-clause-fault
 returns-in_err-write_to-clause-fault g c =
     let records = c.args.records.now in
@@ -39,7 +51,7 @@ returns-in_err-write_to-clause-fault g c =
     let text = text_is c.loop-at.answer c.answer_command.new.answer (bytes_of answered.answer) c.loop-at.invariant.begins answered.printed in
     let why = rw text at c.in_err-write_to.ensures in
     let p = err_from_is_err_and c.from_residual-in_err-write_to.result c.from_residual-in_err-write_to.ensures.1 in
-    rw (p.1, p.2) (progress-stopped _ _ _ _ _ _ at c.in_ok-command.field-0.taken c.loop-at.outcome _ answered.answer _ _ _ _ c.loop-at.invariant.progress found.within found.means answered.answers c.loop-at.invariant.counts why.fault)
+    rw (p.1, p.2) (progress-stopped _ _ _ _ _ _ at c.in_ok-command.field-0.taken c.loop-at.outcome _ answered.answer _ _ _ _ c.loop-at.invariant.progress found.within found.means answered.answers (omega (arith, found.within, found.some)) c.loop-at.invariant.counts why.fault)
 
 pub loop-at-preserved : goal.loop-at-preserved
 loop-at-preserved g c =
@@ -55,6 +67,7 @@ loop-at-preserved g c =
       few = omega (arith, found.some);
       fewer = omega (arith, c.in_ok-errors.ensures.few);
       counts = omega arith;
+      tries = omega (arith, c.in_ok-write_to.ensures.tries, c.loop-at.invariant.tries);
       begins = c.in_ok-write_to.ensures.begins;
       progress = progress-more _ _ _ _ _ _ at c.in_ok-command.field-0.taken c.loop-at.outcome _ _ answered.answer c.loop-at.invariant.progress found.within found.means answered.answers wrote refl
           (ap (λ n. c.loop-at.outcome.errors + n) answered.counted);
