@@ -1,0 +1,231 @@
+//! Writes a script of a kind, the same one for the same words:
+//!
+//!     generate KIND [--rows N] [--overlap N] [--columns N] [--updates N] [--queries N] [--seed N]
+//!
+//! Rows start on random days of a range that grows with their number, so that on each day about
+//! `overlap` of them hold. Columns are a text and a number in turn, of which the first is the row's own
+//! key. All kinds begin with the table, and then:
+//!
+//! - `rows`, `at`, `dip`, `log`: a load of the rows, and so many queries;
+//! - `between`: a load of the rows, a change of all of them, and queries for all versions;
+//! - `singles`: so many loads of one row;
+//! - `keyed`: a load of the rows, and so many updates of one row, found by its key;
+//! - `portions`: a load of the rows, and so many updates of a portion of 30 days, without conditions;
+//! - `past`: a load of half of the rows, a change of all of them, and queries as of the load.
+
+use bench::point::Point;
+use std::fmt::Display;
+use std::io::{self, BufWriter, Write};
+
+/// Days of the range for each row.
+const SPREAD: u64 = 3;
+
+const SURNAMES: [&str; 8] = [
+    "Byron",
+    "Hill",
+    "Hopper",
+    "Lovelace",
+    "Noether",
+    "Somerville",
+    "Turing",
+    "Wilkes",
+];
+
+/// Numbers that look random (SplitMix64).
+struct Numbers(u64);
+
+impl Numbers {
+    fn draw(&mut self) -> u64 {
+        self.0 = self.0.wrapping_add(0x9E37_79B9_7F4A_7C15);
+        let mut z = self.0;
+        z = (z ^ (z >> 30)).wrapping_mul(0xBF58_476D_1CE4_E5B9);
+        z = (z ^ (z >> 27)).wrapping_mul(0x94D0_49BB_1331_11EB);
+        z ^ (z >> 31)
+    }
+
+    fn below(&mut self, bound: u64) -> u64 {
+        self.draw() % bound
+    }
+}
+
+struct Options {
+    rows: u64,
+    overlap: u64,
+    columns: u64,
+    updates: u64,
+    queries: u64,
+    seed: u64,
+}
+
+struct Script<W: Write> {
+    out: W,
+    options: Options,
+    numbers: Numbers,
+}
+
+impl<W: Write> Script<W> {
+    fn day(&self, days: u64) -> impl Display + use<W> {
+        let point = Point(Point::FIRST.0 + days as i32).min(Point::LAST);
+        String::from_utf8_lossy(&point.text()).into_owned()
+    }
+
+    fn range(&self) -> u64 {
+        self.options.rows * SPREAD
+    }
+
+    fn table(&mut self) -> io::Result<()> {
+        write!(self.out, "table,t")?;
+        for column in 0..self.options.columns {
+            let kind = if column % 2 == 0 { "text" } else { "int" };
+            write!(self.out, ",c{column},{kind}")?;
+        }
+        writeln!(self.out)
+    }
+
+    fn row(&mut self, key: u64) -> io::Result<()> {
+        let from = self.numbers.below(self.range());
+        let len = 1 + self.numbers.below(2 * SPREAD * self.options.overlap - 1);
+        write!(self.out, "row,{},{}", self.day(from), self.day(from + len))?;
+        for column in 0..self.options.columns {
+            match column {
+                0 => write!(self.out, ",{}", name_of(key))?,
+                _ if column % 2 == 0 => write!(self.out, ",text{}", self.numbers.below(1000))?,
+                _ => write!(self.out, ",{}", self.numbers.below(100_000))?,
+            }
+        }
+        writeln!(self.out)
+    }
+
+    fn load(&mut self, rows: u64) -> io::Result<()> {
+        writeln!(self.out, "load,t")?;
+        for key in 0..rows {
+            self.row(key)?;
+        }
+        writeln!(self.out, "end")
+    }
+
+    fn singles(&mut self) -> io::Result<()> {
+        for key in 0..self.options.updates {
+            writeln!(self.out, "load,t")?;
+            self.row(key)?;
+            writeln!(self.out, "end")?;
+        }
+        Ok(())
+    }
+
+    fn keyed(&mut self) -> io::Result<()> {
+        for _ in 0..self.options.updates {
+            let key = name_of(self.numbers.below(self.options.rows));
+            let number = self.numbers.below(100_000);
+            writeln!(
+                self.out,
+                "update,t,0001-01-01,9999-12-31,set,c1,{number},where,c0,{key}"
+            )?;
+        }
+        Ok(())
+    }
+
+    fn portions(&mut self) -> io::Result<()> {
+        for _ in 0..self.options.updates {
+            let from = self.numbers.below(self.range());
+            let number = self.numbers.below(100_000);
+            let (from, to) = (self.day(from), self.day(from + 30));
+            writeln!(self.out, "update,t,{from},{to},set,c1,{number}")?;
+        }
+        Ok(())
+    }
+
+    fn change_all(&mut self) -> io::Result<()> {
+        writeln!(self.out, "update,t,0001-01-01,9999-12-31,set,c1,0")
+    }
+
+    fn queries(&mut self, query: &str) -> io::Result<()> {
+        for _ in 0..self.options.queries {
+            writeln!(self.out, "{query}")?;
+        }
+        Ok(())
+    }
+
+    fn days(&mut self) -> io::Result<()> {
+        for _ in 0..self.options.queries {
+            let day = self.numbers.below(self.range());
+            writeln!(self.out, "at,t,{}", self.day(day))?;
+        }
+        Ok(())
+    }
+
+    fn write(&mut self, kind: &str) -> io::Result<()> {
+        let rows = self.options.rows;
+        self.table()?;
+        match kind {
+            "rows" => self.load(rows).and_then(|()| self.queries("rows,t")),
+            "at" => self.load(rows).and_then(|()| self.days()),
+            "dip" => self.load(rows).and_then(|()| self.queries("dip,t")),
+            "log" => self.singles().and_then(|()| self.queries("log")),
+            "singles" => self.singles(),
+            "keyed" => self.load(rows).and_then(|()| self.keyed()),
+            "portions" => self.load(rows).and_then(|()| self.portions()),
+            "past" => {
+                self.load(rows / 2)?;
+                self.change_all()?;
+                self.queries("rows,t,asof,2")
+            }
+            "between" => {
+                self.load(rows / 2)?;
+                self.change_all()?;
+                self.queries("between,t,2,3")
+            }
+            _ => Err(io::Error::other("no such kind of script")),
+        }?;
+        self.out.flush()
+    }
+}
+
+/// A text of its own for each key; every fourth needs quotes.
+fn name_of(key: u64) -> String {
+    let surname = SURNAMES[(key % 8) as usize];
+    if key.is_multiple_of(4) {
+        format!("\"{surname}, {key}\"")
+    } else {
+        format!("{surname} {key}")
+    }
+}
+
+fn read_options(words: &[String]) -> Option<Options> {
+    let mut options = Options {
+        rows: 10_000,
+        overlap: 10,
+        columns: 2,
+        updates: 0,
+        queries: 0,
+        seed: 1,
+    };
+    for pair in words.chunks(2) {
+        let [word, number] = pair else { return None };
+        let option = match word.as_str() {
+            "--rows" => &mut options.rows,
+            "--overlap" => &mut options.overlap,
+            "--columns" => &mut options.columns,
+            "--updates" => &mut options.updates,
+            "--queries" => &mut options.queries,
+            "--seed" => &mut options.seed,
+            _ => return None,
+        };
+        *option = number.parse().ok()?;
+    }
+    let is_made = options.rows > 0 && options.overlap > 0 && options.columns <= 16;
+    is_made.then_some(options)
+}
+
+fn main() -> Result<(), String> {
+    let words: Vec<String> = std::env::args().skip(1).collect();
+    let usage = "usage: generate KIND [--rows N] [--overlap N] [--columns N] [--updates N] [--queries N] [--seed N]";
+    let (kind, rest) = words.split_first().ok_or(usage)?;
+    let options = read_options(rest).ok_or(usage)?;
+    let mut script = Script {
+        out: BufWriter::new(io::stdout().lock()),
+        numbers: Numbers(options.seed),
+        options,
+    };
+    script.write(kind).map_err(|error| error.to_string())
+}

@@ -1,0 +1,150 @@
+//! The commands that change nothing.
+
+use crate::answer::Answer;
+use crate::book::Book;
+use crate::check::{Certificate, Claim, first_fault};
+use crate::csv::{Reader, Record};
+use crate::divide::{Key, divide};
+use crate::fields::{behind, commit, instant, is_end, name, natural, point, split_asof};
+use crate::refusal::{Fault, Refusal, Stop};
+use std::io::Write;
+
+/// `rows,T`
+pub fn rows<W: Write>(record: Record<'_>, book: &Book, answer: &mut Answer<W>) -> Result<(), Stop> {
+    let (front, asof) = split_asof(record);
+    let [table] = behind(front)?;
+    let (table, asof) = (name(table)?, commit(asof)?);
+    let (table, commit) = book.read(table, asof)?;
+    Ok(answer.rows(table, table.shown(commit))?)
+}
+
+/// `at,T,DATE`
+pub fn at<W: Write>(record: Record<'_>, book: &Book, answer: &mut Answer<W>) -> Result<(), Stop> {
+    let (front, asof) = split_asof(record);
+    let [table, day] = behind(front)?;
+    let (table, day, asof) = (name(table)?, point(day)?, commit(asof)?);
+    let (table, commit) = book.read(table, asof)?;
+    Ok(answer.rows(table, table.shown_on(commit, day))?)
+}
+
+/// `between,T,M,N`
+pub fn between<W: Write>(
+    record: Record<'_>,
+    book: &Book,
+    answer: &mut Answer<W>,
+) -> Result<(), Stop> {
+    let [table, first, last] = behind(record)?;
+    let (table, first, last) = (name(table)?, natural(first)?, natural(last)?);
+    if first > last {
+        return Err(Refusal::BadPeriod.into());
+    }
+    let (table, _) = book.read(table, None)?;
+    Ok(answer.versions(table, table.seen(first, last))?)
+}
+
+/// `fromto,T,M,N`
+pub fn from_to<W: Write>(
+    record: Record<'_>,
+    book: &Book,
+    answer: &mut Answer<W>,
+) -> Result<(), Stop> {
+    let [table, first, end] = behind(record)?;
+    let (table, first, end) = (name(table)?, natural(first)?, natural(end)?);
+    if first >= end {
+        return Err(Refusal::BadPeriod.into());
+    }
+    let (table, _) = book.read(table, None)?;
+    Ok(answer.versions(table, table.seen(first, end - 1))?)
+}
+
+/// `dip,T`
+pub fn dip<W: Write>(record: Record<'_>, book: &Book, answer: &mut Answer<W>) -> Result<(), Stop> {
+    let (front, asof) = split_asof(record);
+    let [table] = behind(front)?;
+    let (table, asof) = (name(table)?, commit(asof)?);
+    let (table, commit) = book.read(table, asof)?;
+    let rows = table
+        .shown(commit)
+        .map(|place| Key::new(table.period(place), place as u32 + 1));
+    Ok(answer.division(&divide(rows.collect()))?)
+}
+
+/// `log`
+pub fn log<W: Write>(record: Record<'_>, book: &Book, answer: &mut Answer<W>) -> Result<(), Stop> {
+    let [] = behind(record)?;
+    Ok(answer.log(&book.log, &book.tables)?)
+}
+
+/// What the record of a check says: the table's place, the commit that is read, and what is claimed.
+pub struct Check {
+    place: usize,
+    commit: u64,
+    certificate: Certificate,
+}
+
+impl Check {
+    /// `check,T,PARTS,INSTANT`
+    pub fn open(record: Record<'_>, book: &Book) -> Result<Check, Refusal> {
+        let (front, asof) = split_asof(record);
+        let [table, parts, day] = behind(front)?;
+        let table = name(table)?;
+        let certificate = Certificate {
+            parts: natural(parts)?,
+            instant: instant(day)?,
+        };
+        let (_, commit) = book.read(table, commit(asof)?)?;
+        Ok(Check {
+            place: book.place(table)?,
+            commit,
+            certificate,
+        })
+    }
+}
+
+fn add_part(claim: &mut Claim, record: Record<'_>) -> Result<(), Refusal> {
+    if !record.begins(b"part") {
+        return Err(Refusal::BadCommand);
+    }
+    for id in record.iter().skip(1) {
+        claim.ids.push(natural(id)?);
+    }
+    claim.ends.push(claim.ids.len());
+    Ok(())
+}
+
+/// The parts up to the end of the block that a check opens. Of several faults the first is told.
+pub fn read_claim(
+    number: u64,
+    opened: Result<Check, Refusal>,
+    reader: &mut Reader,
+) -> Result<(Check, Claim), Fault> {
+    let mut claim = Claim::default();
+    let mut fault = None;
+    while let Some(record) = reader.read() {
+        if is_end(record) {
+            let check = opened.map_err(|refusal| Fault { number, refusal })?;
+            return fault.map_or(Ok((check, claim)), Err);
+        }
+        if opened.is_ok() && fault.is_none() {
+            let number = record.number;
+            fault = add_part(&mut claim, record)
+                .err()
+                .map(|refusal| Fault { number, refusal });
+        }
+    }
+    Err(Fault {
+        number,
+        refusal: Refusal::Unended,
+    })
+}
+
+/// The verdict on a claim.
+pub fn check<W: Write>(
+    check: &Check,
+    claim: &Claim,
+    book: &Book,
+    answer: &mut Answer<W>,
+) -> std::io::Result<()> {
+    let table = &book.tables[check.place];
+    answer.verdict(first_fault(table, check.commit, claim, check.certificate))
+}
