@@ -59,3 +59,12 @@ fn parts_of_periods(rt: HostRuntime) {
     assert!(rt; left.precedes(right));
     assert!(rt; left.immediately_precedes(right));
 }
+
+#[test]
+fn orders_periods_by_start_and_then_by_end(rt: HostRuntime) {
+    let short = january(&rt, b"2024-01-01", b"2024-01-03");
+    let long = january(&rt, b"2024-01-01", b"2024-01-05");
+    let later = january(&rt, b"2024-01-02", b"2024-01-03");
+    assert!(rt; short < long);
+    assert!(rt; long < later);
+}

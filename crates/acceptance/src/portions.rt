@@ -49,6 +49,30 @@ fn updated_book(alloc: Global) -> Result<Book, Fail> {
     Ok(book)
 }
 
+// The book of a table of 300 rows of nine days, with the numbers up to 99 in turn.
+fn long_book(alloc: Global) -> Result<Book, Fail> {
+    let table = Name::parse(b"u")?;
+    let columns = [
+        (Name::parse(b"v")?, Kind::Text),
+        (Name::parse(b"k")?, Kind::Int),
+    ];
+    let schema = Schema::new(alloc, &columns)?;
+    let mut rows = Drafts::new(alloc);
+    for k in 0..300 {
+        let mut values = Values::new(alloc);
+        values.push(text(alloc, b"x")?)?;
+        values.push(Value::Int(k % 100))?;
+        rows.push(Draft {
+            period: period(b"2024-01-01", b"2024-01-10")?,
+            values,
+        })?;
+    }
+    let mut book = Book::new(alloc);
+    book.apply(1, Change::Make { table, schema })?;
+    book.apply(1, Change::Load { table, rows })?;
+    Ok(book)
+}
+
 // The ids and periods of rows.
 fn portions(alloc: Global, rows: &[Row]) -> Result<Vec<(u64, Period)>, Fail> {
     Ok(rows.iter().map(|row| (row.id, row.period)).collect(alloc)?)
@@ -60,6 +84,16 @@ fn spans(alloc: Global, versions: &[Version]) -> Result<Vec<(u64, u64, Option<u6
         versions
             .iter()
             .map(|version| (version.row.id, version.sysfrom, version.systo))
+            .collect(alloc)?,
+    )
+}
+
+// How many versions each commit made and closed.
+fn counts(alloc: Global, entries: &[Entry]) -> Result<Vec<(u64, u64)>, Fail> {
+    Ok(
+        entries
+            .iter()
+            .map(|entry| (entry.added, entry.closed))
             .collect(alloc)?,
     )
 }
@@ -160,6 +194,25 @@ fn logs_what_commits_did(rt: HostRuntime) -> Result<(), Fail> {
     Ok(())
 }
 
+// In a table that is long enough for indexes of its columns.
+#[test]
+fn finds_rows_by_their_values(rt: HostRuntime) -> Result<(), Fail> {
+    let alloc = rt.alloc();
+    let mut book = long_book(alloc)?;
+    let mut both = pair(alloc, b"v", text(alloc, b"y")?)?;
+    both.push((Name::parse(b"k")?, Value::Int(7)))?;
+    book.apply(1, update(alloc, pair(alloc, b"k", Value::Int(7))?)?)?;
+    book.apply(1, update(alloc, pair(alloc, b"v", text(alloc, b"y")?)?)?)?;
+    book.apply(1, update(alloc, both)?)?;
+    book.apply(1, update(alloc, pair(alloc, b"k", Value::Int(100))?)?)?;
+    book.apply(1, update(alloc, pair(alloc, b"v", text(alloc, b"x")?)?)?)?;
+    let log = book.log()?;
+    let counts = counts(alloc, log.as_slice())?;
+    let want = [(0, 0), (300, 0), (9, 3), (3, 3), (3, 3), (0, 0), (891, 297)];
+    assert_eq!(rt; counts.as_slice(), want.as_slice());
+    Ok(())
+}
+
 #[test]
 fn refuses_settings_before_conditions(rt: HostRuntime) -> Result<(), Fail> {
     let table = Name::parse(b"u")?;
@@ -221,6 +274,35 @@ fn copies_updates(rt: HostRuntime) -> Result<(), Fail> {
     let condition = [(Name::parse(b"v")?, text(rt.alloc(), b"x")?)];
     assert_eq!(rt; sets.as_slice(), setting.as_slice());
     assert_eq!(rt; conds.as_slice(), condition.as_slice());
+    Ok(())
+}
+
+#[test]
+fn copies_deletes(rt: HostRuntime) -> Result<(), Fail> {
+    let delete = Change::Delete {
+        table: Name::parse(b"u")?,
+        portion: period(b"2024-01-04", b"2024-01-06")?,
+        conds: pair(rt.alloc(), b"v", text(rt.alloc(), b"x")?)?,
+    };
+    let Change::Delete {
+        table,
+        portion,
+        conds,
+    } = delete.copy(rt.alloc())?
+    else {
+        panic!(rt; "another kind of change");
+    };
+    assert_eq!(rt; table, Name::parse(b"u")?);
+    assert_eq!(rt; portion, period(b"2024-01-04", b"2024-01-06")?);
+    let condition = [(Name::parse(b"v")?, text(rt.alloc(), b"x")?)];
+    assert_eq!(rt; conds.as_slice(), condition.as_slice());
+    let mut book = updated_book(rt.alloc())?;
+    assert_eq!(rt; book.apply(1, delete), Ok(4));
+    let copy = book.copy(rt.alloc())?;
+    assert_eq!(rt; copy.log()?.as_slice(), book.log()?.as_slice());
+    let empty = Book::new(rt.alloc()).copy(rt.alloc())?;
+    assert_eq!(rt; empty.commits(), 0);
+    assert!(rt; empty.log()?.is_empty());
     Ok(())
 }
 

@@ -97,6 +97,26 @@ fn reads_values(rt: HostRuntime) -> Result<(), Fail> {
 }
 
 #[test]
+fn orders_numbers_by_value_before_texts_by_bytes(rt: HostRuntime) -> Result<(), Fail> {
+    let rising = [
+        Value::Int(-10),
+        Value::Int(-9),
+        Value::Int(8),
+        Value::Int(70),
+        Value::Text(Text::new(rt.alloc(), b"")?),
+        Value::Text(Text::new(rt.alloc(), b"70")?),
+        Value::Text(Text::new(rt.alloc(), b"8")?),
+        Value::Text(Text::new(rt.alloc(), b"B")?),
+        Value::Text(Text::new(rt.alloc(), b"a")?),
+        Value::Text(Text::new(rt.alloc(), b"aa")?),
+    ];
+    for pair in rising.windows(2) {
+        assert!(rt; pair[0] < pair[1]);
+    }
+    Ok(())
+}
+
+#[test]
 fn adds_one_at_the_end_and_copies(rt: HostRuntime) -> Result<(), Fail> {
     let mut values = Values::new(rt.alloc());
     values.push(Value::Int(1))?;

@@ -201,3 +201,16 @@ fn a_script_has_a_limit(rt: HostRuntime) -> Result<(), Fail> {
     assert!(rt; writer.into_inner().is_empty());
     Ok(())
 }
+
+#[test]
+fn a_script_may_reach_its_limit(rt: HostRuntime) -> Result<(), Fail> {
+    let mut reader = Counted::new(Flood { left: 67_108_864 });
+    let mut writer = Counted::new(Vec::new(rt.alloc()));
+    let outcome = run(rt.alloc(), &mut reader, &mut writer, 1)?;
+    assert_eq!(rt; outcome.errors, 1);
+    assert_eq!(rt;
+        writer.into_inner().as_slice(),
+        b"error,1,BadCommand\n".as_slice()
+    );
+    Ok(())
+}

@@ -1,6 +1,8 @@
 pub mod Applying
 pub mod EnactLemmas
+pub mod FindingLemmas
 pub mod Ids
+pub mod IndexLemmas
 pub mod Logging
 pub mod MakingLemmas
 pub mod OpenLemmas

@@ -1,10 +1,11 @@
 -- The places of open versions, and what a change does at them.
-use Rattle.std.proofs.Common.{◌≡◌, ℕ, ◌+◌, ◌*◌, ◌<◌, ◌≤◌, List, [], ◌∷◌, ◌++◌, Bool, true, false, ◌&&◌, not, cond, Option, Some, None, length, map, take, get_or, set, zero, suc, add-one, refl, ap, sym, ◌∙◌, arith, append_assoc, length-append, leb}
+use Rattle.std.proofs.Common.{◌≡◌, ℕ, ◌+◌, ◌*◌, ◌<◌, ◌≤◌, List, [], ◌∷◌, ◌++◌, Bool, true, false, ◌&&◌, cond, Option, Some, None, length, map, take, get_or, set, zero, suc, add-one, refl, ap, sym, ◌∙◌, arith, append_assoc, length-append, leb}
 use Rattle.std.specs.Prelude.{slice_get, slice_set, filter, fold, count_by, unwrap_or, option_map, is_none, is_some, IfSome, flat_map, All}
 use Rattle.std.specs.List.{filter_map, cons_option, AllByRecursion, range_with_len}
 use Rattle.std.proofs.lemmas.Bool.{le-leb, le-ltb}
-use Rattle.std.proofs.lemmas.List.{append-nil, length-map, map-append, take_all, take_more}
+use Rattle.std.proofs.lemmas.List.{append-nil, length-map, take_more}
 use Rattle.std.proofs.lemmas.List.Elements.{filter_map-append, filter-append, All-from_recursion}
+use Rattle.std.proofs.lemmas.Grind.{flat_map-append}
 use Rattle.std.proofs.lemmas.List.Concat.{flat_map-cons}
 use Rattle.std.proofs.lemmas.List.Sums.{count_by-le-length, fold-append, length-filter}
 use Rattle.std.proofs.lemmas.Option.{slice_get-get_or}
@@ -16,17 +17,18 @@ use Rattle.row_core.specs.declared.row.Row.{Row}
 use Rattle.row_core.specs.declared.draft.Draft.{Draft}
 use Rattle.row_core.specs.declared.schema.Column.{Column}
 use Rattle.book_core.specs.State.{numbered, part, parts_in, parts_of, removes, set_at}
+use Rattle.book_core.specs.Finding.{passes}
 use Rattle.book_core.specs.Kept.{IsTimely, closed, made, row_shown, shown}
-use Rattle.book_core.specs.Open.{AddsDrafts, Making, closed_at, current, is_left, is_open, is_taken, made_of, open_places, places_from, renewed}
+use Rattle.book_core.specs.Open.{AddsDrafts, Making, closed_at, current, is_open, is_taken, made_of, places_from, renewed}
 use Rattle.book_core.specs.declared.change.Change.{Change}
 use Rattle.book_core.specs.declared.change.Change.TheVariants.{Make, Load, Update, Delete}
 use Rattle.book_core.specs.declared.version.Version.{Version}
-use Rattle.book_core.proofs.Portions.{count-cons, parts-append}
+use Rattle.book_core.proofs.Portions.{count-cons}
 use Rattle.book_core.proofs.Applying.{length-numbered}
 
 -- places lie inside
 
-bounded : (test : Version → Bool) (at top : ℕ) (vs : List Version) → at + length vs ≤ top → AllByRecursion (λ place. place < top) (places_from test at vs)
+pub bounded : (test : Version → Bool) (at top : ℕ) (vs : List Version) → at + length vs ≤ top → AllByRecursion (λ place. place < top) (places_from test at vs)
 bounded test at top [] h = tt
 bounded test at top (v ∷ vs) h = elim (test v) as (λ b. AllByRecursion (λ place. place < top) (cond b (at ∷ places_from test (at + 1) vs) (places_from test (at + 1) vs))) [
   | true ↦ (omega arith, bounded test (at + 1) top vs (omega arith))
@@ -50,10 +52,6 @@ length-push (d ∷ ds) v = omega (arith, length-push ds v)
 abbrev pub picked : List Version → List ℕ → List Version
 picked vs places = filter_map (slice_get vs) places
 
--- the version at a place passes
-abbrev pub passes : List Version → (Version → Bool) → ℕ → Bool
-passes vs p place = unwrap_or (option_map p (slice_get vs place)) false
-
 -- what is said of `done` and the versions behind it, of one version more
 module _ (X : Type 0) (of : List Version → List ℕ → X) where
   moved : (test : Version → Bool) (done : List Version) (v : Version) (vs rest : List Version) (x : X) → of ((done ++ v ∷ []) ++ rest) (places_from test (length (done ++ v ∷ [])) vs) ≡ x → of (done ++ v ∷ rest) (places_from test (length done + 1) vs) ≡ x
@@ -72,7 +70,7 @@ picked-behind test done (v ∷ vs) =
 pub picked-places_from : (test : Version → Bool) (vs : List Version) → picked vs (places_from test 0 vs) ≡ filter test vs
 picked-places_from test vs = picked-behind test [] vs
 
-filter-behind : (test p : Version → Bool) (done vs : List Version) → filter (passes (done ++ vs) p) (places_from test (length done) vs) ≡ places_from (λ v. test v && p v) (length done) vs
+pub filter-behind : (test p : Version → Bool) (done vs : List Version) → filter (passes (done ++ vs) p) (places_from test (length done) vs) ≡ places_from (λ v. test v && p v) (length done) vs
 filter-behind test p done [] = refl
 filter-behind test p done (v ∷ vs) =
     let later = places_from (λ v. test v && p v) (length done + 1) vs in
@@ -89,12 +87,6 @@ pub filter-places_from : (test p : Version → Bool) (vs : List Version) → fil
 filter-places_from test p vs = filter-behind test p [] vs
 
 -- one place more
-
-pub picked-more : (vs : List Version) (places : List ℕ) (i : ℕ) (v : Version) → i < length places → get_or places i 0 < length vs → v ≡ get_or vs (get_or places i 0) v → picked vs (take (i + 1) places) ≡ picked vs (take i places) ++ v ∷ []
-picked-more vs places i v h inside e =
-    ap (picked vs) (take_more places i 0 h) ∙ filter_map-append (slice_get vs) (take i places) (get_or places i 0 ∷ [])
-    ∙ ap (λ o. picked vs (take i places) ++ cons_option o []) (slice_get-get_or vs (get_or places i 0) v inside)
-    ∙ ap (λ u. picked vs (take i places) ++ u ∷ []) (sym e)
 
 pub filter-more : (vs : List Version) (p : Version → Bool) (places : List ℕ) (i : ℕ) (v : Version) → i < length places → get_or places i 0 < length vs → v ≡ get_or vs (get_or places i 0) v → filter (passes vs p) (take (i + 1) places) ≡ filter (passes vs p) (take i places) ++ cond (p v) (get_or places i 0 ∷ []) []
 filter-more vs p places i v h inside e =
@@ -142,22 +134,6 @@ places_from-append test at (v ∷ vs) us =
       | true ↦ ap (λ l. at ∷ l) rest
       | false ↦ rest
     ]
-
-pub places_from-made : (at n : ℕ) (rows : List Row) → places_from is_open at (made n rows) ≡ range_with_len at (length rows)
-places_from-made at n [] = refl
-places_from-made at n (r ∷ rs) = ap (λ l. at ∷ l) (places_from-made (at + 1) n rs)
-
-pub places_from-closed : (n at : ℕ) (c : Change) (schema : List Column) (vs : List Version) → places_from is_open at (map (closed n (removes c schema)) vs) ≡ places_from (is_left c schema) at vs
-places_from-closed n at c schema [] = refl
-places_from-closed n at c schema (v ∷ vs) =
-    let rest = places_from-closed n (at + 1) c schema vs in
-    ap (λ l. cond (is_open (closed n (removes c schema) v)) (at ∷ l) l) rest
-    ∙ ap (λ b. cond b (at ∷ places_from (is_left c schema) (at + 1) vs) (places_from (is_left c schema) (at + 1) vs)) (open_after v.systo (removes c schema v.row) n v)
-  where
-    open_after : (to : Option ℕ) (b : Bool) (n : ℕ) (v : Version) → is_none (cond (is_none to && b) (record v { systo = Some n }) (record v { systo = to })).systo ≡ (is_none to && not b)
-    open_after None true n v = refl
-    open_after None false n v = refl
-    open_after (Some t) b n v = refl
 
 -- open versions are those that the newest commit shows
 
@@ -219,7 +195,7 @@ parts_of-few (Delete name portion conds) schema row =
     let last = part (later row.period portion) row.values in
     omega (arith, length-append first last, part-few (before row.period portion) row.values, part-few (later row.period portion) row.values)
 
-parts-few : (c : Change) (schema : List Column) (rows : List Row) → length (parts_in c schema rows) ≤ 3 * length rows
+pub parts-few : (c : Change) (schema : List Column) (rows : List Row) → length (parts_in c schema rows) ≤ 3 * length rows
 parts-few c schema [] = omega arith
 parts-few c schema (row ∷ rows) =
     let rest = parts-few c schema rows in
@@ -228,7 +204,7 @@ parts-few c schema (row ∷ rows) =
       | false ↦ omega (arith, rest)
     ]
 
-length-open : (at : ℕ) (vs : List Version) → length (places_from is_open at vs) ≡ length (current vs)
+pub length-open : (at : ℕ) (vs : List Version) → length (places_from is_open at vs) ≡ length (current vs)
 length-open at [] = refl
 length-open at (v ∷ vs) =
     let rest = length-open (at + 1) vs in
@@ -237,44 +213,41 @@ length-open at (v ∷ vs) =
       | false ↦ rest
     ]
 
-length-current : (vs : List Version) → length (current vs) ≤ length vs
+-- there are no more open versions than versions
+pub length-current : (vs : List Version) → length (current vs) ≤ length vs
 length-current vs = omega (arith, length-map (filter is_open vs) (λ (v : Version). v.row), length-filter is_open vs, count_by-le-length is_open vs)
 
--- there are no more open versions than versions
-pub open_place-few : (vs : List Version) (places : List ℕ) → places ≡ open_places vs → length places ≤ length vs
-open_place-few vs places e = omega (arith, length-current vs, length-open 0 vs, ap length e)
+-- the parts of the rows at places
+abbrev pub parts_at : Change → List Column → List Version → List ℕ → List Draft
+parts_at c schema vs places = flat_map (λ v. parts_of c schema v.row) (picked vs places)
 
--- nor more than three parts for each open version
-pub parts-most : (c : Change) (schema : List Column) (vs : List Version) (places : List ℕ) → places ≡ open_places vs → length (parts_in c schema (current vs)) ≤ 3 * length places
-parts-most c schema vs places e = omega (arith, parts-few c schema (current vs), length-open 0 vs, ap length e)
+-- one place more
+pub parts_at-push : (c : Change) (schema : List Column) (vs : List Version) (places : List ℕ) (place : ℕ) (v : Version) → place < length vs → v ≡ get_or vs place v → parts_at c schema vs (places ++ place ∷ []) ≡ parts_at c schema vs places ++ parts_of c schema v.row
+parts_at-push c schema vs places place v inside e =
+    ap (flat_map (λ (v : Version). parts_of c schema v.row))
+    (filter_map-append (slice_get vs) places (place ∷ []) ∙ ap (λ o. picked vs places ++ cons_option o []) (slice_get-get_or vs place v inside ∙ ap Some (sym e)))
+    ∙ flat_map-append (λ (v : Version). parts_of c schema v.row) (picked vs places) (v ∷ [])
+    ∙ ap (λ l. parts_at c schema vs places ++ l) (append-nil (parts_of c schema v.row))
 
--- the parts of one row more
+parts-taken : (c : Change) (schema : List Column) (vs : List Version) → flat_map (λ (v : Version). parts_of c schema v.row) (filter (is_taken c schema) vs) ≡ parts_in c schema (current vs)
+parts-taken c schema [] = refl
+parts-taken c schema (v ∷ vs) =
+    let rest = parts-taken c schema vs in
+    elim (is_open v) as (λ b. flat_map (λ (v : Version). parts_of c schema v.row) (cond (b && removes c schema v.row) (v ∷ filter (is_taken c schema) vs) (filter (is_taken c schema) vs)) ≡ parts_in c schema (map (λ (v : Version). v.row) (cond b (v ∷ filter is_open vs) (filter is_open vs)))) [
+      | true ↦ elim (removes c schema v.row) as (λ t. flat_map (λ (v : Version). parts_of c schema v.row) (cond t (v ∷ filter (is_taken c schema) vs) (filter (is_taken c schema) vs)) ≡ flat_map (parts_of c schema) (cond t (v.row ∷ filter (removes c schema) (current vs)) (filter (removes c schema) (current vs)))) [
+        | true ↦ ap (λ l. parts_of c schema v.row ++ l) rest
+        | false ↦ rest
+      ]
+      | false ↦ rest
+    ]
 
-parts_one : (c : Change) (schema : List Column) (row : Row) → parts_in c schema (row ∷ []) ≡ cond (removes c schema row) (parts_of c schema row) []
-parts_one c schema row = elim (removes c schema row) as (λ b. flat_map (parts_of c schema) (cond b (row ∷ []) []) ≡ cond b (parts_of c schema row) []) [ true ↦ append-nil (parts_of c schema row) | false ↦ refl ]
-
-pub parts-more : (c : Change) (schema : List Column) (vs : List Version) (places : List ℕ) (i : ℕ) (v : Version) (b : Bool) → i < length places → get_or places i 0 < length vs → v ≡ get_or vs (get_or places i 0) v → removes c schema v.row ≡ b
-    → parts_in c schema (map (λ (v : Version). v.row) (picked vs (take (i + 1) places))) ≡ parts_in c schema (map (λ (v : Version). v.row) (picked vs (take i places))) ++ cond b (parts_of c schema v.row) []
-parts-more c schema vs places i v b h inside e test =
-    ap (λ l. parts_in c schema (map (λ (v : Version). v.row) l)) (picked-more vs places i v h inside e)
-    ∙ ap (parts_in c schema) (map-append (λ (v : Version). v.row) (picked vs (take i places)) (v ∷ []))
-    ∙ parts-append c schema (map (λ (v : Version). v.row) (picked vs (take i places))) (v.row ∷ [])
-    ∙ ap (λ l. parts_in c schema (map (λ (v : Version). v.row) (picked vs (take i places))) ++ l) (parts_one c schema v.row ∙ ap (λ t. cond t (parts_of c schema v.row) []) test)
+-- what comes in the place of all that a change takes
+pub parts_at-taken : (c : Change) (schema : List Column) (vs : List Version) (taken : List ℕ) → taken ≡ places_from (is_taken c schema) 0 vs → parts_at c schema vs taken ≡ parts_in c schema (current vs)
+parts_at-taken c schema vs taken e = ap (parts_at c schema vs) e ∙ ap (flat_map (λ (v : Version). parts_of c schema v.row)) (picked-places_from (is_taken c schema) vs) ∙ parts-taken c schema vs
 
 pub range_with_len-push : (a n : ℕ) → range_with_len a (n + 1) ≡ range_with_len a n ++ (a + n) ∷ []
 range_with_len-push a zero = ap (λ k. k ∷ []) (omega arith)
 range_with_len-push a (suc n) = rw add-one (ap (λ l. a ∷ l) (ap (range_with_len (a + 1)) (sym (add-one n)) ∙ range_with_len-push (a + 1) n ∙ ap (λ k. range_with_len (a + 1) n ++ k ∷ []) (omega arith)))
-
--- the rows of all open versions
-pub current-picked : (vs : List Version) (places : List ℕ) (i : ℕ) → places ≡ open_places vs → length places ≤ i → map (λ (v : Version). v.row) (picked vs (take i places)) ≡ current vs
-current-picked vs places i e h = ap (λ l. map (λ (v : Version). v.row) (picked vs l)) (take_all i places h ∙ e) ∙ ap (map (λ (v : Version). v.row)) (picked-places_from is_open vs)
-
--- a place of an open version lies inside
-pub open_place-inside : (vs : List Version) (places : List ℕ) (i : ℕ) → places ≡ open_places vs → i < length places → get_or places i 0 < length vs
-open_place-inside vs places i e h = let inside : All (λ place. place < length vs) places = rw e (places_from-bounded is_open vs) in inside i 0 h
-
-pub filter-all : (vs : List Version) (p : Version → Bool) (places : List ℕ) (i : ℕ) → places ≡ open_places vs → length places ≤ i → filter (passes vs p) (take i places) ≡ places_from (λ v. is_open v && p v) 0 vs
-filter-all vs p places i e h = ap (filter (passes vs p)) (take_all i places h ∙ e) ∙ filter-places_from is_open p vs
 
 -- one place more, taken or left
 
@@ -288,32 +261,20 @@ pub place-no : (vs : List Version) (p : Version → Bool) (places : List ℕ) (i
 place-no vs p places i v old new h inside e test was now =
     now ∙ was ∙ sym (filter-more vs p places i v h inside e ∙ ap (λ b. filter (passes vs p) (take i places) ++ cond b (get_or places i 0 ∷ []) []) test ∙ append-nil (filter (passes vs p) (take i places)))
 
--- what is made at the places so far
+-- what is made for the places that are taken
 abbrev pub made_so_far : ℕ → ℕ → Change → List Column → List Version → List ℕ → Making
-made_so_far before commit c schema vs places = record { before = before; commit = commit; drafts = parts_in c schema (map (λ (v : Version). v.row) (picked vs places)) }
+made_so_far before commit c schema vs taken = record { before = before; commit = commit; drafts = parts_at c schema vs taken }
 
-pub made-yes : (before commit : ℕ) (c : Change) (schema : List Column) (vs : List Version) (places : List ℕ) (i : ℕ) (v : Version) (old new : Making) → i < length places → get_or places i 0 < length vs → v ≡ get_or vs (get_or places i 0) v → removes c schema v.row ≡ true
-    → old ≡ made_so_far before commit c schema vs (take i places) → AddsDrafts old new (parts_of c schema v.row) → new ≡ made_so_far before commit c schema vs (take (i + 1) places)
-made-yes before commit c schema vs places i v old new h inside e test was now =
+pub made-push : (before commit : ℕ) (c : Change) (schema : List Column) (vs : List Version) (taken more : List ℕ) (place : ℕ) (v : Version) (old new : Making) → place < length vs → v ≡ get_or vs place v
+    → old ≡ made_so_far before commit c schema vs taken → AddsDrafts old new (parts_of c schema v.row) → more ≡ taken ++ place ∷ [] → new ≡ made_so_far before commit c schema vs more
+made-push before commit c schema vs taken more place v old new inside e was now grown =
     now ∙ ap (λ (m : Making). record m { drafts = m.drafts ++ parts_of c schema v.row }) was
-    ∙ ap (λ ds. record { before = before; commit = commit; drafts = ds }) (sym (parts-more c schema vs places i v true h inside e test))
+    ∙ ap (λ ds. record { before = before; commit = commit; drafts = ds }) (sym (ap (parts_at c schema vs) grown ∙ parts_at-push c schema vs taken place v inside e))
 
-pub made-no : (before commit : ℕ) (c : Change) (schema : List Column) (vs : List Version) (places : List ℕ) (i : ℕ) (v : Version) (old new : Making) → i < length places → get_or places i 0 < length vs → v ≡ get_or vs (get_or places i 0) v → removes c schema v.row ≡ false
-    → old ≡ made_so_far before commit c schema vs (take i places) → new ≡ old → new ≡ made_so_far before commit c schema vs (take (i + 1) places)
-made-no before commit c schema vs places i v old new h inside e test was now =
-    now ∙ was ∙ ap (λ ds. record { before = before; commit = commit; drafts = ds }) (sym (parts-more c schema vs places i v false h inside e test ∙ append-nil _))
-
--- what is made at all places
-pub made-all : (before commit : ℕ) (c : Change) (schema : List Column) (vs : List Version) (places : List ℕ) (i : ℕ) (new : Making) → places ≡ open_places vs → length places ≤ i
-    → new ≡ made_so_far before commit c schema vs (take i places) → made_of new ≡ made commit (numbered before (parts_in c schema (current vs)))
-made-all before commit c schema vs places i new e h same =
-    ap made_of same ∙ ap (λ rows. made commit (numbered before (parts_in c schema rows))) (current-picked vs places i e h)
-
-pub not_true : (b : Bool) → b ≡ true → not b ≡ false
-not_true b e = ap not e
-
-pub not_false : (b : Bool) → b ≡ false → not b ≡ true
-not_false b e = ap not e
+pub made-all : (before commit : ℕ) (c : Change) (schema : List Column) (vs : List Version) (taken : List ℕ) (new : Making) → taken ≡ places_from (is_taken c schema) 0 vs
+    → new ≡ made_so_far before commit c schema vs taken → made_of new ≡ made commit (numbered before (parts_in c schema (current vs)))
+made-all before commit c schema vs taken new e same =
+    ap made_of same ∙ ap (λ ds. made commit (numbered before ds)) (parts_at-taken c schema vs taken e)
 
 -- the versions that a change of a portion leaves
 
@@ -323,34 +284,8 @@ renewed-by n c schema vs fresh grown new taken t f g e =
     e ∙ ap (λ l. fold (closed_at n) l taken) g ∙ ap (fold (closed_at n) (vs ++ fresh)) t ∙ closed-taken n c schema vs fresh
     ∙ ap (λ l. map (closed n (removes c schema)) vs ++ l) f
 
-length-fresh : (n before : ℕ) (ds : List Draft) → length (made n (numbered before ds)) ≡ length ds
+pub length-fresh : (n before : ℕ) (ds : List Draft) → length (made n (numbered before ds)) ≡ length ds
 length-fresh n before ds = length-map (numbered before ds) _ ∙ length-numbered before ds
 
 pub fresh-count : (n : ℕ) (c : Change) (schema : List Column) (vs fresh : List Version) → fresh ≡ made n (numbered (length vs) (parts_in c schema (current vs))) → length fresh ≡ length (parts_in c schema (current vs))
 fresh-count n c schema vs fresh f = ap length f ∙ length-fresh n (length vs) (parts_in c schema (current vs))
-
--- the places of the open ones among them
-pub renewed-open : (n before count : ℕ) (c : Change) (schema : List Column) (vs fresh : List Version) (left places : List ℕ) → left ≡ places_from (is_left c schema) 0 vs → fresh ≡ made n (numbered (length vs) (parts_in c schema (current vs))) → before ≡ length vs → count ≡ length fresh
-    → places ≡ left ++ range_with_len before count → places ≡ open_places (renewed n c schema vs)
-renewed-open n before count c schema vs fresh left places l f b k e =
-    let rows = numbered (length vs) (parts_in c schema (current vs)) in
-    let closing = map (closed n (removes c schema)) vs in
-    let from : before ≡ 0 + length closing = omega (arith, b, length-map vs (closed n (removes c schema))) in
-    let many : count ≡ length rows = k ∙ ap length f ∙ length-map rows _ in
-    e ∙ ap (λ x. x ++ range_with_len before count) (l ∙ sym (places_from-closed n 0 c schema vs))
-    ∙ ap (λ x. places_from is_open 0 closing ++ range_with_len x count) from
-    ∙ ap (λ x. places_from is_open 0 closing ++ range_with_len (0 + length closing) x) many
-    ∙ ap (λ x. places_from is_open 0 closing ++ x) (sym (places_from-made (0 + length closing) n rows))
-    ∙ sym (places_from-append is_open 0 closing (made n rows))
-
--- the places of the open ones after a load
-pub loaded-open : (n before count : ℕ) (ds : List Draft) (vs fresh grown : List Version) (old places : List ℕ) → old ≡ open_places vs → fresh ≡ made n (numbered before ds) → before ≡ length vs → count ≡ length ds → grown ≡ vs ++ fresh
-    → places ≡ old ++ range_with_len before count → places ≡ open_places grown
-loaded-open n before count ds vs fresh grown old places o f b k g e =
-    let from : before ≡ 0 + length vs = omega (arith, b) in
-    let many : count ≡ length (numbered before ds) = k ∙ sym (length-numbered before ds) in
-    e ∙ ap (λ x. x ++ range_with_len before count) o
-    ∙ ap (λ x. open_places vs ++ range_with_len x count) from ∙ ap (λ x. open_places vs ++ range_with_len (0 + length vs) x) many
-    ∙ ap (λ x. open_places vs ++ x) (sym (places_from-made (0 + length vs) n (numbered before ds)))
-    ∙ sym (places_from-append is_open 0 vs (made n (numbered before ds)))
-    ∙ ap open_places (ap (λ l. vs ++ l) (sym f) ∙ sym g)

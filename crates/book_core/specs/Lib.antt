@@ -1,3 +1,4 @@
+pub mod Finding
 pub mod History
 pub mod Kept
 pub mod Open

@@ -1,5 +1,5 @@
 -- The versions that are open, and a change of their rows.
-use Rattle.std.specs.Prelude.{◌≡◌, ℕ, ◌+◌, ◌<◌, List, [], ◌∷◌, ◌++◌, length, map, filter, Bool, ◌&&◌, not, if◌then◌else◌, is_none, option_map, slice_get, slice_set, unwrap_or, Option, Some}
+use Rattle.std.specs.Prelude.{◌≡◌, ℕ, ◌+◌, ◌<◌, List, [], ◌∷◌, ◌++◌, length, map, filter, Bool, ◌&&◌, if◌then◌else◌, is_none, option_map, slice_get, slice_set, unwrap_or, Option, Some}
 use Rattle.row_core.specs.Schema.{column_of}
 use Rattle.row_core.specs.declared.draft.Draft.{Draft}
 use Rattle.row_core.specs.declared.row.Row.{Row}
@@ -23,17 +23,9 @@ abbrev pub places_from : (Version → Bool) → ℕ → List Version → List �
 places_from test at [] = []
 places_from test at (v ∷ vs) = if test v then at ∷ places_from test (at + 1) vs else places_from test (at + 1) vs
 
--- the places of the open versions
-abbrev pub open_places : List Version → List ℕ
-open_places versions = places_from is_open 0 versions
-
 -- the version is open, and the change takes out its row
 abbrev pub is_taken : Change → List Column → Version → Bool
 is_taken c schema v = is_open v && removes c schema v.row
-
--- the version is open, and the change leaves its row
-abbrev pub is_left : Change → List Column → Version → Bool
-is_left c schema v = is_open v && not (removes c schema v.row)
 
 -- the conditions of a change
 abbrev pub conds_of : Change → List Pair

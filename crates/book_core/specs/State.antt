@@ -79,21 +79,19 @@ part (Some period) values = record { period = period; values = values } ∷ []
 
 -- the row that a change takes out
 abbrev pub removes : Change → List Column → Row → Bool
-removes (Make table schema) columns row = false
-removes (Load table rows) columns row = false
 removes (Update table portion sets conds) columns row = is_touched columns portion conds row
 removes (Delete table portion conds) columns row = is_touched columns portion conds row
+removes c columns row = false
 
 -- what comes in the place of one that is taken out: its parts before, inside and after the portion
 abbrev pub parts_of : Change → List Column → Row → List Draft
-parts_of (Make table schema) columns row = []
-parts_of (Load table rows) columns row = []
 parts_of (Update table portion sets conds) columns row =
     part (before row.period portion) row.values
     ++ (part (meet row.period portion) (fold (set_at columns) row.values sets)
     ++ part (later row.period portion) row.values)
 parts_of (Delete table portion conds) columns row =
     part (before row.period portion) row.values ++ part (later row.period portion) row.values
+parts_of c columns row = []
 
 -- what comes in the place of all rows that a change takes out
 abbrev pub parts_in : Change → List Column → List Row → List Draft
@@ -103,10 +101,7 @@ parts_in c columns rows = flat_map (parts_of c columns) (filter (removes c colum
 abbrev pub drafts_of : Change → List Column → List Row → List Draft
 drafts_of (Make table schema) columns rows = []
 drafts_of (Load table drafts) columns rows = drafts
-drafts_of (Update table portion sets conds) columns rows =
-    flat_map (parts_of (Update table portion sets conds) columns) (filter (is_touched columns portion conds) rows)
-drafts_of (Delete table portion conds) columns rows =
-    flat_map (parts_of (Delete table portion conds) columns) (filter (is_touched columns portion conds) rows)
+drafts_of c columns rows = parts_in c columns rows
 
 -- a table after a change of its rows
 abbrev pub changed : Change → Table → Table
@@ -127,9 +122,7 @@ table_named (Delete table portion conds) = table
 -- the state after a change
 abbrev pub after : State → Change → State
 after s (Make table schema) = s ++ record { name = table; schema = schema; used = 0; rows = [] } ∷ []
-after s (Load table rows) = at_table table (changed (Load table rows)) s
-after s (Update table portion sets conds) = at_table table (changed (Update table portion sets conds)) s
-after s (Delete table portion conds) = at_table table (changed (Delete table portion conds)) s
+after s c = at_table (table_named c) (changed c) s
 
 -- the kind of the column of that name
 abbrev pub kind_in : List Column → List ℕ → Option Kind
@@ -169,9 +162,4 @@ with_table (Some t) f = f t
 abbrev pub refusal_of : ℕ → State → Change → Option BookRefused
 refusal_of n s (Make table schema) =
     first_of ((not (is_none (table_of s table)), TableExists) ∷ (nat_le 64 (length s), TooMany) ∷ (nat_le 1000000 n, Full) ∷ [])
-refusal_of n s (Load table rows) =
-    with_table (table_of s table) (λ t. first_of (tests_of n (Load table rows) t))
-refusal_of n s (Update table portion sets conds) =
-    with_table (table_of s table) (λ t. first_of (tests_of n (Update table portion sets conds) t))
-refusal_of n s (Delete table portion conds) =
-    with_table (table_of s table) (λ t. first_of (tests_of n (Delete table portion conds) t))
+refusal_of n s c = with_table (table_of s (table_named c)) (λ t. first_of (tests_of n c t))

@@ -20,21 +20,22 @@ use std::marker::Model;
 /// The most tables of a book.
 const MAX_TABLES: usize = 64;
 
-/// Why a change is not made, in the order of the tests.
+/// Why a change is not made, in the order of the tests; of pairs, each is tested for both of its names
+/// before the next one.
 #[derive(Clone, Copy, Debug, PartialEq, Eq)]
 pub enum BookRefused {
     /// A table of that name is there.
     TableExists,
     /// 64 tables are there.
     TooMany,
-    /// 1,000,000 commits are there, or the table would have more than 1,000,000 versions.
-    Full,
     /// No table of that name is there.
     NoTable,
     /// The table has no column of that name.
     NoColumn,
     /// A value is not of its column's kind, or a row does not fit the table's columns.
     WrongKind,
+    /// 1,000,000 commits are there, or the table would have more than 1,000,000 versions.
+    Full,
     NoMemory,
 }
 
@@ -154,7 +155,13 @@ impl Book {
     }
 
     /// Makes a change of the caller with the number `by`, and answers the commit's number, from 1
-    /// on. After a refusal the book is unchanged.
+    /// on.
+    ///
+    /// # Errors
+    ///
+    /// A new table: `TableExists`, `TooMany`, `Full`. Rows: `NoTable`, `WrongKind`, `Full`. A portion:
+    /// `NoTable`; for each pair, settings before conditions, `NoColumn` and then `WrongKind`; `Full`.
+    /// `NoMemory` comes last. After a refusal the book is unchanged, and the change is dropped.
     pub fn apply(&mut self, by: u32, change: Change) -> Result<u64, BookRefused>
         // It is refused by name exactly where the state says so.
         ensures refused { IfSome (refusal_of (length self.old) (state_after self.old) change)
@@ -257,7 +264,12 @@ impl Book {
     }
 
     /// The versions of the first `at` commits that some commit from m to n shows, by rising id. An
-    /// end past `at` is shown as open.
+    /// end past `at` is shown as open. m and n may lie past `at`: an open version counts as shown there.
+    ///
+    /// # Errors
+    ///
+    /// `Future` where there are fewer than `at` commits; `BadPeriod` where m is greater than n; `NoTable`;
+    /// `NoMemory`, in this order.
     pub fn between(
         &self,
         at: u64,
@@ -288,7 +300,12 @@ impl Book {
     }
 
     /// The versions of the first `at` commits that some commit from m on and before n shows, by
-    /// rising id. An end past `at` is shown as open.
+    /// rising id. An end past `at` is shown as open. m and n may lie past `at`, as for `between`.
+    ///
+    /// # Errors
+    ///
+    /// `Future` where there are fewer than `at` commits; `BadPeriod` where m isn't less than n; `NoTable`;
+    /// `NoMemory`, in this order.
     pub fn from_to(
         &self,
         at: u64,

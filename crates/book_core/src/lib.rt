@@ -5,8 +5,10 @@
 mod apply;
 mod book;
 mod change;
+mod index;
 mod log;
 mod making;
+mod places;
 mod portion;
 mod table;
 mod version;

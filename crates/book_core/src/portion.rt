@@ -1,6 +1,6 @@
 //! Changes of a portion of time: which rows they take out, and what comes in the place of each.
 
-ghost use Rattle.std.specs.Prelude.{◌≡◌, ◌+◌, ◌≤◌, ◌<◌, ◌++◌, ◌&&◌, List, false, length, fold, flat_map, is_some, option_map, option_and_then, slice_get, unwrap_or, if◌then◌else◌, IfOk, IfSome, OnOk};
+ghost use Rattle.std.specs.Prelude.{◌≡◌, ◌+◌, ◌≤◌, ◌<◌, ◌++◌, ◌&&◌, List, false, length, fold, flat_map, is_some, option_map, option_and_then, slice_get, slice_set, unwrap_or, if◌then◌else◌, IfOk, IfSome, OnOk};
 ghost use Rattle.std.specs.List.{list_all};
 ghost use Rattle.period_core.specs.Period.{before, meet, after as later};
 ghost use Rattle.row_core.specs.Name.{same_name};
@@ -14,7 +14,7 @@ use crate::book::BookRefused;
 use crate::change::Change;
 use crate::making::NewVersions;
 use period_core::Period;
-use row_core::{Kind, Name, NoMemory, Row, Schema, Text, Value, Values};
+use row_core::{Kind, Name, NoMemory, Row, Schema, Text, Value, Values, copy_values};
 use std::alloc::Global;
 
 /// How many conditions' columns are looked up before the rows are gone through. There may be more
@@ -195,14 +195,23 @@ fn values_set(
 ) -> Result<Values, NoMemory>
     ensures { IfOk result (λ now. now ≡ fold (set_at schema.now) values.now sets.now) }
 {
-    let mut now = values.copy(alloc)?;
+    let mut now = copy_values(alloc, values.as_slice())?;
     for pair in sets {
         let value = pair.1.copy(alloc)?;
         if let Some(i) = schema.column(pair.0) {
-            now.set(i as usize, value);
+            set_value(&mut now, i as usize, value);
         }
     }
-    Ok(now)
+    Values::of(alloc, now)
+}
+
+/// Writes the value at that place, where there is one.
+fn set_value(values: &mut [Value], i: usize, value: Value)
+    ensures { values.new ≡ slice_set values.old i value }
+{
+    if i < values.len() {
+        values[i] = value;
+    }
 }
 
 /// The places of the columns that the first conditions of a change name. Looked up once, they make

@@ -1,16 +1,19 @@
 //! All versions of a table, with the places of the open ones.
 
-ghost use Rattle.std.specs.Prelude.{◌≡◌, ◌+◌, ◌≤◌, ◌<◌, ◌^◌, ◌++◌, List, [], length, fold, count_by, All, IfOk, OnErr, OnOk};
+ghost use Rattle.std.specs.Prelude.{◌≡◌, ◌+◌, ◌≤◌, ◌<◌, ◌++◌, List, [], length, fold, count_by, All, IfOk, IfSome, OnErr, OnOk};
 ghost use Rattle.std.specs.List.{range_with_len};
 ghost use Rattle.row_core.specs.declared.schema.Column.{Column};
+ghost use Rattle.book_core.specs.Finding.{AreCandidates, IsKeyOf};
 ghost use Rattle.book_core.specs.Kept.{made};
-ghost use Rattle.book_core.specs.Open.{closed_at, current, is_left, is_taken, open_places, places_from, renewed};
+ghost use Rattle.book_core.specs.Open.{AreSought, closed_at, conds_of, current, is_taken, places_from, renewed};
 ghost use Rattle.book_core.specs.State.{numbered, parts_in, removes};
 ghost use Rattle.book_core.specs.declared.change.Change.{Change};
 
 use crate::change::Change;
+use crate::index::{Index, Key, candidates, drop_closed_at, extend_indexes, key_of, make_indexes};
 use crate::making::{NewVersions, versions_of};
-use crate::portion::{columns_sought, count_of, is_removed, push_parts};
+use crate::places::Places;
+use crate::portion::{SOUGHT, columns_sought, count_of, is_removed, push_parts};
 use crate::version::{Version, copy_versions};
 use row_core::{Draft, NoMemory, Schema};
 use std::alloc::Global;
@@ -27,20 +30,24 @@ pub struct Counts {
 #[derive(Debug, Drop)]
 pub struct Versions {
     items: Vec<Version>,
-    /// The places of the open ones, so that a change goes over no closed one.
-    open_at: Vec<usize>,
+    /// The places of the open ones, and of closed ones that a change has not come across.
+    open_at: Places,
+    /// How many were closed since those places were only of open ones.
+    closed: usize,
+    /// What finds open ones by their values. Without them a change goes over all open ones.
+    indexes: Vec<Index>,
 }
 
 impl Model for Versions {
-    ghost use Rattle.std.specs.Prelude.{◌≡◌, List};
+    ghost use Rattle.std.specs.Prelude.{List};
     ghost use Rattle.book_core.specs.declared.version.Version.{Version};
-    ghost use Rattle.book_core.specs.Open.{open_places};
+    ghost use Rattle.book_core.specs.Finding.{AreFound};
 
     ghost Value = { List Version };
 
     ghost view = { λ v. v.items.items };
 
-    ghost invariant = { λ v. v.open_at.items ≡ open_places v.items.items };
+    ghost invariant = { λ v. AreFound v.items.items v.open_at v.indexes.items };
 }
 
 impl Versions {
@@ -50,7 +57,9 @@ impl Versions {
     {
         Versions {
             items: Vec::new(alloc),
-            open_at: Vec::new(alloc),
+            open_at: Places::new(alloc),
+            closed: 0,
+            indexes: Vec::new(alloc),
         }
     }
 
@@ -74,7 +83,9 @@ impl Versions {
     {
         Ok(Versions {
             items: copy_versions(alloc, &self.items)?,
-            open_at: Vec::from_slice(alloc, &self.open_at)?,
+            open_at: self.open_at.copy(alloc)?,
+            closed: self.closed,
+            indexes: Vec::new(alloc),
         })
     }
 
@@ -92,7 +103,9 @@ impl Versions {
         requires { length self.now ≤ 1000000 }
         ensures { result ≡ length (parts_in change.now schema.now (current self.now)) }
     {
-        count_parts(schema, &self.items, &self.open_at, change)
+        let key = key_of(&self.indexes, schema, change);
+        let places = candidates(self.open_at.as_slice(), &self.indexes, key);
+        count_parts(schema, &self.items, places, change)
     }
 
     /// Adds the drafts as versions that the commit makes.
@@ -103,13 +116,9 @@ impl Versions {
         ensures err { OnErr result (self.new ≡ self.old) }
     {
         let before = self.items.len();
-        let mut new = versions_of(alloc, before, commit, drafts)?;
-        let open = self.open_at.len();
-        push_places(&mut self.open_at, before, drafts.len())?;
-        if let Err(error) = self.items.append(&mut new) {
-            self.open_at.truncate(open);
-            return Err(error);
-        }
+        let new = versions_of(alloc, before, commit, drafts)?;
+        add_versions(&mut self.items, &mut self.open_at, new)?;
+        extend_indexes(&mut self.indexes, &self.items, before);
         Ok(())
     }
 
@@ -128,32 +137,77 @@ impl Versions {
             × (counts.closed ≡ count_by (removes change.now schema.now) (current self.old))) }
         ensures err { OnErr result (self.new ≡ self.old) }
     {
+        self.make_indexes(alloc, schema, change);
+        let key = key_of(&self.indexes, schema, change);
+        self.drop_closed(key);
+        self.make(alloc, schema, commit, change, key)
+    }
+
+    /// Makes the indexes that help the change.
+    fn make_indexes(&mut self, alloc: Global, schema: &Schema, change: &Change)
+        requires { length self.old ≤ 1000000 }
+        ensures { self.new ≡ self.old }
+    {
+        make_indexes(alloc, &mut self.indexes, &self.items, schema, change);
+    }
+
+    /// Drops places of closed versions where a change with that key looks: in its bucket, or in the
+    /// list of all where many are.
+    fn drop_closed(&mut self, key: Option<Key>)
+        requires { IfSome key (λ key. key.bucket < 8191) }
+        ensures { self.new ≡ self.old }
+    {
+        match key {
+            Some(key) => drop_closed_at(&mut self.indexes, &self.items, key),
+            None => {
+                if self.closed > self.open_at.len() / 2 {
+                    self.open_at.drop_closed(&self.items);
+                    self.closed = 0;
+                }
+            }
+        }
+    }
+
+    /// What `renew` does, by the places where the key finds rows.
+    fn make(
+        &mut self,
+        alloc: Global,
+        schema: &Schema,
+        commit: u64,
+        change: &Change,
+        key: Option<Key>,
+    ) -> Result<Counts, NoMemory>
+        requires few { length self.old ≤ 1000000 }
+        requires bucket { IfSome key (λ key. key.bucket < 8191) }
+        requires key { IfSome key (IsKeyOf change.now schema.now) }
+        ensures ok { OnOk result (self.new ≡ renewed commit change.now schema.now self.old) }
+        ensures counts { IfOk result (λ counts.
+            (counts.added ≡ length (parts_in change.now schema.now (current self.old)))
+            × (counts.closed ≡ count_by (removes change.now schema.now) (current self.old))) }
+        ensures err { OnErr result (self.new ≡ self.old) }
+    {
         let before = self.items.len();
-        let plan = make_plan(alloc, schema, &self.items, &self.open_at, commit, change)?;
-        let Plan {
-            mut new,
-            taken,
-            mut left,
-        } = plan;
+        let places = candidates(self.open_at.as_slice(), &self.indexes, key);
+        let plan = make_plan(alloc, schema, &self.items, places, commit, change)?;
+        let Plan { new, taken } = plan;
         let counts = Counts {
             added: new.len() as u64,
             closed: taken.len() as u64,
         };
-        push_places(&mut left, before, new.len())?;
-        self.items.append(&mut new)?;
+        add_versions(&mut self.items, &mut self.open_at, new)?;
         close_all(&mut self.items, &taken, commit);
-        self.open_at = left;
+        self.closed = self.closed.saturating_add(taken.len());
+        extend_indexes(&mut self.indexes, &self.items, before);
         Ok(counts)
     }
 }
 
 /// What a change of a portion does to versions: those that it makes, and the places of the open
-/// ones that it takes out and of those that it leaves.
+/// ones that it takes out.
 #[derive(Drop)]
 struct Plan {
     new: Vec<Version>,
     taken: Vec<usize>,
-    left: Vec<usize>,
 }
 
 /// Works out a change without making it, so that a refusal of memory leaves all as it was.
@@ -166,63 +220,78 @@ fn make_plan(
     change: &Change,
 ) -> Result<Plan, NoMemory>
     requires few { length versions.now ≤ 1000000 }
-    requires places { places.now ≡ open_places versions.now }
+    requires places { AreCandidates change.now schema.now versions.now places.now }
     ensures new { IfOk result (λ plan. plan.new.items ≡ made commit
         (numbered (length versions.now) (parts_in change.now schema.now (current versions.now)))) }
     ensures taken { IfOk result (λ plan. plan.taken.items
         ≡ places_from (is_taken change.now schema.now) 0 versions.now) }
-    ensures left { IfOk result (λ plan. plan.left.items
-        ≡ places_from (is_left change.now schema.now) 0 versions.now) }
 {
     let mut new = NewVersions::new(alloc, versions.len(), commit);
     let mut taken = Vec::new(alloc);
-    let mut left = Vec::new(alloc);
     let columns = columns_sought(schema, change);
     for place in places {
         let version = &versions[*place];
-        if is_removed(schema, change, &columns, &version.row) {
+        if is_taken(schema, change, &columns, version) {
             push_parts(alloc, &mut new, schema, change, &version.row)?;
             taken.push(*place)?;
-        } else {
-            left.push(*place)?;
         }
     }
     Ok(Plan {
         new: new.into_items(),
         taken,
-        left,
     })
 }
 
 /// How many rows come in the place of those that the change takes out.
 fn count_parts(schema: &Schema, versions: &[Version], places: &[usize], change: &Change) -> usize
     requires few { length versions.now ≤ 1000000 }
-    requires places { places.now ≡ open_places versions.now }
+    requires places { AreCandidates change.now schema.now versions.now places.now }
     ensures { result ≡ length (parts_in change.now schema.now (current versions.now)) }
 {
     let mut count = 0;
     let columns = columns_sought(schema, change);
     for place in places {
         let version = &versions[*place];
-        if is_removed(schema, change, &columns, &version.row) {
+        if is_taken(schema, change, &columns, version) {
             count += count_of(change, &version.row);
         }
     }
     count
 }
 
-/// Adds `count` places from `first` on. On refusal there are none more.
-fn push_places(places: &mut Vec<usize>, first: usize, count: usize) -> Result<(), NoMemory>
-    requires { first + count < 2 ^ 63 }
-    ensures ok { OnOk result (places.new.items ≡ places.old.items ++ range_with_len first count) }
-    ensures err { OnErr result (places.new.items ≡ places.old.items) }
+/// Whether the version is open, and the change takes out its row.
+#[inline(always)]
+fn is_taken(
+    schema: &Schema,
+    change: &Change,
+    columns: &[Option<u32>; SOUGHT],
+    version: &Version,
+) -> bool
+    requires { AreSought schema.now (conds_of change.now) columns.now }
+    ensures { result ≡ is_taken change.now schema.now version.now }
 {
-    let before = places.len();
-    for place in first..first + count {
-        if let Err(error) = places.push(place) {
-            places.truncate(before);
-            return Err(error.into());
-        }
+    version.systo.is_none() && is_removed(schema, change, columns, &version.row)
+}
+
+/// Adds versions and their places. On refusal there are none more.
+fn add_versions(
+    versions: &mut Vec<Version>,
+    places: &mut Places,
+    new: Vec<Version>,
+) -> Result<(), NoMemory>
+    requires { length versions.old.items ≤ 1000000 }
+    ensures ok { OnOk result (versions.new.items ≡ versions.old.items ++ new.items) }
+    ensures places { OnOk result (places.new
+        ≡ places.old ++ range_with_len (length versions.old.items) (length new.items)) }
+    ensures err { OnErr result (versions.new.items ≡ versions.old.items) }
+    ensures err_places { OnErr result (places.new ≡ places.old) }
+{
+    let mut new = new;
+    let open = places.len();
+    places.push_range(versions.len(), new.len())?;
+    if let Err(error) = versions.append(&mut new) {
+        places.truncate(open);
+        return Err(error.into());
     }
     Ok(())
 }

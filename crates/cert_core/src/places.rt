@@ -1,4 +1,4 @@
-ghost use Rattle.std.specs.Prelude.{◌≡◌, ◌≢◌, ℕ, ◌<◌, [], length, vec_len, MatchOption, IfOk};
+ghost use Rattle.std.specs.Prelude.{◌≡◌, ◌≢◌, ℕ, ◌<◌, [], length, vec_len, MatchOption, IfOk, IfSome};
 ghost use Rattle.dip_core.specs.Item.{IdsRise};
 ghost use Rattle.cert_core.specs.Places.{id_at, ArePlaces};
 ghost use Rattle.cert_core.specs.Verdict.{IsUnknown};
@@ -11,7 +11,20 @@ fn place_of(items: &[Item], id: u64) -> Option<usize>
     requires { IdsRise items.now }
     ensures { MatchOption result ((p : ℕ) → p < length items.now → id_at items.now p ≢ id) (λ p. (p < length items.now) × (id_at items.now p ≡ id)) }
 {
+    if let Some(place) = place_by_count(items, id) {
+        return Some(place);
+    }
     items.binary_search_by_key(&id, |item| item.id).ok()
+}
+
+// Where the id's item is if none is missing between it and the first, as often none is.
+fn place_by_count(items: &[Item], id: u64) -> Option<usize>
+    ensures { IfSome result (λ p. (p < length items.now) × (id_at items.now p ≡ id)) }
+{
+    let first = items.first()?;
+    let place = id.checked_sub(first.id)? as usize;
+    let item = items.get(place)?;
+    if item.id == id { Some(place) } else { None }
 }
 
 // Finds the place of each id's item, and answers the first id that no item has.

@@ -1,6 +1,7 @@
 pub mod BehindLemmas
 pub mod Cuts
 pub mod Cutting
+pub mod Faults
 pub mod FieldLemmas
 pub mod NamedColumns
 pub mod PortionLemmas

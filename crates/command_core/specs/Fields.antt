@@ -47,36 +47,23 @@ period_in from to = result_and_then (λ ends. ok_or (between ends.0 ends.1) BadP
 
 -- the name that a record is on that has no other field behind its word, or why there is none
 abbrev pub named : Record → Result (List ℕ) Refusal
-named [] = Err BadCommand
-named (word ∷ []) = Err BadCommand
 named (word ∷ name ∷ []) = name_in name
-named (word ∷ name ∷ third ∷ rest) = Err BadCommand
+named line = Err BadCommand
 
 -- the name and the point that a record of two fields behind its word is on, or why there is none
 abbrev pub dated : Record → Result (List ℕ × ℤ) Refusal
-dated [] = Err BadCommand
-dated (word ∷ []) = Err BadCommand
-dated (word ∷ name ∷ []) = Err BadCommand
 dated (word ∷ name ∷ point ∷ []) = both (name_in name) (point_in point)
-dated (word ∷ name ∷ point ∷ fourth ∷ rest) = Err BadCommand
+dated line = Err BadCommand
 
 -- the name and the two numbers that a record of three fields behind its word is on
 abbrev pub spanned : Record → Result (List ℕ × (ℕ × ℕ)) Refusal
-spanned [] = Err BadCommand
-spanned (word ∷ []) = Err BadCommand
-spanned (word ∷ name ∷ []) = Err BadCommand
-spanned (word ∷ name ∷ first ∷ []) = Err BadCommand
 spanned (word ∷ name ∷ first ∷ last ∷ []) = both (name_in name) (both (natural_in first) (natural_in last))
-spanned (word ∷ name ∷ first ∷ last ∷ fifth ∷ rest) = Err BadCommand
+spanned line = Err BadCommand
 
 -- the name, the number and the instant that a record of three fields behind its word is on
 abbrev pub claimed : Record → Result (List ℕ × (ℕ × Option ℤ)) Refusal
-claimed [] = Err BadCommand
-claimed (word ∷ []) = Err BadCommand
-claimed (word ∷ name ∷ []) = Err BadCommand
-claimed (word ∷ name ∷ parts ∷ []) = Err BadCommand
 claimed (word ∷ name ∷ parts ∷ instant ∷ []) = both (name_in name) (both (natural_in parts) (instant_in instant))
-claimed (word ∷ name ∷ parts ∷ instant ∷ fifth ∷ rest) = Err BadCommand
+claimed line = Err BadCommand
 
 -- the record ends with the suffix `asof,N`: its last field but one is the word
 abbrev pub has_asof : Record → Bool

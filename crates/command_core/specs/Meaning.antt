@@ -75,9 +75,8 @@ name_table name (Some columns) =
     else Err BadName
 
 abbrev pub table_meaning : Record → Result Meaning Refusal
-table_meaning [] = Err BadCommand
-table_meaning (word ∷ []) = Err BadCommand
 table_meaning (word ∷ name ∷ fields) = name_table name (columns_in fields)
+table_meaning line = Err BadCommand
 
 -- ---- portions of tables
 
@@ -98,18 +97,12 @@ if_formed follow None = Err BadCommand
 if_formed follow (Some fields) = follow fields
 
 abbrev pub update_meaning : Record → Result Meaning Refusal
-update_meaning [] = Err BadCommand
-update_meaning (word ∷ []) = Err BadCommand
-update_meaning (word ∷ name ∷ []) = Err BadCommand
-update_meaning (word ∷ name ∷ from ∷ []) = Err BadCommand
 update_meaning (word ∷ name ∷ from ∷ to ∷ fields) = if_formed (update_of name from to) (settings_in fields)
+update_meaning line = Err BadCommand
 
 abbrev pub delete_meaning : Record → Result Meaning Refusal
-delete_meaning [] = Err BadCommand
-delete_meaning (word ∷ []) = Err BadCommand
-delete_meaning (word ∷ name ∷ []) = Err BadCommand
-delete_meaning (word ∷ name ∷ from ∷ []) = Err BadCommand
 delete_meaning (word ∷ name ∷ from ∷ to ∷ fields) = if_formed (delete_of name from to) (conditions_in fields)
+delete_meaning line = Err BadCommand
 
 -- ---- queries
 
@@ -129,9 +122,8 @@ abbrev pub from_to_meaning : Record → Result Meaning Refusal
 from_to_meaning line = result_and_then (λ r. Ok (FromTo r.0 r.1.0 r.1.1)) (spanned line)
 
 abbrev pub log_meaning : Record → Result Meaning Refusal
-log_meaning [] = Err BadCommand
 log_meaning (word ∷ []) = Ok Log
-log_meaning (word ∷ second ∷ rest) = Err BadCommand
+log_meaning line = Err BadCommand
 
 -- ---- commands
 
@@ -201,15 +193,6 @@ Means number own later meaning =
 
 -- how many records a command has behind its first, where it is a block that may be done
 abbrev pub behind_length : Meaning → ℕ
-behind_length (Refuse fault) = 0
-behind_length (Make name columns) = 0
 behind_length (Load name body) = length body + 1
-behind_length (Update name portion sets conds) = 0
-behind_length (Delete name portion conds) = 0
-behind_length (Rows name asof) = 0
-behind_length (At name point asof) = 0
-behind_length (Between name first last) = 0
-behind_length (FromTo name first end) = 0
-behind_length (Dip name asof) = 0
 behind_length (Check name parts instant asof body) = length body + 1
-behind_length Log = 0
+behind_length meaning = 0

@@ -25,9 +25,8 @@ verb_of line =
 
 -- the record of the one field `end`
 abbrev pub is_end : Record → Bool
-is_end [] = false
 is_end (first ∷ []) = bytes_eq first (codes "end")
-is_end (first ∷ second ∷ rest) = false
+is_end line = false
 
 -- a block is opened by its word, whatever the other fields are
 abbrev pub opens_block : Record → Bool

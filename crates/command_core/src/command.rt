@@ -1,9 +1,10 @@
 //! Commands, and the records that they take.
-ghost use Rattle.std.specs.Prelude.{◌≡◌, ◌+◌, ◌<◌, ◌≤◌, Some, IfOk, IfSome, IfNone, true, length, take, drop, slice_get};
+ghost use Rattle.std.specs.Prelude.{◌≡◌, ◌+◌, ◌<◌, ◌≤◌, Some, IfErr, IfOk, IfSome, IfNone, OnErr, codes, true, length, take, drop, slice_get};
 ghost use Rattle.command_core.specs.Command.{Reads, meaning_of, meant_by};
 ghost use Rattle.command_core.specs.Lines.{fields_in, lines_in};
 ghost use Rattle.command_core.specs.Meaning.{IsBody, Means, behind_length, block_meaning, check_meaning, load_meaning, record_meaning, refuse, told};
-ghost use Rattle.command_core.specs.Words.{is_end, opens_block};
+ghost use Rattle.command_core.specs.Words.{begins, is_end, opens_block};
+ghost use Rattle.command_core.specs.declared.refusal.NotRead.TheVariants as not_read;
 
 use crate::fields::{claimed, commit_told, named, split_asof};
 use crate::lines::{Line, Lines};
@@ -103,7 +104,8 @@ fn refused<'a>(number: u64, refusal: Refusal) -> Command<'a>
 
 /// What a record means that opens no block.
 fn read_record<'a>(alloc: Global, line: Line<'a>) -> Result<Command<'a>, NotRead>
-    ensures { Reads meaning_of (record_meaning (fields_in line.entry)) result }
+    ensures reads { Reads meaning_of (record_meaning (fields_in line.entry)) result }
+    ensures memory { IfErr result (λ why. why ≡ not_read.NoMemory → begins (codes "table") (fields_in line.entry) ≡ true) }
 {
     match verb_of(line) {
         Some(Verb::Table) => read_table(alloc, line),
@@ -178,13 +180,14 @@ fn body_len(lines: Lines<'_>) -> Option<usize>
 ///
 /// # Errors
 ///
-/// `NoMemory` where a growth is refused.
+/// `NoMemory` where a growth is refused, which only a `table` asks for.
 pub fn next_command<'a>(alloc: Global, lines: Lines<'a>, number: u64) -> Result<Cut<'a>, NoMemory>
     requires { 0 < length (lines_in lines) }
     ensures some { IfOk result (λ cut. 0 < cut.taken) }
     ensures within { IfOk result (λ cut. cut.taken ≤ length (lines_in lines.entry)) }
     ensures means { IfOk result (λ cut. Means number (take cut.taken (lines_in lines.entry)) (drop cut.taken (lines_in lines.entry)) (meaning_of cut.command)) }
     ensures behind { IfOk result (λ cut. behind_length (meaning_of cut.command) < length (lines_in lines.entry)) }
+    ensures memory { OnErr result (IfSome (slice_get (lines_in lines.entry) 0) (λ line. begins (codes "table") line ≡ true)) }
 {
     let opening = lines.get(0);
     if opens_block(opening) {

@@ -1,15 +1,16 @@
 //! The records of a script, kept flat: all their fields in one record of `csv`, and where each
 //! record of the script ends among them.
-ghost use Rattle.std.specs.Prelude.{◌≡◌, ◌+◌, ◌<◌, ◌≤◌, ◌++◌, [], length, take, drop, slice_get, ◌-◌, IfOk, OnOk, OnErr, Some, option_map};
+ghost use Rattle.std.specs.Prelude.{◌≡◌, ◌+◌, ◌<◌, ◌≤◌, ◌++◌, [], length, take, drop, slice_get, ◌-◌, IfOk, OnOk, OnErr, Some, option_map, true};
+ghost use Rattle.csv.specs.Reading.{error_kind, stops_reader};
 ghost use Rattle.csv.specs.Records.{fields_of, partial_of};
 ghost use Rattle.command_core.specs.Cut.{cut, start_at, EndsAt};
 ghost use Rattle.command_core.specs.Lines.{fields_in};
 ghost use Rattle.command_core.specs.Records.{AreScriptRecords};
 
 use crate::lines::Line;
-use csv::{ByteRecord, ReaderBuilder};
+use csv::{ByteRecord, Error, ErrorKind, ReaderBuilder};
 use period_core::NoMemory;
-use std::alloc::Global;
+use std::alloc::{AllocError, Global};
 use std::marker::Model;
 
 /// The records of a script, first to last. Contracts see the list of them, each the list of its
@@ -80,6 +81,18 @@ fn append(fields: &mut ByteRecord, row: &ByteRecord) -> Result<(), NoMemory>
     Ok(())
 }
 
+/// Why bytes in memory are not read: memory is refused. No record is refused for its length, nor for
+/// its text.
+fn not_read(fault: Error) -> NoMemory
+    requires { stops_reader (error_kind fault) ≡ true }
+{
+    match fault.into_kind() {
+        ErrorKind::OutOfMemory => AllocError,
+        ErrorKind::Io(_) => AllocError,
+        _ => unreachable!(),
+    }
+}
+
 /// The records of a script's bytes, as `csv` reads them, without a header and of any length. The
 /// bytes are in memory, so what fails is memory.
 ///
@@ -103,7 +116,7 @@ pub fn read_records(alloc: Global, script: &[u8]) -> Result<Records, NoMemory>
                 ends.push(fields.len())?;
             }
             Ok(false) => return Ok(Records { fields, ends }),
-            Err(_) => return Err(std::alloc::AllocError),
+            Err(fault) => return Err(not_read(fault)),
         }
     }
 }

@@ -96,7 +96,7 @@ pub fn create_dip(alloc: Global, items: &[Item]) -> Result<Division, NoMemory>
     ensures placed { IfOk result (λ division. HasDistinctIds items.now → IsPlaced division) }
 {
     let mut sorted = Vec::from_slice(alloc, items)?;
-    sorted.sort()?;
+    sorted.sort_unstable();
     let mut placer = Placer::new(alloc);
     for item in &sorted {
         placer.place(*item)?;

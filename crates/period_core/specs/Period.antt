@@ -38,10 +38,6 @@ abbrev pub HoldsIn : Option Period → ℤ → Type 0
 HoldsIn None t = ⊥
 HoldsIn (Some p) t = Holds p t
 
--- what there may be of a period is the set of instants
-abbrev pub IsSet : (ℤ → Type 0) → Option Period → Type 0
-IsSet set o = (t : ℤ) → HoldsIn o t ↔ set t
-
 -- that period, where its ends are in order
 abbrev pub between_if : (from to : ℤ) (ordered : Bool) → int_lt from to ≡ ordered → Option Period
 between_if from to true e = Some (record { from = from; to = to; ordered = lt_z_yes (subst T (sym e) tt) })

@@ -1,7 +1,8 @@
-pub mod Refusals
 pub mod Name
 pub mod Number
-pub mod Value
-pub mod Schema
 pub mod Reading
+pub mod Refusals
 pub mod Rows
+pub mod Schema
+pub mod Value
+pub mod Values

@@ -1,11 +1,12 @@
 -- Rows as they are read from their fields.
-use Rattle.std.specs.Prelude.{ℕ, List, [], ◌∷◌, length, ◌==◌, if◌then◌else◌, Result, Ok, Err}
+use Rattle.std.specs.Prelude.{ℕ, List, ◌∷◌, length, ◌==◌, if◌then◌else◌, Result, Err}
+use Rattle.std.specs.List.{zip}
 use Rattle.std.specs.Option.{ok_or}
 use Rattle.std.specs.Result.{result_map_both}
 use Rattle.period_core.specs.Point.{point_of}
 use Rattle.period_core.specs.Period.{between}
 use Rattle.period_core.specs.declared.period.Period.{Period}
-use Rattle.row_core.specs.Refusals.{result_and_then}
+use Rattle.row_core.specs.Refusals.{read_each, result_and_then}
 use Rattle.row_core.specs.Value.{value_of}
 use Rattle.row_core.specs.declared.draft.Draft.{Draft}
 use Rattle.row_core.specs.declared.schema.Column.{Column}
@@ -35,15 +36,11 @@ field_of kind field = result_map_both (λ v. v) refusal_of_value (value_of kind 
 
 -- each field's value in its column, or the first refusal from the left
 abbrev pub values_of : List Column → List (List ℕ) → Result (List Value) RowRefused
-values_of [] fields = Ok []
-values_of (column ∷ columns) [] = Err row.WrongWidth
-values_of (column ∷ columns) (field ∷ fields) =
-    result_and_then (λ first. result_map_both (λ rest. first ∷ rest) (λ e. e) (values_of columns fields)) (field_of column.kind field)
+values_of columns fields = read_each (λ pair. field_of pair.0.kind pair.1) (zip columns fields)
 
 -- the row of the fields from, to and one for each column, or the first refusal
 abbrev pub row_of : List Column → List (List ℕ) → Result Draft RowRefused
-row_of columns [] = Err row.WrongWidth
-row_of columns (from ∷ []) = Err row.WrongWidth
 row_of columns (from ∷ to ∷ fields) = if length fields == length columns
     then result_and_then (λ period. result_map_both (λ values. record { period = period; values = values }) (λ e. e) (values_of columns fields)) (period_of from to)
     else Err row.WrongWidth
+row_of columns fields = Err row.WrongWidth

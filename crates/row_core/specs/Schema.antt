@@ -1,5 +1,6 @@
 -- The columns of a table, and what fits them.
-use Rattle.std.specs.Prelude.{◌≢◌, ◌≤◌, ℕ, List, [], ◌∷◌, length, map, Bool, true, false, ◌&&◌, ◌||◌, Option, Result, position, nat_lt, AllPairs}
+use Rattle.std.specs.Prelude.{◌≢◌, ◌≤◌, ℕ, List, [], ◌∷◌, length, map, Bool, false, ◌||◌, Option, Result, position, nat_lt, AllPairs}
+use Rattle.std.specs.Cmp.Lexicographic.{pointwise}
 use Rattle.std.specs.List.{list_any}
 use Rattle.row_core.specs.Name.{same_name}
 use Rattle.row_core.specs.Refusals.{first_of, refused_or}
@@ -30,10 +31,7 @@ schema_of pairs = refused_or (first_of ((nat_lt 16 (length pairs), TooMany) ∷ 
 
 -- as many values as columns, each of its column's kind
 abbrev pub fits : List Column → List Value → Bool
-fits [] [] = true
-fits [] (value ∷ values) = false
-fits (column ∷ columns) [] = false
-fits (column ∷ columns) (value ∷ values) = same_kind column.kind (kind_of value) && fits columns values
+fits columns values = pointwise (λ column value. same_kind column.kind (kind_of value)) columns values
 
 -- the place of the column of that name
 abbrev pub column_of : List Column → List ℕ → Option ℕ

@@ -19,4 +19,4 @@ pub use reading::{Field, RowRefused};
 pub use row::{Row, RowList};
 pub use schema::{Column, Schema, SchemaRefused};
 pub use text::{Text, TextRefused};
-pub use value::{Kind, Value, ValueRefused, Values};
+pub use value::{Kind, Value, ValueRefused, Values, copy_values};

@@ -8,7 +8,7 @@ use crate::draft::Draft;
 use crate::schema::{Column, Schema};
 use crate::value::{Value, ValueRefused, Values};
 use period_core::{BadPeriod, BadPoint, Period, Point};
-use std::alloc::Global;
+use std::alloc::{AllocFailed, Global};
 use std::convert::AsSlice;
 use std::marker::Model;
 
@@ -45,7 +45,7 @@ impl AsSlice<u8> for Field {
     }
 }
 
-/// Why a record's fields are no row, in the order of the tests.
+/// Why a record's fields are no row, in the order of the tests; the values are tested from the left.
 #[derive(Clone, Copy, Debug, PartialEq, Eq)]
 pub enum RowRefused {
     /// There are not two fields more than columns.
@@ -70,6 +70,17 @@ impl From<NoMemory> for RowRefused {
     ghost from_gives = { λ _ e. e ≡ refused.NoMemory };
 
     fn from(_error: NoMemory) -> RowRefused {
+        RowRefused::NoMemory
+    }
+}
+
+impl<T: Drop> From<AllocFailed<T>> for RowRefused {
+    ghost use Rattle.std.specs.Prelude.{◌≡◌};
+    ghost use Rattle.row_core.specs.declared.reading.RowRefused.TheVariants as refused;
+
+    ghost from_gives = { λ _ e. e ≡ refused.NoMemory };
+
+    fn from(_error: AllocFailed<T>) -> RowRefused {
         RowRefused::NoMemory
     }
 }
@@ -165,12 +176,12 @@ fn collect_values<F: AsSlice<u8>>(
     ensures { MatchResult result (λ values. values_of columns.now (map F.items fields.now) ≡ Ok values)
         (λ refusal. (refusal ≢ RowRefused.NoMemory) → values_of columns.now (map F.items fields.now) ≡ Err refusal) }
 {
-    let mut values = Values::new(alloc);
+    let mut values = Vec::with_capacity(alloc, columns.len())?;
     for i in 0..columns.len() {
         let value = Value::read(alloc, columns[i].kind, fields[i].as_slice())?;
         values.push(value)?;
     }
-    Ok(values)
+    Ok(Values::of(alloc, values)?)
 }
 
 // Whether each field is a value of its column.

@@ -29,7 +29,7 @@ impl Row {
     }
 }
 
-/// Rows, mostly of one table by rising id.
+/// Rows in any order; those that a book answers are of one table, by rising id.
 #[derive(Debug, Drop)]
 pub struct RowList {
     items: Vec<Row>,

@@ -1,4 +1,4 @@
-ghost use Rattle.std.specs.Prelude.{◌≡◌, ◌++◌, ◌==◌, [], ◌∷◌, length, IfOk, OnOk, OnErr, slice_get, slice_set};
+ghost use Rattle.std.specs.Prelude.{◌≡◌, ◌++◌, ◌==◌, [], ◌∷◌, length, IfOk, OnOk, OnErr, slice_get};
 ghost use Rattle.std.specs.Option.{option_copied};
 ghost use Rattle.std.specs.Result.{result_err};
 ghost use Rattle.row_core.specs.Refusals.{IsAnswerUnless};
@@ -9,6 +9,7 @@ use crate::number::{BadNumber, read_number};
 use crate::text::{Text, TextRefused, checked_text};
 use std::alloc::Global;
 use std::marker::Model;
+use std::sync::Arc;
 
 /// The kind of a value, and of a column.
 #[derive(Clone, Copy, Debug, PartialEq, Eq)]
@@ -131,19 +132,23 @@ impl Value {
     }
 }
 
-/// The values of a row, one for each column.
+/// The values of a row, one for each column. Copies share them, so a row that is kept as a version and in
+/// its change, and is listed, has its values once.
 #[derive(Debug, Drop)]
 pub struct Values {
-    items: Vec<Value>,
+    alloc: Global,
+    /// None where there are none, which takes no memory.
+    shared: Option<Arc<Vec<Value>>>,
 }
 
 impl Model for Values {
     ghost use Rattle.std.specs.Prelude.{List};
+    ghost use Rattle.row_core.specs.Values.{values_in};
     ghost use Rattle.row_core.specs.declared.value.Value.{Value as AnyValue};
 
     ghost Value = { List AnyValue };
 
-    ghost view = { λ v. v.items.items };
+    ghost view = { λ v. values_in v.shared };
 }
 
 impl Values {
@@ -152,70 +157,85 @@ impl Values {
         ensures { result ≡ [] }
     {
         Values {
-            items: Vec::new(alloc),
+            alloc,
+            shared: None,
         }
+    }
+
+    /// The list of these values.
+    pub fn of(alloc: Global, items: Vec<Value>) -> Result<Values, NoMemory>
+        ensures { IfOk result (λ values. values ≡ items.items) }
+    {
+        let shared = if items.is_empty() {
+            None
+        } else {
+            Some(Arc::new(alloc, items)?)
+        };
+        Ok(Values { alloc, shared })
     }
 
     /// How many there are.
     pub fn len(&self) -> usize
         ensures { result ≡ length self.now }
     {
-        self.items.len()
+        self.as_slice().len()
     }
 
     /// Whether there are none.
     pub fn is_empty(&self) -> bool
         ensures { result ≡ (length self.now == 0) }
     {
-        self.items.is_empty()
+        self.as_slice().is_empty()
     }
 
     /// The value at that place.
     pub fn get(&self, i: usize) -> Option<&Value>
         ensures { option_copied result ≡ slice_get self.now i }
     {
-        self.items.get(i)
+        self.as_slice().get(i)
     }
 
     /// All values, in their order.
     pub fn as_slice(&self) -> &[Value]
         ensures { result.now ≡ self.now }
     {
-        &self.items
+        match &self.shared {
+            Some(items) => items.as_slice(),
+            None => &[],
+        }
     }
 
-    /// Adds a value at the end. On `NoMemory` the list is as before, and the value is dropped.
+    /// Adds a value at the end, which copies those before it. On `NoMemory` the list is as before, and the
+    /// value is dropped.
     pub fn push(&mut self, value: Value) -> Result<(), NoMemory>
         ensures ok { OnOk result (self.new ≡ self.old ++ value ∷ []) }
         ensures err { OnErr result (self.new ≡ self.old) }
     {
-        self.items.push(value)?;
+        let mut items = copy_values(self.alloc, self.as_slice())?;
+        items.push(value)?;
+        *self = Values::of(self.alloc, items)?;
         Ok(())
-    }
-
-    /// Writes the value at that place, where there is one.
-    pub fn set(&mut self, i: usize, value: Value)
-        ensures { self.new ≡ slice_set self.old i value }
-    {
-        set_value(&mut self.items, i, value);
     }
 
     /// A list equal to this one.
     pub fn copy(&self, alloc: Global) -> Result<Values, NoMemory>
         ensures { IfOk result (λ values. values ≡ self.now) }
     {
-        let mut items = Vec::new(alloc);
-        for value in &self.items {
-            items.push(value.copy(alloc)?)?;
-        }
-        Ok(Values { items })
+        let shared = match &self.shared {
+            Some(items) => Some(Arc::try_clone(items)?),
+            None => None,
+        };
+        Ok(Values { alloc, shared })
     }
 }
 
-fn set_value(values: &mut [Value], i: usize, value: Value)
-    ensures { values.new ≡ slice_set values.old i value }
+/// Values equal to these.
+pub fn copy_values(alloc: Global, values: &[Value]) -> Result<Vec<Value>, NoMemory>
+    ensures { IfOk result (λ copy. copy.items ≡ values.now) }
 {
-    if i < values.len() {
-        values[i] = value;
+    let mut copy = Vec::with_capacity(alloc, values.len())?;
+    for value in values {
+        copy.push(value.copy(alloc)?)?;
     }
+    Ok(copy)
 }

@@ -1,12 +1,12 @@
 -- Records that are read one after another, each alone.
-use Rattle.std.proofs.Common.{◌≡◌, ℕ, ◌+◌, List, [], ◌∷◌, ◌++◌, drop, Some, Result, Ok, Err, refl, sym, ap, ◌∙◌, arith, append_assoc}
+use Rattle.std.proofs.Common.{◌≡◌, ℕ, ◌+◌, List, [], ◌∷◌, ◌++◌, drop, Some, Result, Ok, Err, sym, ap, ◌∙◌, arith, append_assoc}
 use Rattle.std.specs.List.{slice_get}
 use Rattle.std.specs.Result.{result_map_both}
 use Rattle.row_core.specs.Refusals.{result_and_then}
 use Rattle.script_core.specs.Failure.{IsFailureOf, IsRecordFailure}
 use Rattle.command_core.specs.Records.{Record}
 use Rattle.command_core.specs.Refusal.{fault}
-use Rattle.script_core.specs.State.{before_others, told_by}
+use Rattle.script_core.specs.State.{told_by}
 use Rattle.script_core.specs.declared.failure.Failure.{Failure}
 use Rattle.script_core.specs.declared.failure.Failure.TheVariants.{Refused, NoMemory}
 use Rattle.command_core.specs.declared.refusal.Fault.{Fault}
@@ -31,28 +31,28 @@ behind-next had first x (Err wrong) good = ap (λ r. behind had (then_others r (
 pub behind-refused : {T E : Type 0} (had : List T) (first : Result T E) (wrong : E) (others : Result (List T) E) → first ≡ Err wrong → behind had (then_others first others) ≡ Err wrong
 behind-refused had first wrong others bad = ap (λ r. behind had (then_others r others)) bad
 
-behind-first : {T : Type 0} (had : List T) (number : ℕ) (first : T) (rest : Result (List T) Fault) → behind had (before_others number (Ok first) rest) ≡ behind (had ++ first ∷ []) rest
-behind-first had number first (Ok more) = behind-next {E = Fault} had (Ok first) first (Ok more) refl
-behind-first had number first (Err wrong) = refl
+-- what one record gives, or its fault
+abbrev told_of : {T : Type 0} → ℕ → Result T Refusal → Result T Fault
+told_of number read = result_map_both (λ value. value) (fault number) read
 
 next_record : {T : Type 0} (read : Record → Result T Refusal) (number place : ℕ) (lines : List Record) (line : Record) → slice_get lines place ≡ Some line
-    → told_by read (number + place) (drop place lines) ≡ before_others (number + place) (read line) (told_by read (number + (place + 1)) (drop (place + 1) lines))
+    → told_by read (number + place) (drop place lines) ≡ then_others (told_of (number + place) (read line)) (told_by read (number + (place + 1)) (drop (place + 1) lines))
 next_record read number place lines line e =
     let next : number + place + 1 ≡ number + (place + 1) = omega arith in
-    ap (told_by read (number + place)) (drop-slice_get lines place line e) ∙ ap (λ n. before_others (number + place) (read line) (told_by read n (drop (place + 1) lines))) next
+    ap (told_by read (number + place)) (drop-slice_get lines place line e) ∙ ap (λ n. then_others (told_of (number + place) (read line)) (told_by read n (drop (place + 1) lines))) next
 
 -- one more record was read
 pub behind-more : {T : Type 0} (read : Record → Result T Refusal) (number place : ℕ) (lines : List Record) (line : Record) (had : List T) (first : T) → slice_get lines place ≡ Some line → read line ≡ Ok first
     → behind had (told_by read (number + place) (drop place lines)) ≡ behind (had ++ first ∷ []) (told_by read (number + (place + 1)) (drop (place + 1) lines))
 behind-more read number place lines line had first e good =
-    let rest = told_by read (number + (place + 1)) (drop (place + 1) lines) in
-    ap (behind had) (next_record read number place lines line e ∙ ap (λ r. before_others (number + place) r rest) good) ∙ behind-first had (number + place) first rest
+    ap (behind had) (next_record read number place lines line e)
+    ∙ behind-next had (told_of (number + place) (read line)) first (told_by read (number + (place + 1)) (drop (place + 1) lines)) (ap (told_of (number + place)) good)
 
 behind-wrong : {T : Type 0} (read : Record → Result T Refusal) (number place : ℕ) (lines : List Record) (line : Record) (had : List T) (refusal : Refusal) → slice_get lines place ≡ Some line → read line ≡ Err refusal
     → behind had (told_by read (number + place) (drop place lines)) ≡ Err (fault (number + place) refusal)
 behind-wrong read number place lines line had refusal e bad =
-    let rest = told_by read (number + (place + 1)) (drop (place + 1) lines) in
-    ap (behind had) (next_record read number place lines line e ∙ ap (λ r. before_others (number + place) r rest) bad)
+    ap (behind had) (next_record read number place lines line e)
+    ∙ behind-refused had (told_of (number + place) (read line)) (fault (number + place) refusal) (told_by read (number + (place + 1)) (drop (place + 1) lines)) (ap (told_of (number + place)) bad)
 
 -- a record is refused
 pub behind-failed : {T : Type 0} (read : Record → Result T Refusal) (number place : ℕ) (lines : List Record) (line : Record) (had : List T) (meant : Result (List T) Fault) (failure : Failure) → slice_get lines place ≡ Some line

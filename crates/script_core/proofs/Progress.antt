@@ -8,13 +8,13 @@ use Rattle.std.proofs.lemmas.List.{take-append-drop, append-nil, length-append, 
 use Rattle.script_core.specs.Answer.{Answers}
 use Rattle.command_core.specs.Meaning.{Meaning, Means}
 use Rattle.command_core.specs.Records.{Record}
-use Rattle.script_core.specs.Records.{bytes_of}
+use Rattle.answer_core.specs.Records.{bytes_of}
 use Rattle.script_core.specs.Script.{Done, Place, Step, Steps, start_of, output_of, Tells, ExplainsAnswering, WritesBegun, WritesPart}
 use Rattle.book_core.specs.History.{History}
-use Rattle.script_core.specs.Records.{errors_in}
-use Rattle.script_core.specs.Faults.{ExplainsWriting}
-use Rattle.script_core.specs.declared.fault.RunFault.{RunFault}
-use Rattle.script_core.specs.declared.fault.RunFault.TheVariants.{ReadFault, TooLong, NoMemory, WriteFault}
+use Rattle.answer_core.specs.Records.{errors_in}
+use Rattle.stream_core.specs.Faults.{ExplainsWriting}
+use Rattle.stream_core.specs.declared.fault.RunFault.{RunFault}
+use Rattle.stream_core.specs.declared.fault.RunFault.TheVariants.{ReadFault, TooLong, NoMemory, WriteFault}
 use Rattle.script_core.specs.declared.outcome.Outcome.{Outcome}
 
 -- the place before the record of this index

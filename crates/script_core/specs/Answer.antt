@@ -14,7 +14,7 @@ use Rattle.command_core.specs.Fields.{both}
 use Rattle.command_core.specs.Meaning.{Meaning, Refuse, Make, Load, Update, Delete, Rows, At, Between, FromTo, Dip, Check, Log}
 use Rattle.command_core.specs.Records.{Record}
 use Rattle.command_core.specs.declared.refusal.Fault.{Fault}
-use Rattle.script_core.specs.PrintedRecords.{commit_records, division_records, error_record, ok_record, row_records, verdict_record, version_records}
+use Rattle.answer_core.specs.PrintedRecords.{commit_records, division_records, error_record, ok_record, row_records, verdict_record, version_records}
 use Rattle.script_core.specs.State.{claim_of, delete_in, load_in, make_in, rows_on, rows_told, update_in, versions_told}
 
 -- the records tell a division of the items: the least one, placed, each class by rising start, with

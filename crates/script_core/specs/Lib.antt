@@ -1,14 +1,6 @@
 pub mod Answer
-pub mod AnswerWriter
-pub mod Count
-pub mod Counted
-pub mod Draft
 pub mod Failure
-pub mod Faults
 pub mod Given
-pub mod Printed
-pub mod PrintedRecords
-pub mod Records
 pub mod Refusal
 pub mod Script
 pub mod State

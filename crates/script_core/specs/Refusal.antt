@@ -1,5 +1,5 @@
--- The refusals of the crates below, as a script tells them.
-use Rattle.std.specs.Prelude.{Option, Some, None, Result, Ok, Err}
+-- The refusals of the crates below, as a script tells them. Want of memory is none of a script's; what
+-- these say of it stands for nothing, since no definition applies them to it.
 use Rattle.row_core.specs.declared.reading.RowRefused.{RowRefused}
 use Rattle.row_core.specs.declared.reading.RowRefused.TheVariants as row
 use Rattle.row_core.specs.declared.value.ValueRefused.{ValueRefused}
@@ -12,11 +12,6 @@ use Rattle.book_core.specs.declared.book.VersionsRefused.{VersionsRefused}
 use Rattle.book_core.specs.declared.book.VersionsRefused.TheVariants as versions
 use Rattle.command_core.specs.declared.refusal.Refusal.{Refusal}
 use Rattle.command_core.specs.declared.refusal.Refusal.TheVariants.{BadNumber, BadPeriod, BadPoint, BadUtf8, Full, Future, NoColumn, NoTable, TableExists, TooLong, TooMany, WrongKind, WrongWidth}
-
--- the value, unless something is wrong with it
-abbrev pub unless : {T E : Type 0} → Option E → T → Result T E
-unless None value = Ok value
-unless (Some wrong) value = Err wrong
 
 -- what is wrong with a row
 abbrev pub row_refusal : RowRefused → Refusal

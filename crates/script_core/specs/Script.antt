@@ -2,15 +2,14 @@
 use Rattle.std.specs.Prelude.{ℕ, ◌+◌, ◌≡◌, ◌≤◌, ◌<◌, ◌⊎◌, List, [], ◌∷◌, ◌++◌, Option, length, take, flat_map, sum_by}
 use Rattle.std.specs.Io.KnownBytes.{Appends, Consumes, IsAtEnd, Keeps}
 use Rattle.command_core.specs.Records.{Record, AreScriptRecords}
-use Rattle.script_core.specs.Records.{bytes_of}
-use Rattle.script_core.specs.Records.{errors_in}
+use Rattle.answer_core.specs.Records.{bytes_of}
+use Rattle.answer_core.specs.Records.{errors_in}
 use Rattle.command_core.specs.Meaning.{Meaning, Means}
 use Rattle.script_core.specs.Answer.{Answers}
 use Rattle.book_core.specs.History.{History}
-use Rattle.script_core.specs.declared.input.TheConstants.{SCRIPT_LIMIT}
-use Rattle.script_core.specs.Faults.{HasGrown, HasReadTooMuch}
-use Rattle.script_core.specs.declared.fault.RunFault.{RunFault}
-use Rattle.script_core.specs.declared.fault.RunFault.TheVariants.{ReadFault, TooLong, NoMemory, WriteFault}
+use Rattle.stream_core.specs.Faults.{HasGrown, HasReadTooMuch, script_limit}
+use Rattle.stream_core.specs.declared.fault.RunFault.{RunFault}
+use Rattle.stream_core.specs.declared.fault.RunFault.TheVariants.{ReadFault, TooLong, NoMemory, WriteFault}
 use Rattle.script_core.specs.declared.outcome.Outcome.{Outcome}
 
 -- where a script stands: the book's history, the number of its next record, and the records that are left
@@ -98,7 +97,7 @@ pub record ReadsScript (unread left : Option (List ℕ)) (records : List Record)
   pub script : List ℕ
   pub read : Consumes unread left script
   pub end : IsAtEnd left
-  pub within : length script ≤ SCRIPT_LIMIT
+  pub within : length script ≤ script_limit
   pub parsed : AreScriptRecords script records
 
 -- the whole script was read, and its output written
@@ -115,7 +114,9 @@ RunsPart unread left old new = (records : List Record) × ReadsScript unread lef
 
 -- why a run stopped, and what it wrote
 abbrev pub ExplainsRun : Option (List ℕ) → Option (List ℕ) → Option (List ℕ) → Option (List ℕ) → ℕ → ℕ → ℕ → ℕ → RunFault → Type 0
-ExplainsRun unread left old new reads_before reads_after writes_before writes_after ReadFault = (reads_before < reads_after) × Keeps old new
-ExplainsRun unread left old new reads_before reads_after writes_before writes_after TooLong = HasReadTooMuch unread left × Keeps old new
+ExplainsRun unread left old new reads_before reads_after writes_before writes_after ReadFault =
+    (reads_before < reads_after) × (writes_after ≡ writes_before) × Keeps old new
+ExplainsRun unread left old new reads_before reads_after writes_before writes_after TooLong =
+    HasReadTooMuch unread left × (writes_after ≡ writes_before) × Keeps old new
 ExplainsRun unread left old new reads_before reads_after writes_before writes_after NoMemory = RunsBegun unread left old new
 ExplainsRun unread left old new reads_before reads_after writes_before writes_after WriteFault = (writes_before < writes_after) × RunsPart unread left old new

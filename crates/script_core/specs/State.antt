@@ -1,11 +1,12 @@
 -- What a script's changes make of the book, and what its queries read of it.
-use Rattle.std.specs.Prelude.{ℕ, ◌+◌, ℤ, List, [], ◌∷◌, ◌++◌, Bool, Option, Some, None, Result, Ok, Err, codes, drop, filter, length, option_map, unwrap_or, if◌then◌else◌}
+use Rattle.std.specs.Prelude.{ℕ, ◌+◌, ℤ, List, [], ◌∷◌, ◌++◌, Bool, Option, Some, None, Result, Err, codes, drop, filter, length, option_map, unwrap_or, if◌then◌else◌}
+use Rattle.std.specs.List.{enumerate_from}
 use Rattle.std.specs.Option.{ok_or}
 use Rattle.std.specs.Result.{result_map_both}
 use Rattle.period_core.specs.Period.{holds_at}
 use Rattle.period_core.specs.declared.period.Period.{Period}
 use Rattle.row_core.specs.Reading as reading
-use Rattle.row_core.specs.Refusals.{result_and_then}
+use Rattle.row_core.specs.Refusals.{read_each, refused_or, result_and_then}
 use Rattle.row_core.specs.Value.{value_of}
 use Rattle.row_core.specs.declared.draft.Draft.{Draft}
 use Rattle.row_core.specs.declared.row.Row.{Row}
@@ -24,7 +25,7 @@ use Rattle.command_core.specs.Words.{begins}
 use Rattle.command_core.specs.declared.refusal.Fault.{Fault}
 use Rattle.command_core.specs.declared.refusal.Refusal.{Refusal}
 use Rattle.command_core.specs.declared.refusal.Refusal.TheVariants.{BadCommand, NoColumn, NoTable}
-use Rattle.script_core.specs.Refusal.{book_refusal, row_refusal, rows_refusal, unless, value_refusal, versions_refusal}
+use Rattle.script_core.specs.Refusal.{book_refusal, row_refusal, rows_refusal, value_refusal, versions_refusal}
 
 -- ---- changes
 
@@ -32,7 +33,7 @@ use Rattle.script_core.specs.Refusal.{book_refusal, row_refusal, rows_refusal, u
 -- number that asks for it
 abbrev pub change_in : ℕ → History → Change → Result History Fault
 change_in number h c =
-    unless (option_map (λ refused. fault number (book_refusal refused)) (refusal_of (length h) (state_after h) c))
+    refused_or (option_map (λ refused. fault number (book_refusal refused)) (refusal_of (length h) (state_after h) c))
     (h ++ record { by = 1; change = c } ∷ [])
 
 -- the history with a new table
@@ -43,16 +44,9 @@ make_in number h name columns = change_in number h (change.Make name columns)
 abbrev pub columns_told : ℕ → History → List ℕ → Result (List Column) Fault
 columns_told number h name = ok_or (schema_in h name) (fault number NoTable)
 
--- what one record gives before what the others do, unless something is wrong with it or else with them
-abbrev pub before_others : {T : Type 0} → ℕ → Result T Refusal → Result (List T) Fault → Result (List T) Fault
-before_others number (Err refusal) others = Err (fault number refusal)
-before_others number (Ok first) (Err wrong) = Err wrong
-before_others number (Ok first) (Ok others) = Ok (first ∷ others)
-
 -- what records give, each read alone, the first of them of this number, or the first fault
 abbrev pub told_by : {T : Type 0} → (Record → Result T Refusal) → ℕ → List Record → Result (List T) Fault
-told_by read number [] = Ok []
-told_by read number (line ∷ lines) = before_others number (read line) (told_by read (number + 1) lines)
+told_by read number lines = read_each (λ line. result_map_both (λ value. value) (fault line.0) (read line.1)) (enumerate_from number lines)
 
 -- the row that a record of a load gives
 abbrev pub row_of : List Column → Record → Result Draft Refusal
@@ -80,9 +74,7 @@ pair_read columns pair = value_in pair.0 pair.1 (kind_in columns pair.0)
 
 -- the values of pairs in a table's columns, or the first refusal from the left
 abbrev pub pairs_read : List Column → List TextPair → Result (List Pair) Refusal
-pairs_read columns [] = Ok []
-pairs_read columns (pair ∷ pairs) =
-    result_and_then (λ first. result_map_both (λ others. first ∷ others) (λ e. e) (pairs_read columns pairs)) (pair_read columns pair)
+pairs_read columns pairs = read_each (pair_read columns) pairs
 
 -- the same, with the fault of the command of this number
 abbrev pub pairs_told : ℕ → List Column → List TextPair → Result (List Pair) Fault
@@ -107,7 +99,7 @@ delete_in number h name portion conds =
 -- of this number
 abbrev pub rows_told : ℕ → History → Option ℕ → List ℕ → Result (List Row) Fault
 rows_told number h asof name = let n = unwrap_or asof (length h) in
-    unless (option_map (λ refused. fault number (rows_refusal refused)) (history.rows_refusal h n name)) (rows_at h n name)
+    refused_or (option_map (λ refused. fault number (rows_refusal refused)) (history.rows_refusal h n name)) (rows_at h n name)
 
 -- those that hold on a day
 abbrev pub rows_on : ℤ → List Row → List Row
@@ -117,12 +109,11 @@ rows_on point rows = filter (λ row. holds_at point row.period) rows
 -- the command of this number
 abbrev pub versions_told : ℕ → History → Bool → List ℕ → Result (Unit {0}) Fault
 versions_told number h is_bad name =
-    unless (option_map (λ refused. fault number (versions_refusal refused)) (history.versions_refusal h (length h) is_bad name)) tt
+    refused_or (option_map (λ refused. fault number (versions_refusal refused)) (history.versions_refusal h (length h) is_bad name)) tt
 
 -- the numbers of fields
 abbrev pub naturals_in : Record → Result (List ℕ) Refusal
-naturals_in [] = Ok []
-naturals_in (text ∷ texts) = result_and_then (λ first. result_map_both (λ others. first ∷ others) (λ e. e) (naturals_in texts)) (natural_in text)
+naturals_in texts = read_each natural_in texts
 
 -- the ids of a part that a record claims
 abbrev pub part_of : Record → Result (List ℕ) Refusal

@@ -1,6 +1,6 @@
 //! The changes that commands ask for.
 ghost use Rattle.std.specs.Prelude.{◌≡◌, ◌+◌, ◌<◌, ◌^◌, length};
-ghost use Rattle.script_core.specs.Failure.{Changes};
+ghost use Rattle.script_core.specs.Given.{Changes};
 ghost use Rattle.command_core.specs.Lines.{lines_in};
 ghost use Rattle.command_core.specs.PairsIn.{pairs_in};
 ghost use Rattle.script_core.specs.State.{change_in, delete_in, load_in, make_in, update_in};
@@ -8,6 +8,7 @@ ghost use Rattle.script_core.specs.State.{change_in, delete_in, load_in, make_in
 use crate::failure::{Failure, book_failure, refused};
 use crate::pairs::read_pairs;
 use crate::rows::rows_of;
+use answer_core::Answer;
 use book_core::{Book, Change};
 use command_core::{Lines, Refusal, TextPairs};
 use period_core::Period;
@@ -18,11 +19,11 @@ use std::alloc::Global;
 const PASS: u32 = 1;
 
 /// Makes a change, which the command of this number asks for.
-fn apply(book: &mut Book, number: u64, change: Change) -> Result<u64, Failure>
+fn apply(book: &mut Book, number: u64, change: Change) -> Result<Answer, Failure>
     ensures { Changes (change_in number book.old change) book.old book.new result }
 {
     match book.apply(PASS, change) {
-        Ok(commit) => Ok(commit),
+        Ok(commit) => Ok(Answer::Committed(commit)),
         Err(why) => Err(book_failure(number, why)),
     }
 }
@@ -33,7 +34,7 @@ pub(crate) fn make(
     number: u64,
     table: Name,
     schema: Schema,
-) -> Result<u64, Failure>
+) -> Result<Answer, Failure>
     ensures { Changes (make_in number book.old table schema) book.old book.new result }
 {
     apply(book, number, Change::Make { table, schema })
@@ -46,7 +47,7 @@ pub(crate) fn load(
     number: u64,
     table: Name,
     body: Lines<'_>,
-) -> Result<u64, Failure>
+) -> Result<Answer, Failure>
     requires { number + 1 + length (lines_in body) < 2 ^ 64 }
     ensures { Changes (load_in number book.old table (lines_in body.entry)) book.old book.new result }
 {
@@ -66,7 +67,7 @@ pub(crate) fn update(
     portion: Period,
     sets: TextPairs<'_>,
     conds: TextPairs<'_>,
-) -> Result<u64, Failure>
+) -> Result<Answer, Failure>
     ensures { Changes (update_in number book.old table portion (pairs_in sets.entry) (pairs_in conds.entry)) book.old book.new result }
 {
     let Ok(schema) = book.schema(table) else {
@@ -91,7 +92,7 @@ pub(crate) fn delete(
     table: Name,
     portion: Period,
     conds: TextPairs<'_>,
-) -> Result<u64, Failure>
+) -> Result<Answer, Failure>
     ensures { Changes (delete_in number book.old table portion (pairs_in conds.entry)) book.old book.new result }
 {
     let Ok(schema) = book.schema(table) else {

@@ -1,44 +1,61 @@
 //! What queries read of the book.
-ghost use Rattle.std.specs.Prelude.{◌≡◌, ◌+◌, ◌<◌, ◌≤◌, ◌^◌, All, IfOk, IfSome, IsTrue, length, nat_le, nat_lt};
-ghost use Rattle.book_core.specs.History.{schema_in};
-ghost use Rattle.book_core.specs.Versions.{AreBetween, AreFromTo};
-ghost use Rattle.cert_core.specs.Verdict.{IsVerdict};
+ghost use Rattle.std.specs.Prelude.{◌≡◌, ◌+◌, ◌<◌, ◌≤◌, ◌^◌, All, IfErr, IfOk, IsTrue, length, nat_le, nat_lt};
+ghost use Rattle.book_core.specs.Versions.{AreBetween, AreFromTo, log_of};
 ghost use Rattle.command_core.specs.Fields.{both};
 ghost use Rattle.command_core.specs.Lines.{lines_in};
 ghost use Rattle.query_core.specs.Query.{items_of};
 ghost use Rattle.row_core.specs.Rows.{IdsRise};
 ghost use Rattle.row_core.specs.Schema.{fits};
-ghost use Rattle.script_core.specs.Given.{Divides, Gives};
+ghost use Rattle.script_core.specs.Given.{Gives, IsDivided, IsVerdictOn, IsVersions};
+ghost use Rattle.script_core.specs.declared.failure.Failure.TheVariants.{NoMemory};
 ghost use Rattle.script_core.specs.State.{claim_of, rows_on, rows_told, versions_told};
+ghost use Rattle.answer_core.specs.declared.answer.Answer.TheVariants.{Log, Rows};
 
 use crate::claims::read_claim;
 use crate::failure::{Failure, refused, rows_failure, versions_failure};
-use book_core::{Book, VersionList};
-use cert_core::{Certificate, Verdict, check_division};
+use answer_core::Answer;
+use book_core::Book;
+use cert_core::{Certificate, check_division};
 use command_core::{Lines, Refusal};
-use dip_core::Division;
 use period_core::Point;
 use query_core::{Side, at, dip, items};
-use row_core::{Name, RowList};
+use row_core::{Name, RowList, Schema};
 use std::alloc::Global;
 
-/// The rows of a table that a commit shows, the newest where none is told, which the command of this
-/// number asks for.
+/// A table's columns, and its rows that a commit shows, the newest where none is told, which the command
+/// of this number asks for.
+fn read_table<'a>(
+    book: &'a Book,
+    number: u64,
+    table: Name,
+    asof: Option<u64>,
+) -> Result<(&'a Schema, RowList), Failure>
+    ensures gives { Gives (rows_told number book.now asof table) (λ rows read. read.1 ≡ rows) result }
+    ensures few { IfOk result (λ read. length read.1 ≤ 1_000_000) }
+    ensures rise { IfOk result (λ read. IdsRise read.1) }
+    ensures fit { IfOk result (λ read. All (λ row. IsTrue (fits read.0.now row.values)) read.1) }
+{
+    let rows = match book.rows_at(asof.unwrap_or(book.commits()), table) {
+        Ok(rows) => rows,
+        Err(why) => return Err(rows_failure(number, why)),
+    };
+    match book.schema(table) {
+        Ok(schema) => Ok((schema, rows)),
+        Err(_) => Err(refused(number, Refusal::NoTable)),
+    }
+}
+
+/// All rows of a table.
 pub(crate) fn rows(
     book: &Book,
     number: u64,
     table: Name,
     asof: Option<u64>,
-) -> Result<RowList, Failure>
-    ensures gives { Gives (rows_told number book.now asof table) (λ rows given. given ≡ rows) result }
-    ensures few { IfOk result (λ rows. length rows ≤ 1_000_000) }
-    ensures rise { IfOk result IdsRise }
-    ensures fit { IfOk result (λ rows. IfSome (schema_in book.now table) (λ columns. All (λ row. IsTrue (fits columns row.values)) rows)) }
+) -> Result<Answer, Failure>
+    ensures { Gives (rows_told number book.now asof table) (λ rows answer. answer ≡ Rows rows) result }
 {
-    match book.rows_at(asof.unwrap_or(book.commits()), table) {
-        Ok(rows) => Ok(rows),
-        Err(why) => Err(rows_failure(number, why)),
-    }
+    let (_, rows) = read_table(book, number, table, asof)?;
+    Ok(Answer::Rows(rows))
 }
 
 /// The rows of a table that hold on a day.
@@ -49,39 +66,36 @@ pub(crate) fn rows_on(
     table: Name,
     point: Point,
     asof: Option<u64>,
-) -> Result<RowList, Failure>
-    ensures { Gives (rows_told number book.now asof table) (λ rows given. given ≡ rows_on point rows) result }
+) -> Result<Answer, Failure>
+    ensures { Gives (rows_told number book.now asof table) (λ rows answer. answer ≡ Rows (rows_on point rows)) result }
 {
-    let rows = rows(book, number, table, asof)?;
-    let Ok(schema) = book.schema(table) else {
-        return Err(refused(number, Refusal::NoTable));
-    };
+    let (schema, rows) = read_table(book, number, table, asof)?;
     let side = Side {
         schema,
         rows: &rows,
     };
-    Ok(at(alloc, side, point)?)
+    Ok(Answer::Rows(at(alloc, side, point)?))
 }
 
-/// How many rows a table has, and their division.
+/// The division of a table's rows.
 pub(crate) fn divide(
     alloc: Global,
     book: &Book,
     number: u64,
     table: Name,
     asof: Option<u64>,
-) -> Result<(usize, Division), Failure>
-    ensures { Gives (rows_told number book.now asof table) (λ rows given. Divides (items_of rows) given.0 given.1) result }
+) -> Result<Answer, Failure>
+    ensures { Gives (rows_told number book.now asof table) (λ rows answer. IsDivided (items_of rows) answer) result }
 {
-    let rows = rows(book, number, table, asof)?;
-    let Ok(schema) = book.schema(table) else {
-        return Err(refused(number, Refusal::NoTable));
-    };
+    let (schema, rows) = read_table(book, number, table, asof)?;
     let side = Side {
         schema,
         rows: &rows,
     };
-    Ok((rows.len(), dip(alloc, side)?))
+    Ok(Answer::Division {
+        rows: rows.len(),
+        division: dip(alloc, side)?,
+    })
 }
 
 /// The verdict on a claimed division of a table's rows, the body's first record being of the number
@@ -94,15 +108,15 @@ pub(crate) fn check(
     certificate: Certificate,
     asof: Option<u64>,
     body: Lines<'_>,
-) -> Result<Verdict, Failure>
+) -> Result<Answer, Failure>
     requires { number + 1 + length (lines_in body) < 2 ^ 64 }
     ensures { Gives (both (rows_told number book.now asof table) (claim_of (number + 1) (lines_in body.entry)))
-        (λ read given. IsVerdict (items_of read.0) read.1 certificate given) result }
+        (λ read answer. IsVerdictOn (items_of read.0) read.1 certificate answer) result }
 {
-    let rows = rows(book, number, table, asof)?;
+    let (_, rows) = read_table(book, number, table, asof)?;
     let claim = read_claim(alloc, body, number + 1)?;
     let items = items(alloc, &rows)?;
-    Ok(check_division(alloc, &items, &claim, &certificate)?)
+    Ok(Answer::Verdict(check_division(alloc, &items, &claim, &certificate)?))
 }
 
 /// The versions of a table that some commit from the first to the last shows.
@@ -112,11 +126,12 @@ pub(crate) fn between(
     table: Name,
     first: u64,
     last: u64,
-) -> Result<VersionList, Failure>
-    ensures { Gives (versions_told number book.now (nat_lt last first) table) (λ _. AreBetween book.now (length book.now) first last table) result }
+) -> Result<Answer, Failure>
+    ensures { Gives (versions_told number book.now (nat_lt last first) table)
+        (λ _ answer. IsVersions (AreBetween book.now (length book.now) first last table) answer) result }
 {
     match book.between(book.commits(), first, last, table) {
-        Ok(versions) => Ok(versions),
+        Ok(versions) => Ok(Answer::Versions(versions)),
         Err(why) => Err(versions_failure(number, why)),
     }
 }
@@ -128,11 +143,20 @@ pub(crate) fn from_to(
     table: Name,
     first: u64,
     end: u64,
-) -> Result<VersionList, Failure>
-    ensures { Gives (versions_told number book.now (nat_le end first) table) (λ _. AreFromTo book.now (length book.now) first end table) result }
+) -> Result<Answer, Failure>
+    ensures { Gives (versions_told number book.now (nat_le end first) table)
+        (λ _ answer. IsVersions (AreFromTo book.now (length book.now) first end table) answer) result }
 {
     match book.from_to(book.commits(), first, end, table) {
-        Ok(versions) => Ok(versions),
+        Ok(versions) => Ok(Answer::Versions(versions)),
         Err(why) => Err(versions_failure(number, why)),
     }
+}
+
+/// What each commit did.
+pub(crate) fn log(book: &Book) -> Result<Answer, Failure>
+    ensures told { IfOk result (λ answer. answer ≡ Log (log_of book.now)) }
+    ensures memory { IfErr result (λ failure. failure ≡ NoMemory) }
+{
+    Ok(Answer::Log(book.log()?))
 }

@@ -1,69 +1,56 @@
 //! The commands of a script, one after another.
 ghost use Rattle.std.specs.Prelude.{◌≡◌, ◌+◌, ◌≤◌, ◌<◌, ◌^◌, [], IfErr, IfOk};
 ghost use Rattle.command_core.specs.Command.{meaning_of};
-ghost use Rattle.script_core.specs.Count.{last_count};
-ghost use Rattle.script_core.specs.Counted.{failures_of, inner_of};
-ghost use Rattle.script_core.specs.Faults.{last_failures};
+ghost use Rattle.stream_core.specs.Count.{last_count};
+ghost use Rattle.stream_core.specs.Counted.{failures_of, inner_of};
+ghost use Rattle.stream_core.specs.Faults.{last_failures};
 ghost use Rattle.command_core.specs.Meaning.{behind_length};
-ghost use Rattle.script_core.specs.Printed.{Answered};
+ghost use Rattle.script_core.specs.Given.{Answered, IsAnswer, Printed};
 ghost use Rattle.script_core.specs.Script.{ExplainsAnswering, ExplainsRun, RunsAll, WritesAll};
 
-use crate::answer::AnswerWriter;
 use crate::changes::{delete, load, make, update};
-use crate::counted::Counted;
 use crate::failure::Failure;
-use crate::fault::RunFault;
-use crate::input::read_script;
 use crate::outcome::Outcome;
-use crate::patience::Patience;
-use crate::queries::{between, check, divide, from_to, rows, rows_on};
+use crate::queries::{between, check, divide, from_to, log, rows, rows_on};
+use answer_core::{Answer, AnswerWriter};
 use book_core::Book;
 use cert_core::Certificate;
 use command_core::{Command, Cut, Lines, Records, next_command, read_records};
 use period_core::NoMemory;
-use std::alloc::Global;
+use std::alloc::{AllocError, Global};
 use std::io::{Read, Write};
+use stream_core::{Counted, Patience, RunFault, read_script};
 
-/// Does a command, whose first record has this number, and answers it; tells how many records of the
-/// answer tell of a refusal.
-fn answer_command(
+/// Does a command, whose first record has this number.
+fn perform(
     alloc: Global,
     book: &mut Book,
     number: u64,
     command: Command<'_>,
-    answer: &mut AnswerWriter,
-) -> Result<u64, NoMemory>
-    requires numbers { number + behind_length (meaning_of command) < 2 ^ 64 }
-    requires begins { answer.old.fields ≡ [] }
-    ensures answered { IfOk result (Answered book.old number (meaning_of command.entry) book.new answer.old answer.new) }
-    ensures few { IfOk result (λ errors. errors ≤ 1) }
+) -> Result<Answer, Failure>
+    requires { number + behind_length (meaning_of command) < 2 ^ 64 }
+    ensures { Answered book.old number (meaning_of command.entry) result book.new }
 {
     match command {
-        Command::Refused(fault) => answer.failure(Failure::Refused(fault)),
-        Command::Make { table, schema } => answer.change(make(book, number, table, schema)),
-        Command::Load { table, body } => answer.change(load(alloc, book, number, table, body)),
+        Command::Refused(fault) => Ok(Answer::Refused(fault)),
+        Command::Make { table, schema } => make(book, number, table, schema),
+        Command::Load { table, body } => load(alloc, book, number, table, body),
         Command::Update {
             table,
             portion,
             sets,
             conds,
-        } => answer.change(update(alloc, book, number, table, portion, sets, conds)),
+        } => update(alloc, book, number, table, portion, sets, conds),
         Command::Delete {
             table,
             portion,
             conds,
-        } => answer.change(delete(alloc, book, number, table, portion, conds)),
-        Command::Rows { table, asof } => answer.rows(rows(book, number, table, asof)),
-        Command::At { table, point, asof } => {
-            answer.rows(rows_on(alloc, book, number, table, point, asof))
-        }
-        Command::Between { table, first, last } => {
-            answer.versions(between(book, number, table, first, last))
-        }
-        Command::FromTo { table, first, end } => {
-            answer.versions(from_to(book, number, table, first, end))
-        }
-        Command::Dip { table, asof } => answer.divided(divide(alloc, book, number, table, asof)),
+        } => delete(alloc, book, number, table, portion, conds),
+        Command::Rows { table, asof } => rows(book, number, table, asof),
+        Command::At { table, point, asof } => rows_on(alloc, book, number, table, point, asof),
+        Command::Between { table, first, last } => between(book, number, table, first, last),
+        Command::FromTo { table, first, end } => from_to(book, number, table, first, end),
+        Command::Dip { table, asof } => divide(alloc, book, number, table, asof),
         Command::Check {
             table,
             parts,
@@ -72,13 +59,46 @@ fn answer_command(
             body,
         } => {
             let certificate = Certificate { parts, instant };
-            answer.checked(check(alloc, book, number, table, certificate, asof, body))
+            check(alloc, book, number, table, certificate, asof, body)
         }
-        Command::Log => {
-            answer.log(&book.log()?)?;
-            Ok(0)
-        }
+        Command::Log => log(book),
     }
+}
+
+/// The answer to a command, whose first record has this number: a refusal is one too.
+fn answer(
+    alloc: Global,
+    book: &mut Book,
+    number: u64,
+    command: Command<'_>,
+) -> Result<Answer, NoMemory>
+    requires { number + behind_length (meaning_of command) < 2 ^ 64 }
+    ensures { IfOk result (λ answer. IsAnswer book.old number (meaning_of command.entry) answer book.new) }
+{
+    match perform(alloc, book, number, command) {
+        Ok(answer) => Ok(answer),
+        Err(Failure::Refused(fault)) => Ok(Answer::Refused(fault)),
+        Err(Failure::NoMemory) => Err(AllocError),
+    }
+}
+
+/// Does a command, whose first record has this number, and prints its answer; tells how many records of
+/// the answer tell of a refusal.
+fn answer_command(
+    alloc: Global,
+    book: &mut Book,
+    number: u64,
+    command: Command<'_>,
+    printer: &mut AnswerWriter,
+) -> Result<u64, NoMemory>
+    requires numbers { number + behind_length (meaning_of command) < 2 ^ 64 }
+    requires begins { printer.old.fields ≡ [] }
+    ensures printed { IfOk result (Printed book.old number (meaning_of command.entry) book.new printer.old printer.new) }
+    ensures few { IfOk result (λ errors. errors ≤ 1) }
+{
+    let answer = answer(alloc, book, number, command)?;
+    printer.print(&answer)?;
+    Ok(answer.refusals())
 }
 
 /// Answers the commands of some records, and writes each answer whole.
@@ -90,11 +110,12 @@ fn answer_all<W: Write>(
 ) -> Result<Outcome, RunFault>
     ensures ok { IfOk result (WritesAll records.now (W.contents (inner_of writer.old)) (W.contents (inner_of writer.new))) }
     ensures fault { IfErr result (ExplainsAnswering records.now (W.contents (inner_of writer.old)) (W.contents (inner_of writer.new)) (failures_of writer.old) (failures_of writer.new)) }
+    ensures counts { failures_of writer.old ≤ failures_of writer.new }
     ensures tries { failures_of writer.new + patience.new.left ≤ failures_of writer.old + patience.old.left + last_failures result }
 {
     let lines = Lines::all(records);
     let mut book = Book::new(alloc);
-    let mut answer = AnswerWriter::new(alloc);
+    let mut printer = AnswerWriter::new(alloc);
     let mut outcome = Outcome {
         commands: 0,
         errors: 0,
@@ -103,8 +124,8 @@ fn answer_all<W: Write>(
     while at < lines.len() {
         let number = at as u64 + 1;
         let Cut { command, taken } = next_command(alloc, lines.range(at, lines.len()), number)?;
-        let errors = answer_command(alloc, &mut book, number, command, &mut answer)?;
-        answer.write_to(writer, patience)?;
+        let errors = answer_command(alloc, &mut book, number, command, &mut printer)?;
+        printer.write_to(writer, patience)?;
         outcome.commands += 1;
         outcome.errors += errors;
         at += taken;
@@ -144,13 +165,19 @@ pub fn run<R: Read, W: Write>(
         (failures_of reader.old) (failures_of reader.new)
         (failures_of writer.old) (failures_of writer.new)) }
 
+    // Neither count falls.
+    ensures counts { (failures_of reader.old ≤ failures_of reader.new) × (failures_of writer.old ≤ failures_of writer.new) }
+
     // A failed call is tried again at most 1,000 times in a run, and only the one that ends it isn't.
     ensures tries { failures_of reader.new + failures_of writer.new
         ≤ failures_of reader.old + failures_of writer.old + 1_000 + last_failures result }
 {
     let _ = workers;
     let mut patience = Patience::new();
-    let script = read_script(alloc, reader, &mut patience)?;
-    let records = read_records(alloc, script.as_slice())?;
+    let records = {
+        // The script is given back before the first command.
+        let script = read_script(alloc, reader, &mut patience)?;
+        read_records(alloc, script.as_slice())?
+    };
     answer_all(alloc, &records, writer, &mut patience)
 }

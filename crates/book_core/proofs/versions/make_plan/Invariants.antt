@@ -1,14 +1,13 @@
-use Rattle.std.proofs.Common.{◌≡◌, map, take, length, not}
+use Rattle.std.proofs.Common.{◌≡◌, take, length}
 use Rattle.std.specs.Prelude.{filter}
-use Rattle.book_core.specs.State.{parts_in, removes}
-use Rattle.book_core.specs.declared.version.Version.{Version}
-use Rattle.book_core.proofs.OpenLemmas.{picked, passes}
+use Rattle.book_core.specs.Finding.{passes}
+use Rattle.book_core.specs.Open.{is_taken}
+use Rattle.book_core.proofs.OpenLemmas.{made_so_far}
 use Rattle.book_core.proofs.versions.make_plan.Given as goal
 
--- what is made, taken and left at the places so far
+-- what is taken at the places so far, and made for it
 abbrev pub invariant-loop-place : goal.invariant-loop-place
 invariant-loop-place l = record {
-  made : l.new ≡ record { before = length l.versions; commit = l.commit; drafts = parts_in l.change l.schema (map (λ (v : Version). v.row) (picked l.versions (take l.place-index l.places))) };
-  taken : l.taken.items ≡ filter (passes l.versions (λ (v : Version). removes l.change l.schema v.row)) (take l.place-index l.places);
-  left : l.left.items ≡ filter (passes l.versions (λ (v : Version). not (removes l.change l.schema v.row))) (take l.place-index l.places);
+  made : l.new ≡ made_so_far (length l.versions) l.commit l.change l.schema l.versions l.taken.items;
+  taken : l.taken.items ≡ filter (passes l.versions (is_taken l.change l.schema)) (take l.place-index l.places);
 }

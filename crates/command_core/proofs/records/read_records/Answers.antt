@@ -5,6 +5,7 @@ use Rattle.csv.specs.declared.parser.State.TheVariants as st
 use Rattle.csv.proofs.ReadFacts.{rows-more}
 use Rattle.command_core.specs.Cut.{cut}
 use Rattle.command_core.proofs.Cutting.{EndsAt-more, cut-more}
+use Rattle.command_core.proofs.Faults.{flexible-stops}
 use Rattle.command_core.proofs.Shrinking.{Reached-shrinks}
 use Rattle.command_core.proofs.records.read_records.Goals as goal
 
@@ -17,6 +18,7 @@ loop-fields-init c =
     record {
       plain = rw (flex, named) at fr.trim ∙ c.new.ensures.trim;
       ready = inr (inr (rw (flex, named) at fr.has_headers, fr.headers));
+      flexible = rw flex at fr.flexible;
       config = rw (flex, named) at fr.config ∙ c.new.ensures.config;
       whole = c.new-fields.ensures.partial;
       ends = rw c.new-ends.ensures.items (sym (ap length c.new-fields.ensures.fields));
@@ -48,6 +50,7 @@ loop-fields-preserved c =
     record {
       plain = read.3 ∙ inv.plain;
       ready = inl (c.in-Ok-true.ensures.ready inv.plain);
+      flexible = c.in-Ok-true.ensures.flexible ∙ inv.flexible;
       config = read.2 ∙ inv.config;
       whole = added.whole;
       ends = rw (pushed, added.ok, size, length-append before row) (EndsAt-more 0 ends (length before) (length row) inv.ends);
@@ -55,3 +58,8 @@ loop-fields-preserved c =
       source = more.1;
       reached = rw cuts more.2;
     }
+
+pub not_read-requires : goal.not_read-requires
+not_read-requires c =
+    let inv = c.loop-fields.invariant in
+    flexible-stops (λ (s : Bor (List ℕ)). Some s.now) c.loop-fields.reader c.read_byte_record.new.self c.in-Err.fault.kind inv.flexible (c.in-Err.ensures.why inv.ready)

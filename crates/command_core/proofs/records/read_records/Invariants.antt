@@ -1,8 +1,8 @@
 -- The records so far are those that the reader took from the script.
-use Rattle.std.proofs.Common.{◌≡◌, ◌+◌, ◌*◌, ℕ, List, [], Some, length, cond}
+use Rattle.std.proofs.Common.{◌≡◌, ◌+◌, ◌*◌, ℕ, List, [], Some, length, cond, true}
 use Rattle.std.specs.Prelude.{option_map, unwrap_or}
 use Rattle.csv.specs.Machine.{ends_at_end}
-use Rattle.csv.specs.Reading.{Reached, Ready, default_config, reader_trim, source_of, strip_bom}
+use Rattle.csv.specs.Reading.{Reached, Ready, default_config, is_flexible, reader_trim, source_of, strip_bom}
 use Rattle.csv.specs.Records.{fields_of, partial_of}
 use Rattle.csv.specs.declared.parser.State.TheVariants as st
 use Rattle.csv.specs.declared.reader.Trim.TheVariants as trim
@@ -13,6 +13,7 @@ abbrev pub invariant-loop-fields : goal.invariant-loop-fields
 invariant-loop-fields l = record {
   plain : reader_trim l.reader ≡ trim.None;
   ready : Ready l.reader;
+  flexible : is_flexible l.reader ≡ true;
   config : l.reader.config ≡ default_config;
   whole : partial_of l.fields ≡ [];
   ends : EndsAt 0 l.ends.items (length (fields_of l.fields));

@@ -17,7 +17,7 @@ back n = omega arith
 
 pub place-requires-clause-rises : goal.place-requires-clause-rises
 place-requires-clause-rises c = λ y is.
-    let sorted : IsSorted item_cmp c.deref-item-items.result.now = subst (IsSorted item_cmp) (sym c.deref-item-items.ensures.value) c.in_ok-sort.ensures.sorted in
+    let sorted : IsSorted item_cmp c.deref-item-items.result.now = subst (IsSorted item_cmp) (sym c.deref-item-items.ensures.value) c.sort_unstable.ensures.sorted in
     let last = MatchOption-at_some _ _ y is c.loop-item.invariant.last in
     let within : c.loop-item.item-index < length c.deref-item-items.result.now = omega arith in
     sorted_step c.deref-item-items.result.now c.loop-item.item-index c.item-item.result y sorted last.0 within c.item-item.is last.1
@@ -27,8 +27,8 @@ place-requires-clause-room c =
     let within : c.loop-item.item-index < length c.deref-item-items.result.now = omega arith in
     let many : length (all_of c.loop-item.placer.parts) ≡ length (take c.loop-item.item-index c.deref-item-items.result.now) = length_permutation _ _ c.loop-item.invariant.placed in
     let front : length (take c.loop-item.item-index c.deref-item-items.result.now) ≡ c.loop-item.item-index = length-take-le c.loop-item.item-index c.deref-item-items.result.now (omega arith) in
-    let all : length c.deref-item-items.result.now ≡ length c.sort.new.self.items = ap length c.deref-item-items.ensures.value in
-    let sorted : length c.sort.new.self.items ≡ length c.in_ok-sorted.sorted.items = length_permutation _ _ c.sort.ensures.permutation in
+    let all : length c.deref-item-items.result.now ≡ length c.sort_unstable.new.self.items = ap length c.deref-item-items.ensures.value in
+    let sorted : length c.sort_unstable.new.self.items ≡ length c.in_ok-sorted.sorted.items = length_permutation _ _ c.sort_unstable.ensures.permutation in
     let copied : length c.in_ok-sorted.sorted.items ≡ length c.args.items.now = ap length c.in_ok-sorted.ensures.items in
     let room : length c.args.items.now ≤ 1_000_000 = c.requires in
     omega (arith, within, many, front, all, sorted, copied, room)
@@ -48,11 +48,11 @@ loop-item-preserved c =
 moved : (c : After-drop-sorted-2) → IsPermutation c.args.items.now (all_of c.loop-item.placer.parts)
 moved c =
     let all : take c.loop-item.item-index c.deref-item-items.result.now ≡ c.deref-item-items.result.now = take_all c.loop-item.item-index c.deref-item-items.result.now c.loop-item-test.false in
-    let placed : IsPermutation c.sort.new.self.items (all_of c.loop-item.placer.parts) =
+    let placed : IsPermutation c.sort_unstable.new.self.items (all_of c.loop-item.placer.parts) =
     subst (λ xs. IsPermutation xs (all_of c.loop-item.placer.parts)) (all ∙ c.deref-item-items.ensures.value) c.loop-item.invariant.placed in
-    let sorted : IsPermutation c.args.items.now c.sort.new.self.items =
-    subst (λ xs. IsPermutation xs c.sort.new.self.items) c.in_ok-sorted.ensures.items c.sort.ensures.permutation in
-    IsPermutation-trans c.args.items.now c.sort.new.self.items (all_of c.loop-item.placer.parts) sorted placed
+    let sorted : IsPermutation c.args.items.now c.sort_unstable.new.self.items =
+    subst (λ xs. IsPermutation xs c.sort_unstable.new.self.items) c.in_ok-sorted.ensures.items c.sort_unstable.ensures.permutation in
+    IsPermutation-trans c.args.items.now c.sort_unstable.new.self.items (all_of c.loop-item.placer.parts) sorted placed
 
 pub returns-clause-division : goal.returns-clause-division
 returns-clause-division c = IsDivision-permutation c.args.items.now (all_of c.loop-item.placer.parts) c.finish.result (moved c) c.finish.ensures.division

@@ -12,12 +12,12 @@ returns-in_err-value g c =
     let items = g.F.AsSlice.items in
     let column = c.index-columns-i.result in
     let field = c.index-fields-i.result in
-    let p = err_from_is_err_and c.from_residual.result c.from_residual.ensures.1 in
+    let p = err_from_is_err_and c.from_residual-in_err-value.result c.from_residual-in_err-value.ensures.1 in
     let at = get_or-map items c.args.fields.now c.loop-i.i field ∙ ap items (sym c.index-fields-i.is) ∙ sym c.as_slice.ensures in
     let kind = (get_or c.args.columns.now c.loop-i.i column).kind in
     let inside : c.loop-i.i < length (map items c.args.fields.now) = omega (arith, length-map c.args.fields.now items, c.requires) in
     rw (p.1, p.2) (λ no_memory.
-    values_of-refused c.args.columns.now (map items c.args.fields.now) c.loop-i.i c.loop-i.values column (items field) _ c.loop-i-test.true inside
+    values_of-refused c.args.columns.now (map items c.args.fields.now) c.loop-i.i c.loop-i.values.items column (items field) _ c.loop-i-test.true inside
     (ap (field_of kind) at
     ∙ field_of-refused kind c.as_slice.result.now _ c.in_err-value.ensures no_memory)
     c.loop-i.invariant)
@@ -32,5 +32,5 @@ loop-i-preserved g c =
     let same = ap (value_of kind) at in
     let inside : c.loop-i.i < length (map items c.args.fields.now) = omega (arith, length-map c.args.fields.now items, c.requires) in
     let read = answer-ok (value_of kind c.as_slice.result.now) value.NoMemory c.in_ok-value.value c.in_ok-value.ensures in
-    rw c.in_ok-push.ensures.ok
-    (values_of-push c.args.columns.now (map items c.args.fields.now) c.loop-i.i c.loop-i.values column (items field) c.in_ok-value.value c.loop-i-test.true inside (same ∙ read) c.loop-i.invariant)
+    rw c.in_ok-push.ensures.items
+    (values_of-push c.args.columns.now (map items c.args.fields.now) c.loop-i.i c.loop-i.values.items column (items field) c.in_ok-value.value c.loop-i-test.true inside (same ∙ read) c.loop-i.invariant)

@@ -5,4 +5,4 @@ use Rattle.row_core.proofs.reading.collect_values.Given as goal
 
 -- the values so far stand before those that are left
 abbrev pub invariant-loop-i : goal.invariant-loop-i
-invariant-loop-i g l = values_of l.columns (map g.F.AsSlice.items l.fields) ≡ result_map_both (λ rest. l.values ++ rest) (λ e. e) (values_of (drop l.i l.columns) (drop l.i (map g.F.AsSlice.items l.fields)))
+invariant-loop-i g l = values_of l.columns (map g.F.AsSlice.items l.fields) ≡ result_map_both (λ rest. l.values.items ++ rest) (λ e. e) (values_of (drop l.i l.columns) (drop l.i (map g.F.AsSlice.items l.fields)))

@@ -1,4 +1,4 @@
-use Rattle.std.proofs.Common.{◌≡◌, ◌+◌, ◌∙◌, List, Result, Ok, ap, subst, sym}
+use Rattle.std.proofs.Common.{◌≡◌, ◌+◌, ◌∙◌, List, Result, Ok, ap, refl, subst, sym}
 use Rattle.cert_core.specs.Verdict.{IsVerdict}
 use Rattle.dip_core.specs.Item.{IdsRise}
 use Rattle.dip_core.specs.declared.item.Item.{Item}
@@ -25,5 +25,5 @@ returns c =
     let same = c.deref.ensures.value ∙ (c.in_ok-items.ensures ∙ ap items_of h.2) in (
       (h.0, claim),
       both-Ok told claimed h.0 claim h.1 c.in_ok-claim.ensures,
-      subst (λ (items : List Item). IsVerdict items claim c.args.certificate c.in_ok-check_division.field-0) same c.in_ok-check_division.ensures.verdict,
+      (c.in_ok-check_division.field-0, subst (λ (items : List Item). IsVerdict items claim c.args.certificate c.in_ok-check_division.field-0) same c.in_ok-check_division.ensures.verdict, refl),
     )

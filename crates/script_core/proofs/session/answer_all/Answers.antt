@@ -2,11 +2,11 @@ use Rattle.std.proofs.Common.{◌≡◌, ◌<◌, ◌≤◌, ◌+◌, ◌-◌, �
 use Rattle.std.proofs.lemmas.Result.{err_from_is_err_and}
 use Rattle.std.specs.Io.KnownBytes.{Appends}
 use Rattle.std.proofs.lemmas.List.{take_all}
-use Rattle.script_core.specs.Counted.{inner_of}
-use Rattle.script_core.specs.Draft.{Draft}
+use Rattle.stream_core.specs.Counted.{inner_of}
+use Rattle.answer_core.specs.Draft.{Draft}
 use Rattle.command_core.specs.Lines.{lines_in}
 use Rattle.command_core.specs.Records.{Record}
-use Rattle.script_core.specs.Records.{bytes_of}
+use Rattle.answer_core.specs.Records.{bytes_of}
 use Rattle.script_core.proofs.Progress.{progress-begun, progress-more, progress-stopped}
 use Rattle.script_core.proofs.session.answer_all.Goals as goal
 
@@ -47,8 +47,8 @@ returns-in_err-write_to-clause-fault g c =
     let at = c.loop-at.at in
     let left = left_is (lines_in c.all-lines.result) records (lines_in c.range.result) c.len-in-loop-at.result at c.all-lines.ensures c.len-in-loop-at.ensures c.range.ensures in
     let found = rw left at c.in_ok-command.ensures in
-    let answered = c.in_ok-errors.ensures.answered in
-    let text = text_is c.loop-at.answer c.answer_command.new.answer (bytes_of answered.answer) c.loop-at.invariant.begins answered.printed in
+    let answered = c.in_ok-errors.ensures.printed in
+    let text = text_is c.loop-at.printer c.answer_command.new.printer (bytes_of answered.answer) c.loop-at.invariant.begins answered.printed in
     let why = rw text at c.in_err-write_to.ensures in
     let p = err_from_is_err_and c.from_residual-in_err-write_to.result c.from_residual-in_err-write_to.ensures.1 in
     rw (p.1, p.2) (progress-stopped _ _ _ _ _ _ at c.in_ok-command.field-0.taken c.loop-at.outcome _ answered.answer _ _ _ _ c.loop-at.invariant.progress found.within found.means answered.answers (omega (arith, found.within, found.some)) c.loop-at.invariant.counts why.fault)
@@ -59,8 +59,8 @@ loop-at-preserved g c =
     let at = c.loop-at.at in
     let left = left_is (lines_in c.all-lines.result) records (lines_in c.range.result) c.len-in-loop-at.result at c.all-lines.ensures c.len-in-loop-at.ensures c.range.ensures in
     let found = rw left at c.in_ok-command.ensures in
-    let answered = c.in_ok-errors.ensures.answered in
-    let text = text_is c.loop-at.answer c.answer_command.new.answer (bytes_of answered.answer) c.loop-at.invariant.begins answered.printed in
+    let answered = c.in_ok-errors.ensures.printed in
+    let text = text_is c.loop-at.printer c.answer_command.new.printer (bytes_of answered.answer) c.loop-at.invariant.begins answered.printed in
     let wrote = subst (Appends (g.W.Write.contents (inner_of c.loop-at.writer)) (g.W.Write.contents (inner_of c.write_to.new.writer))) text c.in_ok-write_to.ensures.ok in
     record {
       within = omega (arith, found.within, length-drop at records);

@@ -1,6 +1,6 @@
 -- The commands before `at` are done, and their answers are written.
 use Rattle.std.proofs.Common.{◌≡◌, ◌+◌, ◌≤◌, ◌-◌, [], length}
-use Rattle.script_core.specs.Counted.{failures_of, inner_of}
+use Rattle.stream_core.specs.Counted.{failures_of, inner_of}
 use Rattle.script_core.proofs.Progress.{Progress}
 use Rattle.script_core.proofs.session.answer_all.Given as goal
 
@@ -11,7 +11,7 @@ invariant-loop-at g l = record {
   fewer : l.outcome.errors ≤ l.outcome.commands;
   counts : failures_of l.fn.writer ≤ failures_of l.writer;
   tries : failures_of l.writer + l.patience.left ≤ failures_of l.fn.writer + l.fn.patience.left;
-  begins : l.answer ≡ record { text = []; fields = [] };
+  begins : l.printer ≡ record { text = []; fields = [] };
   progress : Progress l.records (g.W.Write.contents (inner_of l.fn.writer)) (g.W.Write.contents (inner_of l.writer)) l.book l.at l.outcome;
 }
 

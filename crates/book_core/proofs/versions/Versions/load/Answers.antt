@@ -1,9 +1,17 @@
-use Rattle.std.proofs.Common.{◌≡◌, length, refl, arith}
-use Rattle.book_core.proofs.OpenLemmas.{loaded-open}
+use Rattle.std.proofs.Common.{◌∙◌, ap, length, length-append, refl, arith}
+use Rattle.book_core.proofs.FindingLemmas.{Lists-grown}
+use Rattle.book_core.proofs.OpenLemmas.{length-fresh}
 use Rattle.book_core.proofs.versions.Versions.load.Goals as goal
 
-pub invariant_of-self-in_default : goal.invariant_of-self-in_default
-invariant_of-self-in_default c =
-    let counted = c.self.inside.items.ok.0 in
-    let before : c.len-before.result ≡ length c.self.inside.items.items = omega arith in
-    loaded-open c.args.commit c.len-before.result (length c.args.drafts.now) c.args.drafts.now c.self.inside.items.items c.in_ok-new.new.items c.append.new.self.items c.self.inside.open_at.items c.push_places.new.places.items c.self.invariant c.in_ok-new.ensures before refl c.in_default.ensures.items c.in_ok-push_places.ensures.ok
+pub extend_indexes-requires-clause-few : goal.extend_indexes-requires-clause-few
+extend_indexes-requires-clause-few c =
+    let grown = ap length (c.deref.ensures.value ∙ c.in_ok-add_versions.ensures.ok) in
+    let fresh = ap length c.in_ok-new.ensures ∙ length-fresh c.args.commit c.len-before.result c.args.drafts.now in
+    let old = ap length c.self.view_is in
+    omega (arith, grown, fresh, old, length-append c.self.inside.items.items c.in_ok-new.new.items, c.requires)
+
+pub invariant_of-self-2 : goal.invariant_of-self-2
+invariant_of-self-2 c = record {
+  all = rw (c.in_ok-add_versions.ensures.ok, c.in_ok-add_versions.ensures.places) (Lists-grown c.self.inside.items.items c.in_ok-new.new.items c.self.inside.open_at _ _ refl refl c.self.invariant.all);
+  by_value = rw c.deref.ensures.value at c.extend_indexes.ensures;
+}

@@ -1,0 +1,5 @@
+pub mod Answer
+pub mod AnswerWriter
+pub mod Draft
+pub mod PrintedRecords
+pub mod Records

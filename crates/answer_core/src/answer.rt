@@ -1,0 +1,43 @@
+//! What a command is answered.
+ghost use Rattle.std.specs.Prelude.{◌≡◌, ◌≤◌, List};
+ghost use Rattle.command_core.specs.Records.{Record};
+ghost use Rattle.answer_core.specs.Answer.{IsPrintedAs};
+ghost use Rattle.answer_core.specs.Records.{errors_in};
+
+use book_core::{Log, VersionList};
+use cert_core::Verdict;
+use command_core::Fault;
+use dip_core::Division;
+use row_core::RowList;
+
+/// What a command is answered.
+#[derive(Drop)]
+pub enum Answer {
+    /// It is refused.
+    Refused(Fault),
+    /// The change that it asked for was made, by the commit of this number.
+    Committed(u64),
+    /// Rows, by rising id.
+    Rows(RowList),
+    /// Versions of rows, by rising id.
+    Versions(VersionList),
+    /// A division of so many rows.
+    Division { rows: usize, division: Division },
+    /// What the check of a division says.
+    Verdict(Verdict),
+    /// What each commit did.
+    Log(Log),
+}
+
+impl Answer {
+    /// How many of its records tell of a refusal: one where it is one, else none.
+    pub fn refusals(&self) -> u64
+        ensures told { (records : List Record) → IsPrintedAs self.now records → errors_in records ≡ result }
+        ensures few { result ≤ 1 }
+    {
+        match self {
+            Answer::Refused(_) => 1,
+            _ => 0,
+        }
+    }
+}

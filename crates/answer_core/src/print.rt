@@ -1,0 +1,169 @@
+//! Prints answers: refusals, accepted changes, rows and versions here.
+ghost use Rattle.std.specs.Prelude.{◌≡◌, [], ◌∷◌, ◌++◌, List, OnErr, OnOk, map};
+ghost use Rattle.answer_core.specs.Answer.{IsPrintedAs};
+ghost use Rattle.answer_core.specs.Draft.{Adds, nothing};
+ghost use Rattle.command_core.specs.Records.{Record};
+ghost use Rattle.answer_core.specs.PrintedRecords.{end_record, end_text, error_record, ok_record, row_record, row_records, value_text, version_record, version_records};
+
+use crate::answer::Answer;
+use crate::writer::AnswerWriter;
+use book_core::{Version, VersionList};
+use command_core::Fault;
+use period_core::NoMemory;
+use row_core::{Row, RowList, Value};
+
+impl AnswerWriter {
+    /// Adds the records of an answer.
+    ///
+    /// # Errors
+    ///
+    /// `NoMemory` where a growth is refused: then what was printed and is not yet written is lost.
+    pub fn print(&mut self, answer: &Answer) -> Result<(), NoMemory>
+        requires { self.old.fields ≡ [] }
+        ensures ok { OnOk result ((records : List Record) × IsPrintedAs answer.now records × Adds self.old self.new records) }
+        ensures err { OnErr result (self.new ≡ nothing) }
+    {
+        let printed = self.print_records(answer);
+        if printed.is_err() {
+            self.restart();
+        }
+        printed
+    }
+
+    fn print_records(&mut self, answer: &Answer) -> Result<(), NoMemory>
+        requires { self.old.fields ≡ [] }
+        ensures { OnOk result ((records : List Record) × IsPrintedAs answer.now records × Adds self.old self.new records) }
+    {
+        match answer {
+            Answer::Refused(fault) => self.refuse(*fault),
+            Answer::Committed(commit) => self.accept(*commit),
+            Answer::Rows(rows) => self.row_list(rows),
+            Answer::Versions(versions) => self.version_list(versions),
+            Answer::Division { rows, division } => self.division(*rows, division),
+            Answer::Verdict(verdict) => self.verdict(*verdict),
+            Answer::Log(log) => self.log(log),
+        }
+    }
+
+    /// The answer to a command that is refused.
+    fn refuse(&mut self, fault: Fault) -> Result<(), NoMemory>
+        requires { self.old.fields ≡ [] }
+        ensures { OnOk result (Adds self.old self.new (error_record fault ∷ [])) }
+    {
+        self.field(b"error")?;
+        self.number(fault.number)?;
+        self.field(fault.refusal.text())?;
+        self.end_record()
+    }
+
+    /// The answer to a change that is accepted.
+    fn accept(&mut self, commit: u64) -> Result<(), NoMemory>
+        requires { self.old.fields ≡ [] }
+        ensures { OnOk result (Adds self.old self.new (ok_record commit ∷ [])) }
+    {
+        self.field(b"ok")?;
+        self.number(commit)?;
+        self.end_record()
+    }
+
+    /// Rows, and how many there are.
+    fn row_list(&mut self, rows: &RowList) -> Result<(), NoMemory>
+        requires { self.old.fields ≡ [] }
+        ensures { OnOk result (Adds self.old self.new (row_records rows.now)) }
+    {
+        self.row_items(rows.as_slice())?;
+        self.end(rows.len() as u64)
+    }
+
+    fn row_items(&mut self, rows: &[Row]) -> Result<(), NoMemory>
+        requires { self.old.fields ≡ [] }
+        ensures { OnOk result (Adds self.old self.new (map row_record rows.now)) }
+    {
+        for row in rows {
+            self.row(row)?;
+        }
+        Ok(())
+    }
+
+    fn row(&mut self, row: &Row) -> Result<(), NoMemory>
+        requires { self.old.fields ≡ [] }
+        ensures { OnOk result (Adds self.old self.new (row_record row.now ∷ [])) }
+    {
+        self.field(b"row")?;
+        self.number(row.id)?;
+        self.point(row.period.from)?;
+        self.point(row.period.to)?;
+        self.values(row.values.as_slice())?;
+        self.end_record()
+    }
+
+    /// Versions, and how many there are.
+    fn version_list(&mut self, versions: &VersionList) -> Result<(), NoMemory>
+        requires { self.old.fields ≡ [] }
+        ensures { OnOk result (Adds self.old self.new (version_records versions.now)) }
+    {
+        self.version_items(versions.as_slice())?;
+        self.end(versions.len() as u64)
+    }
+
+    fn version_items(&mut self, versions: &[Version]) -> Result<(), NoMemory>
+        requires { self.old.fields ≡ [] }
+        ensures { OnOk result (Adds self.old self.new (map version_record versions.now)) }
+    {
+        for version in versions {
+            self.version(version)?;
+        }
+        Ok(())
+    }
+
+    fn version(&mut self, version: &Version) -> Result<(), NoMemory>
+        requires { self.old.fields ≡ [] }
+        ensures { OnOk result (Adds self.old self.new (version_record version.now ∷ [])) }
+    {
+        self.field(b"version")?;
+        self.number(version.row.id)?;
+        self.point(version.row.period.from)?;
+        self.point(version.row.period.to)?;
+        self.number(version.sysfrom)?;
+        self.system_end(version.systo)?;
+        self.values(version.row.values.as_slice())?;
+        self.end_record()
+    }
+
+    fn system_end(&mut self, end: Option<u64>) -> Result<(), NoMemory>
+        ensures { OnOk result (self.new ≡ record self.old { fields = self.old.fields ++ end_text end ∷ [] }) }
+    {
+        match end {
+            Some(commit) => self.number(commit),
+            None => self.field(b"-"),
+        }
+    }
+
+    fn values(&mut self, values: &[Value]) -> Result<(), NoMemory>
+        ensures { OnOk result (self.new ≡ record self.old { fields = self.old.fields ++ map value_text values.now }) }
+    {
+        for value in values {
+            self.value(value)?;
+        }
+        Ok(())
+    }
+
+    fn value(&mut self, value: &Value) -> Result<(), NoMemory>
+        ensures { OnOk result (self.new ≡ record self.old { fields = self.old.fields ++ value_text value.now ∷ [] }) }
+    {
+        match value {
+            Value::Int(number) => self.signed(*number),
+            Value::Text(text) => self.field(text.as_bytes()),
+        }
+    }
+
+    /// Ends the records of a list, of which there are so many.
+    pub(crate) fn end(&mut self, count: u64) -> Result<(), NoMemory>
+        requires { self.old.fields ≡ [] }
+        ensures { OnOk result (Adds self.old self.new (end_record count ∷ [])) }
+    {
+        self.field(b"end")?;
+        self.number(count)?;
+        self.end_record()
+    }
+}

@@ -1,0 +1,168 @@
+//! Makes the bytes of answers, record by record.
+ghost use Rattle.std.specs.Prelude.{◌≡◌, ◌+◌, ◌<◌, ◌≤◌, ◌++◌, ◌∷◌, [], ℕ, false, IfErr, IfOk, OnErr, OnOk, decimal, length, take};
+ghost use Rattle.std.specs.Fmt.{signed_decimal};
+ghost use Rattle.std.specs.Io.KnownBytes.{Appends, Keeps};
+ghost use Rattle.csv.specs.Records.{fields_of, partial_of};
+ghost use Rattle.csv.specs.Writing.{fields_written, has_written, row_text, writer_pending, writer_setup, writer_under};
+ghost use Rattle.period_core.specs.Point.{point_text};
+ghost use Rattle.stream_core.specs.Counted.{failures_of, inner_of};
+ghost use Rattle.answer_core.specs.Draft.{Draft, left_by, nothing};
+ghost use Rattle.stream_core.specs.Faults.{ExplainsWriting, last_failures};
+ghost use Rattle.answer_core.specs.Records.{answer_writer};
+
+use csv::{ByteRecord, Writer, WriterBuilder};
+use itoa::Buffer;
+use period_core::{NoMemory, Point};
+use std::alloc::{AllocError, Global};
+use std::io::Write;
+use std::marker::Model;
+use stream_core::{Counted, Patience, RunFault, write_all};
+
+/// The bytes that a writer of `csv` keeps before it is made anew.
+const KEPT: usize = 65_536;
+
+/// Makes the bytes of an answer, and writes them. Contracts see the bytes of its records so far, and the
+/// fields so far of its next record.
+#[derive(Drop)]
+pub struct AnswerWriter {
+    alloc: Global,
+    writer: Writer<Vec<u8>>,
+    row: ByteRecord,
+    text: Vec<u8>,
+    written: usize,
+}
+
+impl Model for AnswerWriter {
+    ghost use Rattle.answer_core.specs.Draft.{Draft};
+    ghost use Rattle.answer_core.specs.AnswerWriter.{draft_of, IsAnswerWriter};
+
+    ghost Value = { Draft };
+
+    ghost view = { draft_of };
+
+    ghost invariant = { IsAnswerWriter };
+}
+
+fn new_writer(alloc: Global) -> Writer<Vec<u8>>
+    ensures setup { writer_setup result ≡ answer_writer }
+    ensures fresh { fields_written result ≡ 0 }
+    ensures clean { has_written result ≡ false }
+    ensures empty { (writer_under result).items ++ writer_pending result ≡ [] }
+{
+    WriterBuilder::new()
+        .flexible(true)
+        .from_writer(Vec::new(alloc))
+}
+
+impl AnswerWriter {
+    /// An answer without records. It stands apart, so that the room for a new buffer of `csv` isn't cleared
+    /// by each call that may begin one.
+    #[inline(never)]
+    pub fn new(alloc: Global) -> Self
+        ensures { result ≡ nothing }
+    {
+        AnswerWriter {
+            alloc,
+            writer: new_writer(alloc),
+            row: ByteRecord::new(alloc),
+            text: Vec::new(alloc),
+            written: 0,
+        }
+    }
+
+    /// Drops what was not written.
+    pub(crate) fn restart(&mut self)
+        ensures { self.new ≡ nothing }
+    {
+        *self = AnswerWriter::new(self.alloc);
+    }
+
+    /// Adds a field to the record at hand.
+    pub(crate) fn field(&mut self, field: &[u8]) -> Result<(), NoMemory>
+        ensures { OnOk result (self.new ≡ record self.old { fields = self.old.fields ++ field.now ∷ [] }) }
+    {
+        push(&mut self.row, field)
+    }
+
+    /// Adds a number to the record at hand.
+    pub(crate) fn number(&mut self, number: u64) -> Result<(), NoMemory>
+        ensures { OnOk result (self.new ≡ record self.old { fields = self.old.fields ++ decimal number ∷ [] }) }
+    {
+        let mut digits = Buffer::new();
+        push(&mut self.row, digits.format(number).as_bytes())
+    }
+
+    /// Adds a number that may be negative to the record at hand.
+    pub(crate) fn signed(&mut self, number: i64) -> Result<(), NoMemory>
+        ensures { OnOk result (self.new ≡ record self.old { fields = self.old.fields ++ signed_decimal number ∷ [] }) }
+    {
+        let mut digits = Buffer::new();
+        push(&mut self.row, digits.format(number).as_bytes())
+    }
+
+    /// Adds a point to the record at hand.
+    pub(crate) fn point(&mut self, point: Point) -> Result<(), NoMemory>
+        ensures { OnOk result (self.new ≡ record self.old { fields = self.old.fields ++ point_text point ∷ [] }) }
+    {
+        self.text.clear();
+        point.write(&mut self.text)?;
+        push(&mut self.row, &self.text)
+    }
+
+    /// Ends the record at hand.
+    pub(crate) fn end_record(&mut self) -> Result<(), NoMemory>
+        ensures { OnOk result (self.new ≡ record { text = self.old.text ++ row_text answer_writer self.old.fields; fields = [] }) }
+    {
+        if self.writer.write_byte_record(&self.row).is_err() {
+            *self = AnswerWriter::new(self.alloc);
+            return Err(AllocError);
+        }
+        self.row.clear();
+        Ok(())
+    }
+
+    /// Writes the answer, and begins the next one.
+    ///
+    /// # Errors
+    ///
+    /// `NoMemory` with none of the answer written: then it is lost. `WriteFault` with a front of it
+    /// written, which is less than the whole: then it is still all here.
+    pub fn write_to<W: Write>(
+        &mut self,
+        writer: &mut Counted<W>,
+        patience: &mut Patience,
+    ) -> Result<(), RunFault>
+        ensures ok { OnOk result (Appends (W.contents (inner_of writer.old)) (W.contents (inner_of writer.new)) self.old.text) }
+        ensures begins { OnOk result (self.new ≡ nothing) }
+        ensures fault { IfErr result (ExplainsWriting (W.contents (inner_of writer.old)) (W.contents (inner_of writer.new)) (failures_of writer.old) (failures_of writer.new) self.old.text) }
+        ensures after { IfErr result (λ why. self.new ≡ left_by why self.old) }
+        ensures counts { failures_of writer.old ≤ failures_of writer.new }
+        ensures tries { failures_of writer.new + patience.new.left ≤ failures_of writer.old + patience.old.left + last_failures result }
+    {
+        if self.writer.flush().is_err() {
+            *self = AnswerWriter::new(self.alloc);
+            return Err(RunFault::NoMemory);
+        }
+        let text = self.writer.get_ref();
+        write_all(writer, patience, &text[self.written..])?;
+        self.written = text.len();
+        self.row.clear();
+        if self.written > KEPT {
+            *self = AnswerWriter::new(self.alloc);
+        }
+        Ok(())
+    }
+}
+
+/// Adds a field to a record, which on a refusal loses its fields.
+fn push(row: &mut ByteRecord, field: &[u8]) -> Result<(), NoMemory>
+    requires { partial_of row.old ≡ [] }
+    ensures ok { OnOk result (fields_of row.new ≡ fields_of row.old ++ field.now ∷ []) }
+    ensures whole { partial_of row.new ≡ [] }
+{
+    if let Err(error) = row.push_field(field) {
+        row.clear();
+        return Err(error);
+    }
+    Ok(())
+}

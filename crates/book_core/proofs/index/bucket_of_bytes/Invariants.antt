@@ -1,0 +1,10 @@
+use Rattle.std.proofs.Common.{◌≡◌, ◌<◌, take}
+use Rattle.book_core.specs.Finding.{bucket_of_bytes}
+use Rattle.book_core.proofs.index.bucket_of_bytes.Given as goal
+
+-- the bucket of the bytes so far
+abbrev pub invariant-loop-byte : goal.invariant-loop-byte
+invariant-loop-byte l = record {
+  same : l.bucket ≡ bucket_of_bytes (take l.byte-index l.bytes);
+  few : l.bucket < 8191;
+}

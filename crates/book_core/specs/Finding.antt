@@ -1,0 +1,64 @@
+-- Lists of places, by which a change finds the versions that it closes.
+use Rattle.std.specs.Prelude.{◌≡◌, ℕ, ◌+◌, ◌*◌, ◌%◌, ◌<◌, ◌≤◌, List, [], length, get_or, filter, fold, All, Bool, true, false, ◌&&◌, if◌then◌else◌, Option, None, ◌==◌, option_map, slice_get, unwrap_or, unsigned_abs}
+use Rattle.row_core.specs.declared.row.Row.{Row}
+use Rattle.row_core.specs.declared.schema.Column.{Column}
+use Rattle.row_core.specs.declared.value.Value.{Value}
+use Rattle.row_core.specs.declared.value.Value.TheVariants.{Int, Text}
+use Rattle.book_core.specs.Open.{is_open, is_taken, places_from}
+use Rattle.book_core.specs.State.{removes}
+use Rattle.book_core.specs.declared.change.Change.{Change}
+use Rattle.book_core.specs.declared.index.Index.{Index}
+use Rattle.book_core.specs.declared.index.Key.{Key}
+use Rattle.book_core.specs.declared.version.Version.{Version}
+
+-- the version at the place passes the test
+abbrev pub passes : List Version → (Version → Bool) → ℕ → Bool
+passes vs test place = unwrap_or (option_map test (slice_get vs place)) false
+
+-- the open versions at the places are those whose rows pass the test, in their order; there may be
+-- places of closed ones between them
+pub record Lists (vs : List Version) (test : Row → Bool) (places : List ℕ) : Type 0 where
+  pub inside : All (λ place. place < length vs) places
+  pub few : length places ≤ length vs
+  pub exact : filter (passes vs is_open) places ≡ places_from (λ v. is_open v && test v.row) 0 vs
+
+-- any row
+abbrev pub any_row : Row → Bool
+any_row row = true
+
+-- the bucket of a text's bytes
+unfoldable pub bucket_of_bytes : List ℕ → ℕ
+bucket_of_bytes bytes = fold (λ bucket byte. (bucket * 31 + byte) % 8191) 0 bytes
+
+-- the bucket of a value
+unfoldable pub bucket_of : Value → ℕ
+bucket_of (Int number) = unsigned_abs number % 8191
+bucket_of (Text bytes) = bucket_of_bytes bytes
+
+-- the row's value in the column falls into the bucket
+abbrev pub falls_into : ℕ → ℕ → Row → Bool
+falls_into column bucket row = unwrap_or (option_map (λ value. bucket_of value == bucket) (slice_get row.values column)) false
+
+-- the bucket of a version's value in the column, where it is open and has one
+abbrev pub bucket_in : ℕ → Version → Option ℕ
+bucket_in column v = if is_open v then option_map bucket_of (slice_get v.row.values column) else None
+
+-- each bucket lists the open versions whose value in the column falls into it
+pub record IsIndex (vs : List Version) (index : Index) : Type 0 where
+  pub whole : length index.buckets.items ≡ 8191
+  pub each : (bucket : ℕ) → bucket < 8191 → Lists vs (falls_into index.column bucket) (get_or index.buckets.items bucket [])
+
+-- what finds the open versions: all of them, and by the values of some columns
+pub record AreFound (vs : List Version) (places : List ℕ) (indexes : List Index) : Type 0 where
+  pub all : Lists vs any_row places
+  pub by_value : All (IsIndex vs) indexes
+
+-- the values of all rows that the change takes out fall into the bucket
+abbrev pub IsKeyOf : Change → List Column → Key → Type 0
+IsKeyOf c schema key = (row : Row) → removes c schema row ≡ true → falls_into key.column key.bucket row ≡ true
+
+-- among the places are those of all versions that the change closes, in their order
+pub record AreCandidates (c : Change) (schema : List Column) (vs : List Version) (places : List ℕ) : Type 0 where
+  pub inside : All (λ place. place < length vs) places
+  pub few : length places ≤ length vs
+  pub taken : filter (passes vs (is_taken c schema)) places ≡ places_from (is_taken c schema) 0 vs

@@ -1,0 +1,302 @@
+//! Indexes of open versions by the values of a column, and what a change of a portion looks at.
+
+ghost use Rattle.std.specs.Prelude.{◌≡◌, ◌==◌, ◌+◌, ◌<◌, ◌≤◌, List, [], true, length, position, take, All, IfOk, IfSome, OnOk, ◌⊎◌};
+ghost use Rattle.std.specs.List.{list_all};
+ghost use Rattle.row_core.specs.declared.row.Row.{Row};
+ghost use Rattle.row_core.specs.declared.schema.Column.{Column};
+ghost use Rattle.book_core.specs.Finding.{AreCandidates, AreFound, IsIndex, IsKeyOf, bucket_in, bucket_of, bucket_of_bytes, falls_into};
+ghost use Rattle.book_core.specs.Open.{conds_of};
+ghost use Rattle.book_core.specs.State.{is_equal_at};
+ghost use Rattle.book_core.specs.declared.change.Change.{Change};
+ghost use Rattle.book_core.specs.declared.version.Version.{Version};
+
+use crate::change::Change;
+use crate::places::Places;
+use crate::version::Version;
+use row_core::{Name, NoMemory, Schema, Value};
+use std::alloc::Global;
+
+/// How many buckets an index has. It is prime, so that numbers in equal steps spread over them.
+const BUCKETS: usize = 8_191;
+
+/// Below so many versions no index is made: it would take more memory than they do.
+const FEW: usize = 256;
+
+/// The open versions by the value of a column: a bucket has the places of those whose value falls
+/// into it. Places of versions that were closed stay until the bucket is next used.
+#[derive(Debug, Drop)]
+pub struct Index {
+    pub column: u32,
+    pub buckets: Vec<Places>,
+}
+
+/// Where the rows are that a change takes out: in a bucket of a column's index.
+#[derive(Clone, Copy, Debug)]
+pub struct Key {
+    pub column: u32,
+    pub bucket: usize,
+}
+
+impl Index {
+    /// The index of versions by that column.
+    pub fn of(alloc: Global, versions: &[Version], column: u32) -> Result<Index, NoMemory>
+        requires { length versions.now ≤ 4000000 }
+        ensures { IfOk result (IsIndex versions.now) }
+    {
+        let mut index = Index {
+            column,
+            buckets: empty_buckets(alloc)?,
+        };
+        index.extend(versions, 0)?;
+        Ok(index)
+    }
+
+    /// Adds the versions from that place on.
+    fn extend(&mut self, versions: &[Version], from: usize) -> Result<(), NoMemory>
+        requires few { length versions.now ≤ 4000000 }
+        requires inside { from ≤ length versions.now }
+        requires before { IsIndex (take from versions.now) self.old }
+        ensures { OnOk result (IsIndex versions.now self.new) }
+    {
+        for place in from..versions.len() {
+            self.add(versions, place)?;
+        }
+        Ok(())
+    }
+
+    /// Adds the version at that place.
+    fn add(&mut self, versions: &[Version], place: usize) -> Result<(), NoMemory>
+        requires few { length versions.now ≤ 4000000 }
+        requires inside { place < length versions.now }
+        requires before { IsIndex (take place versions.now) self.old }
+        ensures { OnOk result (IsIndex (take (place + 1) versions.now) self.new) }
+    {
+        if let Some(bucket) = bucket_in(self.column, &versions[place]) {
+            self.buckets[bucket].push(place)?;
+        }
+        Ok(())
+    }
+
+    /// Leaves the places of open versions in that bucket.
+    fn drop_closed(&mut self, versions: &[Version], bucket: usize)
+        requires index { IsIndex versions.now self.old }
+        requires few { bucket < 8191 }
+        ensures { IsIndex versions.now self.new }
+    {
+        self.buckets[bucket].drop_closed(versions);
+    }
+}
+
+/// The buckets of an index of no versions.
+fn empty_buckets(alloc: Global) -> Result<Vec<Places>, NoMemory>
+    ensures whole { IfOk result (λ buckets. length buckets.items ≡ 8191) }
+    ensures empty { IfOk result (λ buckets. All (λ places. places ≡ []) buckets.items) }
+{
+    let mut buckets = Vec::with_capacity(alloc, BUCKETS)?;
+    for _ in 0..BUCKETS {
+        buckets.push(Places::new(alloc))?;
+    }
+    Ok(buckets)
+}
+
+/// The bucket of a version's value in the column, where it is open and has one.
+fn bucket_in(column: u32, version: &Version) -> Option<usize>
+    ensures bucket { result ≡ bucket_in column version.now }
+    ensures few { IfSome result (λ bucket. bucket < 8191) }
+{
+    if version.systo.is_some() {
+        return None;
+    }
+    match version.row.values.get(column as usize) {
+        Some(value) => Some(bucket_of(value)),
+        None => None,
+    }
+}
+
+/// The bucket of a value: equal values have one.
+fn bucket_of(value: &Value) -> usize
+    ensures bucket { result ≡ bucket_of value.now }
+    ensures few { result < 8191 }
+{
+    match value {
+        Value::Int(number) => (number.unsigned_abs() % BUCKETS as u64) as usize,
+        Value::Text(text) => bucket_of_bytes(text.as_bytes()),
+    }
+}
+
+/// The bucket of a text's bytes.
+fn bucket_of_bytes(bytes: &[u8]) -> usize
+    ensures bucket { result ≡ bucket_of_bytes bytes.now }
+    ensures few { result < 8191 }
+{
+    let mut bucket = 0;
+    for byte in bytes {
+        bucket = (bucket * 31 + *byte as usize) % BUCKETS;
+    }
+    bucket
+}
+
+/// Where the rows are that the change takes out: the condition with the shortest bucket says so.
+pub fn key_of(indexes: &[Index], schema: &Schema, change: &Change) -> Option<Key>
+    requires { All (λ index. length index.buckets.items ≡ 8191) indexes.now }
+    ensures few { IfSome result (λ key. key.bucket < 8191) }
+    ensures key { IfSome result (IsKeyOf change.now schema.now) }
+{
+    best_key(indexes, schema, conds_of(change))
+}
+
+/// The conditions of a change.
+fn conds_of(change: &Change) -> &[(Name, Value)]
+    ensures { result.now ≡ conds_of change.now }
+{
+    match change {
+        Change::Make { .. } => &[],
+        Change::Load { .. } => &[],
+        Change::Update { conds, .. } => conds.as_slice(),
+        Change::Delete { conds, .. } => conds.as_slice(),
+    }
+}
+
+/// Where the rows are that meet all conditions.
+fn best_key(indexes: &[Index], schema: &Schema, conds: &[(Name, Value)]) -> Option<Key>
+    requires { All (λ index. length index.buckets.items ≡ 8191) indexes.now }
+    ensures few { IfSome result (λ key. key.bucket < 8191) }
+    ensures key { IfSome result (λ key. (row : Row)
+        → list_all (is_equal_at schema.now row.values) conds.now ≡ true
+        → falls_into key.column key.bucket row ≡ true) }
+{
+    let mut best = None;
+    for pair in conds {
+        best = better_key(indexes, best, key_of_pair(schema, pair));
+    }
+    best
+}
+
+/// The key that leads to fewer places.
+fn better_key(indexes: &[Index], one: Option<Key>, other: Option<Key>) -> Option<Key>
+    requires buckets { All (λ index. length index.buckets.items ≡ 8191) indexes.now }
+    requires one { IfSome one (λ key. key.bucket < 8191) }
+    requires other { IfSome other (λ key. key.bucket < 8191) }
+    ensures { (result ≡ one) ⊎ (result ≡ other) }
+{
+    if places_at(indexes, other) < places_at(indexes, one) {
+        other
+    } else {
+        one
+    }
+}
+
+/// To how many places the key leads: without an index, to more than there are.
+fn places_at(indexes: &[Index], key: Option<Key>) -> usize
+    requires buckets { All (λ index. length index.buckets.items ≡ 8191) indexes.now }
+    requires key { IfSome key (λ key. key.bucket < 8191) }
+{
+    let Some(key) = key else {
+        return usize::MAX;
+    };
+    match place_of_index(indexes, key.column) {
+        Some(i) => indexes[i].buckets[key.bucket].len(),
+        None => usize::MAX,
+    }
+}
+
+/// Where the rows are that meet a condition.
+fn key_of_pair(schema: &Schema, pair: &(Name, Value)) -> Option<Key>
+    ensures few { IfSome result (λ key. key.bucket < 8191) }
+    ensures key { IfSome result (λ key. (row : Row)
+        → is_equal_at schema.now row.values pair.now ≡ true
+        → falls_into key.column key.bucket row ≡ true) }
+{
+    let column = schema.column(pair.0)?;
+    Some(Key {
+        column,
+        bucket: bucket_of(&pair.1),
+    })
+}
+
+/// The place of the column's index.
+fn place_of_index(indexes: &[Index], column: u32) -> Option<usize>
+    ensures { result ≡ position (λ index. index.column == column) indexes.now }
+{
+    indexes.iter().position(|index| index.column == column)
+}
+
+/// The places that a change with that key looks at: a bucket, or all where no index is there.
+pub fn candidates<'a>(open_at: &'a [usize], indexes: &'a [Index], key: Option<Key>) -> &'a [usize]
+    requires buckets { All (λ index. length index.buckets.items ≡ 8191) indexes.now }
+    requires key { IfSome key (λ key. key.bucket < 8191) }
+    ensures { (vs : List Version) (change : Change) (columns : List Column)
+        → AreFound vs open_at.now indexes.now → IfSome key (IsKeyOf change columns)
+        → AreCandidates change columns vs result.now }
+{
+    let Some(key) = key else {
+        return open_at;
+    };
+    match place_of_index(indexes, key.column) {
+        Some(i) => indexes[i].buckets[key.bucket].as_slice(),
+        None => open_at,
+    }
+}
+
+/// Makes an index of each column that the change's conditions name, where memory is there.
+pub fn make_indexes(
+    alloc: Global,
+    indexes: &mut Vec<Index>,
+    versions: &[Version],
+    schema: &Schema,
+    change: &Change,
+)
+    requires few { length versions.now ≤ 4000000 }
+    requires before { All (IsIndex versions.now) indexes.old.items }
+    ensures { All (IsIndex versions.now) indexes.new.items }
+{
+    if versions.len() < FEW {
+        return;
+    }
+    for pair in conds_of(change) {
+        if let Some(column) = schema.column(pair.0) {
+            make_index(alloc, indexes, versions, column);
+        }
+    }
+}
+
+/// Makes the index of the column, unless it is there or memory is refused.
+fn make_index(alloc: Global, indexes: &mut Vec<Index>, versions: &[Version], column: u32)
+    requires few { length versions.now ≤ 4000000 }
+    requires before { All (IsIndex versions.now) indexes.old.items }
+    ensures { All (IsIndex versions.now) indexes.new.items }
+{
+    if place_of_index(indexes, column).is_some() {
+        return;
+    }
+    if let Ok(index) = Index::of(alloc, versions, column) {
+        let _ = indexes.push(index);
+    }
+}
+
+/// Leaves the places of open versions where the key leads.
+pub fn drop_closed_at(indexes: &mut [Index], versions: &[Version], key: Key)
+    requires key { key.bucket < 8191 }
+    requires before { All (IsIndex versions.now) indexes.old }
+    ensures { All (IsIndex versions.now) indexes.new }
+{
+    if let Some(i) = place_of_index(indexes, key.column) {
+        indexes[i].drop_closed(versions, key.bucket);
+    }
+}
+
+/// Adds the versions from that place on to all indexes. Where memory is refused none is left, and
+/// changes make them anew. The versions are as many as a change of a full table could make.
+pub fn extend_indexes(indexes: &mut Vec<Index>, versions: &[Version], from: usize)
+    requires few { length versions.now ≤ 4000000 }
+    requires inside { from ≤ length versions.now }
+    requires before { All (IsIndex (take from versions.now)) indexes.old.items }
+    ensures { All (IsIndex versions.now) indexes.new.items }
+{
+    for i in 0..indexes.len() {
+        if let Err(_) = indexes[i].extend(versions, from) {
+            indexes.clear();
+            return;
+        }
+    }
+}

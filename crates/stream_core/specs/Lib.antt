@@ -1,0 +1,3 @@
+pub mod Count
+pub mod Counted
+pub mod Faults

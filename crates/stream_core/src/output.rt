@@ -1,0 +1,61 @@
+//! Writes an answer.
+ghost use Rattle.std.specs.Prelude.{◌≡◌, ℕ, ◌+◌, ◌≤◌, ◌<◌, IfOk, IfErr, OnOk, OnErr, take, length};
+ghost use Rattle.std.specs.Io.KnownBytes.{Appends, Keeps};
+ghost use Rattle.stream_core.specs.Counted.{inner_of, failures_of};
+ghost use Rattle.stream_core.specs.Faults.{HasGrown, last_failures};
+
+use crate::counted::Counted;
+use crate::fault::RunFault;
+use crate::patience::Patience;
+use std::io::{ErrorKind, Write};
+
+/// One write of some bytes, tried again where it was interrupted.
+fn write_some<W: Write>(
+    writer: &mut Counted<W>,
+    patience: &mut Patience,
+    bytes: &[u8],
+) -> Result<usize, RunFault>
+    requires { 0 < length bytes.now }
+    ensures bound { IfOk result (λ n. (0 < n) × (n ≤ length bytes.now)) }
+    ensures ok { IfOk result (λ n. Appends (W.contents (inner_of writer.old)) (W.contents (inner_of writer.new)) (take n bytes.now)) }
+    ensures err { OnErr result (Keeps (W.contents (inner_of writer.old)) (W.contents (inner_of writer.new))) }
+    ensures fault { IfErr result (λ e. (e ≡ RunFault.WriteFault) × HasGrown (failures_of writer.old) (failures_of writer.new)) }
+    ensures counts { failures_of writer.old ≤ failures_of writer.new }
+    ensures tries { failures_of writer.new + patience.new.left ≤ failures_of writer.old + patience.old.left + last_failures result }
+{
+    loop {
+        match writer.write(bytes) {
+            Ok(0) => return Err(RunFault::WriteFault),
+            Ok(n) => return Ok(n),
+            Err(e) => {
+                if e.kind() != ErrorKind::Interrupted || !patience.try_again() {
+                    return Err(RunFault::WriteFault);
+                }
+            }
+        }
+    }
+}
+
+/// Writes all of the bytes.
+///
+/// # Errors
+///
+/// `WriteFault` where a write failed, took none of some bytes, or was interrupted and no patience is left:
+/// then a front of the bytes is written, which is less than all of them.
+pub fn write_all<W: Write>(
+    writer: &mut Counted<W>,
+    patience: &mut Patience,
+    bytes: &[u8],
+) -> Result<(), RunFault>
+    ensures ok { OnOk result (Appends (W.contents (inner_of writer.old)) (W.contents (inner_of writer.new)) bytes.now) }
+    ensures prefix { OnErr result ((taken : ℕ) × (taken < length bytes.now) × Appends (W.contents (inner_of writer.old)) (W.contents (inner_of writer.new)) (take taken bytes.now)) }
+    ensures fault { IfErr result (λ e. (e ≡ RunFault.WriteFault) × HasGrown (failures_of writer.old) (failures_of writer.new)) }
+    ensures counts { failures_of writer.old ≤ failures_of writer.new }
+    ensures tries { failures_of writer.new + patience.new.left ≤ failures_of writer.old + patience.old.left + last_failures result }
+{
+    let mut taken = 0;
+    while taken < bytes.len() {
+        taken += write_some(writer, patience, &bytes[taken..])?;
+    }
+    Ok(())
+}
