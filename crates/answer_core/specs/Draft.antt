@@ -3,7 +3,7 @@ use Rattle.std.specs.Prelude.{ℕ, ◌≡◌, List, [], ◌++◌}
 use Rattle.command_core.specs.Records.{Record}
 use Rattle.answer_core.specs.Records.{bytes_of}
 use Rattle.stream_core.specs.declared.fault.RunFault.{RunFault}
-use Rattle.stream_core.specs.declared.fault.RunFault.TheVariants.{ReadFault, TooLong, NoMemory, WriteFault}
+use Rattle.stream_core.specs.declared.fault.RunFault.TheVariants.{NoMemory}
 
 -- the bytes of the records so far, and the fields so far of the next one
 pub record Draft : Type 0 where
@@ -20,7 +20,5 @@ nothing = record { text = []; fields = [] }
 
 -- what is left of an answer whose writing stopped: after a refusal of memory nothing, else all
 abbrev pub left_by : RunFault → Draft → Draft
-left_by ReadFault draft = draft
-left_by TooLong draft = draft
 left_by NoMemory draft = nothing
-left_by WriteFault draft = draft
+left_by why draft = draft

@@ -5,7 +5,9 @@ use Rattle.std.proofs.lemmas.Bool.{cases_lt}
 use Rattle.std.proofs.lemmas.List.{get_or_read}
 use Rattle.dip_core.specs.declared.item.Item.{Item}
 use Rattle.dip_core.specs.Division.{class_at}
-use Rattle.dip_core.specs.Placing.{last_end, IsBestPartBelow, NoPartIsFreeBelow}
+use Rattle.dip_core.specs.Placing.{last_end, IsBestPart, NoPartIsFree}
+use Rattle.dip_core.specs.Search.{IsBestPartBelow, NoPartIsFreeBelow}
+use Rattle.dip_core.proofs.AddedLemmas.{class_at-past}
 
 -- two ends of one part are one
 pub same_end : (part : List Item) (e f : ℤ) → last_end part ≡ Some e → last_end part ≡ Some f → e ≡ f
@@ -50,3 +52,23 @@ pub last_end-class_at : (parts : List (List Item)) (n : ℕ) (part : List Item) 
 last_end-class_at parts n part end within is ends =
     let same : part ≡ class_at parts n = get_or_read parts n part within is [] in
     rw same at ends
+
+-- a part that ends is one
+pub is_part : (parts : List (List Item)) (k : ℕ) (end : ℤ) → last_end (class_at parts k) ≡ Some end → k < length parts
+is_part parts k end ends = elim (cases_lt k (length parts)) [
+  | inl less ↦ less
+  | inr past ↦ (let none = rw (class_at-past parts k past) at ends in absurd (cc))
+]
+
+-- the best of all parts
+pub best-all : (parts : List (List Item)) (start : ℤ) (k : ℕ) (end : ℤ) → IsBestPartBelow parts start (length parts) k end → IsBestPart parts start k
+best-all parts start k end below = record {
+  end = end;
+  ends = below.ends;
+  over = below.over;
+  best = λ j f ends over. below.best j f (is_part parts j f ends) ends over;
+}
+
+-- none of all parts has ended
+pub none-all : (parts : List (List Item)) (start : ℤ) → NoPartIsFreeBelow parts start (length parts) → NoPartIsFree parts start
+none-all parts start none = λ j f ends. none j f (is_part parts j f ends) ends

@@ -10,6 +10,7 @@ use Rattle.dip_core.specs.declared.item.Item.{Item}
 use Rattle.dip_core.specs.Item.{IsBefore, IsChain}
 use Rattle.dip_core.specs.Division.{class_at, IsFree, IsLatestEnd, IsFirstOf, IsPlaced, LiesInBestFree, OpensClass}
 use Rattle.dip_core.specs.Placing.{added, last_end, IsPlaceFor}
+use Rattle.dip_core.proofs.BestLemmas.{is_part}
 use Rattle.dip_core.proofs.AddedLemmas.{class_at-added_same, class_at-added_other, class_at-past, length-added_joined, length-added_opened}
 use Rattle.dip_core.proofs.ChainLemmas.{chain_far}
 use Rattle.dip_core.proofs.GrownLemmas.{Grown, free_old, free_new, latest_old, latest_new, first_old, first_new, contains_old}
@@ -101,7 +102,7 @@ module _ (parts : List (List Item)) (k : ℕ) (x : Item)
     (before : (j : ℕ) (y : Item) → Contains (class_at parts j) y → IsBefore y x)
     (placed : IsPlaced parts) where
   within : k ≤ length parts
-  within = elim place [ inl best ↦ (let w : k < length parts = best.1.within in omega arith) | inr opened ↦ (let e : k ≡ length parts = opened.0 in omega arith) ]
+  within = elim place [ inl best ↦ (let w : k < length parts = (is_part parts k best.end best.ends) in omega arith) | inr opened ↦ (let e : k ≡ length parts = opened.0 in omega arith) ]
 
   grown : (j : ℕ) → Grown (class_at parts j) (class_at (added parts k x) j) x
   grown j = elim (same_or_other j k) [
@@ -147,7 +148,7 @@ module _ (parts : List (List Item)) (k : ℕ) (x : Item)
     where
       before_new : (i j : ℕ) → i < j → j < length (added parts k x) → length parts ≤ j → i < length parts
       before_new i j below h past = elim place [
-        | inl best ↦ (let e : length (added parts k x) ≡ length parts = length-added_joined parts k x best.1.within in omega arith)
+        | inl best ↦ (let e : length (added parts k x) ≡ length parts = length-added_joined parts k x (is_part parts k best.end best.ends) in omega arith)
         | inr opened ↦
             let e : length (added parts (length parts) x) ≡ length parts + 1 = length-added_opened parts x in
             let f : length (added parts k x) ≡ length parts + 1 = subst (λ n. length (added parts n x) ≡ length parts + 1) (sym opened.0) e in
@@ -179,10 +180,10 @@ module _ (parts : List (List Item)) (k : ℕ) (x : Item)
       elim place [
         | inl best ↦ inl (record {
           free = free_new (class_at parts k) (class_at (added parts k x) k) x x (grown k) late
-              (free-from_end (class_at parts k) x best.0 (class_chained k best.1.within) (class_filled k best.1.within) (before k) best.1.ends best.1.over);
-          end = best.0;
-          latest = latest_new (class_at parts k) (class_at (added parts k x) k) x x (grown k) late best.0
-              (latest-from_end (class_at parts k) x best.0 (class_chained k best.1.within) (class_filled k best.1.within) (before k) best.1.ends);
+              (free-from_end (class_at parts k) x best.end (class_chained k (is_part parts k best.end best.ends)) (class_filled k (is_part parts k best.end best.ends)) (before k) best.ends best.over);
+          end = best.end;
+          latest = latest_new (class_at parts k) (class_at (added parts k x) k) x x (grown k) late best.end
+              (latest-from_end (class_at parts k) x best.end (class_chained k (is_part parts k best.end best.ends)) (class_filled k (is_part parts k best.end best.ends)) (before k) best.ends);
           best = λ j f h free latest.
               let there : j < length parts = was_there j x late free in
               let old = old_free j x late free in
@@ -190,14 +191,14 @@ module _ (parts : List (List Item)) (k : ℕ) (x : Item)
               let same = latest-last_end (class_at parts j) x (get_or (class_at parts j) (length (class_at parts j) - 1) x).period.to f (class_chained j there) (class_filled j there) (before j) ends
               (latest_old (class_at parts j) (class_at (added parts k x) j) x x (grown j) late f latest) in
               let over = end-from_free (class_at parts j) x (class_filled j there) (before j) old in
-              best.1.best j f there (ends ∙ ap Some (sym same)) (subst (λ e. e ≤ℤ x.period.from) (sym same) over);
+              best.best j f (ends ∙ ap Some (sym same)) (subst (λ e. e ≤ℤ x.period.from) (sym same) over);
         })
         | inr opened ↦ inr (record {
           none = λ j h free.
               let there : j < length parts = was_there j x late free in
               let over : (get_or (class_at parts j) (length (class_at parts j) - 1) x).period.to ≤ℤ x.period.from = end-from_free (class_at parts j) x (class_filled j there) (before j) (old_free j x late free) in
               let ends = last_end_is (class_at parts j) x (class_filled j there) in
-              let above : x.period.from <ℤ (get_or (class_at parts j) (length (class_at parts j) - 1) x).period.to = opened.1 j _ there ends in
+              let above : x.period.from <ℤ (get_or (class_at parts j) (length (class_at parts j) - 1) x).period.to = opened.1 j _ ends in
               absurd (omega (arith, ints));
           opens =
               let past : length parts ≤ k = (let e : k ≡ length parts = opened.0 in omega arith) in

@@ -13,6 +13,7 @@ use Rattle.dip_core.specs.declared.item.Item.{Item}
 use Rattle.dip_core.specs.Item.{crowd, IsBelow, IsChain, HasDistinctIds}
 use Rattle.dip_core.specs.Division.{all_of, class_at}
 use Rattle.dip_core.specs.Placing.{added, IsPlaceFor, NoPartIsFree, IsGreatest}
+use Rattle.dip_core.proofs.BestLemmas.{is_part}
 use Rattle.dip_core.specs.Kept.{opener, LastPartIsCrowded, ArePlaced}
 use Rattle.dip_core.proofs.AddedLemmas.{class_at-added_same, class_at-added_other, class_at-past, length-added_joined, length-added_opened, sum_by-added, all_of-added, All-added}
 use Rattle.dip_core.proofs.CrowdLemmas.{test-from_holds, crowd-all_of}
@@ -53,14 +54,14 @@ chain-push part x chain fits i d h =
 chained-added : (parts : List (List Item)) (k : ℕ) (x : Item) → All (λ part. 0 < length part) parts → All IsChain parts → IsPlaceFor parts x.period.from k → All IsChain (added parts k x)
 chained-added parts k x filled chained place = elim place [
   | inl best ↦
-      let w : k < length parts = best.1.within in
+      let w : k < length parts = (is_part parts k best.end best.ends) in
       All-added IsChain parts k x (omega arith) chained
       (chain-push (class_at parts k) x (All-get_or IsChain parts k [] w chained)
       (λ d h.
       let ends = last_end_is (class_at parts k) d h in
-      let known = best.1.ends in
-      let over : best.0 ≤ℤ x.period.from = best.1.over in
-      let same : best.0 ≡ (get_or (class_at parts k) (length (class_at parts k) - 1) d).period.to = cc in
+      let known = best.ends in
+      let over : best.end ≤ℤ x.period.from = best.over in
+      let same : best.end ≡ (get_or (class_at parts k) (length (class_at parts k) - 1) d).period.to = cc in
       omega (arith, ints)))
   | inr opened ↦
       let past : length parts ≤ k = (let e : k ≡ length parts = opened.0 in omega arith) in
@@ -109,7 +110,7 @@ all_hold parts x filled none_free above =
     contains-all_of parts j (get_or (class_at parts j) (length (class_at parts j) - 1) x) (Contains-get_or (class_at parts j) (length (class_at parts j) - 1) x last) in
     holder_counts (class_at parts j) (length (class_at parts j) - 1) x x.period.from last (
       from_le (get_or (class_at parts j) (length (class_at parts j) - 1) x) x (All-contains (λ y. IsBelow x y → ⊥) (all_of parts) _ above member),
-      none_free j (get_or (class_at parts j) (length (class_at parts j) - 1) x).period.to h (last_end_is (class_at parts j) x some),
+      none_free j (get_or (class_at parts j) (length (class_at parts j) - 1) x).period.to (last_end_is (class_at parts j) x some),
     )))
 
 crowd-added : (parts : List (List Item)) (k : ℕ) (x : Item) (t : ℤ) → crowd (all_of (added parts k x)) t ≡ crowd (all_of parts) t + cond (holds_at t x.period) 1 0
@@ -177,7 +178,7 @@ distinct-before parts k x distinct i =
     omega arith
 
 pub place-within : (parts : List (List Item)) (start : ℤ) (k : ℕ) → IsPlaceFor parts start k → k ≤ length parts
-place-within parts start k place = elim place [ inl best ↦ (let w : k < length parts = best.1.within in omega arith) | inr opened ↦ (let e : k ≡ length parts = opened.0 in omega arith) ]
+place-within parts start k place = elim place [ inl best ↦ (let w : k < length parts = (is_part parts k best.end best.ends) in omega arith) | inr opened ↦ (let e : k ≡ length parts = opened.0 in omega arith) ]
 
 pub ArePlaced-added : (parts : List (List Item)) (last : Option Item) (k : ℕ) (x : Item) → ArePlaced parts → IsGreatest parts last → ForSome last (λ z. IsBelow x z → ⊥) → IsPlaceFor parts x.period.from k → ArePlaced (added parts k x)
 ArePlaced-added parts last k x are greatest above place =
@@ -186,7 +187,7 @@ ArePlaced-added parts last k x are greatest above place =
       filled = filled-added parts k x (place-within parts x.period.from k place) are.filled;
       chained = chained-added parts k x are.filled are.chained place;
       crowded = elim place [
-        | inl best ↦ crowded-joined parts k x best.1.within are.filled are.crowded
+        | inl best ↦ crowded-joined parts k x (is_part parts k best.end best.ends) are.filled are.crowded
         | inr opened ↦ subst (λ n. LastPartIsCrowded (added parts n x)) (sym opened.0) (crowded-opened parts x are.filled opened.1 over)
       ];
       placed = λ distinct.

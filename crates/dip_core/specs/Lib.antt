@@ -2,3 +2,4 @@ pub mod Item
 pub mod Division
 pub mod Placing
 pub mod Kept
+pub mod Search

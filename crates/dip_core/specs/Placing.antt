@@ -1,5 +1,5 @@
 -- How items are placed one after another, none below the one before it.
-use Rattle.std.specs.Prelude.{◌≡◌, ◌⊎◌, ℕ, zero, suc, ◌-◌, ◌<◌, ◌≤◌, ℤ, ◌≤ℤ◌, ◌<ℤ◌, List, [], ◌∷◌, ◌++◌, length, All, Contains, Option, Some, MatchOption, option_map, slice_get}
+use Rattle.std.specs.Prelude.{◌≡◌, ◌⊎◌, ℕ, zero, suc, ◌-◌, ◌≤◌, ℤ, ◌≤ℤ◌, ◌<ℤ◌, List, [], ◌∷◌, ◌++◌, length, All, Contains, Option, Some, MatchOption, option_map, slice_get}
 use Rattle.dip_core.specs.declared.item.Item.{Item}
 use Rattle.dip_core.specs.Item.{IsBelow}
 use Rattle.dip_core.specs.Division.{all_of, class_at}
@@ -13,26 +13,17 @@ pub record Placing : Type 0 where
 abbrev pub last_end : List Item → Option ℤ
 last_end part = option_map (λ x. x.period.to) (slice_get part (length part - 1))
 
--- of the first n parts, part k ends at `end`, which is at or before the start, and of all such parts
--- it has the least last end, and of those the lowest number
-pub record IsBestPartBelow (parts : List (List Item)) (start : ℤ) (n k : ℕ) (end : ℤ) : Type 0 where
-  pub within : k < n
+-- part k has ended by the start: of all such parts it has the least last end, and of those the lowest
+-- number
+pub record IsBestPart (parts : List (List Item)) (start : ℤ) (k : ℕ) : Type 0 where
+  pub end : ℤ
   pub ends : last_end (class_at parts k) ≡ Some end
   pub over : end ≤ℤ start
-  pub best : (j : ℕ) (f : ℤ) → j < n → last_end (class_at parts j) ≡ Some f → f ≤ℤ start
-      → (end <ℤ f) ⊎ ((end ≡ f) × (k ≤ j))
+  pub best : (j : ℕ) (f : ℤ) → last_end (class_at parts j) ≡ Some f → f ≤ℤ start → (end <ℤ f) ⊎ ((end ≡ f) × (k ≤ j))
 
--- the same of all parts
-abbrev pub IsBestPart : List (List Item) → ℤ → ℕ → Type 0
-IsBestPart parts start k = (end : ℤ) × IsBestPartBelow parts start (length parts) k end
-
--- each of the first n parts ends after the start
-abbrev pub NoPartIsFreeBelow : List (List Item) → ℤ → ℕ → Type 0
-NoPartIsFreeBelow parts start n = (j : ℕ) (f : ℤ) → j < n → last_end (class_at parts j) ≡ Some f → start <ℤ f
-
--- the same of all parts
+-- each part ends after the start
 abbrev pub NoPartIsFree : List (List Item) → ℤ → Type 0
-NoPartIsFree parts start = NoPartIsFreeBelow parts start (length parts)
+NoPartIsFree parts start = (j : ℕ) (f : ℤ) → last_end (class_at parts j) ≡ Some f → start <ℤ f
 
 -- the part that an item from `start` on goes into: the best of those that have ended, else a new one
 abbrev pub IsPlaceFor : List (List Item) → ℤ → ℕ → Type 0

@@ -1,5 +1,6 @@
 ghost use Rattle.std.specs.Prelude.{◌≡◌, ◌+◌, ◌<◌, MatchOption, IfOk, OnErr, OnOk, length, vec_len};
-ghost use Rattle.dip_core.specs.Placing.{IsPlaceFor, IsBestPart, IsBestPartBelow, NoPartIsFree, NoPartIsFreeBelow, added};
+ghost use Rattle.dip_core.specs.Placing.{IsPlaceFor, IsBestPart, NoPartIsFree, added};
+ghost use Rattle.dip_core.specs.Search.{IsBestPartBelow, NoPartIsFreeBelow};
 
 use crate::class::Class;
 use crate::{Item, NoMemory};
