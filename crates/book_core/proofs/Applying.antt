@@ -127,7 +127,7 @@ slice_get-before [] more n k = absurd (omega arith)
 slice_get-before (x ∷ xs) more zero k = refl
 slice_get-before (x ∷ xs) more (suc n) k = slice_get-before xs more n (omega arith)
 
-IsLegal-push : (h : History) (c : Commit) → IsLegal h → refusal_of (length h) (state_after h) c.change ≡ None → IsLegal (h ++ c ∷ [])
+pub IsLegal-push : (h : History) (c : Commit) → IsLegal h → refusal_of (length h) (state_after h) c.change ≡ None → IsLegal (h ++ c ∷ [])
 IsLegal-push h c legal accepted n d e = elim (cases_lt n (length h)) [
   | inl k ↦ let le : n ≤ length h = omega arith in ap (λ l. refusal_of n (state_after l) d.change) (take-append-le n h (c ∷ []) le) ∙ legal n d (sym (slice_get-before h (c ∷ []) n k) ∙ e)
   | inr k ↦ let r = slice_get-push h c d n k e in let le : n ≤ length h = omega (arith, r.0) in

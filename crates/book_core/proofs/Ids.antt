@@ -26,14 +26,14 @@ pub RiseIn-lower : (lo k hi : ℕ) (rows : List Row) → k ≤ lo → RiseIn lo 
 RiseIn-lower lo k hi [] h s = tt
 RiseIn-lower lo k hi (r ∷ rs) h s = (omega (arith, s.0), s.1, s.2)
 
-RiseIn-filter : (p : Row → Bool) (lo hi : ℕ) (rows : List Row) → RiseIn lo hi rows → RiseIn lo hi (filter p rows)
+pub RiseIn-filter : (p : Row → Bool) (lo hi : ℕ) (rows : List Row) → RiseIn lo hi rows → RiseIn lo hi (filter p rows)
 RiseIn-filter p lo hi [] s = tt
 RiseIn-filter p lo hi (r ∷ rs) s = elim (p r) as (λ b. RiseIn lo hi (cond b (r ∷ filter p rs) (filter p rs))) [
   | true ↦ (s.0, s.1, RiseIn-filter p r.id hi rs s.2)
   | false ↦ RiseIn-lower r.id lo hi (filter p rs) (omega (arith, s.0)) (RiseIn-filter p r.id hi rs s.2)
 ]
 
-numbered_rise : (used : ℕ) (ds : List Draft) → RiseIn used (used + length ds) (numbered used ds)
+pub numbered_rise : (used : ℕ) (ds : List Draft) → RiseIn used (used + length ds) (numbered used ds)
 numbered_rise used [] = tt
 numbered_rise used (d ∷ ds) =
     let e : used + 1 + length ds ≡ used + suc (length ds) = omega arith in

@@ -232,7 +232,7 @@ few_shown : (n : ℕ) (vs : List Version) → length (shown n vs) ≤ length vs
 few_shown n [] = omega arith
 few_shown n (v ∷ vs) = elim (shows n v) as (λ b. length (cons_option (cond b (Some v.row) None) (shown n vs)) ≤ suc (length vs)) [ true ↦ omega (arith, few_shown n vs) | false ↦ omega (arith, few_shown n vs) ]
 
-rising-rows : (lo hi : ℕ) (rows : List Row) → RiseIn lo hi rows → IdsRise rows
+pub rising-rows : (lo hi : ℕ) (rows : List Row) → RiseIn lo hi rows → IdsRise rows
 rising-rows lo hi [] h k d lt = absurd (omega arith)
 rising-rows lo hi (r ∷ []) h k d lt = absurd (omega arith)
 rising-rows lo hi (r ∷ s ∷ rows) h zero d lt = h.2.0

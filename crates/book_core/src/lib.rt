@@ -6,6 +6,7 @@ mod apply;
 mod book;
 mod change;
 mod index;
+mod laws;
 mod log;
 mod making;
 mod places;
@@ -16,5 +17,6 @@ mod versions;
 
 pub use book::{Book, BookRefused, NoTable, RowsRefused, VersionsRefused, past_stays};
 pub use change::{Change, Commit, Pairs};
+pub use laws::{rows_rise, versions_are_one, versions_exist};
 pub use log::{ChangeKind, Entry, Log};
 pub use version::{Version, VersionList};

@@ -7,3 +7,4 @@ pub mod ClaimLemmas
 pub mod PassesLemmas
 pub mod VerdictLemmas
 pub mod OneLemmas
+pub mod ExistsLemmas

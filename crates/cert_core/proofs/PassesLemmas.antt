@@ -85,7 +85,7 @@ ids_of-classes [] = refl
 ids_of-classes (class ∷ classes) =
     ap (λ l. map (λ (x : Item). x.id) class ++ l) (ids_of-classes classes) ∙ sym (map-append (λ (x : Item). x.id) class (all_of classes))
 
-named_items : (items : List Item) (ids : List ℕ) → All (HasItem items) ids → (xs : List Item) × AreNamed items ids xs
+pub named_items : (items : List Item) (ids : List ℕ) → All (HasItem items) ids → (xs : List Item) × AreNamed items ids xs
 named_items items [] known = ([], record { members = All-nil (Contains items); named = refl })
 named_items items (id ∷ ids) known =
     let (k, x, h, is, same) = All-head (HasItem items) id ids known in
@@ -97,11 +97,11 @@ named_items items (id ∷ ids) known =
       },
     )
 
-All-front : {X : Type 0} (P : X → Type 0) (xs ys : List X) → All P (xs ++ ys) → All P xs
+pub All-front : {X : Type 0} (P : X → Type 0) (xs ys : List X) → All P (xs ++ ys) → All P xs
 All-front P [] ys all = All-nil P
 All-front P (x ∷ xs) ys all = All-cons P x xs (All-head P x (xs ++ ys) all) (All-front P xs ys (All-tail P x (xs ++ ys) all))
 
-All-back : {X : Type 0} (P : X → Type 0) (xs ys : List X) → All P (xs ++ ys) → All P ys
+pub All-back : {X : Type 0} (P : X → Type 0) (xs ys : List X) → All P (xs ++ ys) → All P ys
 All-back P [] ys all = all
 All-back P (x ∷ xs) ys all = All-back P xs ys (All-tail P x (xs ++ ys) all)
 

@@ -22,10 +22,10 @@ use Rattle.cert_core.proofs.PassesLemmas.{IsCertified-from_passes, Passes-from_c
 
 -- ---- each fact rules out one verdict
 
-not_wrong : (claim : List (List ℕ)) (certificate : Certificate) (n : ℕ) → length claim ≡ certificate.parts → IsWrongCount claim certificate n → ⊥
+pub not_wrong : (claim : List (List ℕ)) (certificate : Certificate) (n : ℕ) → length claim ≡ certificate.parts → IsWrongCount claim certificate n → ⊥
 not_wrong claim certificate n counted (is, other) = other (is ∙ counted)
 
-not_empty : (claim : List (List ℕ)) (k : ℕ) → All (λ part. 0 < length part) claim → IsEmptyPart claim k → ⊥
+pub not_empty : (claim : List (List ℕ)) (k : ℕ) → All (λ part. 0 < length part) claim → IsEmptyPart claim k → ⊥
 not_empty claim k filled is =
     let h : k < length claim = slice_get_within claim k [] is.empty in
     let some : 0 < length (get_or claim k []) = All-get_or (λ part. 0 < length part) claim k [] h filled in
@@ -67,7 +67,7 @@ not_crowded items parts (Some t) right (inr other) = other right.1
 -- ---- the first verdict
 
 -- no verdict of a lower rank, where each of them is ruled out
-first_verdict : (items : List Item) (claim : List (List ℕ)) (certificate : Certificate) (i : ℕ) → i ≤ 7
+pub first_verdict : (items : List Item) (claim : List (List ℕ)) (certificate : Certificate) (i : ℕ) → i ≤ 7
     → ((n : ℕ) → 0 < i → IsWrongCount claim certificate n → ⊥)
     → ((k : ℕ) → 1 < i → IsEmptyPart claim k → ⊥)
     → ((id : ℕ) → 2 < i → IsUnknown items (ids_of claim) id → ⊥)

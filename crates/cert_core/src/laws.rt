@@ -15,3 +15,8 @@ pub fn certified_division_is_least()
 pub fn verdict_is_one()
     ensures { (items : List Item) (claim : List (List ℕ)) (certificate : Certificate) (one other : Verdict) → IdsRise items → IsVerdict items claim certificate one → IsVerdict items claim certificate other → one ≡ other }
 {}
+
+/// Of items whose ids rise, a claim and a certificate, some verdict is the first that applies: so exactly one is.
+pub fn verdict_exists()
+    ensures { (items : List Item) (claim : List (List ℕ)) (certificate : Certificate) → IdsRise items → (verdict : Verdict) × IsVerdict items claim certificate verdict }
+{}

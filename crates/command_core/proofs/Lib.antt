@@ -2,8 +2,12 @@ pub mod BehindLemmas
 pub mod Cuts
 pub mod Cutting
 pub mod Faults
+pub mod ExistsLemmas
 pub mod FieldLemmas
 pub mod NamedColumns
+pub mod OneLemmas
+pub mod OneReading
 pub mod PortionLemmas
 pub mod Shrinking
+pub mod SomeReading
 pub mod TableLemmas

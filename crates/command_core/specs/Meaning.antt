@@ -191,6 +191,20 @@ abbrev pub Means : ℕ → List Record → List Record → Meaning → Type 0
 Means number own later meaning =
     MeansRecord number own meaning ⊎ MeansBlock number own meaning ⊎ MeansUnended number own later meaning
 
+-- records tell at most one way to take the first command's from the others, and one meaning of it
+abbrev pub MeaningIsOne : Type 0
+MeaningIsOne =
+    (number : ℕ) (own later taken left : List Record) (one other : Meaning) → own ++ later ≡ taken ++ left
+    → Means number own later one → Means number taken left other → (own ≡ taken) × (later ≡ left) × (one ≡ other)
+
+-- these records' first command: which of them it takes, and what it means
+pub record First (number : ℕ) (records : List Record) : Type 0 where
+  pub own : List Record
+  pub later : List Record
+  pub meaning : Meaning
+  pub taken : records ≡ own ++ later
+  pub means : Means number own later meaning
+
 -- how many records a command has behind its first, where it is a block that may be done
 abbrev pub behind_length : Meaning → ℕ
 behind_length (Load name body) = length body + 1

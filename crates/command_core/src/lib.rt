@@ -3,6 +3,7 @@
 
 mod command;
 mod fields;
+mod laws;
 mod lines;
 mod pairs;
 mod portions;
@@ -14,6 +15,7 @@ mod words;
 
 pub use command::{Command, Cut, next_command};
 pub use fields::natural_in;
+pub use laws::{meaning_exists, meaning_is_one, records_are_one, records_exist};
 pub use lines::{Line, Lines};
 pub use pairs::TextPairs;
 pub use records::{Records, read_records};

@@ -13,7 +13,7 @@ use Rattle.dip_core.proofs.AddedLemmas.{class_at-past}
 pub same_end : (part : List Item) (e f : ℤ) → last_end part ≡ Some e → last_end part ≡ Some f → e ≡ f
 same_end part e f p q = cc
 
-split_last : (P : ℕ → Type 0) (n : ℕ) → ((j : ℕ) → j < n → P j) → P n → (j : ℕ) → j < n + 1 → P j
+pub split_last : (P : ℕ → Type 0) (n : ℕ) → ((j : ℕ) → j < n → P j) → P n → (j : ℕ) → j < n + 1 → P j
 split_last P n below here j h =
     elim (cases_lt j n) [ inl less ↦ below j less | inr more ↦ let e : n ≡ j = omega arith in subst P e here ]
 

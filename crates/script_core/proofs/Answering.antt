@@ -45,12 +45,14 @@ division-told items given d records printed =
     record {
       classes = d.classes;
       instant = told.0;
-      division = d.division;
-      least = d.least;
-      placed = d.placed;
-      rising = d.rising;
-      none = (λ h. d.empty.0 (told.1.0.0 h), λ h. told.1.0.1 (d.empty.1 h));
-      crowded = told.1.1 items d.division;
+      dip = record {
+        division = d.division;
+        least = d.least;
+        placed = d.placed;
+        rising = d.rising;
+        none = (λ h. d.empty.0 (told.1.0.0 h), λ h. told.1.0.1 (d.empty.1 h));
+        crowded = told.1.1 items d.division;
+      };
       printed = told.2;
     }
 

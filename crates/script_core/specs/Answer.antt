@@ -1,13 +1,12 @@
 -- The records that answer a command, and the history after it.
-use Rattle.std.specs.Prelude.{ℕ, ◌+◌, ◌≡◌, ◌↔◌, ℤ, List, [], ◌∷◌, All, IfSome, IsNone, Option, Result, Ok, Err, length, nat_le, nat_lt}
+use Rattle.std.specs.Prelude.{ℕ, ◌+◌, ◌≡◌, ℤ, List, [], ◌∷◌, Option, Result, Ok, Err, length, nat_le, nat_lt}
 use Rattle.book_core.specs.History.{History}
 use Rattle.book_core.specs.Versions.{AreBetween, AreFromTo, log_of}
 use Rattle.book_core.specs.declared.version.Version.{Version}
 use Rattle.cert_core.specs.Verdict.{IsVerdict}
 use Rattle.cert_core.specs.declared.verdict.Certificate.{Certificate}
 use Rattle.cert_core.specs.declared.verdict.Verdict.{Verdict}
-use Rattle.dip_core.specs.Division.{IsDivision, IsInstant, IsLeast, IsPlaced}
-use Rattle.dip_core.specs.Item.{IsRising}
+use Rattle.dip_core.specs.Division.{IsDip}
 use Rattle.dip_core.specs.declared.item.Item.{Item}
 use Rattle.query_core.specs.Query.{items_of}
 use Rattle.command_core.specs.Fields.{both}
@@ -17,17 +16,11 @@ use Rattle.command_core.specs.declared.refusal.Fault.{Fault}
 use Rattle.answer_core.specs.PrintedRecords.{commit_records, division_records, error_record, ok_record, row_records, verdict_record, version_records}
 use Rattle.script_core.specs.State.{claim_of, delete_in, load_in, make_in, rows_on, rows_told, update_in, versions_told}
 
--- the records tell a division of the items: the least one, placed, each class by rising start, with
--- the least instant that as many items hold as there are classes
+-- the records tell the division of the items by placing, and its instant
 pub record PrintsDivision (items : List Item) (answer : List Record) : Type 0 where
   pub classes : List (List Item)
   pub instant : Option ℤ
-  pub division : IsDivision items classes
-  pub least : IsLeast items (length classes)
-  pub placed : IsPlaced classes
-  pub rising : All IsRising classes
-  pub none : IsNone instant ↔ (items ≡ [])
-  pub crowded : IfSome instant (IsInstant items (length classes))
+  pub dip : IsDip items classes instant
   pub printed : answer ≡ division_records (length items) classes instant
 
 -- the records tell the versions that are asked for

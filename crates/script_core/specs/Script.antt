@@ -54,10 +54,22 @@ pub record Finished (records : List Record) (dones : List Done) : Type 0 where
   pub steps : Steps (start_of records) dones place
   pub over : place.left ≡ []
 
+-- these bytes are the answers to all commands of a script
+pub record IsOutput (script output : List ℕ) : Type 0 where
+  pub records : List Record
+  pub parsed : AreScriptRecords script records
+  pub dones : List Done
+  pub finished : Finished records dones
+  pub is : output ≡ output_of dones
+
 -- the numbers that a run tells
 pub record Tells (outcome : Outcome) (dones : List Done) : Type 0 where
   pub commands : outcome.commands ≡ length dones
   pub errors : outcome.errors ≡ sum_by (λ done. errors_in done.answer) dones
+
+-- what a writer was given is a front of these bytes
+abbrev pub AppendsFront : Option (List ℕ) → Option (List ℕ) → List ℕ → Type 0
+AppendsFront old new bytes = (front : List ℕ) × (rest : List ℕ) × (bytes ≡ front ++ rest) × Appends old new front
 
 -- what a writer was given is the output of all these records
 pub record WritesAll (records : List Record) (old new : Option (List ℕ)) (outcome : Outcome) : Type 0 where

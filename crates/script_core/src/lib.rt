@@ -4,12 +4,14 @@
 mod changes;
 mod claims;
 mod failure;
+mod laws;
 mod outcome;
 mod pairs;
 mod queries;
 mod rows;
 mod session;
 
+pub use laws::{records_have_one_answer, runs_agree, runs_write_the_output, script_has_one_output};
 pub use outcome::Outcome;
 pub use session::run;
 pub use stream_core::{Counted, RunFault};

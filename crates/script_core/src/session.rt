@@ -1,12 +1,13 @@
 //! The commands of a script, one after another.
-ghost use Rattle.std.specs.Prelude.{◌≡◌, ◌+◌, ◌≤◌, ◌<◌, ◌^◌, [], IfErr, IfOk};
+ghost use Rattle.std.specs.Prelude.{◌≡◌, ℕ, ◌+◌, ◌≤◌, ◌<◌, ◌^◌, List, [], IfErr, IfOk, MatchResult, Some};
+ghost use Rattle.std.specs.Io.KnownBytes.{Appends};
 ghost use Rattle.command_core.specs.Command.{meaning_of};
 ghost use Rattle.stream_core.specs.Count.{last_count};
 ghost use Rattle.stream_core.specs.Counted.{failures_of, inner_of};
 ghost use Rattle.stream_core.specs.Faults.{last_failures};
 ghost use Rattle.command_core.specs.Meaning.{behind_length};
 ghost use Rattle.script_core.specs.Given.{Answered, IsAnswer, Printed};
-ghost use Rattle.script_core.specs.Script.{ExplainsAnswering, ExplainsRun, RunsAll, WritesAll};
+ghost use Rattle.script_core.specs.Script.{AppendsFront, ExplainsAnswering, ExplainsRun, IsOutput, RunsAll, WritesAll};
 
 use crate::changes::{delete, load, make, update};
 use crate::failure::Failure;
@@ -164,6 +165,12 @@ pub fn run<R: Read, W: Write>(
         (W.contents (inner_of writer.old)) (W.contents (inner_of writer.new))
         (failures_of reader.old) (failures_of reader.new)
         (failures_of writer.old) (failures_of writer.new)) }
+
+    // What is written is the script's output, and where the run stops before its end a front of it.
+    ensures output { (script output : List ℕ) → R.remaining (inner_of reader.old) ≡ Some script → IsOutput script output
+        → MatchResult result
+        (λ _. Appends (W.contents (inner_of writer.old)) (W.contents (inner_of writer.new)) output)
+        (λ _. AppendsFront (W.contents (inner_of writer.old)) (W.contents (inner_of writer.new)) output) }
 
     // Neither count falls.
     ensures counts { (failures_of reader.old ≤ failures_of reader.new) × (failures_of writer.old ≤ failures_of writer.new) }

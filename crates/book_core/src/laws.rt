@@ -1,0 +1,28 @@
+//! Laws of what a history shows.
+
+ghost use Rattle.std.specs.Prelude.{◌≡◌, ℕ, List, None, nat_le, nat_lt};
+ghost use Rattle.row_core.specs.Rows.{IdsRise};
+ghost use Rattle.book_core.specs.History.{History, IsLegal, rows_at, versions_refusal};
+ghost use Rattle.book_core.specs.Versions.{AreBetween, AreFromTo};
+ghost use Rattle.book_core.specs.declared.version.Version.{Version};
+
+/// The versions that are asked for are one list: no two lists are those between the same commits, or from one and before another.
+pub fn versions_are_one()
+    ensures between { (h : History) (at m n : ℕ) (name : List ℕ) (one other : List Version)
+        → AreBetween h at m n name one → AreBetween h at m n name other → one ≡ other }
+    ensures from_to { (h : History) (at m n : ℕ) (name : List ℕ) (one other : List Version)
+        → AreFromTo h at m n name one → AreFromTo h at m n name other → one ≡ other }
+{}
+
+/// Where versions of a legal history may be read there are some: so exactly one list is the answer.
+pub fn versions_exist()
+    ensures between { (h : History) (at m n : ℕ) (name : List ℕ) → IsLegal h → versions_refusal h at (nat_lt n m) name ≡ None
+        → (versions : List Version) × AreBetween h at m n name versions }
+    ensures from_to { (h : History) (at m n : ℕ) (name : List ℕ) → IsLegal h → versions_refusal h at (nat_le n m) name ≡ None
+        → (versions : List Version) × AreFromTo h at m n name versions }
+{}
+
+/// The rows that a commit shows are by rising id.
+pub fn rows_rise()
+    ensures { (h : History) (n : ℕ) (name : List ℕ) → IdsRise (rows_at h n name) }
+{}
