@@ -1,24 +1,46 @@
-//! Points and periods: texts, day numbers, and the parts of periods.
+//! Points and periods: texts, numbers, and the parts of periods.
 
 use period_core::{BadPoint, Period, Point};
+use std::alloc::Global;
 use std::process::Abort;
 use std::test::Fail;
+
+// The number of a text, and the text that is written of it.
+fn check_point(
+    rt: &(impl Abort + Alloc<A = Global>),
+    text: &[u8],
+    number: i64,
+    written: &[u8],
+) -> Result<(), Fail> {
+    let point = Point::parse(text)?;
+    assert_eq!(rt; point.number(), number);
+    let mut out = Vec::new(rt.alloc());
+    point.write(&mut out)?;
+    assert_eq!(rt; out.as_slice(), written);
+    Ok(())
+}
 
 #[test]
 fn numbers_and_texts(rt: HostRuntime) -> Result<(), Fail> {
     for (text, number) in [
-        (b"1970-01-01", 0),
-        (b"2024-01-01", 19_723),
-        (b"2024-02-29", 19_782),
-        (b"0001-01-01", -719_162),
-        (b"9999-12-31", 2_932_896),
+        (&b"1970-01-01"[..], 0),
+        (b"2024-01-01", 1_704_067_200),
+        (b"2024-02-29", 1_709_164_800),
+        (b"0001-01-01", -62_135_596_800),
+        (b"9999-12-31", 253_402_214_400),
+        (b"9999-12-31T23:59:59", 253_402_300_799),
+        (b"1969-12-31T23:59:59", -1),
+        (b"1970-01-01T00:00:01", 1),
+        (b"2024-01-01T12:34:56", 1_704_112_496),
     ] {
-        let point = Point::parse(text)?;
-        assert_eq!(rt; point.number(), number);
-        let mut out = Vec::new(rt.alloc());
-        point.write(&mut out)?;
-        assert!(rt; out.as_slice() == text.as_slice());
+        check_point(&rt, text, number, text)?;
     }
+    check_point(&rt, b"1970-01-01T00:00:00", 0, b"1970-01-01")?;
+    check_point(&rt, b"0001-01-01T00:00:00", -62_135_596_800, b"0001-01-01")
+}
+
+#[test]
+fn texts_of_no_point(rt: HostRuntime) {
     for text in [
         &b"2023-02-29"[..],
         b"0000-01-01",
@@ -30,10 +52,22 @@ fn numbers_and_texts(rt: HostRuntime) -> Result<(), Fail> {
         b"2024-00-10",
         b"2024-01-00",
         b"+024-01-01",
+        b"2024-01-01T24:00:00",
+        b"2024-01-01T23:59:60",
+        b"2024-01-01T23:60:00",
+        b"2024-01-01T12:00",
+        b"2024-01-01 12:00:00",
+        b"2024-01-01t12:00:00",
+        b"2024-01-01T12:00:00Z",
+        b"2024-01-01T12-00:00",
+        b"2024-01-01T12:00-00",
+        b"2024-01-01T1:00:000",
+        b"2024-01-01T",
+        b"2023-02-29T00:00:00",
+        b"T12:00:00",
     ] {
         assert_eq!(rt; Point::parse(text), Err(BadPoint));
     }
-    Ok(())
 }
 
 fn january(rt: &impl Abort, from: &[u8; 10], to: &[u8; 10]) -> Period {

@@ -52,7 +52,7 @@ pub enum Command<'a> {
         table: Name,
         asof: Option<u64>,
     },
-    /// The rows that hold on a day.
+    /// The rows that hold at a point.
     At {
         table: Name,
         point: Point,

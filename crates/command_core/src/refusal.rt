@@ -16,7 +16,7 @@ pub enum Refusal {
     BadNumber,
     /// A start is not before its end, or two commits are not in order.
     BadPeriod,
-    /// A text is no date.
+    /// A text is no point.
     BadPoint,
     /// A text value is no UTF-8.
     BadUtf8,

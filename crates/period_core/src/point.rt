@@ -1,8 +1,8 @@
-ghost use Rattle.std.specs.Prelude.{Some, ◌+◌, ◌%◌, vec_len, ◌≡◌, ◌≢◌, ◌↔◌, ◌<◌, ◌≤◌, ◌≤ℤ◌, ℕ, pos, length, ◌∷◌, [], ◌++◌, IsOk, IfOk, OnOk, OnErr, MatchOption, unsigned_abs};
+ghost use Rattle.std.specs.Prelude.{Some, ◌+◌, ◌%◌, vec_len, ◌≡◌, ◌≢◌, ◌↔◌, ◌<◌, ◌≤◌, ◌≤ℤ◌, ℕ, pos, length, ◌∷◌, [], ◌++◌, ◌⊎◌, List, IsOk, IfOk, OnOk, OnErr, MatchOption, unsigned_abs};
 ghost use Rattle.std.specs.Result.{result_ok};
 ghost use Rattle.std.specs.Vec.{vec_capacity};
 ghost use Rattle.jiff_core.specs.Date.{epoch_day};
-ghost use Rattle.period_core.specs.Point.{IsPointNumber, IsPointText, IsSomePointText, IsDate, YearMonthDay, date_text, day_number, digits, parts_of, point_of, point_text};
+ghost use Rattle.period_core.specs.Point.{HourMinuteSecond, IsDate, IsPointNumber, IsPointText, IsSomePointText, IsTime, IsTimeText, YearMonthDay, date_text, day_of, digits, midnight, parts_of, point_of, point_text, second_number, second_of, time_of_second, time_text};
 
 use crate::NoMemory;
 use jiff::civil::Date;
@@ -10,8 +10,11 @@ use jiff_core::civil;
 use std::alloc::Allocator;
 use std::marker::Model;
 
-/// A date of the proleptic Gregorian calendar, in the years 0001 to 9999. Contracts see its number: the
-/// days from 1970-01-01. Points are ordered by it.
+// The seconds of a day.
+const DAY: i64 = 86_400;
+
+/// A second of a date of the proleptic Gregorian calendar, in the years 0001 to 9999. Contracts see its
+/// number: the seconds from 1970-01-01T00:00:00. Points are ordered by it.
 #[derive(Clone, Copy, Debug, PartialEq, Eq, PartialOrd, Ord)]
 pub struct Point {
     number: i64,
@@ -30,34 +33,43 @@ impl Model for Point {
     ghost inverse = { λ n. record { number = n } };
 }
 
-/// A text is no date of the years 0001 to 9999.
+/// A text is no date of the years 0001 to 9999, with or without a time of the day.
 #[derive(Clone, Copy, Debug, PartialEq, Eq)]
 pub struct BadPoint;
 
 impl Point {
-    /// The date that the ten bytes `YYYY-MM-DD` name.
+    /// The second that the nineteen bytes `YYYY-MM-DDThh:mm:ss` name, or the midnight that the ten bytes
+    /// `YYYY-MM-DD` name.
     ///
     /// # Errors
     ///
-    /// `BadPoint` exactly where the bytes are the text of no date.
+    /// `BadPoint` exactly where the bytes are the text of no point.
     pub fn parse(text: &[u8]) -> Result<Point, BadPoint>
         ensures succeeds { IsOk result ↔ IsSomePointText text.now }
         ensures value { IfOk result (λ point. IsPointText text.now point) }
         ensures point { result_ok result ≡ point_of text.now }
-        ensures writes_back { IfOk result (λ point. point_text point ≡ text.now) }
+
+        // The text is the one that is written, or a midnight with its time.
+        ensures writes_back { IfOk result (λ point. (text.now ≡ point_text point) ⊎ (text.now ≡ point_text point ++ time_text midnight)) }
     {
-        let Some((year, month, day)) = parts(text) else {
+        let Some((front, behind)) = text.split_at_checked(10) else {
+            return Err(BadPoint);
+        };
+        let Some((year, month, day)) = parts(front) else {
             return Err(BadPoint);
         };
         let Some(date) = date_of(year, month, day) else {
             return Err(BadPoint);
         };
+        let Some((hour, minute, second)) = time_of(behind) else {
+            return Err(BadPoint);
+        };
         Ok(Point {
-            number: date.to_unix_epoch_day() as i64,
+            number: date.to_unix_epoch_day() as i64 * DAY + second_number(hour, minute, second),
         })
     }
 
-    /// The days from 1970-01-01, negative before it.
+    /// The seconds from 1970-01-01T00:00:00, negative before it.
     pub fn number(self) -> i64
         ensures value { result ≡ self }
         ensures bound { IsPointNumber result }
@@ -65,7 +77,7 @@ impl Point {
         self.number
     }
 
-    /// Appends the ten bytes `YYYY-MM-DD`.
+    /// Appends the ten bytes `YYYY-MM-DD` at midnight, else the nineteen bytes `YYYY-MM-DDThh:mm:ss`.
     ///
     /// # Errors
     ///
@@ -77,23 +89,39 @@ impl Point {
         // Memory is asked for only where there is no room.
         ensures room { vec_len out.old + length (point_text self.now) ≤ vec_capacity out.old → IsOk result }
 
-        // What is written is the point's text, and is read as the point.
+        // What is written is a text of the point, and is read as the point.
         ensures text { IsPointText (point_text self.now) self.now }
         ensures reads_back { point_of (point_text self.now) ≡ Some self.now }
+
+        // Each other text of the point is longer.
+        ensures shortest { (other : List ℕ) → IsPointText other self.now → (other ≡ point_text self.now) ⊎ (length (point_text self.now) < length other) }
     {
-        let text = text_of(&self.date());
-        out.extend_from_slice(&text)
+        let date = text_of(&self.date());
+        let second = self.second();
+        if second == 0 {
+            out.extend_from_slice(&date)
+        } else {
+            out.extend_from_slice(&with_time(&date, second))
+        }
     }
 
-    // The date with that number.
+    // The date of the second.
     fn date(&self) -> civil::Date
         ensures year { pos 1 ≤ℤ result.year }
-        ensures number { epoch_day result ≡ self.now }
+        ensures number { epoch_day result ≡ day_of self.now }
     {
-        match civil::Date::from_unix_epoch_day(self.number) {
+        match civil::Date::from_unix_epoch_day(self.number.div_euclid(DAY)) {
             Ok(date) => date,
             Err(_) => unreachable!(),
         }
+    }
+
+    // The second of its day.
+    fn second(&self) -> u32
+        ensures bound { result < 86_400 }
+        ensures value { result ≡ second_of self.now }
+    {
+        self.number.rem_euclid(DAY) as u32
     }
 }
 
@@ -136,6 +164,43 @@ fn date_of(year: u16, month: u8, day: u8) -> Option<civil::Date>
     Some(date.to_plain())
 }
 
+// The hour, the minute and the second that a text names, which there need not be.
+fn time_parts(text: &[u8]) -> Option<(u8, u8, u8)>
+    ensures { MatchOption result ((t : HourMinuteSecond) → text.now ≢ time_text t)
+        (λ p. (p.0 < 100) × (p.1 < 100) × (p.2 < 100) × (text.now ≡ time_text (record { hour = p.0; minute = p.1; second = p.2 }))) }
+{
+    if text.len() != 9 || text[0] != b'T' || text[3] != b':' || text[6] != b':' {
+        return None;
+    }
+    let hour = two_digits(text[1], text[2])?;
+    let minute = two_digits(text[4], text[5])?;
+    let second = two_digits(text[7], text[8])?;
+    Some((hour, minute, second))
+}
+
+// The time that the bytes behind a date name: midnight where there are none.
+fn time_of(text: &[u8]) -> Option<(u8, u8, u8)>
+    ensures { MatchOption result ((t : HourMinuteSecond) → IsTime t → IsTimeText text.now t → ⊥)
+        (λ p. IsTime (record { hour = p.0; minute = p.1; second = p.2 }) × IsTimeText text.now (record { hour = p.0; minute = p.1; second = p.2 })) }
+{
+    if text.is_empty() {
+        return Some((0, 0, 0));
+    }
+    let (hour, minute, second) = time_parts(text)?;
+    if hour < 24 && minute < 60 && second < 60 {
+        Some((hour, minute, second))
+    } else {
+        None
+    }
+}
+
+// The seconds from midnight.
+fn second_number(hour: u8, minute: u8, second: u8) -> i64
+    ensures { result ≡ pos (second_number (record { hour = hour; minute = minute; second = second })) }
+{
+    (hour as i64 * 60 + minute as i64) * 60 + second as i64
+}
+
 // The text of a date.
 fn text_of(date: &civil::Date) -> [u8; 10]
     requires { pos 1 ≤ℤ date.now.year }
@@ -153,6 +218,37 @@ fn text_of(date: &civil::Date) -> [u8; 10]
         b'-',
         digit((date.day / 10) as u16),
         digit(date.day as u16),
+    ]
+}
+
+// The text of a date, with that of the time behind it.
+fn with_time(date: &[u8; 10], second: u32) -> [u8; 19]
+    requires { second < 86_400 }
+    ensures { result ≡ date.now ++ time_text (time_of_second second) }
+{
+    let hour = (second / 3600) as u16;
+    let minute = (second / 60 % 60) as u16;
+    let second = (second % 60) as u16;
+    [
+        date[0],
+        date[1],
+        date[2],
+        date[3],
+        date[4],
+        date[5],
+        date[6],
+        date[7],
+        date[8],
+        date[9],
+        b'T',
+        digit(hour / 10),
+        digit(hour),
+        b':',
+        digit(minute / 10),
+        digit(minute),
+        b':',
+        digit(second / 10),
+        digit(second),
     ]
 }
 

@@ -1,6 +1,6 @@
 #![tactic(auto)]
 
-//! Queries over the rows of tables: what held on a day, and the division of a table's rows.
+//! Queries over the rows of tables: what held at a point, and the division of a table's rows.
 
 mod query;
 mod side;

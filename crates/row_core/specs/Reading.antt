@@ -24,7 +24,7 @@ refusal_of_value value.TooLong = row.TooLong
 refusal_of_value value.BadUtf8 = row.BadUtf8
 refusal_of_value value.NoMemory = row.NoMemory
 
--- the period of two dates, or the first refusal: the start's, the end's, and then that of both
+-- the period of two points, or the first refusal: the start's, the end's, and then that of both
 abbrev pub period_of : List ℕ → List ℕ → Result Period RowRefused
 period_of from to =
     result_and_then (λ start. result_and_then (λ end. ok_or (between start end) row.BadPeriod) (ok_or (point_of to) row.BadPoint))

@@ -50,9 +50,9 @@ impl AsSlice<u8> for Field {
 pub enum RowRefused {
     /// There are not two fields more than columns.
     WrongWidth,
-    /// The first or the second field is no date.
+    /// The first or the second field is no point.
     BadPoint,
-    /// The first date is not before the second.
+    /// The first point is not before the second.
     BadPeriod,
     /// The field of a number column is not what is printed of a number of 64 bits.
     BadNumber,
@@ -124,7 +124,7 @@ impl From<ValueRefused> for RowRefused {
 }
 
 impl Schema {
-    /// The row of the fields: two dates, and one field for each column. Want of memory is
+    /// The row of the fields: two points, and one field for each column. Want of memory is
     /// answered only where no field is refused.
     pub fn read_row<F: AsSlice<u8>>(&self, alloc: Global, fields: &[F]) -> Result<Draft, RowRefused>
         ensures { IsAnswerUnless result RowRefused.NoMemory (row_of self.now (map F.items fields.now)) }
@@ -139,7 +139,7 @@ impl Schema {
     }
 }
 
-// The period of two dates.
+// The period of two points.
 fn read_period(from: &[u8], to: &[u8]) -> Result<Period, RowRefused>
     ensures { result ≡ period_of from.now to.now }
 {

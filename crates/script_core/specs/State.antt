@@ -101,7 +101,7 @@ abbrev pub rows_told : ℕ → History → Option ℕ → List ℕ → Result (L
 rows_told number h asof name = let n = unwrap_or asof (length h) in
     refused_or (option_map (λ refused. fault number (rows_refusal refused)) (history.rows_refusal h n name)) (rows_at h n name)
 
--- those that hold on a day
+-- those that hold at a point
 abbrev pub rows_on : ℤ → List Row → List Row
 rows_on point rows = filter (λ row. holds_at point row.period) rows
 

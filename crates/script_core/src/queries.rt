@@ -58,7 +58,7 @@ pub(crate) fn rows(
     Ok(Answer::Rows(rows))
 }
 
-/// The rows of a table that hold on a day.
+/// The rows of a table that hold at a point.
 pub(crate) fn rows_on(
     alloc: Global,
     book: &Book,
