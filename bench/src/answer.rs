@@ -132,7 +132,7 @@ impl<W: Write> Answer<W> {
     }
 
     fn point(&mut self, point: Point) {
-        self.word(&point.text());
+        self.written(|text| point.write(text));
     }
 
     fn period(&mut self, period: Period) {

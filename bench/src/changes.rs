@@ -4,7 +4,7 @@ use crate::book::{Book, ChangeKind};
 use crate::csv::{Reader, Record};
 use crate::fields::{behind, is_end, name, period};
 use crate::refusal::{Fault, Refusal};
-use crate::table::{Column, Counts, LIMIT, Mark, Pair, Portion, Table};
+use crate::table::{Column, Counts, LIMIT, Mark, Pair, Portion, Table, find};
 use crate::values::{Kind, Value, Values};
 
 const MAX_COLUMNS: usize = 16;
@@ -17,35 +17,55 @@ fn kind(word: &[u8]) -> Result<Kind, Refusal> {
     }
 }
 
-/// `table,T` and then a name and a kind for each column.
+/// `table,T`, then a name and a kind for each column, and then `key` and the names of its columns.
 pub fn make(record: Record<'_>, book: &mut Book) -> Result<(), Refusal> {
-    if record.len() < 2 || !record.len().is_multiple_of(2) {
+    let (front, key) = split_key(record)?;
+    if front.len() < 2 || !front.len().is_multiple_of(2) {
         return Err(Refusal::BadCommand);
     }
-    let pairs = (2..record.len()).step_by(2);
     let mut columns = Vec::new();
-    for place in pairs {
-        columns.push((record.field(place), kind(record.field(place + 1))?));
+    for place in (2..front.len()).step_by(2) {
+        let values = Values::new(kind(front.field(place + 1))?);
+        columns.push(Column::new(front.field(place), values));
     }
-    let table = name(record.field(1))?;
-    for column in &columns {
-        name(column.0)?;
+    let table = name(front.field(1))?;
+    for column in columns.iter().map(|column| &*column.name).chain(key.iter()) {
+        name(column)?;
     }
     if columns.len() > MAX_COLUMNS {
         return Err(Refusal::TooMany);
     }
-    let is_twin = |place: usize| {
-        columns[..place]
-            .iter()
-            .any(|column| column.0 == columns[place].0)
-    };
-    if (1..columns.len()).any(is_twin) {
+    if (0..columns.len()).any(|place| find(&columns, &columns[place].name) != Some(place)) {
         return Err(Refusal::TwiceNamed);
     }
-    let columns = columns
-        .iter()
-        .map(|(name, kind)| Column::new(name, Values::new(*kind)));
-    book.make(Table::new(table, columns.collect()))
+    let key = key_columns(&columns, key)?;
+    book.make(Table::new(table, columns, key))
+}
+
+/// A record without its suffix `key,COLUMN..`, and the fields of these columns.
+fn split_key(record: Record<'_>) -> Result<(Record<'_>, Record<'_>), Refusal> {
+    let len = record.len();
+    let end = (2..len)
+        .step_by(2)
+        .find(|place| record.field(*place) == b"key");
+    match end {
+        Some(end) if end + 1 == len => Err(Refusal::BadCommand),
+        Some(end) => Ok((record.range(0..end), record.range(end + 1..len))),
+        None => Ok((record, record.range(len..len))),
+    }
+}
+
+/// The places of the columns of a key, where there is one.
+fn key_columns(columns: &[Column], names: Record<'_>) -> Result<Vec<usize>, Refusal> {
+    let mut places = Vec::new();
+    for name in names.iter() {
+        let place = find(columns, name).ok_or(Refusal::NoColumn)?;
+        if places.contains(&place) {
+            return Err(Refusal::TwiceNamed);
+        }
+        places.push(place);
+    }
+    Ok(places)
 }
 
 /// What the record of a load says, before its rows are looked at.
@@ -82,16 +102,25 @@ impl Load {
         Ok(())
     }
 
-    /// Accepts the rows, or takes them back where they are too many.
+    /// Accepts the rows, or takes them back where they are too many or two of one key overlap.
     pub fn close(self, book: &mut Book) -> Result<(), Refusal> {
         let is_full = book.is_full() || book.tables[self.place].len() > LIMIT;
-        if is_full {
-            self.take_back(book);
-            return Err(Refusal::Full);
+        let kept = if is_full {
+            Err(Refusal::Full)
+        } else {
+            book.tables[self.place].keep(&self.mark)
+        };
+        match kept {
+            Ok(added) => {
+                let added = added as u32;
+                book.commit(ChangeKind::Load, self.place, Counts { added, closed: 0 });
+                Ok(())
+            }
+            Err(refusal) => {
+                self.take_back(book);
+                Err(refusal)
+            }
         }
-        let added = book.tables[self.place].keep(&self.mark) as u32;
-        book.commit(ChangeKind::Load, self.place, Counts { added, closed: 0 });
-        Ok(())
     }
 
     pub fn take_back(self, book: &mut Book) {
@@ -212,9 +241,7 @@ fn change(
         return Err(Refusal::Full);
     }
     let commit = book.next_commit();
-    let counts = book.tables[place]
-        .change(commit, &portion)
-        .ok_or(Refusal::Full)?;
+    let counts = book.tables[place].change(commit, &portion)?;
     book.commit(kind, place, counts);
     Ok(())
 }

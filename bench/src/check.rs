@@ -100,7 +100,7 @@ fn first_overlap(table: &Table, claim: &Claim) -> Option<Verdict> {
 fn wrong_crowd(table: &Table, commit: u64, certificate: Certificate) -> Option<Verdict> {
     let is_empty = table.shown(commit).next().is_none();
     let holds = match certificate.instant {
-        Some(instant) => table.shown_on(commit, instant).count() as u64,
+        Some(instant) => table.shown_at(commit, instant).count() as u64,
         None => 0,
     };
     let is_right = match certificate.instant {

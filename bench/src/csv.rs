@@ -167,6 +167,12 @@ impl<W: Write> Writer<W> {
         self.text.push(b',');
     }
 
+    /// Adds a field that is written in its place and needs no quotes.
+    pub fn written(&mut self, write: impl FnOnce(&mut Vec<u8>)) {
+        write(&mut self.text);
+        self.text.push(b',');
+    }
+
     /// Adds a field, in quotes where it needs them.
     pub fn field(&mut self, field: &[u8]) {
         if !field

@@ -8,25 +8,25 @@ use std::collections::BinaryHeap;
 pub struct Division {
     pub ids: Vec<u32>,
     pub ends: Vec<usize>,
-    /// The first day that as many rows hold as there are parts.
+    /// The first point that as many rows hold as there are parts.
     pub instant: Option<Point>,
 }
 
-/// A row as one number, of which those of rows are ordered by start, then end, then id: days take 22
+/// A row as one number, of which those of rows are ordered by start, then end, then id: points take 39
 /// bits and ids 20.
 #[derive(Clone, Copy, PartialEq, Eq, PartialOrd, Ord)]
-pub struct Key(u64);
+pub struct Key(u128);
 
 impl Key {
     pub fn new(period: Period, id: u32) -> Key {
-        let day = |point: Point| (point.0 - Point::FIRST.0) as u64;
-        Key(day(period.from) << 42 | day(period.to) << 20 | u64::from(id))
+        let second = |point: Point| (point.0 - Point::FIRST.0) as u128;
+        Key(second(period.from) << 59 | second(period.to) << 20 | u128::from(id))
     }
 
     pub fn period(self) -> Period {
-        let point = |days: u64| Point((days & 0x3F_FFFF) as i32 + Point::FIRST.0);
+        let point = |seconds: u128| Point((seconds & 0x7F_FFFF_FFFF) as i64 + Point::FIRST.0);
         Period {
-            from: point(self.0 >> 42),
+            from: point(self.0 >> 59),
             to: point(self.0 >> 20),
         }
     }

@@ -49,7 +49,7 @@ pub fn natural(text: &[u8]) -> Result<u64, Refusal> {
     u64::try_from(integer(text)?).map_err(|_| Refusal::BadNumber)
 }
 
-/// A date, or `-` for none.
+/// A point, or `-` for none.
 pub fn instant(text: &[u8]) -> Result<Option<Point>, Refusal> {
     if text == b"-" {
         Ok(None)

@@ -1,8 +1,8 @@
 //! The script language of `dipq` in plain Rust, to compare its answers, time and memory with.
 //!
 //! It is written for speed with what is usual for each command: values by columns, periods packed
-//! beside them, a hash index for the columns that conditions name, a heap of last ends for `dip`, and
-//! rows found by their ids for `check`. Records are read from the script one by one and kept nowhere.
+//! beside them, a hash index for the columns that conditions name, a sorted map of periods for each key,
+//! a heap of last ends for `dip`, and rows found by their ids for `check`. Records are read from the script one by one and kept nowhere.
 //!
 //! It answers all commands and all refusals. Left out are the answers to want of memory, where it
 //! aborts, and the limit on interrupted calls, of which it tries each again.
@@ -14,6 +14,7 @@ mod check;
 mod csv;
 mod divide;
 mod fields;
+mod key;
 pub mod point;
 mod queries;
 mod refusal;

@@ -1,46 +1,102 @@
-//! Dates and periods of them.
+//! Points in time and periods of them.
 
-/// A date of the Gregorian calendar, as the number of days from 1970-01-01.
+const SECONDS_PER_DAY: i64 = 86_400;
+
+/// A second of a day of the Gregorian calendar, as the number of seconds from 1970-01-01T00:00:00.
 #[derive(Clone, Copy, Debug, PartialEq, Eq, PartialOrd, Ord)]
-pub struct Point(pub i32);
+pub struct Point(pub i64);
 
 impl Point {
     /// 0001-01-01.
-    pub const FIRST: Point = Point(-719_162);
-    /// 9999-12-31.
-    pub const LAST: Point = Point(2_932_896);
+    pub const FIRST: Point = Point(-62_135_596_800);
+    /// 9999-12-31T23:59:59.
+    pub const LAST: Point = Point(253_402_300_799);
 
-    /// The date that `YYYY-MM-DD` names.
+    /// The point so many days later.
+    pub fn after_days(self, days: u32) -> Point {
+        Point(self.0 + i64::from(days) * SECONDS_PER_DAY)
+    }
+
+    /// The point that `YYYY-MM-DD` or `YYYY-MM-DDThh:mm:ss` names.
     pub fn parse(text: &[u8]) -> Option<Point> {
-        let text: &[u8; 10] = text.try_into().ok()?;
-        if text[4] != b'-' || text[7] != b'-' {
-            return None;
-        }
-        let year = digits(&text[0..4])?;
-        let month = digits(&text[5..7])?;
-        let day = digits(&text[8..10])?;
-        let is_date =
-            year >= 1 && (1..=12).contains(&month) && (1..=days_in(year, month)).contains(&day);
-        is_date.then(|| Point(day_number(year, month, day)))
+        let (date, time) = text.split_first_chunk()?;
+        let (day, second) = (day(date)?, second(time)?);
+        Some(Point(i64::from(day) * SECONDS_PER_DAY + i64::from(second)))
     }
 
-    /// The date as `YYYY-MM-DD`.
-    pub fn text(self) -> [u8; 10] {
-        let (year, month, day) = date_of(self.0);
-        let digit = |number: i32| b'0' + (number % 10) as u8;
-        [
-            digit(year / 1000),
-            digit(year / 100),
-            digit(year / 10),
-            digit(year),
-            b'-',
-            digit(month / 10),
-            digit(month),
-            b'-',
-            digit(day / 10),
-            digit(day),
-        ]
+    /// Writes `YYYY-MM-DD` at midnight, else `YYYY-MM-DDThh:mm:ss`.
+    pub fn write(self, out: &mut Vec<u8>) {
+        out.extend_from_slice(&date_text(self.0.div_euclid(SECONDS_PER_DAY) as i32));
+        let second = self.0.rem_euclid(SECONDS_PER_DAY) as i32;
+        if second != 0 {
+            out.extend_from_slice(&time_text(second));
+        }
     }
+}
+
+/// The day that `YYYY-MM-DD` names, as the number of days from 1970-01-01.
+fn day(text: &[u8; 10]) -> Option<i32> {
+    if text[4] != b'-' || text[7] != b'-' {
+        return None;
+    }
+    let year = digits(&text[0..4])?;
+    let month = digits(&text[5..7])?;
+    let day = digits(&text[8..10])?;
+    let is_date =
+        year >= 1 && (1..=12).contains(&month) && (1..=days_in(year, month)).contains(&day);
+    is_date.then(|| day_number(year, month, day))
+}
+
+/// The second of the day that `Thh:mm:ss` names: the first where there is no text.
+fn second(text: &[u8]) -> Option<i32> {
+    if text.is_empty() {
+        return Some(0);
+    }
+    let text: &[u8; 9] = text.try_into().ok()?;
+    if text[0] != b'T' || text[3] != b':' || text[6] != b':' {
+        return None;
+    }
+    let hour = digits(&text[1..3])?;
+    let minute = digits(&text[4..6])?;
+    let second = digits(&text[7..9])?;
+    let is_time = hour < 24 && minute < 60 && second < 60;
+    is_time.then_some((hour * 60 + minute) * 60 + second)
+}
+
+fn date_text(number: i32) -> [u8; 10] {
+    let (year, month, day) = date_of(number);
+    [
+        digit(year / 1000),
+        digit(year / 100),
+        digit(year / 10),
+        digit(year),
+        b'-',
+        digit(month / 10),
+        digit(month),
+        b'-',
+        digit(day / 10),
+        digit(day),
+    ]
+}
+
+fn time_text(second: i32) -> [u8; 9] {
+    let (hour, minute, second) = (second / 3600, second / 60 % 60, second % 60);
+    [
+        b'T',
+        digit(hour / 10),
+        digit(hour),
+        b':',
+        digit(minute / 10),
+        digit(minute),
+        b':',
+        digit(second / 10),
+        digit(second),
+    ]
+}
+
+/// The last digit of a number.
+fn digit(number: i32) -> u8 {
+    b'0' + (number % 10) as u8
 }
 
 fn digits(text: &[u8]) -> Option<i32> {
@@ -83,7 +139,7 @@ fn date_of(number: i32) -> (i32, i32, i32) {
     (cycle * 400 + year + i32::from(month <= 2), month, day)
 }
 
-/// The days from one on and before another, of which there is always one.
+/// The points from one on and before another, of which there is always one.
 #[derive(Clone, Copy, Debug, PartialEq, Eq)]
 pub struct Period {
     pub from: Point,
@@ -103,17 +159,17 @@ impl Period {
         self.from < other.to && other.from < self.to
     }
 
-    /// The days of both.
+    /// The points of both.
     pub fn meet(self, other: Period) -> Option<Period> {
         Period::new(self.from.max(other.from), self.to.min(other.to))
     }
 
-    /// The days before the other starts.
+    /// The points before the other starts.
     pub fn before(self, other: Period) -> Option<Period> {
         Period::new(self.from, self.to.min(other.from))
     }
 
-    /// The days from the other's end on.
+    /// The points from the other's end on.
     pub fn after(self, other: Period) -> Option<Period> {
         Period::new(self.from.max(other.to), self.to)
     }
@@ -123,20 +179,47 @@ impl Period {
 mod tests {
     use super::*;
 
+    fn text(point: Point) -> String {
+        let mut text = Vec::new();
+        point.write(&mut text);
+        String::from_utf8(text).unwrap()
+    }
+
     #[test]
-    fn each_number_is_that_of_its_text() {
-        for number in Point::FIRST.0..=Point::LAST.0 {
-            let point = Point(number);
-            assert_eq!(Point::parse(&point.text()), Some(point));
+    fn each_day_is_that_of_its_text() {
+        let mut point = Point::FIRST;
+        while point <= Point::LAST {
+            assert_eq!(Point::parse(text(point).as_bytes()), Some(point));
+            point = point.after_days(1);
         }
     }
 
     #[test]
-    fn known_dates() {
-        assert_eq!(Point::parse(b"1970-01-01"), Some(Point(0)));
-        assert_eq!(Point::parse(b"2024-02-29"), Some(Point(19_782)));
-        assert_eq!(Point::parse(b"0001-01-01"), Some(Point::FIRST));
-        assert_eq!(Point::parse(b"9999-12-31"), Some(Point::LAST));
+    fn each_second_of_a_day_is_that_of_its_text() {
+        for second in -SECONDS_PER_DAY..SECONDS_PER_DAY {
+            let point = Point(second);
+            assert_eq!(Point::parse(text(point).as_bytes()), Some(point));
+        }
+    }
+
+    #[test]
+    fn known_points() {
+        for (name, number) in [
+            ("1970-01-01", 0),
+            ("1969-12-31T23:59:59", -1),
+            ("2024-02-29", 1_709_164_800),
+            ("2024-01-01T12:34:56", 1_704_112_496),
+            ("0001-01-01", Point::FIRST.0),
+            ("9999-12-31T23:59:59", Point::LAST.0),
+        ] {
+            assert_eq!(Point::parse(name.as_bytes()), Some(Point(number)));
+            assert_eq!(text(Point(number)), name);
+        }
+        assert_eq!(Point::parse(b"1970-01-01T00:00:00"), Some(Point(0)));
+    }
+
+    #[test]
+    fn texts_of_no_point() {
         for text in [
             "2023-02-29",
             "0000-12-31",
@@ -144,8 +227,18 @@ mod tests {
             "2024-1-01",
             "2024-04-31",
             "+024-04-01",
+            "2024-01-01T24:00:00",
+            "2024-01-01T23:60:00",
+            "2024-01-01T23:59:60",
+            "2024-01-01T12:00",
+            "2024-01-01 12:00:00",
+            "2024-01-01t12:00:00",
+            "2024-01-01T12:00:00Z",
+            "2024-01-01T+1:00:00",
+            "2024-01-01T",
+            "2023-02-29T00:00:00",
         ] {
-            assert_eq!(Point::parse(text.as_bytes()), None);
+            assert_eq!(Point::parse(text.as_bytes()), None, "{text}");
         }
     }
 }

@@ -18,13 +18,13 @@ pub fn rows<W: Write>(record: Record<'_>, book: &Book, answer: &mut Answer<W>) -
     Ok(answer.rows(table, table.shown(commit))?)
 }
 
-/// `at,T,DATE`
+/// `at,T,POINT`
 pub fn at<W: Write>(record: Record<'_>, book: &Book, answer: &mut Answer<W>) -> Result<(), Stop> {
     let (front, asof) = split_asof(record);
-    let [table, day] = behind(front)?;
-    let (table, day, asof) = (name(table)?, point(day)?, commit(asof)?);
+    let [table, at] = behind(front)?;
+    let (table, at, asof) = (name(table)?, point(at)?, commit(asof)?);
     let (table, commit) = book.read(table, asof)?;
-    Ok(answer.rows(table, table.shown_on(commit, day))?)
+    Ok(answer.rows(table, table.shown_at(commit, at))?)
 }
 
 /// `between,T,M,N`
@@ -86,11 +86,11 @@ impl Check {
     /// `check,T,PARTS,INSTANT`
     pub fn open(record: Record<'_>, book: &Book) -> Result<Check, Refusal> {
         let (front, asof) = split_asof(record);
-        let [table, parts, day] = behind(front)?;
+        let [table, parts, crowded] = behind(front)?;
         let table = name(table)?;
         let certificate = Certificate {
             parts: natural(parts)?,
-            instant: instant(day)?,
+            instant: instant(crowded)?,
         };
         let (_, commit) = book.read(table, commit(asof)?)?;
         Ok(Check {

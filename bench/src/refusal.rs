@@ -13,6 +13,7 @@ pub enum Refusal {
     BadUtf8,
     Full,
     Future,
+    KeyOverlap,
     NoColumn,
     NoTable,
     TableExists,

@@ -1,6 +1,8 @@
 //! Tables: all versions of their rows, by columns. The version at place i has the id i + 1.
 
+use crate::key::{Key, Version};
 use crate::point::{Period, Point};
+use crate::refusal::Refusal;
 use crate::values::{Value, Values};
 use std::collections::HashMap;
 
@@ -64,6 +66,7 @@ pub struct Counts {
 pub struct Table {
     pub name: Box<[u8]>,
     pub columns: Vec<Column>,
+    key: Option<Key>,
     periods: Vec<Period>,
     spans: Vec<Span>,
     /// The open versions, by place, and at most as many closed ones.
@@ -104,11 +107,18 @@ impl Column {
     }
 }
 
+/// The place of the column of a name.
+pub fn find(columns: &[Column], name: &[u8]) -> Option<usize> {
+    columns.iter().position(|column| *column.name == *name)
+}
+
 impl Table {
-    pub fn new(name: &[u8], columns: Vec<Column>) -> Table {
+    /// A table of these columns, and with a key of those at some places, if there are any.
+    pub fn new(name: &[u8], columns: Vec<Column>, key: Vec<usize>) -> Table {
         Table {
             name: name.into(),
             columns,
+            key: (!key.is_empty()).then(|| Key::new(key)),
             periods: Vec::new(),
             spans: Vec::new(),
             open: Vec::new(),
@@ -122,7 +132,7 @@ impl Table {
     }
 
     pub fn column(&self, name: &[u8]) -> Option<usize> {
-        self.columns.iter().position(|column| *column.name == *name)
+        find(&self.columns, name)
     }
 
     pub fn period(&self, place: usize) -> Period {
@@ -141,8 +151,8 @@ impl Table {
             .map(|(place, _)| place)
     }
 
-    /// The places of those that hold on a day.
-    pub fn shown_on(&self, commit: u64, point: Point) -> impl Iterator<Item = usize> {
+    /// The places of those that hold at a point.
+    pub fn shown_at(&self, commit: u64, point: Point) -> impl Iterator<Item = usize> {
         let periods = self.periods.iter().enumerate();
         periods
             .filter(move |(place, period)| period.holds(point) && self.spans[*place].holds(commit))
@@ -185,8 +195,9 @@ impl Table {
     }
 
     /// Keeps what was added since the mark, and tells how many versions that is.
-    pub fn keep(&mut self, mark: &Mark) -> usize {
-        self.keep_from(mark.versions)
+    pub fn keep(&mut self, mark: &Mark) -> Result<usize, Refusal> {
+        self.exchange_keys(&[], mark.versions)?;
+        Ok(self.keep_from(mark.versions))
     }
 
     fn keep_from(&mut self, first: usize) -> usize {
@@ -212,19 +223,46 @@ impl Table {
         }
     }
 
+    /// Takes the closed versions out of the key, and opens those from a place on in it. Where one of
+    /// these overlaps another, the key is as it was before.
+    fn exchange_keys(&mut self, closed: &[u32], first: usize) -> Result<(), Refusal> {
+        let Some(key) = &mut self.key else {
+            return Ok(());
+        };
+        let version = |place: usize| Version {
+            columns: &self.columns,
+            place,
+            period: self.periods[place],
+        };
+        for place in closed {
+            key.close(version(*place as usize));
+        }
+        let opened = first..self.periods.len();
+        let Some(overlap) = opened.clone().find(|place| !key.open(version(*place))) else {
+            return Ok(());
+        };
+        for place in first..overlap {
+            key.close(version(place));
+        }
+        for place in closed {
+            key.open(version(*place as usize));
+        }
+        Err(Refusal::KeyOverlap)
+    }
+
     // Changes of a portion
 
-    /// Makes a change of a portion, unless the versions would be too many.
-    pub fn change(&mut self, commit: u32, portion: &Portion<'_>) -> Option<Counts> {
+    /// Makes a change of a portion, unless the versions would be too many or two of one key overlap.
+    pub fn change(&mut self, commit: u32, portion: &Portion<'_>) -> Result<Counts, Refusal> {
         let taken = self.touched(portion);
         let parts: usize = taken
             .iter()
             .map(|place| self.count_parts(*place, portion))
             .sum();
         if self.len() + parts > LIMIT {
-            return None;
+            return Err(Refusal::Full);
         }
-        let first = self.len();
+        let mark = self.mark();
         let sets = portion.sets.as_ref().map(|sets| self.by_column(sets));
         let mut first_set = None;
         for place in &taken {
@@ -236,9 +274,14 @@ impl Table {
                 &mut first_set,
             );
         }
-        let added = self.keep_from(first);
+        if let Err(refusal) = self.exchange_keys(&taken, mark.versions) {
+            self.reopen(&taken);
+            self.take_back(&mark);
+            return Err(refusal);
+        }
+        let added = self.keep_from(mark.versions);
         self.forget_closed(taken.len());
-        Some(Counts {
+        Ok(Counts {
             added: added as u32,
             closed: taken.len() as u32,
         })
@@ -292,6 +335,12 @@ impl Table {
         self.spans[place].to == OPEN
             && self.periods[place].overlaps(portion.period)
             && portion.conditions.iter().all(meets)
+    }
+
+    fn reopen(&mut self, places: &[u32]) {
+        for place in places {
+            self.spans[*place as usize].to = OPEN;
+        }
     }
 
     /// Forgets the closed versions among the open ones where they are the most.

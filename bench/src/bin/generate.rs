@@ -1,21 +1,25 @@
 //! Writes a script of a kind, the same one for the same words:
 //!
-//!     generate KIND [--rows N] [--overlap N] [--columns N] [--updates N] [--queries N] [--seed N]
+//!     generate KIND [--rows N] [--overlap N] [--columns N] [--key N] [--updates N] [--queries N] [--seed N]
 //!
 //! Rows start on random days of a range that grows with their number, so that on each day about
 //! `overlap` of them hold. Columns are a text and a number in turn, of which the first is the row's own
-//! key. All kinds begin with the table, and then:
+//! name; the first `key` of them are the table's key. All kinds begin with the table, and then:
 //!
 //! - `rows`, `at`, `dip`, `log`: a load of the rows, and so many queries;
 //! - `between`: a load of the rows, a change of all of them, and queries for all versions;
 //! - `singles`: so many loads of one row;
-//! - `keyed`: a load of the rows, and so many updates of one row, found by its key;
+//! - `named`: a load of the rows, and so many updates of one row, found by its name;
+//! - `renamed`: a load of the rows, and so many updates that give one row another name;
 //! - `portions`: a load of the rows, and so many updates of a portion of 30 days, without conditions;
 //! - `past`: a load of half of the rows, a change of all of them, and queries as of the load.
 
 use bench::point::Point;
 use std::fmt::Display;
 use std::io::{self, BufWriter, Write};
+
+/// The days from 0001-01-01 to 9999-12-31.
+const LAST_DAY: u64 = 3_652_058;
 
 /// Days of the range for each row.
 const SPREAD: u64 = 3;
@@ -52,6 +56,7 @@ struct Options {
     rows: u64,
     overlap: u64,
     columns: u64,
+    key: u64,
     updates: u64,
     queries: u64,
     seed: u64,
@@ -65,8 +70,11 @@ struct Script<W: Write> {
 
 impl<W: Write> Script<W> {
     fn day(&self, days: u64) -> impl Display + use<W> {
-        let point = Point(Point::FIRST.0 + days as i32).min(Point::LAST);
-        String::from_utf8_lossy(&point.text()).into_owned()
+        let mut text = Vec::new();
+        Point::FIRST
+            .after_days(days.min(LAST_DAY) as u32)
+            .write(&mut text);
+        String::from_utf8_lossy(&text).into_owned()
     }
 
     fn range(&self) -> u64 {
@@ -79,16 +87,20 @@ impl<W: Write> Script<W> {
             let kind = if column % 2 == 0 { "text" } else { "int" };
             write!(self.out, ",c{column},{kind}")?;
         }
+        for column in 0..self.options.key {
+            let word = if column == 0 { ",key" } else { "" };
+            write!(self.out, "{word},c{column}")?;
+        }
         writeln!(self.out)
     }
 
-    fn row(&mut self, key: u64) -> io::Result<()> {
+    fn row(&mut self, number: u64) -> io::Result<()> {
         let from = self.numbers.below(self.range());
         let len = 1 + self.numbers.below(2 * SPREAD * self.options.overlap - 1);
         write!(self.out, "row,{},{}", self.day(from), self.day(from + len))?;
         for column in 0..self.options.columns {
             match column {
-                0 => write!(self.out, ",{}", name_of(key))?,
+                0 => write!(self.out, ",{}", name_of(number))?,
                 _ if column % 2 == 0 => write!(self.out, ",text{}", self.numbers.below(1000))?,
                 _ => write!(self.out, ",{}", self.numbers.below(100_000))?,
             }
@@ -98,28 +110,40 @@ impl<W: Write> Script<W> {
 
     fn load(&mut self, rows: u64) -> io::Result<()> {
         writeln!(self.out, "load,t")?;
-        for key in 0..rows {
-            self.row(key)?;
+        for number in 0..rows {
+            self.row(number)?;
         }
         writeln!(self.out, "end")
     }
 
     fn singles(&mut self) -> io::Result<()> {
-        for key in 0..self.options.updates {
+        for number in 0..self.options.updates {
             writeln!(self.out, "load,t")?;
-            self.row(key)?;
+            self.row(number)?;
             writeln!(self.out, "end")?;
         }
         Ok(())
     }
 
-    fn keyed(&mut self) -> io::Result<()> {
+    fn named(&mut self) -> io::Result<()> {
         for _ in 0..self.options.updates {
-            let key = name_of(self.numbers.below(self.options.rows));
+            let name = name_of(self.numbers.below(self.options.rows));
             let number = self.numbers.below(100_000);
             writeln!(
                 self.out,
-                "update,t,0001-01-01,9999-12-31,set,c1,{number},where,c0,{key}"
+                "update,t,0001-01-01,9999-12-31,set,c1,{number},where,c0,{name}"
+            )?;
+        }
+        Ok(())
+    }
+
+    fn renamed(&mut self) -> io::Result<()> {
+        let rows = self.options.rows;
+        for update in 0..self.options.updates {
+            let (old, new) = (name_of(update), name_of(rows + update));
+            writeln!(
+                self.out,
+                "update,t,0001-01-01,9999-12-31,set,c0,{new},where,c0,{old}"
             )?;
         }
         Ok(())
@@ -163,7 +187,8 @@ impl<W: Write> Script<W> {
             "dip" => self.load(rows).and_then(|()| self.queries("dip,t")),
             "log" => self.singles().and_then(|()| self.queries("log")),
             "singles" => self.singles(),
-            "keyed" => self.load(rows).and_then(|()| self.keyed()),
+            "named" => self.load(rows).and_then(|()| self.named()),
+            "renamed" => self.load(rows).and_then(|()| self.renamed()),
             "portions" => self.load(rows).and_then(|()| self.portions()),
             "past" => {
                 self.load(rows / 2)?;
@@ -181,13 +206,13 @@ impl<W: Write> Script<W> {
     }
 }
 
-/// A text of its own for each key; every fourth needs quotes.
-fn name_of(key: u64) -> String {
-    let surname = SURNAMES[(key % 8) as usize];
-    if key.is_multiple_of(4) {
-        format!("\"{surname}, {key}\"")
+/// A text of its own for each number; every fourth needs quotes.
+fn name_of(number: u64) -> String {
+    let surname = SURNAMES[(number % 8) as usize];
+    if number.is_multiple_of(4) {
+        format!("\"{surname}, {number}\"")
     } else {
-        format!("{surname} {key}")
+        format!("{surname} {number}")
     }
 }
 
@@ -196,6 +221,7 @@ fn read_options(words: &[String]) -> Option<Options> {
         rows: 10_000,
         overlap: 10,
         columns: 2,
+        key: 0,
         updates: 0,
         queries: 0,
         seed: 1,
@@ -206,6 +232,7 @@ fn read_options(words: &[String]) -> Option<Options> {
             "--rows" => &mut options.rows,
             "--overlap" => &mut options.overlap,
             "--columns" => &mut options.columns,
+            "--key" => &mut options.key,
             "--updates" => &mut options.updates,
             "--queries" => &mut options.queries,
             "--seed" => &mut options.seed,
@@ -213,13 +240,14 @@ fn read_options(words: &[String]) -> Option<Options> {
         };
         *option = number.parse().ok()?;
     }
-    let is_made = options.rows > 0 && options.overlap > 0 && options.columns <= 16;
+    let is_table = options.columns <= 16 && options.key <= options.columns;
+    let is_made = options.rows > 0 && options.overlap > 0 && is_table;
     is_made.then_some(options)
 }
 
 fn main() -> Result<(), String> {
     let words: Vec<String> = std::env::args().skip(1).collect();
-    let usage = "usage: generate KIND [--rows N] [--overlap N] [--columns N] [--updates N] [--queries N] [--seed N]";
+    let usage = "usage: generate KIND [--rows N] [--overlap N] [--columns N] [--key N] [--updates N] [--queries N] [--seed N]";
     let (kind, rest) = words.split_first().ok_or(usage)?;
     let options = read_options(rest).ok_or(usage)?;
     let mut script = Script {

@@ -166,12 +166,7 @@ fn tells_the_first_fault_of_a_query(rt: HostRuntime) -> Result<(), Fail> {
 }
 
 #[test]
-fn divides_days_by_the_second(rt: HostRuntime) -> Result<(), Fail> {
-    check(
-        &rt,
-        b"table,t\nload,t\nrow,2024-01-01,2024-01-01T12:00:00\nrow,2024-01-01T12:00:00,2024-01-02T00:00:00\nrow,2024-01-01T11:59:59,2024-01-01T12:00:01\nend\ndip,t\nrows,t\nat,t,2024-01-01T12:00:00\nat,t,2024-01-01T00:00:00\n",
-        b"ok,1\nok,2\ndip,3,2,2024-01-01T11:59:59\npart,0,1,2\npart,1,3\nrow,1,2024-01-01,2024-01-01T12:00:00\nrow,2,2024-01-01T12:00:00,2024-01-02\nrow,3,2024-01-01T11:59:59,2024-01-01T12:00:01\nend,3\nrow,2,2024-01-01T12:00:00,2024-01-02\nrow,3,2024-01-01T11:59:59,2024-01-01T12:00:01\nend,2\nrow,1,2024-01-01,2024-01-01T12:00:00\nend,1\n",
-    )?;
+fn tells_a_time_that_no_day_has(rt: HostRuntime) -> Result<(), Fail> {
     check(
         &rt,
         b"table,t\nload,t\nrow,2024-01-01,2024-01-01T24:00:00\nend\ncheck,t,0,2024-01-01T12:00\nend\nload,t\nrow,2024-01-01T00:00:00,2024-01-01\nend\nat,t,2024-01-01 12:00:00\n",

@@ -12,6 +12,8 @@ mod damages;
 #[cfg(test)]
 mod divisions;
 #[cfg(test)]
+mod keys;
+#[cfg(test)]
 mod pasts;
 #[cfg(test)]
 mod points;

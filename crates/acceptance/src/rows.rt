@@ -2,8 +2,8 @@
 
 use period_core::{Period, Point};
 use row_core::{
-    BadName, Draft, Drafts, Field, Kind, Name, Row, RowList, RowRefused, Schema, SchemaRefused,
-    Text, TextRefused, Value, ValueRefused, Values,
+    BadName, Draft, Drafts, Field, KeyRefused, Kind, Name, Row, RowList, RowRefused, Schema,
+    SchemaRefused, Text, TextRefused, Value, ValueRefused, Values,
 };
 use std::alloc::Global;
 use std::convert::AsSlice;
@@ -49,6 +49,33 @@ fn knows_columns(rt: HostRuntime) -> Result<(), Fail> {
     assert_eq!(rt; twice.err(), Some(SchemaRefused::TwiceNamed));
     let many = Schema::new(rt.alloc(), &[column; 17]);
     assert_eq!(rt; many.err(), Some(SchemaRefused::TooMany));
+    Ok(())
+}
+
+#[test]
+fn knows_keys(rt: HostRuntime) -> Result<(), Fail> {
+    let [c, d, e] = [Name::parse(b"c")?, Name::parse(b"d")?, Name::parse(b"e")?];
+    let none = columns(rt.alloc())?.with_key(rt.alloc(), &[])?;
+    assert_eq!(rt; none.key_len(), 0);
+    assert!(rt; !none.has_key());
+    assert_eq!(rt; none.as_slice(), columns(rt.alloc())?.as_slice());
+    let first = columns(rt.alloc())?.with_key(rt.alloc(), &[c])?;
+    assert_eq!(rt; (first.key_len(), first.key_column(0)), (1, 0));
+    let both = first.with_key(rt.alloc(), &[d, c])?;
+    assert!(rt; both.has_key());
+    assert_eq!(rt; both.key_len(), 2);
+    assert_eq!(rt; (both.key_column(0), both.key_column(1)), (1, 0));
+    let copy = both.copy(rt.alloc())?;
+    assert_eq!(rt; copy.as_slice(), both.as_slice());
+    assert_eq!(rt; copy.key_places(rt.alloc())?.as_slice(), [1, 0].as_slice());
+    for (names, refused) in [
+        (&[e][..], KeyRefused::NoColumn),
+        (&[c, e, c][..], KeyRefused::NoColumn),
+        (&[c, c, e][..], KeyRefused::TwiceNamed),
+    ] {
+        let wrong = columns(rt.alloc())?.with_key(rt.alloc(), names);
+        assert_eq!(rt; wrong.err(), Some(refused));
+    }
     Ok(())
 }
 

@@ -1,8 +1,8 @@
 //! Prints divisions, and the verdicts on claimed ones.
 ghost use Rattle.std.specs.Prelude.{◌≡◌, [], ◌∷◌, ℤ, OnOk, Option, codes, decimal, map};
-ghost use Rattle.answer_core.specs.Answer.{IsInstantOf};
 ghost use Rattle.answer_core.specs.Draft.{Adds};
 ghost use Rattle.answer_core.specs.PrintedRecords.{division_records, instant_text, part_record, verdict_record};
+ghost use Rattle.dip_core.specs.Division.{IsInstantOf};
 
 use crate::writer::AnswerWriter;
 use cert_core::Verdict;

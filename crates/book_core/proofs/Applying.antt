@@ -1,5 +1,5 @@
 -- Lemmas for the functions that change a book.
-use Rattle.std.proofs.Common.{◌≡◌, ℕ, ◌+◌, ◌<◌, ◌≤◌, List, [], ◌∷◌, ◌++◌, length, map, Bool, true, false, ◌&&◌, ◌||◌, not, cond, Option, Some, None, refl, ap, sym, ◌∙◌, inl, inr, subst, arith, ltb, leb, get_or, set, zero, suc}
+use Rattle.std.proofs.Common.{◌≡◌, ℕ, ◌+◌, ◌<◌, ◌≤◌, List, [], ◌∷◌, ◌++◌, length, map, Bool, true, false, ◌||◌, not, cond, Option, Some, None, refl, ap, sym, ◌∙◌, inl, inr, subst, arith, ltb, leb, get_or, set, zero, suc}
 use Rattle.std.specs.Prelude.{IfSome, is_none, option_map, slice_get, flat_map, position}
 use Rattle.std.specs.List.{position_from, AllByRecursion, list_all}
 use Rattle.std.proofs.lemmas.Bool.{or_parts, leb-false, ltb-false, cases_lt}
@@ -8,14 +8,13 @@ use Rattle.std.proofs.lemmas.Iterator.Adapters.{position_from-zero}
 use Rattle.row_core.specs.Name.{same_name}
 use Rattle.row_core.specs.Schema.{fits}
 use Rattle.row_core.specs.declared.draft.Draft.{Draft}
-use Rattle.book_core.specs.State.{State, Table, table_of, refusal_of, tests_of, with_table, changed, numbered, pair_tests}
+use Rattle.book_core.specs.State.{State, Table, table_of, first_refusal, refusal_of, tests_of, with_table, changed, numbered, pair_tests}
 use Rattle.row_core.specs.Refusals.{first_of}
 use Rattle.book_core.specs.History.{History, IsLegal, state_after}
-use Rattle.book_core.specs.Kept.{kept_table, Kept, table_at, at_kept, kept_after, kept_from, closed, HasRoom, AreKept}
+use Rattle.book_core.specs.Kept.{kept_table, Kept, table_at, at_kept, kept_after, kept_from, HasRoom, AreKept}
 use Rattle.book_core.specs.declared.change.Change.{Change}
 use Rattle.book_core.specs.declared.change.Change.TheVariants.{Make, Load, Update, Delete}
 use Rattle.book_core.specs.declared.change.Commit.{Commit}
-use Rattle.book_core.specs.declared.version.Version.{Version}
 use Rattle.book_core.specs.declared.book.BookRefused.{BookRefused}
 use Rattle.book_core.specs.declared.book.BookRefused.TheVariants.{Full, TableExists, TooMany, WrongKind}
 use Rattle.book_core.proofs.Reading.{table_of-map}
@@ -31,11 +30,6 @@ numbered-push used (x ∷ xs) d = let e : used + 1 + length xs + 1 ≡ used + su
 pub length-numbered : (used : ℕ) (ds : List Draft) → length (numbered used ds) ≡ length ds
 length-numbered used [] = refl
 length-numbered used (d ∷ ds) = ap suc (length-numbered (used + 1) ds)
-
--- nothing goes, so nothing is closed
-pub map-closed_none : (n : ℕ) (vs : List Version) → map (closed n (λ row. false)) vs ≡ vs
-map-closed_none n [] = refl
-map-closed_none n (v ∷ vs) = ap (λ u. u ∷ map (closed n (λ row. false)) vs) (elim v.systo as (λ to. cond (is_none to && false) (record v { systo = Some n }) v ≡ v) [ None ↦ refl | Some t ↦ refl ]) ∙ ap (λ l. v ∷ l) (map-closed_none n vs)
 
 -- a table by its place
 
@@ -74,7 +68,7 @@ few_in n None tests used h = absurd (cc)
 few_in n (Some t) tests used h = leb-false 1000000 n (or_parts _ _ (last_of _ (tests t) _ (first_of-none _ h))).0
 
 -- an accepted change comes after fewer than a million commits
-pub few : (n : ℕ) (s : State) (c : Change) → refusal_of n s c ≡ None → n < 1000000
+pub few : (n : ℕ) (s : State) (c : Change) → first_refusal n s c ≡ None → n < 1000000
 few n s (Make name schema) h = let all = first_of-none ((not (is_none (table_of s name)), TableExists) ∷ (leb 64 (length s), TooMany) ∷ (leb 1000000 n, Full) ∷ []) h in leb-false 1000000 n all.1.1.0
 few n s (Load name rows) h = few_in n (table_of s name) (λ t. (not (list_all (λ d. fits t.schema d.values) rows), WrongKind) ∷ []) (λ t. (changed (Load name rows) t).used) h
 few n s (Update name portion sets conds) h = few_in n (table_of s name) (λ t. flat_map (pair_tests t.schema) (sets ++ conds)) (λ t. (changed (Update name portion sets conds) t).used) h
@@ -84,7 +78,7 @@ room_in : (n : ℕ) (o : Option Kept) (tests : Table → List (Bool × BookRefus
 room_in n None tests used h = tt
 room_in n (Some t) tests used h = ltb-false 1000000 (used (table_at n t)) (or_parts _ _ (last_of _ (tests (table_at n t)) _ (first_of-none _ h))).1
 
-found_in : (n : ℕ) (s : State) (ts : List Kept) (name : List ℕ) → s ≡ map (table_at n) ts → option_map (table_at n) (kept_table name ts) ≡ table_of s name
+pub found_in : (n : ℕ) (s : State) (ts : List Kept) (name : List ℕ) → s ≡ map (table_at n) ts → option_map (table_at n) (kept_table name ts) ≡ table_of s name
 found_in n s ts name e = sym (table_of-map n ts name) ∙ ap (λ s. table_of s name) (sym e)
 
 unit_if : {X : Type 0} (o : Option X) → IfSome o (λ x. Unit {0})
@@ -92,7 +86,7 @@ unit_if None = tt
 unit_if (Some x) = tt
 
 -- an accepted change has room
-pub room : (n : ℕ) (s : State) (ts : List Kept) (c : Change) → s ≡ map (table_at n) ts → refusal_of n s c ≡ None → HasRoom n c ts
+pub room : (n : ℕ) (s : State) (ts : List Kept) (c : Change) → s ≡ map (table_at n) ts → first_refusal n s c ≡ None → HasRoom n c ts
 room n s ts (Make name schema) e h = unit_if (kept_table name ts)
 room n s ts (Load name rows) e h = room_in n (kept_table name ts) (λ t. (not (list_all (λ d. fits t.schema d.values) rows), WrongKind) ∷ []) (λ t. (changed (Load name rows) t).used) (ap (λ o. with_table o (λ t. first_of (tests_of n (Load name rows) t))) (found_in n s ts name e) ∙ h)
 room n s ts (Update name portion sets conds) e h = room_in n (kept_table name ts) (λ t. flat_map (pair_tests t.schema) (sets ++ conds)) (λ t. (changed (Update name portion sets conds) t).used) (ap (λ o. with_table o (λ t. first_of (tests_of n (Update name portion sets conds) t))) (found_in n s ts name e) ∙ h)

@@ -1,18 +1,17 @@
 -- One commit in the tables.
-use Rattle.std.proofs.Common.{◌≡◌, ℕ, ◌+◌, List, [], ◌∷◌, ◌++◌, true, false, cond, Option, Some, None, length, map, get_or, set, refl, ap, sym, ◌∙◌, arith}
+use Rattle.std.proofs.Common.{◌≡◌, ℕ, ◌+◌, ◌≤◌, List, [], ◌∷◌, ◌++◌, true, false, cond, Option, Some, None, length, map, get_or, set, refl, ap, sym, ◌∙◌, arith}
 use Rattle.std.specs.Prelude.{position, count_by, IfSome}
 use Rattle.std.specs.List.{position_from}
 use Rattle.std.proofs.lemmas.Iterator.Adapters.{position_from-zero}
 use Rattle.row_core.specs.Name.{same_name}
-use Rattle.row_core.specs.declared.draft.Draft.{Draft}
 use Rattle.row_core.specs.declared.row.Row.{Row}
 use Rattle.row_core.specs.declared.schema.Column.{Column}
-use Rattle.book_core.specs.State.{numbered, parts_in, removes}
-use Rattle.book_core.specs.Kept.{kept_table, IsWellKept, Kept, at_kept, closed, closed_in, kept_after, kept_changed, made, parts_added, rewritten, shown}
+use Rattle.book_core.specs.State.{changed, drafts_of, numbered, removes}
+use Rattle.book_core.specs.Kept.{kept_table, IsWellKept, Kept, added_in, at_kept, closed, closed_in, kept_changed, made, shown, table_at}
 use Rattle.book_core.specs.Open.{current, renewed}
 use Rattle.book_core.specs.declared.change.Change.{Change}
-use Rattle.book_core.specs.declared.change.Change.TheVariants.{Make, Load}
-use Rattle.book_core.proofs.Applying.{absent_from, at_some, map-closed_none, place}
+use Rattle.book_core.specs.declared.change.Change.TheVariants.{Make}
+use Rattle.book_core.proofs.Applying.{absent_from, at_some, place}
 use Rattle.book_core.proofs.OpenLemmas.{shown-current}
 use Rattle.book_core.proofs.Portions.{count-cons}
 
@@ -43,18 +42,6 @@ holds-place P name ts at t e g h = at_some P (kept_table name ts) t (find-place 
 pub at_kept-place : (name : List ℕ) (f : Kept → Kept) (ts : List Kept) (at : ℕ) (t new : Kept) → position (λ t. same_name t.name name) ts ≡ Some at → t ≡ get_or ts at t → new ≡ f t → set ts at new ≡ at_kept name f ts
 at_kept-place name f ts at t new e g h = ap (set ts at) (h ∙ ap f g) ∙ sym ((place name ts at e).changes f t)
 
-at_kept-same : (name : List ℕ) (f g : Kept → Kept) (ts : List Kept) → ((t : Kept) → f t ≡ g t) → at_kept name f ts ≡ at_kept name g ts
-at_kept-same name f g [] h = refl
-at_kept-same name f g (t ∷ ts) h = elim (same_name t.name name) as (λ b. cond b (f t ∷ ts) (t ∷ at_kept name f ts) ≡ cond b (g t ∷ ts) (t ∷ at_kept name g ts)) [
-  | true ↦ ap (λ u. u ∷ ts) (h t)
-  | false ↦ ap (λ l. t ∷ l) (at_kept-same name f g ts h)
-]
-
--- a load closes nothing
-pub load_kept : (n : ℕ) (name : List ℕ) (rows : List Draft) (ts : List Kept) → at_kept name (λ t. record t { versions = t.versions ++ made (n + 1) (numbered (length t.versions) rows) }) ts ≡ kept_after n ts (Load name rows)
-load_kept n name rows ts = at_kept-same name (λ t. record t { versions = t.versions ++ made (n + 1) (numbered (length t.versions) rows) }) (kept_changed n (Load name rows)) ts
-    (λ t. ap (λ vs. record { name = t.name; schema = t.schema; versions = vs ++ made (n + 1) (numbered (length t.versions) rows) }) (sym (map-closed_none (n + 1) t.versions)))
-
 none_counted : (rows : List Row) → count_by (λ row. false) rows ≡ 0
 none_counted [] = refl
 none_counted (row ∷ rows) = count-cons (λ row. false) row rows ∙ omega (arith, none_counted rows)
@@ -63,18 +50,20 @@ pub closed_in-make : (n : ℕ) (name : List ℕ) (schema : List Column) (o : Opt
 closed_in-make n name schema None = refl
 closed_in-make n name schema (Some t) = none_counted (shown n t.versions)
 
-pub closed_in-load : (n : ℕ) (name : List ℕ) (rows : List Draft) (o : Option Kept) → closed_in n (Load name rows) o ≡ 0
-closed_in-load n name rows None = refl
-closed_in-load n name rows (Some t) = none_counted (shown n t.versions)
-
 -- the open versions are those that the newest commit shows
-pub renewed-rewritten : (n : ℕ) (c : Change) (t : Kept) → IsWellKept n t → renewed (n + 1) c t.schema t.versions ≡ rewritten n c t.schema t.versions
-renewed-rewritten n c t well =
-    ap (λ rows. map (closed (n + 1) (removes c t.schema)) t.versions ++ made (n + 1) (numbered (length t.versions) (parts_in c t.schema rows))) (sym (shown-current n t.versions well.times))
+pub renewed-changed : (n : ℕ) (c : Change) (t : Kept) → IsWellKept n t
+    → record t { versions = renewed (n + 1) c t.schema t.versions } ≡ kept_changed n c t
+renewed-changed n c t well =
+    ap (λ rows. record t { versions = map (closed (n + 1) (removes c t.schema)) t.versions ++ made (n + 1) (numbered (length t.versions) (drafts_of c t.schema rows)) })
+    (sym (shown-current n t.versions well.times))
 
--- how many they are that a change of a portion adds and closes
-pub parts-current : (n : ℕ) (c : Change) (t : Kept) (o : Option Kept) → IsWellKept n t → o ≡ Some t → length (parts_in c t.schema (current t.versions)) ≡ parts_added n c o
-parts-current n c t o well e = ap (λ rows. length (parts_in c t.schema rows)) (sym (shown-current n t.versions well.times)) ∙ ap (parts_added n c) (sym e)
+-- how many they are that a change adds and closes
+pub added-current : (n : ℕ) (c : Change) (t : Kept) (o : Option Kept) → IsWellKept n t → o ≡ Some t → length (drafts_of c t.schema (current t.versions)) ≡ added_in n c o
+added-current n c t o well e = ap (λ rows. length (drafts_of c t.schema rows)) (sym (shown-current n t.versions well.times)) ∙ ap (added_in n c) (sym e)
 
 pub taken-current : (n : ℕ) (c : Change) (t : Kept) (o : Option Kept) → IsWellKept n t → o ≡ Some t → count_by (removes c t.schema) (current t.versions) ≡ closed_in n c o
 taken-current n c t o well e = ap (count_by (removes c t.schema)) (sym (shown-current n t.versions well.times)) ∙ ap (closed_in n c) (sym e)
+
+-- there is room for them where there is room in the table that is shown
+pub room-current : (n : ℕ) (c : Change) (t : Kept) → IsWellKept n t → (changed c (table_at n t)).used ≤ 1000000 → length t.versions + length (drafts_of c t.schema (current t.versions)) ≤ 1000000
+room-current n c t well room = rw (sym (shown-current n t.versions well.times)) room

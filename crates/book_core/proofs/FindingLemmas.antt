@@ -1,19 +1,23 @@
 -- Lists of places stay true as versions are closed and added.
-use Rattle.std.proofs.Common.{◌≡◌, ℕ, ◌+◌, ◌<◌, ◌≤◌, List, [], ◌∷◌, ◌++◌, Bool, true, false, ◌&&◌, not, cond, Option, Some, None, length, map, take, drop, ◌*◌, zero, suc, refl, ap, sym, ◌∙◌, arith, length-append}
+use Rattle.std.proofs.Common.{◌≡◌, ℕ, ◌+◌, ◌<◌, ◌≤◌, List, [], ◌∷◌, ◌++◌, Bool, true, false, ◌&&◌, ◌||◌, not, cond, Option, Some, None, length, get_or, map, take, drop, ◌*◌, zero, suc, refl, ap, sym, ◌∙◌, arith, length-append}
 use Rattle.std.specs.Prelude.{slice_get, filter, unwrap_or, option_map, is_none, fold, All}
-use Rattle.std.specs.List.{AllByRecursion, range_with_len}
+use Rattle.std.specs.List.{AllByRecursion, list_any, range_with_len}
 use Rattle.std.proofs.lemmas.List.{append-nil, length-map, take_at}
 use Rattle.std.proofs.lemmas.List.Elements.{filter-append, filter_agree, All-append, All-filter, All-from_recursion, All-weaker, recursion_from_All}
 use Rattle.std.proofs.lemmas.List.Sums.{count_by-le-length, length-filter}
+use Rattle.std.proofs.lemmas.Option.{slice_get-get_or}
+use Rattle.row_core.specs.declared.draft.Draft.{Draft}
 use Rattle.row_core.specs.declared.row.Row.{Row}
 use Rattle.row_core.specs.declared.schema.Column.{Column}
+use Rattle.key_core.specs.Keys.{collide}
 use Rattle.book_core.specs.Finding.{AreCandidates, Lists, any_row, passes}
+use Rattle.book_core.specs.Keys.{AreNear}
 use Rattle.book_core.specs.Kept.{closed, made}
-use Rattle.book_core.specs.Open.{closed_at, current, is_open, is_taken, places_from, renewed}
-use Rattle.book_core.specs.State.{numbered, parts_in, removes}
+use Rattle.book_core.specs.Open.{closed_at, current, draft_of, is_open, is_taken, places_from, renewed}
+use Rattle.book_core.specs.State.{drafts_of, numbered, parts_in, removes}
 use Rattle.book_core.specs.declared.change.Change.{Change}
 use Rattle.book_core.specs.declared.version.Version.{Version}
-use Rattle.book_core.proofs.OpenLemmas.{bounded, filter-behind, filter-places_from, fresh-count, length-current, length-open, parts-few, places_from-append, renewed-by}
+use Rattle.book_core.proofs.OpenLemmas.{bounded, filter-behind, filter-places_from, fresh-count, length-open, parts-few, places_from-append, renewed-by}
 use Rattle.book_core.proofs.Portions.{written_back}
 
 -- filters of filters
@@ -72,7 +76,7 @@ passes-before vs us p places h =
     (recursion_from_All (λ place. passes (vs ++ us) p place ≡ passes vs p place) places
     (All-weaker (λ place. place < length vs) (λ place. passes (vs ++ us) p place ≡ passes vs p place) (λ place below. ap (λ o. unwrap_or (option_map p o) false) (slice_get-before vs us place below)) places h))
 
-places_from-agree : (p q : Version → Bool) → ((v : Version) → p v ≡ q v) → (at : ℕ) (vs : List Version) → places_from p at vs ≡ places_from q at vs
+pub places_from-agree : (p q : Version → Bool) → ((v : Version) → p v ≡ q v) → (at : ℕ) (vs : List Version) → places_from p at vs ≡ places_from q at vs
 places_from-agree p q same at [] = refl
 places_from-agree p q same at (v ∷ vs) = ap (λ b. cond b (at ∷ places_from p (at + 1) vs) (places_from p (at + 1) vs)) (same v) ∙ ap (λ l. cond (q v) (at ∷ l) l) (places_from-agree p q same (at + 1) vs)
 
@@ -81,7 +85,7 @@ places_from-mapped f p q same at [] = refl
 places_from-mapped f p q same at (v ∷ vs) = ap (λ b. cond b (at ∷ places_from p (at + 1) (map f vs)) (places_from p (at + 1) (map f vs))) (same v) ∙ ap (λ l. cond (q v) (at ∷ l) l) (places_from-mapped f p q same (at + 1) vs)
 
 -- the open versions at the places that pass one test more
-filter-listed : (vs : List Version) (test : Row → Bool) (p : Version → Bool) (places : List ℕ) → Lists vs test places → filter (passes vs (λ v. is_open v && p v)) places ≡ places_from (λ v. (is_open v && test v.row) && p v) 0 vs
+pub filter-listed : (vs : List Version) (test : Row → Bool) (p : Version → Bool) (places : List ℕ) → Lists vs test places → filter (passes vs (λ v. is_open v && p v)) places ≡ places_from (λ v. (is_open v && test v.row) && p v) 0 vs
 filter-listed vs test p places h =
     filter_agree (passes vs (λ v. is_open v && p v)) (λ x. passes vs is_open x && passes vs p x) (passes-and vs is_open p) places
     ∙ sym (filter_filter (passes vs p) (passes vs is_open) places)
@@ -90,7 +94,7 @@ filter-listed vs test p places h =
 
 -- what a change takes
 
-and_true : (o : Bool) → (o && true) ≡ o
+pub and_true : (o : Bool) → (o && true) ≡ o
 and_true true = refl
 and_true false = refl
 
@@ -107,6 +111,61 @@ candidates-listed c schema vs test places h covers = record {
   taken = filter-listed vs test (λ v. removes c schema v.row) places h
       ∙ places_from-agree (λ v. (is_open v && test v.row) && removes c schema v.row) (is_taken c schema) (λ v. narrowed (is_open v) (test v.row) (removes c schema v.row) (covers v.row)) 0 vs;
 }
+
+-- the test of the version at a place
+pub passes-at : (vs : List Version) (test : Version → Bool) (place : ℕ) (v : Version) (b : Bool) → place < length vs → v ≡ get_or vs place v → b ≡ test v → passes vs test place ≡ b
+passes-at vs test place v b inside e h =
+    ap (λ o. unwrap_or (option_map test o) false) (slice_get-get_or vs place v inside ∙ ap Some (sym e)) ∙ sym h
+
+-- the places of rows that could collide with another
+
+any-agree : {X : Type 0} (p q : X → Bool) → ((x : X) → p x ≡ q x) → (xs : List X) → list_any p xs ≡ list_any q xs
+any-agree p q same [] = refl
+any-agree p q same (x ∷ xs) = ap (λ t. t || list_any p xs) (same x) ∙ ap (λ t. q x || t) (any-agree p q same xs)
+
+-- there are some
+is_some_place : List ℕ → Bool
+is_some_place [] = false
+is_some_place (x ∷ xs) = true
+
+any-filter : (p : ℕ → Bool) (xs : List ℕ) → list_any p xs ≡ is_some_place (filter p xs)
+unfolding is_some_place
+any-filter p [] = refl
+any-filter p (x ∷ xs) = elim (p x) as (λ b. (b || list_any p xs) ≡ is_some_place (cond b (x ∷ filter p xs) (filter p xs))) [ true ↦ refl | false ↦ any-filter p xs ]
+
+any-places : (test : Version → Bool) (at : ℕ) (vs : List Version) → is_some_place (places_from test at vs) ≡ list_any test vs
+unfolding is_some_place
+any-places test at [] = refl
+any-places test at (v ∷ vs) = elim (test v) as (λ b. is_some_place (cond b (at ∷ places_from test (at + 1) vs) (places_from test (at + 1) vs)) ≡ (b || list_any test vs)) [ true ↦ refl | false ↦ any-places test (at + 1) vs ]
+
+and_assoc : (a b c : Bool) → ((a && b) && c) ≡ (a && (b && c))
+and_assoc true b c = refl
+and_assoc false b c = refl
+
+narrowed-last : (o t l m : Bool) → (m ≡ true → t ≡ true) → ((o && t) && (l && m)) ≡ ((o && l) && m)
+narrowed-last false t l m h = refl
+narrowed-last true true l m h = refl
+narrowed-last true false true true h = absurd (let e = h refl in cc)
+narrowed-last true false true false h = refl
+narrowed-last true false false m h = refl
+
+pub near-listed : (key : List ℕ) (other : Draft) (vs : List Version) (test : Row → Bool) (places : List ℕ) → Lists vs test places → ((v : Version) → collide key (draft_of v) other ≡ true → test v.row ≡ true) → AreNear key other vs places
+near-listed key other vs test places h covers = record {
+  inside = h.inside;
+  found = λ left.
+      let meets : Version → Bool = λ v. left v && collide key (draft_of v) other in
+      any-agree (passes vs (λ v. (is_open v && left v) && collide key (draft_of v) other)) (passes vs (λ v. is_open v && meets v))
+      (λ place. ap (λ o. unwrap_or o false) (mapped (slice_get vs place) left)) places
+      ∙ any-filter (passes vs (λ v. is_open v && meets v)) places
+      ∙ ap is_some_place (filter-listed vs test meets places h)
+      ∙ any-places (λ v. (is_open v && test v.row) && meets v) 0 vs
+      ∙ any-agree (λ v. (is_open v && test v.row) && meets v) (λ v. (is_open v && left v) && collide key (draft_of v) other)
+      (λ v. narrowed-last (is_open v) (test v.row) (left v) (collide key (draft_of v) other) (covers v)) vs;
+}
+  where
+    mapped : (o : Option Version) (left : Version → Bool) → option_map (λ (v : Version). (is_open v && left v) && collide key (draft_of v) other) o ≡ option_map (λ (v : Version). is_open v && (left v && collide key (draft_of v) other)) o
+    mapped None left = refl
+    mapped (Some v) left = ap Some (and_assoc (is_open v) (left v) (collide key (draft_of v) other))
 
 -- versions are closed
 
@@ -231,25 +290,25 @@ parts-listed c schema vs places h =
 
 -- the versions after it, as they are written
 pub renewed-written : (n len : ℕ) (c : Change) (schema : List Column) (vs fresh grown lent new : List Version) (taken passed : List ℕ) → len ≡ length grown → lent ≡ grown → passed ≡ taken → length new ≡ length lent → taken ≡ places_from (is_taken c schema) 0 vs
-    → fresh ≡ made n (numbered (length vs) (parts_in c schema (current vs))) → grown ≡ vs ++ fresh → new ≡ fold (closed_at n) lent passed → take len (new ++ drop (length new) grown) ≡ renewed n c schema vs
+    → fresh ≡ made n (numbered (length vs) (drafts_of c schema (current vs))) → grown ≡ vs ++ fresh → new ≡ fold (closed_at n) lent passed → take len (new ++ drop (length new) grown) ≡ renewed n c schema vs
 renewed-written n len c schema vs fresh grown lent new taken passed counted lent_is passed_is same t f g e =
     written_back len new grown counted (same ∙ ap length lent_is)
     ∙ renewed-by n c schema vs fresh grown new taken t f g (e ∙ ap (λ l. fold (closed_at n) l passed) lent_is ∙ ap (fold (closed_at n) grown) passed_is)
 
--- they are not many more
-pub renewed-few : (n : ℕ) (c : Change) (schema : List Column) (vs now : List Version) → now ≡ renewed n c schema vs → length vs ≤ 1000000 → length now ≤ 4000000
-renewed-few n c schema vs now e few =
-    let parts = parts_in c schema (current vs) in
-    let fresh = made n (numbered (length vs) parts) in
+-- they are as many as there is room for
+pub renewed-few : (n : ℕ) (c : Change) (schema : List Column) (vs now : List Version) → now ≡ renewed n c schema vs
+    → length vs + length (drafts_of c schema (current vs)) ≤ 1000000 → length now ≤ 1000000
+renewed-few n c schema vs now e room =
+    let fresh = made n (numbered (length vs) (drafts_of c schema (current vs))) in
     let closing = map (closed n (removes c schema)) vs in
-    omega (arith, ap length e, length-append closing fresh, length-map vs (closed n (removes c schema)), fresh-count n c schema vs fresh refl, parts-few c schema (current vs), length-current vs)
+    omega (arith, ap length e, length-append closing fresh, length-map vs (closed n (removes c schema)), fresh-count n c schema vs fresh refl, room)
 
 -- and found by the places of those before and the new ones
-pub all-renewed : (n before count : ℕ) (c : Change) (schema : List Column) (vs fresh now : List Version) (places grown : List ℕ) → now ≡ renewed n c schema vs → fresh ≡ made n (numbered (length vs) (parts_in c schema (current vs))) → before ≡ length vs → count ≡ length fresh
+pub all-renewed : (n before count : ℕ) (c : Change) (schema : List Column) (vs fresh now : List Version) (places grown : List ℕ) → now ≡ renewed n c schema vs → fresh ≡ made n (numbered (length vs) (drafts_of c schema (current vs))) → before ≡ length vs → count ≡ length fresh
     → grown ≡ places ++ range_with_len before count → Lists vs any_row places → Lists now any_row grown
 all-renewed n before count c schema vs fresh now places grown e f b k g h =
     rw (e, ← f, g) (Lists-grown (map (closed n (removes c schema)) vs) fresh places before count (b ∙ sym (length-map vs (closed n (removes c schema)))) k (Lists-closed n (removes c schema) vs any_row places h))
 
 -- without the new ones
 pub renewed-front : (n before : ℕ) (c : Change) (schema : List Column) (vs now : List Version) → now ≡ renewed n c schema vs → before ≡ length vs → take before now ≡ map (closed n (removes c schema)) vs
-renewed-front n before c schema vs now e b = ap (take before) e ∙ take_at (map (closed n (removes c schema)) vs) (made n (numbered (length vs) (parts_in c schema (current vs)))) before (length-map vs (closed n (removes c schema)) ∙ sym b)
+renewed-front n before c schema vs now e b = ap (take before) e ∙ take_at (map (closed n (removes c schema)) vs) (made n (numbered (length vs) (drafts_of c schema (current vs)))) before (length-map vs (closed n (removes c schema)) ∙ sym b)

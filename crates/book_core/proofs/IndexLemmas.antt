@@ -1,8 +1,8 @@
 -- Indexes by the values of a column.
-use Rattle.std.proofs.Common.{◌≡◌, ℕ, ℤ, ◌+◌, ◌*◌, ◌%◌, ◌<◌, ◌==◌, List, [], ◌∷◌, ◌++◌, Bool, true, false, ◌&&◌, cond, Option, Some, None, ◌⊎◌, length, map, take, get_or, set, refl, ap, sym, ◌∙◌, arith, inl, inr}
-use Rattle.std.specs.Prelude.{slice_get, filter, position, unwrap_or, option_map, option_and_then, fold, unsigned_abs, All, IfSome}
+use Rattle.std.proofs.Common.{◌≡◌, ℕ, ℤ, ◌+◌, ◌*◌, ◌%◌, ◌<◌, ◌==◌, List, [], ◌∷◌, ◌++◌, Bool, true, false, ◌&&◌, ◌||◌, cond, Option, Some, None, ◌⊎◌, length, map, take, get_or, set, refl, ap, sym, ◌∙◌, arith, inl, inr}
+use Rattle.std.specs.Prelude.{slice_get, filter, position, unwrap_or, option_map, option_and_then, fold, unsigned_abs, All, IfSome, is_some}
 use Rattle.std.specs.List.{list_all}
-use Rattle.std.proofs.lemmas.Bool.{cases_eq}
+use Rattle.std.proofs.lemmas.Bool.{and_parts, cases_eq}
 use Rattle.std.proofs.lemmas.Bool.Decides.{Decides-int_eq, eqb_tells}
 use Rattle.std.proofs.lemmas.List.{get_or_default, get_or-set_other, get_or-set_same, length-set, length-take-le, take_more}
 use Rattle.std.proofs.lemmas.List.Elements.{All-get_or, All-weaker}
@@ -10,20 +10,24 @@ use Rattle.std.proofs.lemmas.List.Quantifiers.{position-Some}
 use Rattle.std.proofs.lemmas.List.Recursion.{and_at}
 use Rattle.std.proofs.lemmas.List.Sums.{fold-append}
 use Rattle.std.proofs.lemmas.Slice.Eq.{bytes_eq-Decides}
+use Rattle.period_core.specs.Period.{meet}
 use Rattle.row_core.specs.Schema.{column_of}
+use Rattle.row_core.specs.declared.draft.Draft.{Draft}
 use Rattle.row_core.specs.declared.row.Row.{Row}
 use Rattle.row_core.specs.declared.schema.Column.{Column}
 use Rattle.row_core.specs.declared.value.Value.{Value}
 use Rattle.row_core.specs.declared.value.Value.TheVariants.{Int, Text}
-use Rattle.book_core.specs.Finding.{AreCandidates, AreFound, IsIndex, IsKeyOf, Lists, any_row, bucket_in, bucket_of, bucket_of_bytes, falls_into, passes}
+use Rattle.key_core.specs.Keys.{same_key, same_maybe, same_value}
+use Rattle.book_core.specs.Keys.{AreNear, is_column_of}
+use Rattle.book_core.specs.Finding.{AreCandidates, AreFound, IsIndex, IsLookupOf, Lists, any_row, bucket_in, bucket_of, bucket_of_bytes, falls_into, passes}
 use Rattle.book_core.specs.Kept.{closed}
 use Rattle.book_core.specs.Open.{is_open}
-use Rattle.book_core.specs.State.{Pair, is_equal_at, same_value}
+use Rattle.book_core.specs.State.{Pair, is_equal_at}
 use Rattle.book_core.specs.declared.change.Change.{Change}
 use Rattle.book_core.specs.declared.index.Index.{Index}
-use Rattle.book_core.specs.declared.index.Key.{Key}
+use Rattle.book_core.specs.declared.index.Lookup.{Lookup}
 use Rattle.book_core.specs.declared.version.Version.{Version}
-use Rattle.book_core.proofs.FindingLemmas.{Lists-closed, Lists-none, Lists-pushed, Lists-skipped, Lists-swept, candidates-listed}
+use Rattle.book_core.proofs.FindingLemmas.{Lists-closed, Lists-none, Lists-pushed, Lists-skipped, Lists-swept, candidates-listed, near-listed}
 
 -- the bucket of a version
 
@@ -132,46 +136,46 @@ index-closed n goes vs index h = record {
 
 -- what a change looks at
 
-same_value-bucket : (x y : Value) → same_value x y ≡ true → x ≡ y
-same_value-bucket (Int a) (Int b) e = ap Int ((Decides-int_eq a b).0 e)
-same_value-bucket (Text a) (Text b) e = ap Text ((bytes_eq-Decides a b).0 e)
-same_value-bucket (Int a) (Text b) e = absurd (cc)
-same_value-bucket (Text a) (Int b) e = absurd (cc)
+one_value : (x y : Value) → same_value x y ≡ true → x ≡ y
+one_value (Int a) (Int b) e = ap Int ((Decides-int_eq a b).0 e)
+one_value (Text a) (Text b) e = ap Text ((bytes_eq-Decides a b).0 e)
+one_value (Int a) (Text b) e = absurd (cc)
+one_value (Text a) (Int b) e = absurd (cc)
 
 falls_where_equal : (x : Value) (o : Option Value) → unwrap_or (option_map (same_value x) o) false ≡ true → unwrap_or (option_map (λ (v : Value). bucket_of v == bucket_of x) o) false ≡ true
 falls_where_equal x None e = absurd (cc)
-falls_where_equal x (Some y) e = equal_here (bucket_of y) (bucket_of x) (ap bucket_of (sym (same_value-bucket x y e)))
+falls_where_equal x (Some y) e = equal_here (bucket_of y) (bucket_of x) (ap bucket_of (sym (one_value x y e)))
 
 -- rows that meet a condition fall into its bucket
-pub key-covers : (schema : List Column) (pair : Pair) (column bucket : ℕ) (row : Row) → column_of schema pair.0 ≡ Some column → bucket ≡ bucket_of pair.1 → is_equal_at schema row.values pair ≡ true → falls_into column bucket row ≡ true
-key-covers schema pair column bucket row at b h =
+pub lookup-covers : (schema : List Column) (pair : Pair) (column bucket : ℕ) (row : Row) → column_of schema pair.0 ≡ Some column → bucket ≡ bucket_of pair.1 → is_equal_at schema row.values pair ≡ true → falls_into column bucket row ≡ true
+lookup-covers schema pair column bucket row at b h =
     let found : unwrap_or (option_map (same_value pair.1) (slice_get row.values column)) false ≡ true = ap (λ o. unwrap_or (option_map (same_value pair.1) (option_and_then (slice_get row.values) o)) false) (sym at) ∙ h in
     ap (λ k. falls_into column k row) b ∙ falls_where_equal pair.1 (slice_get row.values column) found
 
 -- rows that meet all conditions meet each
-pub key-of_all : (schema : List Column) (conds : List Pair) (i : ℕ) (pair : Pair) (key : Option Key) → i < length conds → pair ≡ get_or conds i pair → IfSome key (λ key. (row : Row) → is_equal_at schema row.values pair ≡ true → falls_into key.column key.bucket row ≡ true)
-    → IfSome key (λ key. (row : Row) → list_all (is_equal_at schema row.values) conds ≡ true → falls_into key.column key.bucket row ≡ true)
-key-of_all schema conds i pair None inside e h = tt
-key-of_all schema conds i pair (Some key) inside e h = λ row all. h row (ap (is_equal_at schema row.values) e ∙ and_at (list_all (is_equal_at schema row.values)) (is_equal_at schema row.values) refl (λ x xs. refl) conds i pair inside all)
+pub lookup-of_all : (schema : List Column) (conds : List Pair) (i : ℕ) (pair : Pair) (lookup : Option Lookup) → i < length conds → pair ≡ get_or conds i pair → IfSome lookup (λ lookup. (row : Row) → is_equal_at schema row.values pair ≡ true → falls_into lookup.column lookup.bucket row ≡ true)
+    → IfSome lookup (λ lookup. (row : Row) → list_all (is_equal_at schema row.values) conds ≡ true → falls_into lookup.column lookup.bucket row ≡ true)
+lookup-of_all schema conds i pair None inside e h = tt
+lookup-of_all schema conds i pair (Some lookup) inside e h = λ row all. h row (ap (is_equal_at schema row.values) e ∙ and_at (list_all (is_equal_at schema row.values)) (is_equal_at schema row.values) refl (λ x xs. refl) conds i pair inside all)
 
 -- what holds of both keys holds of the better one
-pub key-better : (P : Key → Type 0) (one other best : Option Key) → (best ≡ one) ⊎ (best ≡ other) → IfSome one P → IfSome other P → IfSome best P
-key-better P one other best (inl e) h k = rw e h
-key-better P one other best (inr e) h k = rw e k
+pub lookup-better : (P : Lookup → Type 0) (one other best : Option Lookup) → (best ≡ one) ⊎ (best ≡ other) → IfSome one P → IfSome other P → IfSome best P
+lookup-better P one other best (inl e) h k = rw e h
+lookup-better P one other best (inr e) h k = rw e k
 
 pub candidates-all : (c : Change) (schema : List Column) (vs : List Version) (places : List ℕ) (indexes : List Index) → AreFound vs places indexes → AreCandidates c schema vs places
 candidates-all c schema vs places indexes h = candidates-listed c schema vs any_row places h.all (λ row e. refl)
 
-pub candidates-bucket : (c : Change) (schema : List Column) (vs : List Version) (places read : List ℕ) (indexes : List Index) (key : Key) (i : ℕ) (index : Index) → AreFound vs places indexes → position (λ (index : Index). index.column == key.column) indexes ≡ Some i → index ≡ get_or indexes i index
-    → read ≡ get_or (get_or indexes i index).buckets.items key.bucket read → key.bucket < 8191 → IsKeyOf c schema key → AreCandidates c schema vs read
-candidates-bucket c schema vs places read indexes key i index h found e r small covers =
-    let at = position-Some (λ (index : Index). index.column == key.column) indexes i index found in
+pub candidates-bucket : (c : Change) (schema : List Column) (vs : List Version) (places read : List ℕ) (indexes : List Index) (lookup : Lookup) (i : ℕ) (index : Index) → AreFound vs places indexes → position (λ (index : Index). index.column == lookup.column) indexes ≡ Some i → index ≡ get_or indexes i index
+    → read ≡ get_or (get_or indexes i index).buckets.items lookup.bucket read → lookup.bucket < 8191 → IsLookupOf c schema lookup → AreCandidates c schema vs read
+candidates-bucket c schema vs places read indexes lookup i index h found e r small covers =
+    let at = position-Some (λ (index : Index). index.column == lookup.column) indexes i index found in
     let is = h.by_value i index at.0 in
     let whole = is.whole in
-    let named : (get_or indexes i index).column ≡ key.column = column_is (get_or indexes i index).column key.column at.1 in
-    let here : get_or (get_or indexes i index).buckets.items key.bucket [] ≡ read = get_or_default (get_or indexes i index).buckets.items key.bucket [] read (omega (arith, whole, small)) ∙ sym r in
-    candidates-listed c schema vs (falls_into (get_or indexes i index).column key.bucket) read (rw here at (is.each key.bucket small))
-    (λ row goes. ap (λ column. falls_into column key.bucket row) named ∙ covers row goes)
+    let named : (get_or indexes i index).column ≡ lookup.column = column_is (get_or indexes i index).column lookup.column at.1 in
+    let here : get_or (get_or indexes i index).buckets.items lookup.bucket [] ≡ read = get_or_default (get_or indexes i index).buckets.items lookup.bucket [] read (omega (arith, whole, small)) ∙ sym r in
+    candidates-listed c schema vs (falls_into (get_or indexes i index).column lookup.bucket) read (rw here at (is.each lookup.bucket small))
+    (λ row goes. ap (λ column. falls_into column lookup.bucket row) named ∙ covers row goes)
   where
     column_is : (a b : ℕ) → (a == b) ≡ true → a ≡ b
     column_is a b e = elim (eqb_tells a b) [ inl are ↦ are.1 | inr other ↦ absurd (let no_more = other.0 in cc) ]
@@ -206,3 +210,29 @@ bucket-of_int value n k e h = ap (λ k. k % 8191) h ∙ ap bucket_of (sym e)
 pub bucket-of_text : (value : Value) (text bytes : List ℕ) (k : ℕ) → value ≡ Text text → bytes ≡ text → k ≡ bucket_of_bytes bytes → k ≡ bucket_of value
 unfolding bucket_of
 bucket-of_text value text bytes k e b h = h ∙ ap bucket_of_bytes b ∙ ap bucket_of (sym e)
+
+-- rows that collide with another fall into its bucket
+
+key-at : (key : List ℕ) (a b : List Value) (column : ℕ) → same_key key a b ≡ true → is_column_of key column ≡ true → same_maybe (slice_get a column) (slice_get b column) ≡ true
+key-at [] a b column same in_key = absurd (cc)
+key-at (first ∷ rest) a b column same in_key =
+    let both = and_parts (same_maybe (slice_get a first) (slice_get b first)) (same_key rest a b) same in
+    elim (eqb_tells first column) [
+      | inl are ↦ rw (sym are.1) both.0
+      | inr other ↦ key-at rest a b column both.1 (sym (ap (λ t. t || is_column_of rest column) other.0) ∙ in_key)
+    ]
+
+falls-where_same : (o : Option Value) (y : Value) → same_maybe o (Some y) ≡ true → unwrap_or (option_map (λ (v : Value). bucket_of v == bucket_of y) o) false ≡ true
+falls-where_same None y e = absurd (cc)
+falls-where_same (Some x) y e = equal_here (bucket_of x) (bucket_of y) (ap bucket_of (one_value x y e))
+
+pub near-bucket : (vs : List Version) (index : Index) (key : List ℕ) (other : Draft) (value : Value) (places : List ℕ) → IsIndex vs index → is_column_of key index.column ≡ true → slice_get other.values index.column ≡ Some value
+    → bucket_of value < 8191 → places ≡ get_or index.buckets.items (bucket_of value) [] → AreNear key other vs places
+near-bucket vs index key other value places is in_key has few at =
+    near-listed key other vs (falls_into index.column (bucket_of value)) places (rw at (is.each (bucket_of value) few))
+    (λ v meets.
+    let both = and_parts (same_key key v.row.values other.values) (is_some (meet v.row.period other.period)) meets in
+    falls-where_same (slice_get v.row.values index.column) value (ap (same_maybe (slice_get v.row.values index.column)) (sym has) ∙ key-at key v.row.values other.values index.column both.0 in_key))
+
+pub near-all : (vs : List Version) (key : List ℕ) (other : Draft) (places : List ℕ) → Lists vs any_row places → AreNear key other vs places
+near-all vs key other places h = near-listed key other vs any_row places h (λ v meets. refl)

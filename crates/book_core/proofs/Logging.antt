@@ -4,7 +4,7 @@ use Rattle.std.specs.Prelude.{option_map, unwrap_or, IfSome, is_none}
 use Rattle.std.proofs.lemmas.List.{take_all}
 use Rattle.row_core.specs.Name.{same_name}
 use Rattle.row_core.specs.declared.schema.Column.{Column}
-use Rattle.book_core.specs.State.{State, Table, table_named, table_of, rows_of, at_table, after, changed, refusal_of, removes, drafts_of}
+use Rattle.book_core.specs.State.{State, Table, table_named, table_of, rows_of, at_table, after, changed, first_refusal, refusal_of, removes, drafts_of}
 use Rattle.book_core.specs.History.{History, state_after, rows_at}
 use Rattle.book_core.specs.Versions.{new_ids, kind_of, entry_at, entries_from, log_of}
 use Rattle.book_core.specs.Kept.{kept_table, Kept, IsBook, shown, table_at, kept_from, IsWellKept, added_in, closed_in}
@@ -13,6 +13,7 @@ use Rattle.book_core.specs.declared.change.Change.TheVariants.{Make, Load, Updat
 use Rattle.book_core.specs.declared.change.Commit.{Commit}
 use Rattle.book_core.specs.declared.log.Entry.{Entry}
 use Rattle.book_core.specs.declared.book.BookRefused.TheVariants.{TableExists, TooMany, Full}
+use Rattle.book_core.proofs.Accepted.{first-none}
 use Rattle.book_core.proofs.Reading.{rows_at-append, table_of-map}
 use Rattle.book_core.proofs.Applying.{first_of-none, newest_of}
 use Rattle.book_core.proofs.Ids.{shown_rise_all, ids_added, ids_taken, all_well_kept, found_well}
@@ -77,7 +78,7 @@ portion_closed n c name s ts e w =
 
 -- a table that was not there has no rows before and after it is made
 
-table_absent : (n : ℕ) (s : State) (name : List ℕ) (schema : List Column) → refusal_of n s (Make name schema) ≡ None → is_none (table_of s name) ≡ true
+table_absent : (n : ℕ) (s : State) (name : List ℕ) (schema : List Column) → first_refusal n s (Make name schema) ≡ None → is_none (table_of s name) ≡ true
 table_absent n s name schema h = by_test (is_none (table_of s name)) (first_of-none ((not (is_none (table_of s name)), TableExists) ∷ (leb 64 (length s), TooMany) ∷ (leb 1000000 n, Full) ∷ []) h).0 where
   by_test : (b : Bool) → not b ≡ false → b ≡ true
   by_test true k = refl
@@ -98,7 +99,7 @@ nothing_found : (n : ℕ) (c : Change) (o : Option Kept) (asked : Option Table) 
 nothing_found n c None asked h e = (refl, refl)
 nothing_found n c (Some t) asked h e = absurd (let k : is_none (Some (table_at n t)) ≡ true = ap is_none (sym e) ∙ h in cc)
 
-entry_added : (n : ℕ) (s : State) (ts : List Kept) (c : Change) → s ≡ map (table_at n) ts → refusal_of n s c ≡ None → IfSome (kept_table (table_named c) ts) (IsWellKept n) → (new_ids (rows_of (after s c) (table_named c)) (rows_of s (table_named c)) ≡ added_in n c (kept_table (table_named c) ts)) × (new_ids (rows_of s (table_named c)) (rows_of (after s c) (table_named c)) ≡ closed_in n c (kept_table (table_named c) ts))
+entry_added : (n : ℕ) (s : State) (ts : List Kept) (c : Change) → s ≡ map (table_at n) ts → first_refusal n s c ≡ None → IfSome (kept_table (table_named c) ts) (IsWellKept n) → (new_ids (rows_of (after s c) (table_named c)) (rows_of s (table_named c)) ≡ added_in n c (kept_table (table_named c) ts)) × (new_ids (rows_of s (table_named c)) (rows_of (after s c) (table_named c)) ≡ closed_in n c (kept_table (table_named c) ts))
 entry_added n s ts (Make name schema) e r w =
     let gone = table_absent n s name schema r in
     let before = no_rows (table_of s name) gone in
@@ -138,7 +139,7 @@ entry_same n m by added took c ts entry e a b h =
 -- the log with the new entry
 pub log-push : (h now new : History) (ts : List Kept) (log logged : List Entry) (c : Commit) → IsBook h ts log → h ≡ now → refusal_of (length now) (state_after now) c.change ≡ None → new ≡ h ++ c ∷ [] → logged ≡ log ++ new_entry (length h) c.by c.change ts ∷ [] → logged ≡ log_of new
 log-push h now new ts log logged c k v r n l =
-    let accepted : refusal_of (length h) (state_after h) c.change ≡ None = ap (λ x. refusal_of (length x) (state_after x) c.change) v ∙ r in
+    let accepted : first_refusal (length h) (state_after h) c.change ≡ None = first-none (length h) (state_after h) c.change (ap (λ x. refusal_of (length x) (state_after x) c.change) v ∙ r) in
     let name = table_named c.change in
     let s = newest_of h h ts k.kept refl in
     let well = found_well (length h) name (kept_from 0 [] h) (all_well_kept h) in

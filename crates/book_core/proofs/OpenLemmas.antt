@@ -16,7 +16,7 @@ use Rattle.row_core.specs.declared.value.Value.{Value}
 use Rattle.row_core.specs.declared.row.Row.{Row}
 use Rattle.row_core.specs.declared.draft.Draft.{Draft}
 use Rattle.row_core.specs.declared.schema.Column.{Column}
-use Rattle.book_core.specs.State.{numbered, part, parts_in, parts_of, removes, set_at}
+use Rattle.book_core.specs.State.{drafts_of, numbered, part, parts_in, parts_of, removes, set_at}
 use Rattle.book_core.specs.Finding.{passes}
 use Rattle.book_core.specs.Kept.{IsTimely, closed, made, row_shown, shown}
 use Rattle.book_core.specs.Open.{AddsDrafts, Making, closed_at, current, is_open, is_taken, made_of, places_from, renewed}
@@ -163,6 +163,14 @@ count_taken c schema at (v ∷ vs) =
       | false ↦ rest
     ]
 
+-- a change that removes no row takes none
+pub none-taken : (at : ℕ) (vs : List Version) → places_from (λ v. is_open v && false) at vs ≡ []
+none-taken at [] = refl
+none-taken at (v ∷ vs) = elim (is_open v) as (λ b. cond (b && false) (at ∷ places_from (λ v. is_open v && false) (at + 1) vs) (places_from (λ v. is_open v && false) (at + 1) vs) ≡ []) [
+  | true ↦ none-taken (at + 1) vs
+  | false ↦ none-taken (at + 1) vs
+]
+
 pub length-taken : (c : Change) (schema : List Column) (vs : List Version) → length (places_from (is_taken c schema) 0 vs) ≡ count_by (removes c schema) (current vs)
 length-taken c schema vs = count_taken c schema 0 vs
 
@@ -276,9 +284,9 @@ pub made-all : (before commit : ℕ) (c : Change) (schema : List Column) (vs : L
 made-all before commit c schema vs taken new e same =
     ap made_of same ∙ ap (λ ds. made commit (numbered before ds)) (parts_at-taken c schema vs taken e)
 
--- the versions that a change of a portion leaves
+-- the versions that a change leaves
 
-pub renewed-by : (n : ℕ) (c : Change) (schema : List Column) (vs fresh grown new : List Version) (taken : List ℕ) → taken ≡ places_from (is_taken c schema) 0 vs → fresh ≡ made n (numbered (length vs) (parts_in c schema (current vs)))
+pub renewed-by : (n : ℕ) (c : Change) (schema : List Column) (vs fresh grown new : List Version) (taken : List ℕ) → taken ≡ places_from (is_taken c schema) 0 vs → fresh ≡ made n (numbered (length vs) (drafts_of c schema (current vs)))
     → grown ≡ vs ++ fresh → new ≡ fold (closed_at n) grown taken → new ≡ renewed n c schema vs
 renewed-by n c schema vs fresh grown new taken t f g e =
     e ∙ ap (λ l. fold (closed_at n) l taken) g ∙ ap (fold (closed_at n) (vs ++ fresh)) t ∙ closed-taken n c schema vs fresh
@@ -287,5 +295,5 @@ renewed-by n c schema vs fresh grown new taken t f g e =
 pub length-fresh : (n before : ℕ) (ds : List Draft) → length (made n (numbered before ds)) ≡ length ds
 length-fresh n before ds = length-map (numbered before ds) _ ∙ length-numbered before ds
 
-pub fresh-count : (n : ℕ) (c : Change) (schema : List Column) (vs fresh : List Version) → fresh ≡ made n (numbered (length vs) (parts_in c schema (current vs))) → length fresh ≡ length (parts_in c schema (current vs))
-fresh-count n c schema vs fresh f = ap length f ∙ length-fresh n (length vs) (parts_in c schema (current vs))
+pub fresh-count : (n : ℕ) (c : Change) (schema : List Column) (vs fresh : List Version) → fresh ≡ made n (numbered (length vs) (drafts_of c schema (current vs))) → length fresh ≡ length (drafts_of c schema (current vs))
+fresh-count n c schema vs fresh f = ap length f ∙ length-fresh n (length vs) (drafts_of c schema (current vs))

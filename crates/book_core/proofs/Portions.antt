@@ -11,11 +11,10 @@ use Rattle.row_core.specs.declared.row.Row.{Row}
 use Rattle.row_core.specs.declared.schema.Column.{Column}
 use Rattle.book_core.specs.State.{Table, tests_of, full_tests, pair_tests, Pair, changed, parts_in, parts_of, removes}
 use Rattle.row_core.specs.Refusals.{first_of}
-use Rattle.book_core.specs.Kept.{Kept, rewritten, at_kept, kept_after}
 use Rattle.book_core.specs.declared.book.BookRefused.{BookRefused}
 use Rattle.book_core.specs.declared.book.BookRefused.TheVariants.{Full}
 use Rattle.book_core.specs.declared.change.Change.{Change}
-use Rattle.book_core.specs.declared.change.Change.TheVariants.{Update, Delete}
+use Rattle.book_core.specs.declared.change.Change.TheVariants.{Update}
 use Rattle.book_core.specs.declared.version.Version.{Version}
 
 -- the first test that applies
@@ -90,16 +89,3 @@ update_refused n name portion sets conds t o e h k = conds_refused (flat_map (pa
 
 pub update_then : (n : ℕ) (name : List ℕ) (portion : Period) (sets conds : List Pair) (t : Table) (o r : Option BookRefused) → o ≡ first_of (flat_map (pair_tests t.schema) sets) → o ≡ None → r ≡ first_of (flat_map (pair_tests t.schema) conds ++ full_tests n (changed (Update name portion sets conds) t).used) → r ≡ first_of (tests_of n (Update name portion sets conds) t)
 update_then n name portion sets conds t o r h k e = e ∙ sym (first_of-none_then (flat_map (pair_tests t.schema) sets) _ (sym h ∙ k)) ∙ sym (ap first_of (update_tests n name portion sets conds t))
-
--- the tables
-
-abbrev pub portion_kept : ℕ → Change → Kept → Kept
-portion_kept n c t = record t { versions = rewritten n c t.schema t.versions }
-
--- an accepted change of a portion has room
-
-pub update_kept : (n : ℕ) (c : Change) (name : List ℕ) (portion : Period) (sets conds : List Pair) (ts : List Kept) → c ≡ Update name portion sets conds → at_kept name (portion_kept n c) ts ≡ kept_after n ts c
-update_kept n c name portion sets conds ts e = rw e
-
-pub delete_kept : (n : ℕ) (c : Change) (name : List ℕ) (portion : Period) (conds : List Pair) (ts : List Kept) → c ≡ Delete name portion conds → at_kept name (portion_kept n c) ts ≡ kept_after n ts c
-delete_kept n c name portion conds ts e = rw e

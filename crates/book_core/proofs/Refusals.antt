@@ -7,7 +7,7 @@ use Rattle.std.proofs.lemmas.List.{length-map}
 use Rattle.row_core.specs.Schema.{fits}
 use Rattle.row_core.specs.declared.draft.Draft.{Draft}
 use Rattle.row_core.specs.declared.schema.Column.{Column}
-use Rattle.book_core.specs.State.{State, Table, table_of, refusal_of, tests_of}
+use Rattle.book_core.specs.State.{State, Table, table_of, first_refusal, tests_of}
 use Rattle.row_core.specs.Refusals.{first_of}
 use Rattle.book_core.specs.History.{History, state_after}
 use Rattle.book_core.specs.Kept.{Kept, table_at, kept_from}
@@ -28,16 +28,16 @@ load_full n name rows t h k = sym (ap (λ b. first_of ((not b, WrongKind) ∷ (l
 pub load_taken : (n : ℕ) (name : List ℕ) (rows : List Draft) (t : Table) → list_all (λ d. fits t.schema d.values) rows ≡ true → (leb 1000000 n || ltb 1000000 (t.used + length rows)) ≡ false → None ≡ first_of (tests_of n (Load name rows) t)
 load_taken n name rows t h k = sym (ap (λ b. first_of ((not b, WrongKind) ∷ (leb 1000000 n || ltb 1000000 (t.used + length rows), Full) ∷ [])) h ∙ ap (λ b. first_of ((b, Full) ∷ [])) k)
 
-make_tests : (n : ℕ) (s : State) (name : List ℕ) (schema : List Column) → table_of s name ≡ None → refusal_of n s (Make name schema) ≡ first_of ((leb 64 (length s), TooMany) ∷ (leb 1000000 n, Full) ∷ [])
+make_tests : (n : ℕ) (s : State) (name : List ℕ) (schema : List Column) → table_of s name ≡ None → first_refusal n s (Make name schema) ≡ first_of ((leb 64 (length s), TooMany) ∷ (leb 1000000 n, Full) ∷ [])
 make_tests n s name schema h = ap (λ o. first_of ((not (is_none o), TableExists) ∷ (leb 64 (length s), TooMany) ∷ (leb 1000000 n, Full) ∷ [])) h
 
-pub make_many : (n : ℕ) (s : State) (name : List ℕ) (schema : List Column) → table_of s name ≡ None → 64 ≤ length s → Some TooMany ≡ refusal_of n s (Make name schema)
+pub make_many : (n : ℕ) (s : State) (name : List ℕ) (schema : List Column) → table_of s name ≡ None → 64 ≤ length s → Some TooMany ≡ first_refusal n s (Make name schema)
 make_many n s name schema h k = sym (make_tests n s name schema h ∙ ap (λ b. first_of ((b, TooMany) ∷ (leb 1000000 n, Full) ∷ [])) (le-leb 64 (length s) k))
 
-pub make_full : (n : ℕ) (s : State) (name : List ℕ) (schema : List Column) → table_of s name ≡ None → length s < 64 → 1000000 ≤ n → Some Full ≡ refusal_of n s (Make name schema)
+pub make_full : (n : ℕ) (s : State) (name : List ℕ) (schema : List Column) → table_of s name ≡ None → length s < 64 → 1000000 ≤ n → Some Full ≡ first_refusal n s (Make name schema)
 make_full n s name schema h k f = sym (make_tests n s name schema h ∙ ap (λ b. first_of ((b, TooMany) ∷ (leb 1000000 n, Full) ∷ [])) (lt-leb 64 (length s) k) ∙ ap (λ b. first_of ((b, Full) ∷ [])) (le-leb 1000000 n f))
 
-pub make_taken : (n : ℕ) (s : State) (name : List ℕ) (schema : List Column) → table_of s name ≡ None → length s < 64 → n < 1000000 → None ≡ refusal_of n s (Make name schema)
+pub make_taken : (n : ℕ) (s : State) (name : List ℕ) (schema : List Column) → table_of s name ≡ None → length s < 64 → n < 1000000 → None ≡ first_refusal n s (Make name schema)
 make_taken n s name schema h k f = sym (make_tests n s name schema h ∙ ap (λ b. first_of ((b, TooMany) ∷ (leb 1000000 n, Full) ∷ [])) (lt-leb 64 (length s) k) ∙ ap (λ b. first_of ((b, Full) ∷ [])) (lt-leb 1000000 n f))
 
 -- a book keeps as many tables as the newest state has

@@ -9,6 +9,7 @@ use Rattle.row_core.specs.Name.{same_name}
 use Rattle.row_core.specs.declared.row.Row.{Row}
 use Rattle.row_core.specs.declared.draft.Draft.{Draft}
 use Rattle.row_core.specs.declared.schema.Column.{Column}
+use Rattle.key_core.proofs.Replaced.{append-all}
 use Rattle.book_core.specs.State.{State, Table, after, at_table, changed, numbered, drafts_of, removes, rows_of, table_of}
 use Rattle.book_core.specs.History.{History, state_after}
 use Rattle.book_core.specs.Kept.{Kept, shows, row_shown, shown, table_at, made, closed, kept_changed, at_kept, kept_after, kept_from}
@@ -190,10 +191,6 @@ unfolding InTime
 made_in_time n [] = tt
 made_in_time n (r ∷ rs) = ((omega arith, tt), made_in_time n rs)
 
-both_in_time : {X : Type 0} (P : X → Type 0) (xs ys : List X) → AllByRecursion P xs → AllByRecursion P ys → AllByRecursion P (xs ++ ys)
-both_in_time P [] ys h k = k
-both_in_time P (x ∷ xs) ys h k = (h.0, both_in_time P xs ys h.1 k)
-
 tables_in_time : (n : ℕ) (ts : List Kept) → AllInTime n ts → AllInTime (n + 1) ts
 unfolding AllInTime
 tables_in_time n [] h = tt
@@ -203,13 +200,13 @@ at_kept_in_time : (n : ℕ) (c : Change) (name : List ℕ) (ts : List Kept) → 
 unfolding AllInTime
 at_kept_in_time n c name [] h = tt
 at_kept_in_time n c name (t ∷ ts) h = elim (same_name t.name name) as (λ b. AllInTime (n + 1) (cond b (kept_changed n c t ∷ ts) (t ∷ at_kept name (kept_changed n c) ts))) [
-  | true ↦ (both_in_time (InTime (n + 1)) _ _ (closed_in_time n (removes c t.schema) t.versions h.0) (made_in_time (n + 1) (numbered (length t.versions) (drafts_of c t.schema (shown n t.versions)))), tables_in_time n ts h.1)
+  | true ↦ (append-all (InTime (n + 1)) _ _ (closed_in_time n (removes c t.schema) t.versions h.0) (made_in_time (n + 1) (numbered (length t.versions) (drafts_of c t.schema (shown n t.versions)))), tables_in_time n ts h.1)
   | false ↦ (next_in_time n t.versions h.0, at_kept_in_time n c name ts h.1)
 ]
 
 kept_after_in_time : (n : ℕ) (c : Change) (ts : List Kept) → AllInTime n ts → AllInTime (n + 1) (kept_after n ts c)
 unfolding AllInTime
-kept_after_in_time n (Make table schema) ts h = both_in_time _ ts _ (tables_in_time n ts h) (tt, tt)
+kept_after_in_time n (Make table schema) ts h = append-all _ ts _ (tables_in_time n ts h) (tt, tt)
 kept_after_in_time n (Load table rows) ts h = at_kept_in_time n (Load table rows) table ts h
 kept_after_in_time n (Update table portion sets conds) ts h = at_kept_in_time n (Update table portion sets conds) table ts h
 kept_after_in_time n (Delete table portion conds) ts h = at_kept_in_time n (Delete table portion conds) table ts h

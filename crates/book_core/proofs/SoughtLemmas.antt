@@ -8,7 +8,8 @@ use Rattle.std.proofs.lemmas.Option.{slice_get-get_or}
 use Rattle.row_core.specs.Schema.{column_of}
 use Rattle.row_core.specs.declared.schema.Column.{Column}
 use Rattle.row_core.specs.declared.value.Value.{Value}
-use Rattle.book_core.specs.State.{Pair, is_equal_at, same_value}
+use Rattle.book_core.specs.State.{Pair, is_equal_at}
+use Rattle.key_core.specs.Keys.{same_value}
 
 -- the place of a column, once more
 

@@ -2,7 +2,7 @@
 use Rattle.std.proofs.Common.{◌≡◌, ℕ, ◌+◌, ◌≤◌, List, [], ◌∷◌, ◌++◌, length, map, Bool, true, false, ◌&&◌, ◌||◌, not, cond, Option, Some, None, refl, ap, ◌∙◌, arith, zero, suc, take, get_or, leb, ltb}
 use Rattle.std.specs.Prelude.{All, IfSome, IsTrue, filter, flat_map, fold, is_none, option_map, option_and_then, slice_get, slice_set, unwrap_or}
 use Rattle.std.specs.List.{AllByRecursion, cons_option, list_all}
-use Rattle.std.proofs.lemmas.Bool.{ltb-false, or_parts}
+use Rattle.std.proofs.lemmas.Bool.{and_parts, ltb-false, or_parts}
 use Rattle.std.proofs.lemmas.List.Elements.{All-from_recursion}
 use Rattle.std.proofs.lemmas.Option.{slice_get-get_or}
 use Rattle.period_core.specs.Period.{before, meet, after as later}
@@ -16,7 +16,8 @@ use Rattle.row_core.specs.declared.draft.Draft.{Draft}
 use Rattle.row_core.specs.declared.row.Row.{Row}
 use Rattle.row_core.specs.declared.schema.Column.{Column}
 use Rattle.row_core.specs.declared.value.Value.{Value}
-use Rattle.book_core.specs.State.{Pair, State, Table, after, changed, drafts_of, full_tests, is_of_kind, is_touched, numbered, pair_tests, part, parts_of, refusal_of, removes, set_at, table_of, tests_of, with_table}
+use Rattle.key_core.proofs.Replaced.{append-all, append-parts}
+use Rattle.book_core.specs.State.{Pair, State, Table, after, changed, drafts_of, full_tests, is_of_kind, is_touched, numbered, pair_tests, part, parts_of, first_refusal, refusal_of, removes, set_at, table_of, tests_of, with_table}
 use Rattle.book_core.specs.History.{History, IsLegal, schema_in, state_after}
 use Rattle.book_core.specs.Kept.{kept_table, IsSound, IsTableOf, Kept, at_kept, closed, kept_after, kept_changed, kept_from, made, shown, shows, table_at}
 use Rattle.book_core.specs.declared.book.BookRefused.{BookRefused}
@@ -25,6 +26,7 @@ use Rattle.book_core.specs.declared.change.Change.{Change}
 use Rattle.book_core.specs.declared.change.Change.TheVariants.{Make, Load, Update, Delete}
 use Rattle.book_core.specs.declared.change.Commit.{Commit}
 use Rattle.book_core.specs.declared.version.Version.{Version}
+use Rattle.book_core.proofs.Accepted.{first-none}
 use Rattle.book_core.proofs.Applying.{few, first_of-none, last_of}
 use Rattle.book_core.proofs.Ids.{RiseIn, shown_rise_all}
 use Rattle.book_core.proofs.Shown.{Ties, Ties-after, Ties-none, length-kept_changed}
@@ -39,10 +41,6 @@ FitVersions columns vs = AllByRecursion (λ (v : Version). fits columns v.row.va
 abbrev FitDrafts : List Column → List Draft → Type 0
 FitDrafts columns ds = AllByRecursion (λ (d : Draft). fits columns d.values ≡ true) ds
 
-and-true : (a b : Bool) → (a && b) ≡ true → (a ≡ true) × (b ≡ true)
-and-true true b h = (refl, h)
-and-true false b h = absurd (cc)
-
 both-true : (a b : Bool) → a ≡ true → b ≡ true → (a && b) ≡ true
 both-true a b e f = ap (λ x. x && b) e ∙ f
 
@@ -52,11 +50,11 @@ fits-set [] [] i column value h g k = absurd (cc)
 fits-set [] (v ∷ vs) i column value h g k = absurd (cc)
 fits-set (c ∷ cs) [] i column value h g k = absurd (cc)
 fits-set (c ∷ cs) (v ∷ vs) zero column value h g k =
-    let parts = and-true (same_kind c.kind (kind_of v)) (fits cs vs) h in
+    let parts = and_parts (same_kind c.kind (kind_of v)) (fits cs vs) h in
     let same : c ≡ column = cc in
     both-true (same_kind c.kind (kind_of value)) (fits cs vs) (ap (λ (x : Column). same_kind x.kind (kind_of value)) same ∙ k) parts.1
 fits-set (c ∷ cs) (v ∷ vs) (suc i) column value h g k =
-    let parts = and-true (same_kind c.kind (kind_of v)) (fits cs vs) h in
+    let parts = and_parts (same_kind c.kind (kind_of v)) (fits cs vs) h in
     both-true (same_kind c.kind (kind_of v)) (fits cs (slice_set vs i value)) parts.0 (fits-set cs vs i column value parts.1 g k)
 
 abbrev kind_test : Option Column → Value → Bool
@@ -78,10 +76,6 @@ fits-sets columns values (pair ∷ sets) h k = fits-sets columns (set_at columns
 
 -- what passed the tests
 
-append-parts : {X : Type 0} (P : X → Type 0) (xs ys : List X) → AllByRecursion P (xs ++ ys) → AllByRecursion P xs × AllByRecursion P ys
-append-parts P [] ys h = (tt, h)
-append-parts P (x ∷ xs) ys h = let rest = append-parts P xs ys h.1 in ((h.0, rest.0), rest.1)
-
 not-false : (b : Bool) → not b ≡ false → b ≡ true
 not-false true h = refl
 not-false false h = absurd (cc)
@@ -92,17 +86,13 @@ pairs-of_kind columns (pair ∷ pairs) h = (not-false (is_of_kind columns pair) 
 
 all-from_test : {X : Type 0} (p : X → Bool) (xs : List X) → list_all p xs ≡ true → AllByRecursion (λ (x : X). p x ≡ true) xs
 all-from_test p [] h = tt
-all-from_test p (x ∷ xs) h = let parts = and-true (p x) (list_all p xs) h in (parts.0, all-from_test p xs parts.1)
+all-from_test p (x ∷ xs) h = let parts = and_parts (p x) (list_all p xs) h in (parts.0, all-from_test p xs parts.1)
 
 -- the parts of rows that fit
 
 part-fits : (columns : List Column) (period : Option Period) (values : List Value) → fits columns values ≡ true → FitDrafts columns (part period values)
 part-fits columns None values h = tt
 part-fits columns (Some p) values h = (h, tt)
-
-append-all : {X : Type 0} (P : X → Type 0) (xs ys : List X) → AllByRecursion P xs → AllByRecursion P ys → AllByRecursion P (xs ++ ys)
-append-all P [] ys h k = k
-append-all P (x ∷ xs) ys h k = (h.0, append-all P xs ys h.1 k)
 
 two_parts-fit : (columns : List Column) (a b : Option Period) (u v : List Value) → fits columns u ≡ true → fits columns v ≡ true → FitDrafts columns (part a u ++ part b v)
 two_parts-fit columns a b u v h k = append-all (λ (d : Draft). fits columns d.values ≡ true) (part a u) (part b v) (part-fits columns a u h) (part-fits columns b v k)
@@ -181,7 +171,7 @@ sound_at_kept n c name (t ∷ ts) h s = by_test (λ k. sound_at_kept n c name ts
   by_test rest true k = (sound_changed n c t k s.0, s.1)
   by_test rest false k = (s.0, rest k)
 
-sound_after : (n : ℕ) (c : Change) (ts : List Kept) → refusal_of n (map (table_at n) ts) c ≡ None → AllByRecursion IsSound ts → AllByRecursion IsSound (kept_after n ts c)
+sound_after : (n : ℕ) (c : Change) (ts : List Kept) → first_refusal n (map (table_at n) ts) c ≡ None → AllByRecursion IsSound ts → AllByRecursion IsSound (kept_after n ts c)
 sound_after n (Make name schema) ts h s = append-all IsSound ts _ s (record { few = omega arith; fit = tt }, tt)
 sound_after n (Load name rows) ts h s = sound_at_kept n (Load name rows) name ts h s
 sound_after n (Update name portion sets conds) ts h s = sound_at_kept n (Update name portion sets conds) name ts h s
@@ -190,11 +180,11 @@ sound_after n (Delete name portion conds) ts h s = sound_at_kept n (Delete name 
 -- whole histories
 
 -- each change that follows is accepted
-LegalFrom : ℕ → State → History → Type 0
+unfoldable pub LegalFrom : ℕ → State → History → Type 0
 LegalFrom n s [] = Unit {0}
 LegalFrom n s (c ∷ cs) = (refusal_of n s c.change ≡ None) × LegalFrom (n + 1) (after s c.change) cs
 
-legal_from : (n : ℕ) (s : State) (cs : History) → ((k : ℕ) (c : Commit) → slice_get cs k ≡ Some c → refusal_of (n + k) (fold (λ s c. after s c.change) s (take k cs)) c.change ≡ None) → LegalFrom n s cs
+pub legal_from : (n : ℕ) (s : State) (cs : History) → ((k : ℕ) (c : Commit) → slice_get cs k ≡ Some c → refusal_of (n + k) (fold (λ s c. after s c.change) s (take k cs)) c.change ≡ None) → LegalFrom n s cs
 unfolding LegalFrom
 legal_from n s [] h = tt
 legal_from n s (c ∷ cs) h = (
@@ -207,7 +197,7 @@ unfolding LegalFrom
 sound_from n s ts [] t l h = h
 sound_from n s ts (c ∷ cs) t l h =
     sound_from (n + 1) (after s c.change) (kept_after n ts c.change) cs (Ties-after n s ts c.change t) l.1
-    (sound_after n c.change ts (ap (λ x. refusal_of n x c.change) t.newest ∙ l.0) h)
+    (sound_after n c.change ts (ap (λ x. first_refusal n x c.change) t.newest ∙ first-none n s c.change l.0) h)
 
 -- the tables of a legal history
 pub all_sound : (h : History) → IsLegal h → AllByRecursion IsSound (kept_from 0 [] h)
@@ -220,7 +210,7 @@ few_commits [] legal = omega arith
 few_commits (c ∷ cs) legal =
     let last = get_or (c ∷ cs) (length cs) c in
     let accepted = legal (length cs) last (slice_get-get_or (c ∷ cs) (length cs) c (omega arith)) in
-    omega (arith, few (length cs) (state_after (take (length cs) (c ∷ cs))) last.change accepted)
+    omega (arith, few (length cs) (state_after (take (length cs) (c ∷ cs))) last.change (first-none (length cs) (state_after (take (length cs) (c ∷ cs))) last.change accepted))
 
 -- what is shown of a sound table
 

@@ -8,7 +8,7 @@ use Rattle.book_core.specs.Open.{is_open, is_taken, places_from}
 use Rattle.book_core.specs.State.{removes}
 use Rattle.book_core.specs.declared.change.Change.{Change}
 use Rattle.book_core.specs.declared.index.Index.{Index}
-use Rattle.book_core.specs.declared.index.Key.{Key}
+use Rattle.book_core.specs.declared.index.Lookup.{Lookup}
 use Rattle.book_core.specs.declared.version.Version.{Version}
 
 -- the version at the place passes the test
@@ -54,8 +54,8 @@ pub record AreFound (vs : List Version) (places : List ℕ) (indexes : List Inde
   pub by_value : All (IsIndex vs) indexes
 
 -- the values of all rows that the change takes out fall into the bucket
-abbrev pub IsKeyOf : Change → List Column → Key → Type 0
-IsKeyOf c schema key = (row : Row) → removes c schema row ≡ true → falls_into key.column key.bucket row ≡ true
+abbrev pub IsLookupOf : Change → List Column → Lookup → Type 0
+IsLookupOf c schema lookup = (row : Row) → removes c schema row ≡ true → falls_into lookup.column lookup.bucket row ≡ true
 
 -- among the places are those of all versions that the change closes, in their order
 pub record AreCandidates (c : Change) (schema : List Column) (vs : List Version) (places : List ℕ) : Type 0 where

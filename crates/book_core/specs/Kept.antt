@@ -5,7 +5,7 @@ use Rattle.row_core.specs.Name.{same_name}
 use Rattle.row_core.specs.Schema.{fits}
 use Rattle.row_core.specs.declared.row.Row.{Row}
 use Rattle.row_core.specs.declared.schema.Column.{Column}
-use Rattle.book_core.specs.State.{Table, table_of, changed, numbered, drafts_of, removes, parts_in, table_named}
+use Rattle.book_core.specs.State.{Table, table_of, changed, numbered, drafts_of, removes, table_named}
 use Rattle.book_core.specs.History.{History, IsLegal, state_after, rows_at}
 use Rattle.book_core.specs.declared.change.Change.{Change}
 use Rattle.book_core.specs.declared.change.Change.TheVariants.{Make, Load, Update, Delete}
@@ -52,11 +52,6 @@ made n rows = map (λ row. record { row = row; sysfrom = n; systo = None }) rows
 abbrev pub closed : ℕ → (Row → Bool) → Version → Version
 closed n goes v = if is_none v.systo && goes v.row then record v { systo = Some n } else v
 
--- the versions after commit n + 1, a change of a portion
-abbrev pub rewritten : ℕ → Change → List Column → List Version → List Version
-rewritten n c schema versions = map (closed (n + 1) (removes c schema)) versions
-    ++ made (n + 1) (numbered (length versions) (parts_in c schema (shown n versions)))
-
 -- a table after commit n + 1
 abbrev pub kept_changed : ℕ → Change → Kept → Kept
 kept_changed n c t = record {
@@ -87,11 +82,6 @@ kept_from n ts (c ∷ cs) = kept_from (n + 1) (kept_after n ts c.change) cs
 abbrev pub added_in : ℕ → Change → Option Kept → ℕ
 added_in n c None = 0
 added_in n c (Some t) = length (drafts_of c t.schema (shown n t.versions))
-
--- how many parts a change of a portion leaves or makes
-abbrev pub parts_added : ℕ → Change → Option Kept → ℕ
-parts_added n c None = 0
-parts_added n c (Some t) = length (parts_in c t.schema (shown n t.versions))
 
 -- how many versions it closes
 abbrev pub closed_in : ℕ → Change → Option Kept → ℕ

@@ -1,5 +1,6 @@
 pub mod Finding
 pub mod History
+pub mod Keys
 pub mod Kept
 pub mod Open
 pub mod State

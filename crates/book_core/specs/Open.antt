@@ -4,7 +4,7 @@ use Rattle.row_core.specs.Schema.{column_of}
 use Rattle.row_core.specs.declared.draft.Draft.{Draft}
 use Rattle.row_core.specs.declared.row.Row.{Row}
 use Rattle.row_core.specs.declared.schema.Column.{Column}
-use Rattle.book_core.specs.State.{Pair, numbered, parts_in, removes}
+use Rattle.book_core.specs.State.{Pair, drafts_of, numbered, removes}
 use Rattle.book_core.specs.Kept.{closed, made}
 use Rattle.book_core.specs.declared.change.Change.{Change}
 use Rattle.book_core.specs.declared.change.Change.TheVariants.{Make, Load, Update, Delete}
@@ -38,10 +38,10 @@ conds_of (Delete table portion conds) = conds
 abbrev pub AreSought : List Column → List Pair → List (Option ℕ) → Type 0
 AreSought schema conds columns = (i : ℕ) → i < 16 → i < length conds → slice_get columns i ≡ option_map (λ (pair : Pair). column_of schema pair.0) (slice_get conds i)
 
--- the versions after a change of a portion, made by that commit
+-- the versions after a change of their table's rows, made by that commit
 abbrev pub renewed : ℕ → Change → List Column → List Version → List Version
 renewed commit c schema versions = map (closed commit (removes c schema)) versions
-    ++ made commit (numbered (length versions) (parts_in c schema (current versions)))
+    ++ made commit (numbered (length versions) (drafts_of c schema (current versions)))
 
 -- versions that a commit makes, behind `before` others
 pub record Making : Type 0 where

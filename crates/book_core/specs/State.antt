@@ -1,24 +1,23 @@
 -- What a book shows: its tables with their current rows, and what a change makes of them. No
 -- commit number and no system period occurs in a state.
-use Rattle.std.specs.Prelude.{ℕ, ◌+◌, List, [], ◌∷◌, ◌++◌, length, filter, fold, find, Bool, false, ◌&&◌, ◌||◌, not, if◌then◌else◌, Option, Some, None, is_none, is_some, option_map, option_and_then, slice_get, slice_set, flat_map, nat_le, nat_lt, unwrap_or}
+use Rattle.std.specs.Prelude.{◌≢◌, ℕ, ◌+◌, List, [], ◌∷◌, ◌++◌, length, map, filter, fold, find, Bool, false, ◌&&◌, ◌||◌, not, if◌then◌else◌, Option, Some, None, is_none, is_some, option_map, option_and_then, slice_get, slice_set, flat_map, nat_le, nat_lt, unwrap_or}
 use Rattle.std.specs.List.{list_all}
-use Rattle.std.specs.Ordering.{int_eq}
 use Rattle.period_core.specs.Period.{before, meet, after as later}
 use Rattle.period_core.specs.declared.period.Period.{Period}
 use Rattle.row_core.specs.Name.{same_name}
 use Rattle.row_core.specs.Refusals.{first_of}
-use Rattle.row_core.specs.Schema.{fits, column_of}
+use Rattle.row_core.specs.Schema.{fits, column_of, key_of}
+use Rattle.key_core.specs.Keys.{AreWithoutOverlaps, have_collision, same_value}
 use Rattle.row_core.specs.Value.{kind_of, same_kind}
 use Rattle.row_core.specs.declared.draft.Draft.{Draft}
 use Rattle.row_core.specs.declared.row.Row.{Row}
 use Rattle.row_core.specs.declared.schema.Column.{Column}
 use Rattle.row_core.specs.declared.value.Kind.{Kind}
 use Rattle.row_core.specs.declared.value.Value.{Value}
-use Rattle.row_core.specs.declared.value.Value.TheVariants.{Int, Text}
 use Rattle.book_core.specs.declared.change.Change.{Change}
 use Rattle.book_core.specs.declared.change.Change.TheVariants.{Make, Load, Update, Delete}
 use Rattle.book_core.specs.declared.book.BookRefused.{BookRefused}
-use Rattle.book_core.specs.declared.book.BookRefused.TheVariants.{TableExists, TooMany, Full, NoTable, NoColumn, WrongKind}
+use Rattle.book_core.specs.declared.book.BookRefused.TheVariants.{TableExists, TooMany, Full, NoTable, NoColumn, WrongKind, KeyOverlap}
 
 -- a table: its columns, how many ids it has used, and its current rows by rising id
 pub record Table : Type 0 where
@@ -52,13 +51,6 @@ numbered used (d ∷ ds) = record { id = used + 1; period = d.period; values = d
 -- a pair of a column's name and a value
 abbrev pub Pair : Type 0
 Pair = List ℕ × Value
-
--- two values are one
-abbrev pub same_value : Value → Value → Bool
-same_value (Int a) (Int b) = int_eq a b
-same_value (Text a) (Text b) = same_name a b
-same_value (Int a) (Text b) = false
-same_value (Text a) (Int b) = false
 
 -- a row's value in the column of that name is the pair's
 abbrev pub is_equal_at : List Column → List Value → Pair → Bool
@@ -158,8 +150,44 @@ abbrev pub with_table : Option Table → (Table → Option BookRefused) → Opti
 with_table None f = Some NoTable
 with_table (Some t) f = f t
 
+-- a row without its id
+abbrev pub unnumbered : Row → Draft
+unnumbered row = record { period = row.period; values = row.values }
+
+-- two of the rows, at different places, are equal in each column of the key and share an instant; no
+-- columns are no key
+abbrev pub break_key : List ℕ → List Draft → Bool
+break_key [] rows = false
+break_key (column ∷ columns) rows = have_collision (column ∷ columns) rows
+
+-- two rows of the table do
+abbrev pub breaks_key : Table → Bool
+breaks_key t = break_key (key_of t.schema) (map unnumbered t.rows)
+
+-- where the table has a key, no instant is held by two of its rows, at different places, that are equal
+-- in each column of the key
+abbrev pub KeyHolds : Table → Type 0
+KeyHolds t = key_of t.schema ≢ [] → AreWithoutOverlaps (key_of t.schema) (map unnumbered t.rows)
+
+-- the change, a load or an update, leaves such rows in its table
+abbrev pub leaves_overlap : Change → Option Table → Bool
+leaves_overlap c None = false
+leaves_overlap (Make table schema) (Some t) = false
+leaves_overlap (Load table rows) (Some t) = breaks_key (changed (Load table rows) t)
+leaves_overlap (Update table portion sets conds) (Some t) = breaks_key (changed (Update table portion sets conds) t)
+leaves_overlap (Delete table portion conds) (Some t) = false
+
+-- the first refusal that applies to a change in the state after n commits, but for that of its rows' keys
+abbrev pub first_refusal : ℕ → State → Change → Option BookRefused
+first_refusal n s (Make table schema) =
+    first_of ((not (is_none (table_of s table)), TableExists) ∷ (nat_le 64 (length s), TooMany) ∷ (nat_le 1000000 n, Full) ∷ [])
+first_refusal n s c = with_table (table_of s (table_named c)) (λ t. first_of (tests_of n c t))
+
+-- that refusal, and else the one of keys, where rows of one key overlap
+abbrev pub or_overlap : Option BookRefused → Bool → Option BookRefused
+or_overlap (Some refused) overlap = Some refused
+or_overlap None overlap = if overlap then Some KeyOverlap else None
+
 -- the first refusal that applies to a change in the state after n commits; none where it is accepted
 abbrev pub refusal_of : ℕ → State → Change → Option BookRefused
-refusal_of n s (Make table schema) =
-    first_of ((not (is_none (table_of s table)), TableExists) ∷ (nat_le 64 (length s), TooMany) ∷ (nat_le 1000000 n, Full) ∷ [])
-refusal_of n s c = with_table (table_of s (table_named c)) (λ t. first_of (tests_of n c t))
+refusal_of n s c = or_overlap (first_refusal n s c) (leaves_overlap c (table_of s (table_named c)))

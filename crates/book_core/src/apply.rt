@@ -1,15 +1,16 @@
 //! Tests a change of a table, and makes it.
 
-ghost use Rattle.std.specs.Prelude.{◌≡◌, ◌+◌, ◌≤◌, ◌<◌, ◌++◌, ◌||◌, length, flat_map, IfSome, IfOk, OnErr, OnOk, nat_le, nat_lt};
+ghost use Rattle.std.specs.Prelude.{◌≡◌, ◌+◌, ◌≤◌, ◌<◌, [], ◌∷◌, ◌++◌, ◌||◌, true, false, length, flat_map, IfSome, IfOk, IfErr, OnErr, OnOk, nat_le, nat_lt};
 ghost use Rattle.std.specs.List.{list_all, AllByRecursion};
-ghost use Rattle.std.specs.Option.{option_map_or};
 ghost use Rattle.row_core.specs.Refusals.{first_of};
 ghost use Rattle.row_core.specs.Schema.{fits};
-ghost use Rattle.book_core.specs.State.{tests_of, pair_tests, full_tests, parts_in, numbered, table_named};
-ghost use Rattle.book_core.specs.Kept.{kept_table, table_at, shown, made, at_kept, kept_after, added_in, closed_in, parts_added, rewritten, HasRoom, IsTimely, IsWellKept};
+ghost use Rattle.book_core.specs.Keys.{IsUnbroken, overlap_in};
+ghost use Rattle.book_core.specs.State.{changed, tests_of, pair_tests, full_tests, parts_in, table_named};
+ghost use Rattle.book_core.specs.Kept.{kept_table, table_at, shown, at_kept, kept_after, kept_changed, added_in, closed_in, HasRoom, IsTimely, IsWellKept};
 
 use crate::book::BookRefused;
 use crate::change::Change;
+use crate::keys::ChangeFailure;
 use crate::portion::pairs_refusal;
 use crate::table::{Table, place_of};
 use crate::versions::{Counts, Versions};
@@ -114,97 +115,86 @@ pub fn is_full(commits: usize, versions: usize, more: usize) -> bool
     commits >= LIMIT || versions > LIMIT || more > LIMIT - versions
 }
 
-/// Makes the tables after one more commit, and answers how many versions it made and closed.
+/// Makes the tables after one more commit, and answers how many versions it made and closed. Only the
+/// test of keys and want of memory are left to refuse it.
 pub fn enact(
     alloc: Global,
     tables: &mut Vec<Table>,
     commits: u64,
     change: &Change,
-) -> Result<Counts, NoMemory>
+) -> Result<Counts, ChangeFailure>
     requires few { commits < 1000000 }
     requires room { HasRoom commits change.now tables.old.items }
     requires well { IfSome (kept_table (table_named change.now) tables.old.items)
         (IsWellKept commits) }
+    requires unbroken { IfSome (kept_table (table_named change.now) tables.old.items) IsUnbroken }
     ensures ok { OnOk result (tables.new.items ≡ kept_after commits tables.old.items change.now) }
     ensures added { IfOk result (λ counts. counts.added
         ≡ added_in commits change.now (kept_table (table_named change.now) tables.old.items)) }
     ensures closed { IfOk result (λ counts. counts.closed
         ≡ closed_in commits change.now (kept_table (table_named change.now) tables.old.items)) }
+    ensures apart { OnOk result (overlap_in commits change.now
+        (kept_table (table_named change.now) tables.old.items) ≡ false) }
+    ensures overlap { IfErr result (λ failure. failure ≡ ChangeFailure.KeyOverlap
+        → overlap_in commits change.now
+        (kept_table (table_named change.now) tables.old.items) ≡ true) }
     ensures err { OnErr result (tables.new.items ≡ tables.old.items) }
 {
     match change {
-        Change::Make { table, schema } => {
-            let schema = schema.copy(alloc)?;
-            tables.push(Table {
-                name: *table,
-                schema,
-                versions: Versions::new(alloc),
-            })?;
-            Ok(Counts {
-                added: 0,
-                closed: 0,
-            })
-        }
-        Change::Load { table, rows } => load(alloc, tables, commits, *table, rows.as_slice()),
+        Change::Make { table, schema } => Ok(make_table(alloc, tables, *table, schema)?),
+        Change::Load { table, .. } => renew(alloc, tables, commits, *table, change),
         Change::Update { table, .. } => renew(alloc, tables, commits, *table, change),
         Change::Delete { table, .. } => renew(alloc, tables, commits, *table, change),
     }
 }
 
-/// Adds rows to the table of that name.
-fn load(
+/// Adds a table without rows.
+fn make_table(
     alloc: Global,
     tables: &mut Vec<Table>,
-    commits: u64,
     name: Name,
-    rows: &[Draft],
+    schema: &Schema,
 ) -> Result<Counts, NoMemory>
-    requires few { commits < 1000000 }
-    requires room { IfSome (kept_table name tables.old.items)
-        (λ t. length t.versions + length rows.now ≤ 1000000) }
-    ensures ok { OnOk result (tables.new.items ≡ at_kept name
-        (λ t. record t {
-          versions = t.versions
-              ++ made (commits + 1) (numbered (length t.versions) rows.now);
-        })
-        tables.old.items) }
-    ensures added { IfOk result (λ counts. counts.added
-        ≡ option_map_or (λ t. length rows.now) (kept_table name tables.old.items) 0) }
-    ensures closed { IfOk result (λ counts. counts.closed ≡ 0) }
+    ensures ok { OnOk result (tables.new.items
+        ≡ tables.old.items ++ record { name = name; schema = schema.now; versions = [] } ∷ []) }
+    ensures counts { IfOk result (λ counts. (counts.added ≡ 0) × (counts.closed ≡ 0)) }
     ensures err { OnErr result (tables.new.items ≡ tables.old.items) }
 {
-    let Some(at) = place_of(tables, name) else {
-        return Ok(Counts {
-            added: 0,
-            closed: 0,
-        });
-    };
-    let table = &mut tables[at];
-    table.versions.load(alloc, commits + 1, rows)?;
+    let schema = schema.copy(alloc)?;
+    tables.push(Table {
+        name,
+        schema,
+        versions: Versions::new(alloc),
+    })?;
     Ok(Counts {
-        added: rows.len() as u64,
+        added: 0,
         closed: 0,
     })
 }
 
-/// Changes a portion of the table of that name.
+/// Changes the rows of the table of that name.
 fn renew(
     alloc: Global,
     tables: &mut Vec<Table>,
     commits: u64,
     name: Name,
     change: &Change,
-) -> Result<Counts, NoMemory>
+) -> Result<Counts, ChangeFailure>
     requires few { commits < 1000000 }
-    requires room { IfSome (kept_table name tables.old.items) (λ t. length t.versions ≤ 1000000) }
+    requires room { IfSome (kept_table name tables.old.items)
+        (λ t. (changed change.now (table_at commits t)).used ≤ 1000000) }
     requires well { IfSome (kept_table name tables.old.items) (IsWellKept commits) }
-    ensures ok { OnOk result (tables.new.items ≡ at_kept name
-        (λ t. record t { versions = rewritten commits change.now t.schema t.versions })
-        tables.old.items) }
+    requires unbroken { IfSome (kept_table name tables.old.items) IsUnbroken }
+    ensures ok { OnOk result (tables.new.items
+        ≡ at_kept name (kept_changed commits change.now) tables.old.items) }
     ensures added { IfOk result (λ counts. counts.added
-        ≡ parts_added commits change.now (kept_table name tables.old.items)) }
+        ≡ added_in commits change.now (kept_table name tables.old.items)) }
     ensures closed { IfOk result (λ counts. counts.closed
         ≡ closed_in commits change.now (kept_table name tables.old.items)) }
+    ensures apart { OnOk result
+        (overlap_in commits change.now (kept_table name tables.old.items) ≡ false) }
+    ensures overlap { IfErr result (λ failure. failure ≡ ChangeFailure.KeyOverlap
+        → overlap_in commits change.now (kept_table name tables.old.items) ≡ true) }
     ensures err { OnErr result (tables.new.items ≡ tables.old.items) }
 {
     let Some(at) = place_of(tables, name) else {

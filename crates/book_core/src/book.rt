@@ -1,15 +1,17 @@
 //! Books: the history of accepted changes, what refuses one more, and what each commit shows.
 
-ghost use Rattle.std.specs.Prelude.{◌≡◌, ◌+◌, ◌≤◌, ℕ, List, [], ◌∷◌, ◌++◌, length, map, All, IfOk, IsTrue, IfSome, IfNone, OnOk, OnErr, IsOkUnless, nat_lt, nat_le};
+ghost use Rattle.std.specs.Prelude.{◌≡◌, ◌+◌, ◌≤◌, ℕ, List, [], ◌∷◌, ◌++◌, length, map, take, All, IfOk, IsTrue, IfSome, IfNone, OnOk, OnErr, IsOkUnless, nat_lt, nat_le};
 ghost use Rattle.row_core.specs.Rows.{IdsRise};
 ghost use Rattle.row_core.specs.Schema.{fits};
-ghost use Rattle.book_core.specs.State.{refusal_of, table_of};
+ghost use Rattle.book_core.specs.State.{KeyHolds, first_refusal, refusal_of, table_of};
 ghost use Rattle.book_core.specs.Kept.{IsTableOf};
+ghost use Rattle.book_core.specs.Keys.{IsRefusedAs};
 ghost use Rattle.book_core.specs.History.{History, IsLegal, state_after, rows_at, rows_refusal, versions_refusal, schema_in};
 ghost use Rattle.book_core.specs.Versions.{AreBetween, AreFromTo, log_of};
 
 use crate::apply::{LIMIT, enact, refusal_in};
 use crate::change::{Change, Commit, copy_history};
+use crate::keys::ChangeFailure;
 use crate::log::{Entry, Log, entry_of};
 use crate::table::{Table, copy_tables, find_table};
 use crate::version::{VersionList, rows_shown, versions_seen};
@@ -36,7 +38,23 @@ pub enum BookRefused {
     WrongKind,
     /// 1,000,000 commits are there, or the table would have more than 1,000,000 versions.
     Full,
+    /// The table has a key, and two of its rows would be equal in each column of it and share an instant.
+    KeyOverlap,
     NoMemory,
+}
+
+impl From<ChangeFailure> for BookRefused {
+    ghost use Rattle.std.specs.Prelude.{◌≡◌};
+    ghost use Rattle.book_core.specs.Keys.{refusal_by};
+
+    ghost from_gives = { λ failure refused. refused ≡ refusal_by failure };
+
+    fn from(failure: ChangeFailure) -> BookRefused {
+        match failure {
+            ChangeFailure::KeyOverlap => BookRefused::KeyOverlap,
+            ChangeFailure::NoMemory => BookRefused::NoMemory,
+        }
+    }
 }
 
 impl From<NoMemory> for BookRefused {
@@ -159,13 +177,15 @@ impl Book {
     ///
     /// # Errors
     ///
-    /// A new table: `TableExists`, `TooMany`, `Full`. Rows: `NoTable`, `WrongKind`, `Full`. A portion:
-    /// `NoTable`; for each pair, settings before conditions, `NoColumn` and then `WrongKind`; `Full`.
-    /// `NoMemory` comes last. After a refusal the book is unchanged, and the change is dropped.
+    /// A new table: `TableExists`, `TooMany`, `Full`. Rows: `NoTable`, `WrongKind`, `Full`, `KeyOverlap`. A
+    /// portion: `NoTable`; for each pair, settings before conditions, `NoColumn` and then `WrongKind`; `Full`;
+    /// of an update `KeyOverlap`. `NoMemory` comes last, and in place of `KeyOverlap` where its test is
+    /// refused memory. After a refusal the book is unchanged, and the change is dropped.
     pub fn apply(&mut self, by: u32, change: Change) -> Result<u64, BookRefused>
-        // It is refused by name exactly where the state says so.
+        // It is refused by name exactly where the state says so; where rows of one key would overlap,
+        // `NoMemory` may come in place of that name.
         ensures refused { IfSome (refusal_of (length self.old) (state_after self.old) change)
-            (λ name. result ≡ Err name) }
+            (IsRefusedAs result) }
         ensures accepted { IfNone (refusal_of (length self.old) (state_after self.old) change)
             (IsOkUnless result BookRefused.NoMemory) }
 
@@ -190,9 +210,9 @@ impl Book {
         }
     }
 
-    /// What refuses a change, if anything does.
+    /// What refuses a change before its rows' keys are tested, if anything does.
     fn refusal(&self, change: &Change) -> Option<BookRefused>
-        ensures { result ≡ refusal_of (length self.now) (state_after self.now) change.now }
+        ensures { result ≡ first_refusal (length self.now) (state_after self.now) change.now }
     {
         let commits = self.history.len();
         match change {
@@ -344,4 +364,10 @@ impl Book {
 pub fn past_stays()
     ensures { (h more : History) (n : ℕ) (name : List ℕ)
         → n ≤ length h → rows_at (h ++ more) n name ≡ rows_at h n name }
+{}
+
+/// No state of a legal history has, in a table with a key, two rows at different places that are equal
+/// in each column of the key and share an instant.
+pub fn keys_stay_apart()
+    ensures { (h : History) (n : ℕ) → IsLegal h → All KeyHolds (state_after (take n h)) }
 {}

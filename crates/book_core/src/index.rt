@@ -1,16 +1,18 @@
 //! Indexes of open versions by the values of a column, and what a change of a portion looks at.
 
-ghost use Rattle.std.specs.Prelude.{◌≡◌, ◌==◌, ◌+◌, ◌<◌, ◌≤◌, List, [], true, length, position, take, All, IfOk, IfSome, OnOk, ◌⊎◌};
+ghost use Rattle.std.specs.Prelude.{◌≡◌, ◌==◌, ◌+◌, ◌<◌, ◌≤◌, ℕ, List, [], true, length, position, slice_get, take, All, IfOk, IfSome, OnOk, ◌⊎◌};
 ghost use Rattle.std.specs.List.{list_all};
 ghost use Rattle.row_core.specs.declared.row.Row.{Row};
 ghost use Rattle.row_core.specs.declared.schema.Column.{Column};
-ghost use Rattle.book_core.specs.Finding.{AreCandidates, AreFound, IsIndex, IsKeyOf, bucket_in, bucket_of, bucket_of_bytes, falls_into};
-ghost use Rattle.book_core.specs.Open.{conds_of};
+ghost use Rattle.book_core.specs.Finding.{AreCandidates, AreFound, IsIndex, IsLookupOf, Lists, any_row, bucket_in, bucket_of, bucket_of_bytes, falls_into};
+ghost use Rattle.book_core.specs.Keys.{AreNear, is_column_of};
+ghost use Rattle.book_core.specs.Open.{conds_of, draft_of};
 ghost use Rattle.book_core.specs.State.{is_equal_at};
 ghost use Rattle.book_core.specs.declared.change.Change.{Change};
 ghost use Rattle.book_core.specs.declared.version.Version.{Version};
 
 use crate::change::Change;
+use crate::keys::is_column_of;
 use crate::places::Places;
 use crate::version::Version;
 use row_core::{Name, NoMemory, Schema, Value};
@@ -32,7 +34,7 @@ pub struct Index {
 
 /// Where the rows are that a change takes out: in a bucket of a column's index.
 #[derive(Clone, Copy, Debug)]
-pub struct Key {
+pub struct Lookup {
     pub column: u32,
     pub bucket: usize,
 }
@@ -40,7 +42,7 @@ pub struct Key {
 impl Index {
     /// The index of versions by that column.
     pub fn of(alloc: Global, versions: &[Version], column: u32) -> Result<Index, NoMemory>
-        requires { length versions.now ≤ 4000000 }
+        requires { length versions.now ≤ 1000000 }
         ensures { IfOk result (IsIndex versions.now) }
     {
         let mut index = Index {
@@ -53,7 +55,7 @@ impl Index {
 
     /// Adds the versions from that place on.
     fn extend(&mut self, versions: &[Version], from: usize) -> Result<(), NoMemory>
-        requires few { length versions.now ≤ 4000000 }
+        requires few { length versions.now ≤ 1000000 }
         requires inside { from ≤ length versions.now }
         requires before { IsIndex (take from versions.now) self.old }
         ensures { OnOk result (IsIndex versions.now self.new) }
@@ -66,7 +68,7 @@ impl Index {
 
     /// Adds the version at that place.
     fn add(&mut self, versions: &[Version], place: usize) -> Result<(), NoMemory>
-        requires few { length versions.now ≤ 4000000 }
+        requires few { length versions.now ≤ 1000000 }
         requires inside { place < length versions.now }
         requires before { IsIndex (take place versions.now) self.old }
         ensures { OnOk result (IsIndex (take (place + 1) versions.now) self.new) }
@@ -77,6 +79,35 @@ impl Index {
         Ok(())
     }
 
+    /// The places of the open versions that have the row's value in the column: those of its bucket, or
+    /// all where it has none.
+    pub fn places_near<'a>(&'a self, open_at: &'a [usize], version: &Version) -> &'a [usize]
+        requires { length self.now.buckets.items ≡ 8191 }
+        ensures { (vs : List Version) (key : List ℕ)
+            → IsIndex vs self.now → Lists vs any_row open_at.now
+            → is_column_of key self.now.column ≡ true
+            → AreNear key (draft_of version.now) vs result.now }
+    {
+        match version.row.values.get(self.column as usize) {
+            Some(value) => self.buckets[bucket_of(value)].as_slice(),
+            None => open_at,
+        }
+    }
+
+    /// To how many places the rows lead, one after another.
+    fn count_near(&self, open: usize, versions: &[Version]) -> usize
+        requires { length self.now.buckets.items ≡ 8191 }
+    {
+        let mut count: usize = 0;
+        for version in versions {
+            count = count.saturating_add(match version.row.values.get(self.column as usize) {
+                Some(value) => self.buckets[bucket_of(value)].len(),
+                None => open,
+            });
+        }
+        count
+    }
+
     /// Leaves the places of open versions in that bucket.
     fn drop_closed(&mut self, versions: &[Version], bucket: usize)
         requires index { IsIndex versions.now self.old }
@@ -84,6 +115,16 @@ impl Index {
         ensures { IsIndex versions.now self.new }
     {
         self.buckets[bucket].drop_closed(versions);
+    }
+
+    /// Leaves the places of open versions in all buckets.
+    fn sweep(&mut self, versions: &[Version])
+        requires { IsIndex versions.now self.old }
+        ensures { IsIndex versions.now self.new }
+    {
+        for bucket in 0..BUCKETS {
+            self.drop_closed(versions, bucket);
+        }
     }
 }
 
@@ -137,12 +178,12 @@ fn bucket_of_bytes(bytes: &[u8]) -> usize
 }
 
 /// Where the rows are that the change takes out: the condition with the shortest bucket says so.
-pub fn key_of(indexes: &[Index], schema: &Schema, change: &Change) -> Option<Key>
+pub fn lookup_of(indexes: &[Index], schema: &Schema, change: &Change) -> Option<Lookup>
     requires { All (λ index. length index.buckets.items ≡ 8191) indexes.now }
-    ensures few { IfSome result (λ key. key.bucket < 8191) }
-    ensures key { IfSome result (IsKeyOf change.now schema.now) }
+    ensures few { IfSome result (λ lookup. lookup.bucket < 8191) }
+    ensures lookup { IfSome result (IsLookupOf change.now schema.now) }
 {
-    best_key(indexes, schema, conds_of(change))
+    best_lookup(indexes, schema, conds_of(change))
 }
 
 /// The conditions of a change.
@@ -158,25 +199,25 @@ fn conds_of(change: &Change) -> &[(Name, Value)]
 }
 
 /// Where the rows are that meet all conditions.
-fn best_key(indexes: &[Index], schema: &Schema, conds: &[(Name, Value)]) -> Option<Key>
+fn best_lookup(indexes: &[Index], schema: &Schema, conds: &[(Name, Value)]) -> Option<Lookup>
     requires { All (λ index. length index.buckets.items ≡ 8191) indexes.now }
-    ensures few { IfSome result (λ key. key.bucket < 8191) }
-    ensures key { IfSome result (λ key. (row : Row)
+    ensures few { IfSome result (λ lookup. lookup.bucket < 8191) }
+    ensures lookup { IfSome result (λ lookup. (row : Row)
         → list_all (is_equal_at schema.now row.values) conds.now ≡ true
-        → falls_into key.column key.bucket row ≡ true) }
+        → falls_into lookup.column lookup.bucket row ≡ true) }
 {
     let mut best = None;
     for pair in conds {
-        best = better_key(indexes, best, key_of_pair(schema, pair));
+        best = better_lookup(indexes, best, lookup_of_pair(schema, pair));
     }
     best
 }
 
-/// The key that leads to fewer places.
-fn better_key(indexes: &[Index], one: Option<Key>, other: Option<Key>) -> Option<Key>
+/// The lookup that leads to fewer places.
+fn better_lookup(indexes: &[Index], one: Option<Lookup>, other: Option<Lookup>) -> Option<Lookup>
     requires buckets { All (λ index. length index.buckets.items ≡ 8191) indexes.now }
-    requires one { IfSome one (λ key. key.bucket < 8191) }
-    requires other { IfSome other (λ key. key.bucket < 8191) }
+    requires one { IfSome one (λ lookup. lookup.bucket < 8191) }
+    requires other { IfSome other (λ lookup. lookup.bucket < 8191) }
     ensures { (result ≡ one) ⊎ (result ≡ other) }
 {
     if places_at(indexes, other) < places_at(indexes, one) {
@@ -186,29 +227,29 @@ fn better_key(indexes: &[Index], one: Option<Key>, other: Option<Key>) -> Option
     }
 }
 
-/// To how many places the key leads: without an index, to more than there are.
-fn places_at(indexes: &[Index], key: Option<Key>) -> usize
+/// To how many places the lookup leads: without an index, to more than there are.
+fn places_at(indexes: &[Index], lookup: Option<Lookup>) -> usize
     requires buckets { All (λ index. length index.buckets.items ≡ 8191) indexes.now }
-    requires key { IfSome key (λ key. key.bucket < 8191) }
+    requires lookup { IfSome lookup (λ lookup. lookup.bucket < 8191) }
 {
-    let Some(key) = key else {
+    let Some(lookup) = lookup else {
         return usize::MAX;
     };
-    match place_of_index(indexes, key.column) {
-        Some(i) => indexes[i].buckets[key.bucket].len(),
+    match place_of_index(indexes, lookup.column) {
+        Some(i) => indexes[i].buckets[lookup.bucket].len(),
         None => usize::MAX,
     }
 }
 
 /// Where the rows are that meet a condition.
-fn key_of_pair(schema: &Schema, pair: &(Name, Value)) -> Option<Key>
-    ensures few { IfSome result (λ key. key.bucket < 8191) }
-    ensures key { IfSome result (λ key. (row : Row)
+fn lookup_of_pair(schema: &Schema, pair: &(Name, Value)) -> Option<Lookup>
+    ensures few { IfSome result (λ lookup. lookup.bucket < 8191) }
+    ensures lookup { IfSome result (λ lookup. (row : Row)
         → is_equal_at schema.now row.values pair.now ≡ true
-        → falls_into key.column key.bucket row ≡ true) }
+        → falls_into lookup.column lookup.bucket row ≡ true) }
 {
     let column = schema.column(pair.0)?;
-    Some(Key {
+    Some(Lookup {
         column,
         bucket: bucket_of(&pair.1),
     })
@@ -221,21 +262,47 @@ fn place_of_index(indexes: &[Index], column: u32) -> Option<usize>
     indexes.iter().position(|index| index.column == column)
 }
 
-/// The places that a change with that key looks at: a bucket, or all where no index is there.
-pub fn candidates<'a>(open_at: &'a [usize], indexes: &'a [Index], key: Option<Key>) -> &'a [usize]
+/// The places that a change with that lookup looks at: a bucket, or all where no index is there.
+pub fn candidates<'a>(
+    open_at: &'a [usize],
+    indexes: &'a [Index],
+    lookup: Option<Lookup>,
+) -> &'a [usize]
     requires buckets { All (λ index. length index.buckets.items ≡ 8191) indexes.now }
-    requires key { IfSome key (λ key. key.bucket < 8191) }
+    requires lookup { IfSome lookup (λ lookup. lookup.bucket < 8191) }
     ensures { (vs : List Version) (change : Change) (columns : List Column)
-        → AreFound vs open_at.now indexes.now → IfSome key (IsKeyOf change columns)
+        → AreFound vs open_at.now indexes.now → IfSome lookup (IsLookupOf change columns)
         → AreCandidates change columns vs result.now }
 {
-    let Some(key) = key else {
+    let Some(lookup) = lookup else {
         return open_at;
     };
-    match place_of_index(indexes, key.column) {
-        Some(i) => indexes[i].buckets[key.bucket].as_slice(),
+    match place_of_index(indexes, lookup.column) {
+        Some(i) => indexes[i].buckets[lookup.bucket].as_slice(),
         None => open_at,
     }
+}
+
+/// The place of the index that leads from new rows to the fewest others of their key, unless it is
+/// cheaper to put all open ones in order.
+pub fn index_near(indexes: &[Index], key: &[u32], open: usize, new: &[Version]) -> Option<usize>
+    requires { All (λ index. length index.buckets.items ≡ 8191) indexes.now }
+    ensures inside { IfSome result (λ i. i < length indexes.now) }
+    ensures column { IfSome result (λ i. IfSome (slice_get indexes.now i)
+        (λ index. is_column_of key.now index.column ≡ true)) }
+{
+    let mut best = None;
+    let mut least = open.saturating_add(new.len());
+    for i in 0..indexes.len() {
+        if is_column_of(key, indexes[i].column) {
+            let count = indexes[i].count_near(open, new);
+            if count < least {
+                least = count;
+                best = Some(i);
+            }
+        }
+    }
+    best
 }
 
 /// Makes an index of each column that the change's conditions name, where memory is there.
@@ -246,7 +313,7 @@ pub fn make_indexes(
     schema: &Schema,
     change: &Change,
 )
-    requires few { length versions.now ≤ 4000000 }
+    requires few { length versions.now ≤ 1000000 }
     requires before { All (IsIndex versions.now) indexes.old.items }
     ensures { All (IsIndex versions.now) indexes.new.items }
 {
@@ -260,9 +327,23 @@ pub fn make_indexes(
     }
 }
 
+/// Makes an index of each column of the key, where memory is there.
+pub fn make_key_indexes(alloc: Global, indexes: &mut Vec<Index>, versions: &[Version], key: &[u32])
+    requires few { length versions.now ≤ 1000000 }
+    requires before { All (IsIndex versions.now) indexes.old.items }
+    ensures { All (IsIndex versions.now) indexes.new.items }
+{
+    if versions.len() < FEW {
+        return;
+    }
+    for column in key {
+        make_index(alloc, indexes, versions, *column);
+    }
+}
+
 /// Makes the index of the column, unless it is there or memory is refused.
 fn make_index(alloc: Global, indexes: &mut Vec<Index>, versions: &[Version], column: u32)
-    requires few { length versions.now ≤ 4000000 }
+    requires few { length versions.now ≤ 1000000 }
     requires before { All (IsIndex versions.now) indexes.old.items }
     ensures { All (IsIndex versions.now) indexes.new.items }
 {
@@ -274,21 +355,31 @@ fn make_index(alloc: Global, indexes: &mut Vec<Index>, versions: &[Version], col
     }
 }
 
-/// Leaves the places of open versions where the key leads.
-pub fn drop_closed_at(indexes: &mut [Index], versions: &[Version], key: Key)
-    requires key { key.bucket < 8191 }
+/// Leaves the places of open versions where the lookup leads.
+pub fn drop_closed_at(indexes: &mut [Index], versions: &[Version], lookup: Lookup)
+    requires lookup { lookup.bucket < 8191 }
     requires before { All (IsIndex versions.now) indexes.old }
     ensures { All (IsIndex versions.now) indexes.new }
 {
-    if let Some(i) = place_of_index(indexes, key.column) {
-        indexes[i].drop_closed(versions, key.bucket);
+    if let Some(i) = place_of_index(indexes, lookup.column) {
+        indexes[i].drop_closed(versions, lookup.bucket);
+    }
+}
+
+/// Leaves the places of open versions in all indexes.
+pub fn sweep_indexes(indexes: &mut Vec<Index>, versions: &[Version])
+    requires { All (IsIndex versions.now) indexes.old.items }
+    ensures { All (IsIndex versions.now) indexes.new.items }
+{
+    for i in 0..indexes.len() {
+        indexes[i].sweep(versions);
     }
 }
 
 /// Adds the versions from that place on to all indexes. Where memory is refused none is left, and
-/// changes make them anew. The versions are as many as a change of a full table could make.
+/// changes make them anew.
 pub fn extend_indexes(indexes: &mut Vec<Index>, versions: &[Version], from: usize)
-    requires few { length versions.now ≤ 4000000 }
+    requires few { length versions.now ≤ 1000000 }
     requires inside { from ≤ length versions.now }
     requires before { All (IsIndex (take from versions.now)) indexes.old.items }
     ensures { All (IsIndex versions.now) indexes.new.items }

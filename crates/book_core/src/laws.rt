@@ -6,20 +6,18 @@ ghost use Rattle.book_core.specs.History.{History, IsLegal, rows_at, versions_re
 ghost use Rattle.book_core.specs.Versions.{AreBetween, AreFromTo};
 ghost use Rattle.book_core.specs.declared.version.Version.{Version};
 
-/// The versions that are asked for are one list: no two lists are those between the same commits, or from one and before another.
-pub fn versions_are_one()
-    ensures between { (h : History) (at m n : ℕ) (name : List ℕ) (one other : List Version)
-        → AreBetween h at m n name one → AreBetween h at m n name other → one ≡ other }
-    ensures from_to { (h : History) (at m n : ℕ) (name : List ℕ) (one other : List Version)
-        → AreFromTo h at m n name one → AreFromTo h at m n name other → one ≡ other }
-{}
-
-/// Where versions of a legal history may be read there are some: so exactly one list is the answer.
-pub fn versions_exist()
-    ensures between { (h : History) (at m n : ℕ) (name : List ℕ) → IsLegal h → versions_refusal h at (nat_lt n m) name ≡ None
+/// What is asked of a table's versions is one list at most, and where they may be read, in a legal history, exactly one.
+pub fn history_has_one_list_of_versions()
+    ensures between_exists { (h : History) (at m n : ℕ) (name : List ℕ)
+        → IsLegal h → versions_refusal h at (nat_lt n m) name ≡ None
         → (versions : List Version) × AreBetween h at m n name versions }
-    ensures from_to { (h : History) (at m n : ℕ) (name : List ℕ) → IsLegal h → versions_refusal h at (nat_le n m) name ≡ None
+    ensures between_one { (h : History) (at m n : ℕ) (name : List ℕ) (one other : List Version)
+        → AreBetween h at m n name one → AreBetween h at m n name other → one ≡ other }
+    ensures from_to_exists { (h : History) (at m n : ℕ) (name : List ℕ)
+        → IsLegal h → versions_refusal h at (nat_le n m) name ≡ None
         → (versions : List Version) × AreFromTo h at m n name versions }
+    ensures from_to_one { (h : History) (at m n : ℕ) (name : List ℕ) (one other : List Version)
+        → AreFromTo h at m n name one → AreFromTo h at m n name other → one ≡ other }
 {}
 
 /// The rows that a commit shows are by rising id.

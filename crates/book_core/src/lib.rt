@@ -6,6 +6,7 @@ mod apply;
 mod book;
 mod change;
 mod index;
+mod keys;
 mod laws;
 mod log;
 mod making;
@@ -15,8 +16,10 @@ mod table;
 mod version;
 mod versions;
 
-pub use book::{Book, BookRefused, NoTable, RowsRefused, VersionsRefused, past_stays};
+pub use book::{
+    Book, BookRefused, NoTable, RowsRefused, VersionsRefused, keys_stay_apart, past_stays,
+};
 pub use change::{Change, Commit, Pairs};
-pub use laws::{rows_rise, versions_are_one, versions_exist};
+pub use laws::{history_has_one_list_of_versions, rows_rise};
 pub use log::{ChangeKind, Entry, Log};
 pub use version::{Version, VersionList};

@@ -3,12 +3,13 @@
 ghost use Rattle.std.specs.Prelude.{◌≡◌, ◌+◌, ◌≤◌, ◌<◌, ◌++◌, ◌&&◌, List, false, length, fold, flat_map, is_some, option_map, option_and_then, slice_get, slice_set, unwrap_or, if◌then◌else◌, IfOk, IfSome, OnOk};
 ghost use Rattle.std.specs.List.{list_all};
 ghost use Rattle.period_core.specs.Period.{before, meet, after as later};
+ghost use Rattle.key_core.specs.Keys.{same_value};
 ghost use Rattle.row_core.specs.Name.{same_name};
 ghost use Rattle.row_core.specs.Refusals.{first_of};
 ghost use Rattle.row_core.specs.Schema.{column_of};
 ghost use Rattle.row_core.specs.declared.schema.Column.{Column};
 ghost use Rattle.book_core.specs.Open.{AddsDrafts, AreSought, conds_of};
-ghost use Rattle.book_core.specs.State.{pair_tests, kind_in, is_touched, is_equal_at, removes, same_value, part, parts_of, set_at};
+ghost use Rattle.book_core.specs.State.{pair_tests, kind_in, is_touched, is_equal_at, removes, part, parts_of, set_at};
 
 use crate::book::BookRefused;
 use crate::change::Change;

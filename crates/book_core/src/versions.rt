@@ -1,21 +1,28 @@
 //! All versions of a table, with the places of the open ones.
 
-ghost use Rattle.std.specs.Prelude.{◌≡◌, ◌+◌, ◌≤◌, ◌<◌, ◌++◌, List, [], length, fold, count_by, All, IfOk, IfSome, OnErr, OnOk};
-ghost use Rattle.std.specs.List.{range_with_len};
+ghost use Rattle.std.specs.Prelude.{◌≡◌, ◌+◌, ◌≤◌, ◌<◌, ◌++◌, List, [], true, false, length, map, fold, count_by, All, IfOk, IfErr, IfSome, OnErr, OnOk};
+ghost use Rattle.std.specs.List.{list_any, range_with_len};
+ghost use Rattle.key_core.specs.Keys.{collide, have_collision};
+ghost use Rattle.row_core.specs.Schema.{key_of};
 ghost use Rattle.row_core.specs.declared.schema.Column.{Column};
-ghost use Rattle.book_core.specs.Finding.{AreCandidates, IsKeyOf};
+ghost use Rattle.book_core.specs.Finding.{AreCandidates, IsIndex, IsLookupOf};
+ghost use Rattle.book_core.specs.Keys.{is_column_of, overlap_after, rows_left};
 ghost use Rattle.book_core.specs.Kept.{made};
-ghost use Rattle.book_core.specs.Open.{AreSought, closed_at, conds_of, current, is_taken, places_from, renewed};
-ghost use Rattle.book_core.specs.State.{numbered, parts_in, removes};
+ghost use Rattle.book_core.specs.Open.{AreSought, closed_at, conds_of, current, draft_of, is_taken, places_from, renewed};
+ghost use Rattle.book_core.specs.State.{break_key, drafts_of, numbered, parts_in, removes, unnumbered};
 ghost use Rattle.book_core.specs.declared.change.Change.{Change};
 
 use crate::change::Change;
-use crate::index::{Index, Key, candidates, drop_closed_at, extend_indexes, key_of, make_indexes};
+use crate::index::{
+    Index, Lookup, candidates, drop_closed_at, extend_indexes, index_near, lookup_of, make_indexes,
+    make_key_indexes, sweep_indexes,
+};
+use crate::keys::{ChangeFailure, any_collides, collide_among, collide_among_all, may_overlap};
 use crate::making::{NewVersions, versions_of};
 use crate::places::Places;
 use crate::portion::{SOUGHT, columns_sought, count_of, is_removed, push_parts};
 use crate::version::{Version, copy_versions};
-use row_core::{Draft, NoMemory, Schema};
+use row_core::{NoMemory, Schema};
 use std::alloc::Global;
 use std::marker::Model;
 
@@ -103,92 +110,100 @@ impl Versions {
         requires { length self.now ≤ 1000000 }
         ensures { result ≡ length (parts_in change.now schema.now (current self.now)) }
     {
-        let key = key_of(&self.indexes, schema, change);
-        let places = candidates(self.open_at.as_slice(), &self.indexes, key);
+        let lookup = lookup_of(&self.indexes, schema, change);
+        let places = candidates(self.open_at.as_slice(), &self.indexes, lookup);
         count_parts(schema, &self.items, places, change)
     }
 
-    /// Adds the drafts as versions that the commit makes.
-    pub fn load(&mut self, alloc: Global, commit: u64, drafts: &[Draft]) -> Result<(), NoMemory>
-        requires { length self.old + length drafts.now ≤ 1000000 }
-        ensures ok { OnOk result (self.new
-            ≡ self.old ++ made commit (numbered (length self.old) drafts.now)) }
-        ensures err { OnErr result (self.new ≡ self.old) }
-    {
-        let before = self.items.len();
-        let new = versions_of(alloc, before, commit, drafts)?;
-        add_versions(&mut self.items, &mut self.open_at, new)?;
-        extend_indexes(&mut self.indexes, &self.items, before);
-        Ok(())
-    }
-
-    /// Closes the versions whose rows the change takes out, and adds what comes in their place.
+    /// Closes the versions whose rows the change takes out, and adds those that it makes, unless rows of
+    /// one key would share an instant.
     pub fn renew(
         &mut self,
         alloc: Global,
         schema: &Schema,
         commit: u64,
         change: &Change,
-    ) -> Result<Counts, NoMemory>
-        requires { length self.old ≤ 1000000 }
+    ) -> Result<Counts, ChangeFailure>
+        requires room { length self.old
+            + length (drafts_of change.now schema.now (current self.old)) ≤ 1000000 }
+        requires unbroken { break_key (key_of schema.now) (map unnumbered (current self.old)) ≡ false }
         ensures ok { OnOk result (self.new ≡ renewed commit change.now schema.now self.old) }
         ensures counts { IfOk result (λ counts.
-            (counts.added ≡ length (parts_in change.now schema.now (current self.old)))
+            (counts.added ≡ length (drafts_of change.now schema.now (current self.old)))
             × (counts.closed ≡ count_by (removes change.now schema.now) (current self.old))) }
+        ensures apart { OnOk result (overlap_after change.now schema.now self.old ≡ false) }
+        ensures overlap { IfErr result (λ failure. failure ≡ ChangeFailure.KeyOverlap
+            → overlap_after change.now schema.now self.old ≡ true) }
         ensures err { OnErr result (self.new ≡ self.old) }
     {
-        self.make_indexes(alloc, schema, change);
-        let key = key_of(&self.indexes, schema, change);
-        self.drop_closed(key);
-        self.make(alloc, schema, commit, change, key)
+        let columns = schema.key_places(alloc)?;
+        self.make_indexes(alloc, schema, change, &columns);
+        let lookup = lookup_of(&self.indexes, schema, change);
+        self.drop_closed(lookup);
+        self.make(alloc, schema, &columns, commit, change, lookup)
     }
 
-    /// Makes the indexes that help the change.
-    fn make_indexes(&mut self, alloc: Global, schema: &Schema, change: &Change)
-        requires { length self.old ≤ 1000000 }
+    /// Makes the indexes that help the change, and the test of the key with those columns.
+    fn make_indexes(&mut self, alloc: Global, schema: &Schema, change: &Change, columns: &[u32])
+        requires few { length self.old ≤ 1000000 }
+        requires columns { columns.now ≡ key_of schema.now }
         ensures { self.new ≡ self.old }
     {
         make_indexes(alloc, &mut self.indexes, &self.items, schema, change);
+        if may_overlap(schema, change, columns) {
+            make_key_indexes(alloc, &mut self.indexes, &self.items, columns);
+        }
     }
 
-    /// Drops places of closed versions where a change with that key looks: in its bucket, or in the
-    /// list of all where many are.
-    fn drop_closed(&mut self, key: Option<Key>)
-        requires { IfSome key (λ key. key.bucket < 8191) }
+    /// Drops places of closed versions where a change with that lookup looks: in its bucket, or, where many
+    /// are closed, in the list of all and in the indexes.
+    fn drop_closed(&mut self, lookup: Option<Lookup>)
+        requires { IfSome lookup (λ lookup. lookup.bucket < 8191) }
         ensures { self.new ≡ self.old }
     {
-        match key {
-            Some(key) => drop_closed_at(&mut self.indexes, &self.items, key),
+        match lookup {
+            Some(lookup) => drop_closed_at(&mut self.indexes, &self.items, lookup),
             None => {
                 if self.closed > self.open_at.len() / 2 {
                     self.open_at.drop_closed(&self.items);
+                    sweep_indexes(&mut self.indexes, &self.items);
                     self.closed = 0;
                 }
             }
         }
     }
 
-    /// What `renew` does, by the places where the key finds rows.
+    /// What `renew` does, by the places where the lookup finds rows.
     fn make(
         &mut self,
         alloc: Global,
         schema: &Schema,
+        columns: &[u32],
         commit: u64,
         change: &Change,
-        key: Option<Key>,
-    ) -> Result<Counts, NoMemory>
-        requires few { length self.old ≤ 1000000 }
-        requires bucket { IfSome key (λ key. key.bucket < 8191) }
-        requires key { IfSome key (IsKeyOf change.now schema.now) }
+        lookup: Option<Lookup>,
+    ) -> Result<Counts, ChangeFailure>
+        requires columns { columns.now ≡ key_of schema.now }
+        requires room { length self.old
+            + length (drafts_of change.now schema.now (current self.old)) ≤ 1000000 }
+        requires unbroken { break_key (key_of schema.now) (map unnumbered (current self.old)) ≡ false }
+        requires bucket { IfSome lookup (λ lookup. lookup.bucket < 8191) }
+        requires lookup { IfSome lookup (IsLookupOf change.now schema.now) }
         ensures ok { OnOk result (self.new ≡ renewed commit change.now schema.now self.old) }
         ensures counts { IfOk result (λ counts.
-            (counts.added ≡ length (parts_in change.now schema.now (current self.old)))
+            (counts.added ≡ length (drafts_of change.now schema.now (current self.old)))
             × (counts.closed ≡ count_by (removes change.now schema.now) (current self.old))) }
+        ensures apart { OnOk result (overlap_after change.now schema.now self.old ≡ false) }
+        ensures overlap { IfErr result (λ failure. failure ≡ ChangeFailure.KeyOverlap
+            → overlap_after change.now schema.now self.old ≡ true) }
         ensures err { OnErr result (self.new ≡ self.old) }
     {
         let before = self.items.len();
-        let places = candidates(self.open_at.as_slice(), &self.indexes, key);
+        let places = candidates(self.open_at.as_slice(), &self.indexes, lookup);
         let plan = make_plan(alloc, schema, &self.items, places, commit, change)?;
+        if self.leaves_overlap(alloc, schema, columns, change, &plan.new)? {
+            return Err(ChangeFailure::KeyOverlap);
+        }
         let Plan { new, taken } = plan;
         let counts = Counts {
             added: new.len() as u64,
@@ -200,9 +215,80 @@ impl Versions {
         extend_indexes(&mut self.indexes, &self.items, before);
         Ok(counts)
     }
+
+    /// Whether of the rows that the change leaves and the new ones two of one key share an instant.
+    fn leaves_overlap(
+        &self,
+        alloc: Global,
+        schema: &Schema,
+        columns: &[u32],
+        change: &Change,
+        new: &[Version],
+    ) -> Result<bool, NoMemory>
+        requires columns { columns.now ≡ key_of schema.now }
+        requires unbroken { break_key (key_of schema.now) (map unnumbered (current self.now)) ≡ false }
+        requires new { map draft_of new.now ≡ drafts_of change.now schema.now (current self.now) }
+        ensures { IfOk result (λ overlap. overlap ≡ overlap_after change.now schema.now self.now) }
+    {
+        if may_overlap(schema, change, columns) {
+            self.find_overlap(alloc, schema, columns, change, new)
+        } else {
+            Ok(false)
+        }
+    }
+
+    /// Whether one of the new rows collides with another, or with a row that the change leaves. Of
+    /// these only the rows are looked at that an index of a column of the key leads to, if that is
+    /// cheaper.
+    fn find_overlap(
+        &self,
+        alloc: Global,
+        schema: &Schema,
+        columns: &[u32],
+        change: &Change,
+        new: &[Version],
+    ) -> Result<bool, NoMemory>
+        requires unbroken { have_collision columns.now (map unnumbered (current self.now)) ≡ false }
+        ensures { IfOk result (λ overlap. overlap ≡ have_collision columns.now
+            (rows_left change.now schema.now (current self.now) ++ map draft_of new.now)) }
+    {
+        match index_near(&self.indexes, columns, self.open_at.len(), new) {
+            Some(i) => {
+                let among_new = collide_among(alloc, columns, new)?;
+                Ok(among_new || self.any_meets(schema, columns, change, &self.indexes[i], new))
+            }
+            None => {
+                let open_at = self.open_at.as_slice();
+                collide_among_all(alloc, schema, change, columns, &self.items, open_at, new)
+            }
+        }
+    }
+
+    /// Whether a new row collides with one that the change leaves.
+    fn any_meets(
+        &self,
+        schema: &Schema,
+        columns: &[u32],
+        change: &Change,
+        index: &Index,
+        new: &[Version],
+    ) -> bool
+        requires index { IsIndex self.now index.now }
+        requires column { is_column_of columns.now index.now.column ≡ true }
+        ensures { result ≡ list_any (λ other. list_any (λ left. collide columns.now left other)
+            (rows_left change.now schema.now (current self.now))) (map draft_of new.now) }
+    {
+        for version in new {
+            let places = index.places_near(self.open_at.as_slice(), version);
+            if any_collides(schema, change, columns, &self.items, places, version) {
+                return true;
+            }
+        }
+        false
+    }
 }
 
-/// What a change of a portion does to versions: those that it makes, and the places of the open
+/// What a change does to versions: those that it makes, and the places of the open
 /// ones that it takes out.
 #[derive(Drop)]
 struct Plan {
@@ -210,8 +296,48 @@ struct Plan {
     taken: Vec<usize>,
 }
 
-/// Works out a change without making it, so that a refusal of memory leaves all as it was.
+/// Works out a change without making it, so that a refusal leaves all as it was.
 fn make_plan(
+    alloc: Global,
+    schema: &Schema,
+    versions: &[Version],
+    places: &[usize],
+    commit: u64,
+    change: &Change,
+) -> Result<Plan, NoMemory>
+    requires few { length versions.now ≤ 1000000 }
+    requires places { AreCandidates change.now schema.now versions.now places.now }
+    ensures new { IfOk result (λ plan. plan.new.items ≡ made commit
+        (numbered (length versions.now) (drafts_of change.now schema.now (current versions.now)))) }
+    ensures taken { IfOk result (λ plan. plan.taken.items
+        ≡ places_from (is_taken change.now schema.now) 0 versions.now) }
+{
+    match change {
+        Change::Make { .. } => Ok(Plan::of(alloc, Vec::new(alloc))),
+        Change::Load { rows, .. } => {
+            let new = versions_of(alloc, versions.len(), commit, rows.as_slice())?;
+            Ok(Plan::of(alloc, new))
+        }
+        Change::Update { .. } => plan_portion(alloc, schema, versions, places, commit, change),
+        Change::Delete { .. } => plan_portion(alloc, schema, versions, places, commit, change),
+    }
+}
+
+impl Plan {
+    /// The plan that makes these versions and takes out none.
+    fn of(alloc: Global, new: Vec<Version>) -> Self
+        ensures new { result.new ≡ new }
+        ensures taken { result.taken.items ≡ [] }
+    {
+        Plan {
+            new,
+            taken: Vec::new(alloc),
+        }
+    }
+}
+
+/// Works out a change of a portion.
+fn plan_portion(
     alloc: Global,
     schema: &Schema,
     versions: &[Version],

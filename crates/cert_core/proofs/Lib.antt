@@ -6,5 +6,5 @@ pub mod SearchLemmas
 pub mod ClaimLemmas
 pub mod PassesLemmas
 pub mod VerdictLemmas
-pub mod OneLemmas
-pub mod ExistsLemmas
+pub mod VerdictUniqueness
+pub mod VerdictExistence

@@ -1,13 +1,15 @@
 -- A claim without a fault is a division of the items, and the other way round.
-use Rattle.std.proofs.Common.{◌≡◌, ◌⊎◌, ℕ, zero, suc, ◌+◌, ◌<◌, ◌≤◌, cond, List, [], ◌∷◌, ◌++◌, length, get_or, arith, refl, sym, ap, ◌∙◌, subst, inl, inr}
+use Rattle.std.proofs.Common.{◌≡◌, ℕ, suc, ◌+◌, ◌<◌, ◌≤◌, cond, List, [], ◌∷◌, ◌++◌, length, get_or, arith, refl, sym, ap, ◌∙◌, subst, inl, inr}
 use Rattle.std.specs.Prelude.{All, Contains, map, count_by, ◌==◌, IsPermutation, remove}
 use Rattle.std.proofs.lemmas.List.{map-append, length-map, get_or-map}
 use Rattle.std.proofs.lemmas.List.Elements.{All-head, All-tail, All-cons, All-nil, All-append, All-contains, All-map, All-weaker, Contains-get_or}
 use Rattle.std.proofs.lemmas.List.Sums.{sum_by-cons}
 use Rattle.std.proofs.lemmas.List.Sorted.{IsPermutation-refl, IsPermutation-sym, IsPermutation-cons, IsPermutation-trans, IsPermutation-remove, Contains-permutation}
+use Rattle.period_core.proofs.RisingLemmas.{Contains-cons, Contains-cons_cases, Contains-none}
 use Rattle.dip_core.specs.declared.item.Item.{Item}
 use Rattle.dip_core.specs.Item.{IdsRise, HasDistinctIds, IsApart}
 use Rattle.dip_core.specs.Division.{all_of}
+use Rattle.dip_core.proofs.GrownLemmas.{All-front}
 use Rattle.dip_core.proofs.IdsLemmas.{HasDistinctIds-from_rising}
 use Rattle.dip_core.proofs.DivisionLemmas.{HasDistinctIds-permutation}
 use Rattle.cert_core.specs.declared.verdict.Certificate.{Certificate}
@@ -49,30 +51,20 @@ first_is_new x xs distinct (k, h, is) =
     distinct-differ (map (λ (y : Item). y.id) (x ∷ xs)) (IsDistinct-from_items (x ∷ xs) distinct) 0 (suc k) 0 (omega arith) (omega arith)
     (sym (get_or-map (λ (y : Item). y.id) xs k x 0 h ∙ ap (λ (y : Item). y.id) is))
 
-Contains-tail : (x y : Item) (xs : List Item) → Contains (x ∷ xs) y → (x ≡ y) ⊎ Contains xs y
-Contains-tail x y xs (zero, h, is) = inl is
-Contains-tail x y xs (suc k, h, is) = inr (k, omega arith, is)
-
-Contains-later : (x : Item) (xs : List Item) (z : Item) → Contains xs z → Contains (x ∷ xs) z
-Contains-later x xs z (k, h, is) = (suc k, omega arith, is)
-
-none_contained : (z : Item) → Contains [] z → ⊥
-none_contained z (k, h, is) = omega arith
-
 permutation-from_members : (xs ys : List Item) → HasDistinctIds xs → HasDistinctIds ys → ((x : Item) → Contains xs x → Contains ys x) → ((y : Item) → Contains ys y → Contains xs y) → IsPermutation xs ys
 permutation-from_members [] [] dx dy there back = IsPermutation-refl []
-permutation-from_members [] (y ∷ ys) dx dy there back = absurd (none_contained y (back y (0, omega arith, refl)))
+permutation-from_members [] (y ∷ ys) dx dy there back = absurd (Contains-none y (back y (0, omega arith, refl)))
 permutation-from_members (x ∷ xs) ys dx dy there back =
     let (k, h, is) = there x (0, omega arith, refl) in
     let moved : IsPermutation ys (x ∷ remove ys k) = IsPermutation-remove ys k x h (sym is) in
     let d : HasDistinctIds (x ∷ remove ys k) = HasDistinctIds-permutation ys (x ∷ remove ys k) moved dy in
     let rest : IsPermutation xs (remove ys k) =
     permutation-from_members xs (remove ys k) (HasDistinctIds-tail x xs dx) (HasDistinctIds-tail x (remove ys k) d)
-    (λ z in_xs. elim (Contains-tail x z (remove ys k) (Contains-permutation ys (x ∷ remove ys k) z moved (there z (Contains-later x xs z in_xs)))) [
+    (λ z in_xs. elim (Contains-cons_cases x (remove ys k) z (Contains-permutation ys (x ∷ remove ys k) z moved (there z (Contains-cons x xs z in_xs)))) [
       | inl same ↦ absurd (first_is_new x xs dx (subst (Contains xs) (sym same) in_xs))
       | inr other ↦ other
     ])
-    (λ z in_ys. elim (Contains-tail x z xs (back z (Contains-permutation (x ∷ remove ys k) ys z (IsPermutation-sym ys (x ∷ remove ys k) moved) (Contains-later x (remove ys k) z in_ys)))) [
+    (λ z in_ys. elim (Contains-cons_cases x xs z (back z (Contains-permutation (x ∷ remove ys k) ys z (IsPermutation-sym ys (x ∷ remove ys k) moved) (Contains-cons x (remove ys k) z in_ys)))) [
       | inl same ↦ absurd (first_is_new x (remove ys k) d (subst (Contains (remove ys k)) (sym same) in_ys))
       | inr other ↦ other
     ]) in
@@ -96,10 +88,6 @@ named_items items (id ∷ ids) known =
         named = ap (λ n. n ∷ map (λ (y : Item). y.id) xs) same ∙ ap (λ l. id ∷ l) named.named;
       },
     )
-
-pub All-front : {X : Type 0} (P : X → Type 0) (xs ys : List X) → All P (xs ++ ys) → All P xs
-All-front P [] ys all = All-nil P
-All-front P (x ∷ xs) ys all = All-cons P x xs (All-head P x (xs ++ ys) all) (All-front P xs ys (All-tail P x (xs ++ ys) all))
 
 pub All-back : {X : Type 0} (P : X → Type 0) (xs ys : List X) → All P (xs ++ ys) → All P ys
 All-back P [] ys all = all

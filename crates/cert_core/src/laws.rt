@@ -11,12 +11,11 @@ pub fn certified_division_is_least()
     ensures { (items : List Item) (claim : List (List ℕ)) (certificate : Certificate) → IsCertified items claim certificate → IsLeast items certificate.parts }
 {}
 
-/// Of items whose ids rise, a claim and a certificate, one verdict at most is the first that applies.
-pub fn verdict_is_one()
-    ensures { (items : List Item) (claim : List (List ℕ)) (certificate : Certificate) (one other : Verdict) → IdsRise items → IsVerdict items claim certificate one → IsVerdict items claim certificate other → one ≡ other }
-{}
-
-/// Of items whose ids rise, a claim and a certificate, some verdict is the first that applies: so exactly one is.
-pub fn verdict_exists()
-    ensures { (items : List Item) (claim : List (List ℕ)) (certificate : Certificate) → IdsRise items → (verdict : Verdict) × IsVerdict items claim certificate verdict }
+/// Of items whose ids rise, a claim and its certificate have exactly one verdict.
+pub fn claim_has_one_verdict()
+    ensures exists { (items : List Item) (claim : List (List ℕ)) (certificate : Certificate)
+        → IdsRise items → (verdict : Verdict) × IsVerdict items claim certificate verdict }
+    ensures one { (items : List Item) (claim : List (List ℕ)) (certificate : Certificate) (one other : Verdict)
+        → IdsRise items → IsVerdict items claim certificate one → IsVerdict items claim certificate other
+        → one ≡ other }
 {}

@@ -13,6 +13,6 @@ mod verdict;
 
 pub use check::check_division;
 pub use claim::Claim;
-pub use laws::{certified_division_is_least, verdict_exists, verdict_is_one};
+pub use laws::{certified_division_is_least, claim_has_one_verdict};
 pub use period_core::NoMemory;
 pub use verdict::{Certificate, Verdict};

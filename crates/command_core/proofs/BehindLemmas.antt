@@ -2,12 +2,9 @@
 use Rattle.std.proofs.Common.{ℕ, ◌+◌, ◌≤◌, [], ◌∷◌, Bool, true, false, List, length, Option, Some, None, Result, Ok, Err, arith}
 use Rattle.std.specs.Prelude.{codes, if◌then◌else◌}
 use Rattle.row_core.specs.Refusals.{result_and_then}
-use Rattle.row_core.specs.Schema.{schema_of}
 use Rattle.row_core.specs.declared.schema.Column.{Column}
-use Rattle.row_core.specs.declared.schema.SchemaRefused.{SchemaRefused}
-use Rattle.row_core.specs.declared.value.Kind.{Kind}
 use Rattle.command_core.specs.Fields.{claimed, dated, name_in, named, period_in, spanned, with_asof}
-use Rattle.command_core.specs.Meaning.{Meaning, behind_length, block_meaning, check_meaning, columns_in, delete_meaning, delete_of, if_formed, load_meaning, make_table, name_table, table_meaning, told, update_meaning, update_of, verb_meaning}
+use Rattle.command_core.specs.Meaning.{Meaning, TableForm, behind_length, block_meaning, check_meaning, delete_meaning, delete_of, if_formed, load_meaning, make_table, name_table, table_columns, table_form, table_meaning, told, update_meaning, update_of, verb_meaning}
 use Rattle.command_core.specs.Pairs.{named_pairs}
 use Rattle.command_core.specs.Portions.{conditions_in, settings_in}
 use Rattle.command_core.specs.Records.{Record}
@@ -47,19 +44,19 @@ delete-has number (word ∷ name ∷ from ∷ []) = omega arith
 delete-has number (word ∷ name ∷ from ∷ to ∷ fields) = formed 0 number (delete_of name from to) (conditions_in fields) (λ conds.
     follows 0 number _ (name_in name) (λ table. follows 0 number _ (named_pairs conds) (λ pairs. follows 0 number _ (period_in from to) (λ portion. omega arith))))
 
-columns-have : (number : ℕ) (name : List ℕ) (r : Result (List Column) SchemaRefused) (b : Bool) (e : Refusal) → HasBehind 0 number (if b then make_table name r else Err e)
+columns-have : (number : ℕ) (name : List ℕ) (r : Result (List Column) Refusal) (b : Bool) (e : Refusal) → HasBehind 0 number (if b then make_table name r else Err e)
 columns-have number name (Ok columns) true e = omega arith
 columns-have number name (Err refused) true e = omega arith
 columns-have number name r false e = omega arith
 
-named-has : (number : ℕ) (name : List ℕ) (o : Option (List (List ℕ × Kind))) → HasBehind 0 number (name_table name o)
+named-has : (number : ℕ) (name : List ℕ) (o : Option TableForm) → HasBehind 0 number (name_table name o)
 named-has number name None = omega arith
-named-has number name (Some columns) = columns-have number name (schema_of columns) _ _
+named-has number name (Some form) = columns-have number name (table_columns form) _ _
 
 table-has : (number : ℕ) (line : Record) → HasBehind 0 number (table_meaning line)
 table-has number [] = omega arith
 table-has number (word ∷ []) = omega arith
-table-has number (word ∷ name ∷ fields) = named-has number name (columns_in fields)
+table-has number (word ∷ name ∷ fields) = named-has number name (table_form fields)
 
 log-has : (number : ℕ) (line : Record) → HasBehind 0 number (verb_meaning line (Some verb.Log))
 log-has number [] = omega arith

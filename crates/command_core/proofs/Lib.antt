@@ -2,12 +2,12 @@ pub mod BehindLemmas
 pub mod Cuts
 pub mod Cutting
 pub mod Faults
-pub mod ExistsLemmas
+pub mod MeaningExistence
 pub mod FieldLemmas
 pub mod NamedColumns
-pub mod OneLemmas
-pub mod OneReading
+pub mod MeaningUniqueness
+pub mod RecordsUniqueness
 pub mod PortionLemmas
 pub mod Shrinking
-pub mod SomeReading
+pub mod RecordsExistence
 pub mod TableLemmas

@@ -1,15 +1,20 @@
 -- Names of a new table's columns, read one after another.
-use Rattle.std.proofs.Common.{◌≡◌, ℕ, zero, suc, ◌+◌, ◌<◌, ◌&&◌, Bool, true, false, List, [], ◌∷◌, ◌++◌, length, take, drop, get_or, Some, None, Result, Ok, Err, refl, sym, ap, arith, if◌then◌else◌}
+use Rattle.std.proofs.Common.{◌≡◌, ℕ, zero, suc, ◌+◌, ◌<◌, ◌&&◌, Bool, true, false, List, [], ◌∷◌, ◌++◌, length, take, drop, get_or, Some, None, Result, Ok, Err, refl, sym, ap, ◌∙◌, arith, if◌then◌else◌}
 use Rattle.std.specs.Borrow.{Bor}
 use Rattle.std.specs.List.{list_all, slice_get}
 use Rattle.row_core.specs.Name.{is_name, name_of}
 use Rattle.row_core.specs.Refusals.{IsAnswerUnless}
-use Rattle.row_core.specs.Schema.{schema_of}
+use Rattle.row_core.specs.declared.schema.Column.{Column}
 use Rattle.row_core.specs.declared.value.Kind.{Kind}
-use Rattle.command_core.specs.Meaning.{columns_in, make_table, name_table, table_meaning}
+use Rattle.command_core.specs.Command.{Reads, meaning_of}
+use Rattle.command_core.specs.Meaning.{TableForm, make_table, name_table, table_columns, table_form, table_meaning}
 use Rattle.command_core.specs.Records.{Record}
 use Rattle.command_core.specs.TableCommand.{raw_column, raw_of}
+use Rattle.command_core.specs.declared.refusal.NotRead.{NotRead}
+use Rattle.command_core.specs.declared.refusal.NotRead.TheVariants.{Refused, NoMemory}
+use Rattle.command_core.specs.declared.refusal.Refusal.{Refusal}
 use Rattle.command_core.specs.declared.refusal.Refusal.TheVariants.{BadName}
+use Rattle.command_core.proofs.Cutting.{drop-slice_get}
 
 -- whether all columns have names that are names
 abbrev pub all_named : List (List ℕ × Kind) → Bool
@@ -51,23 +56,67 @@ raw_of-more (x ∷ raw) (suc place) d lt =
     let next : suc place + 1 ≡ suc (place + 1) = omega arith in
     rw next (ap (λ l. raw_column x ∷ l) (raw_of-more raw place d (omega arith)))
 
+-- the names of a key's columns, as far as they were read
+pub key_named-fails : (key : List (List ℕ)) (place : ℕ) (name : List ℕ) → slice_get key place ≡ Some name
+    → is_name name ≡ false
+    → list_all is_name (drop place key) ≡ false
+key_named-fails key place name at e =
+    ap (list_all is_name) (drop-slice_get key place name at) ∙ ap (λ b. b && list_all is_name (drop (place + 1) key)) e
+
+pub key_named-more : (key : List (List ℕ)) (place : ℕ) (name : List ℕ) → slice_get key place ≡ Some name
+    → is_name name ≡ true
+    → list_all is_name (drop (place + 1) key) ≡ list_all is_name (drop place key)
+key_named-more key place name at e =
+    sym
+    (ap (list_all is_name) (drop-slice_get key place name at)
+    ∙ ap (λ b. b && list_all is_name (drop (place + 1) key)) e)
+
 -- a table without a name
-pub name_table-unnamed : (table : List ℕ) (columns : List (List ℕ × Kind)) → is_name table ≡ false → name_table table (Some columns) ≡ Err BadName
-name_table-unnamed table columns e = rw e refl
+pub name_table-unnamed : (table : List ℕ) (form : TableForm) → is_name table ≡ false
+    → name_table table (Some form) ≡ Err BadName
+name_table-unnamed table form e = rw e refl
 
 -- a table with a name, and a column without one
-pub name_table-column : (table : List ℕ) (columns : List (List ℕ × Kind)) → is_name table ≡ true → all_named columns ≡ false → name_table table (Some columns) ≡ Err BadName
-name_table-column table columns e f = rw (e, f) refl
+pub name_table-column : (table : List ℕ) (form : TableForm) → is_name table ≡ true → all_named form.0 ≡ false
+    → name_table table (Some form) ≡ Err BadName
+name_table-column table form e f = rw (e, f) refl
+
+-- names, but for one of the key's
+pub name_table-key : (table : List ℕ) (form : TableForm) → is_name table ≡ true → all_named form.0 ≡ true
+    → list_all is_name form.1 ≡ false
+    → name_table table (Some form) ≡ Err BadName
+name_table-key table form e f g = rw (e, f, g) refl
 
 -- all names are names
-pub name_table-named : (table : List ℕ) (columns : List (List ℕ × Kind)) → is_name table ≡ true → all_named columns ≡ true → name_table table (Some columns) ≡ make_table table (schema_of columns)
-name_table-named table columns e f = rw (e, f) refl
+pub name_table-named : (table : List ℕ) (form : TableForm) → is_name table ≡ true → all_named form.0 ≡ true
+    → list_all is_name form.1 ≡ true
+    → name_table table (Some form) ≡ make_table table (table_columns form)
+name_table-named table form e f g = rw (e, f, g) refl
+
+-- the same of the columns and the key as they were named
+pub name_table-made : (table : List ℕ) (form : TableForm) (columns : List (List ℕ × Kind)) (key : List (List ℕ))
+    → is_name table ≡ true
+    → (all_named form.0 ≡ true) × (columns ≡ form.0) → (list_all is_name form.1 ≡ true) × (key ≡ form.1)
+    → name_table table (Some form) ≡ make_table table (table_columns (columns, key))
+name_table-made table form columns key e (all, same) (names, own) =
+    name_table-named table form e all names ∙ ap (λ c. make_table table (table_columns (c, form.1))) (sym same)
+    ∙ ap (λ k. make_table table (table_columns (columns, k))) (sym own)
+
+-- a table is not read where its columns are not
+pub make_table-unread : (table : List ℕ) (columns : Result (List Column) Refusal) (why : NotRead)
+    → Reads {T = List Column} (λ schema. schema) columns (Err why)
+    → Reads meaning_of (make_table table columns) (Err why)
+make_table-unread table columns (Refused refusal) e = ap (make_table table) e
+make_table-unread table columns NoMemory e = tt
 
 -- the name behind a record's word is the table's
-pub table_meaning-named : (fields : Record) (name : List ℕ) → slice_get fields 1 ≡ Some name → table_meaning fields ≡ name_table name (columns_in (drop 2 fields))
+pub table_meaning-named : (fields : Record) (name : List ℕ) → slice_get fields 1 ≡ Some name
+    → table_meaning fields ≡ name_table name (table_form (drop 2 fields))
 table_meaning-named [] name e = absurd (cc)
 table_meaning-named (word ∷ []) name e = absurd (cc)
-table_meaning-named (word ∷ own ∷ fields) name e = let same : own ≡ name = cc in ap (λ n. name_table n (columns_in fields)) same
+table_meaning-named (word ∷ own ∷ fields) name e =
+    let same : own ≡ name = cc in
+    ap (λ n. name_table n (table_form fields)) same
 
 -- a value that was given is the answer
 pub is-answer : {T E : Type 0} (value : T) (other : E) (answer : Result T E) → IsAnswerUnless (Ok value) other answer → answer ≡ Ok value

@@ -1,66 +1,92 @@
--- Columns of a new table, read one after another.
-use Rattle.std.proofs.Common.{◌≡◌, ℕ, ◌+◌, ◌%◌, ◌<◌, ◌≤◌, List, [], ◌∷◌, ◌++◌, length, drop, Option, Some, None, refl, sym, ap, ◌∙◌, arith, append_assoc, subst}
+-- A new table's columns, read one after another, and its key.
+use Rattle.std.proofs.Common.{◌≡◌, ℕ, ◌-◌, ◌≤◌, List, [], ◌∷◌, ◌++◌, Bool, true, false, length, drop, take, Option, Some, None, refl, sym, ap, ◌∙◌, arith, append_assoc, length-drop}
 use Rattle.std.specs.Borrow.{Bor}
-use Rattle.std.specs.List.{slice_get}
-use Rattle.std.specs.Prelude.{option_map}
-use Rattle.std.proofs.lemmas.List.{append-nil, drop_all, map-append}
+use Rattle.std.specs.Prelude.{codes, if◌then◌else◌, option_map}
+use Rattle.std.proofs.lemmas.List.{append-nil, map-append, take_all}
 use Rattle.row_core.specs.declared.value.Kind.{Kind}
-use Rattle.command_core.specs.Meaning.{column_before, columns_in, kind_named}
+use Rattle.command_core.specs.Meaning.{TableForm, column_before, kind_named, table_form}
 use Rattle.command_core.specs.Records.{Record}
-use Rattle.command_core.specs.TableCommand.{column_at, column_of, raw_column, raw_of}
-use Rattle.command_core.proofs.Cutting.{drop-slice_get, slice_get-there}
+use Rattle.command_core.specs.TableCommand.{first_column, raw_column, raw_of}
+use Rattle.command_core.specs.Words.{begins}
 
--- columns that were read, and those that the rest gives
-abbrev pub columns_behind : List (List ℕ × Kind) → Option (List (List ℕ × Kind)) → Option (List (List ℕ × Kind))
-columns_behind columns more = option_map (λ rest. columns ++ rest) more
+-- columns that were read, and what the rest gives
+abbrev pub form_behind : List (List ℕ × Kind) → Option TableForm → Option TableForm
+form_behind columns more = option_map (λ rest. (columns ++ rest.0, rest.1)) more
 
-behind-one : (columns : List (List ℕ × Kind)) (name : List ℕ) (kind : Kind) (more : Option (List (List ℕ × Kind)))
-    → columns_behind columns (column_before name (Some kind) more) ≡ columns_behind (columns ++ (name, kind) ∷ []) more
+-- what two fields and the rest give, by whether the first is `key`
+abbrev behind_word : List (List ℕ × Kind) → Record → Bool → List ℕ → List ℕ → Option TableForm
+behind_word columns fields is_key name word =
+    form_behind columns
+    (if is_key then Some ([], word ∷ fields) else column_before name (kind_named word) (table_form fields))
+
+-- `key` in a name's place, with a field behind it
+pub key-here : (fields : Record) (columns : List (List ℕ × Kind)) → 2 ≤ length fields
+    → begins (codes "key") fields ≡ true
+    → form_behind columns (table_form fields) ≡ Some (columns, drop 1 fields)
+key-here [] columns two e = absurd (omega arith)
+key-here (name ∷ []) columns two e = absurd (omega arith)
+key-here (name ∷ word ∷ fields) columns two e =
+    ap (λ is_key. behind_word columns fields is_key name word) e
+    ∙ ap (λ l. Some (l, word ∷ fields)) (append-nil columns)
+
+behind-one : (columns : List (List ℕ × Kind)) (name : List ℕ) (kind : Kind) (more : Option TableForm)
+    → form_behind columns (column_before name (Some kind) more) ≡ form_behind (columns ++ (name, kind) ∷ []) more
 behind-one columns name kind None = refl
-behind-one columns name kind (Some rest) = ap Some (sym (append_assoc columns ((name, kind) ∷ []) rest))
+behind-one columns name kind (Some rest) =
+    ap (λ l. Some (l, rest.1)) (sym (append_assoc columns ((name, kind) ∷ []) rest.0))
 
--- what two fields give before the rest, by the kind that the second is the word of
-by_kind : (columns : List (List ℕ × Kind)) (name : List ℕ) (kind : Option Kind) (more : Option (List (List ℕ × Kind))) (o : Option (List ℕ × Kind)) → option_map (λ k. (name, k)) kind ≡ o
-    → (o ≡ None → columns_behind columns (column_before name kind more) ≡ None) × ((column : List ℕ × Kind) → o ≡ Some column → columns_behind columns (column_before name kind more) ≡ columns_behind (columns ++ column ∷ []) more)
-by_kind columns name None more o e = (λ n. refl, λ column s. absurd (cc))
-by_kind columns name (Some kind) more o e = (
-  λ n. absurd (cc),
-  λ column s. let same : (name, kind) ≡ column = cc in subst (λ (c : List ℕ × Kind). columns_behind columns (column_before name (Some kind) more) ≡ columns_behind (columns ++ c ∷ []) more) same (behind-one columns name kind more),
-)
-
-pub behind-column : (fields : Record) (place : ℕ) (columns : List (List ℕ × Kind)) → place + 1 < length fields
-    → (column_at fields place ≡ None → columns_behind columns (columns_in (drop place fields)) ≡ None)
-    × ((column : List ℕ × Kind) → column_at fields place ≡ Some column → columns_behind columns (columns_in (drop place fields)) ≡ columns_behind (columns ++ column ∷ []) (columns_in (drop (place + 2) fields)))
-behind-column fields place columns lt = by (slice_get fields place) (slice_get fields (place + 1)) refl refl
+-- a name and a word of no kind
+pub column-none : (fields : Record) (columns : List (List ℕ × Kind)) → 2 ≤ length fields
+    → begins (codes "key") fields ≡ false
+    → first_column fields ≡ None → form_behind columns (table_form fields) ≡ None
+column-none [] columns two e none = absurd (omega arith)
+column-none (name ∷ []) columns two e none = absurd (omega arith)
+column-none (name ∷ word ∷ fields) columns two e none =
+    ap (λ is_key. behind_word columns fields is_key name word) e ∙ by_kind (kind_named word) none
   where
-    by : (a b : Option (List ℕ)) → slice_get fields place ≡ a → slice_get fields (place + 1) ≡ b
-        → (column_of a b ≡ None → columns_behind columns (columns_in (drop place fields)) ≡ None)
-        × ((column : List ℕ × Kind) → column_of a b ≡ Some column → columns_behind columns (columns_in (drop place fields)) ≡ columns_behind (columns ++ column ∷ []) (columns_in (drop (place + 2) fields)))
-    by None b ea eb = absurd (slice_get-there fields place (omega arith) ea)
-    by (Some name) None ea eb = absurd (slice_get-there fields (place + 1) lt eb)
-    by (Some name) (Some word) ea eb =
-        let next : place + 1 + 1 ≡ place + 2 = omega arith in
-        let front : drop place fields ≡ name ∷ word ∷ drop (place + 2) fields =
-        drop-slice_get fields place name ea ∙ ap (λ l. name ∷ l) (drop-slice_get fields (place + 1) word eb ∙ ap (λ n. word ∷ drop n fields) next) in
-        rw front (by_kind columns name (kind_named word) (columns_in (drop (place + 2) fields)) (option_map (λ k. (name, k)) (kind_named word)) refl)
+    by_kind : (kind : Option Kind) → option_map {U = List ℕ × Kind} (λ k. (name, k)) kind ≡ None
+        → form_behind columns (column_before name kind (table_form fields)) ≡ None
+    by_kind None n = refl
+    by_kind (Some kind) n = absurd (cc)
+
+-- a name and a kind
+pub column-here : (fields : Record) (columns : List (List ℕ × Kind)) (column : List ℕ × Kind) → 2 ≤ length fields
+    → begins (codes "key") fields ≡ false → first_column fields ≡ Some column
+    → form_behind columns (table_form fields) ≡ form_behind (columns ++ column ∷ []) (table_form (drop 2 fields))
+column-here [] columns column two e some = absurd (omega arith)
+column-here (name ∷ []) columns column two e some = absurd (omega arith)
+column-here (name ∷ word ∷ fields) columns column two e some =
+    ap (λ is_key. behind_word columns fields is_key name word) e ∙ by_kind (kind_named word) some
+  where
+    by_kind : (kind : Option Kind) → option_map {U = List ℕ × Kind} (λ k. (name, k)) kind ≡ Some column
+        → form_behind columns (column_before name kind (table_form fields))
+        ≡ form_behind (columns ++ column ∷ []) (table_form fields)
+    by_kind None n = absurd (cc)
+    by_kind (Some kind) n =
+        let same : (name, kind) ≡ column = cc in
+        behind-one columns name kind (table_form fields)
+        ∙ ap (λ (c : List ℕ × Kind). form_behind (columns ++ c ∷ []) (table_form fields)) same
+
+-- a field that is left over
+pub field-left : (fields : Record) (columns : List (List ℕ × Kind)) → length fields ≡ 1
+    → form_behind columns (table_form fields) ≡ None
+field-left [] columns one = absurd (omega arith)
+field-left (last ∷ []) columns one = refl
+field-left (last ∷ more ∷ fields) columns one = absurd (omega arith)
+
+-- all columns were read, and there is no key
+pub none-left : (fields : Record) (columns : List (List ℕ × Kind)) → length fields ≡ 0
+    → form_behind columns (table_form fields) ≡ Some (columns, fields)
+none-left [] columns none = ap (λ l. Some (l, [])) (append-nil columns)
+none-left (field ∷ fields) columns none = absurd (omega arith)
 
 -- one more column is kept
-pub behind-next : (fields : Record) (columns : List (Bor (List ℕ) × Kind)) (kept : List (Bor (List ℕ) × Kind)) (column : Bor (List ℕ) × Kind) (place next : ℕ) → kept ≡ columns ++ column ∷ [] → place ≡ next
-    → columns_behind (raw_of columns ++ raw_column column ∷ []) (columns_in (drop place fields)) ≡ columns_behind (raw_of kept) (columns_in (drop next fields))
-behind-next fields columns kept column place next e n =
-    let same : raw_of kept ≡ raw_of columns ++ raw_column column ∷ [] = ap raw_of e ∙ map-append raw_column columns (column ∷ []) in
-    ap (λ l. columns_behind l (columns_in (drop place fields))) (sym same) ∙ ap (λ p. columns_behind (raw_of kept) (columns_in (drop p fields))) n
+pub raw_of-push : (columns kept : List (Bor (List ℕ) × Kind)) (column : Bor (List ℕ) × Kind)
+    → kept ≡ columns ++ column ∷ []
+    → raw_of kept ≡ raw_of columns ++ raw_column column ∷ []
+raw_of-push columns kept column e = ap raw_of e ∙ map-append raw_column columns (column ∷ [])
 
--- all columns were read
-pub behind-all : (fields : Record) (place : ℕ) (columns : List (List ℕ × Kind)) → length fields ≤ place → columns_behind columns (columns_in (drop place fields)) ≡ Some columns
-behind-all fields place columns h = ap (λ l. columns_behind columns (columns_in l)) (drop_all place fields h) ∙ ap Some (append-nil columns)
-
-before-none : (name : List ℕ) (kind : Option Kind) → column_before name kind None ≡ None
-before-none name None = refl
-before-none name (Some kind) = refl
-
--- a name without a kind is left
-pub odd-none : (fields : Record) → length fields % 2 ≡ 1 → columns_in fields ≡ None
-odd-none [] h = absurd (omega arith)
-odd-none (name ∷ []) h = refl
-odd-none (name ∷ word ∷ fields) h = ap (column_before name (kind_named word)) (odd-none fields (omega arith)) ∙ before-none name (kind_named word)
+-- the fields from a place on
+pub rest-from : (line rest : Record) (n k : ℕ) → n ≡ length line → rest ≡ take (n - k) (drop k line)
+    → rest ≡ drop k line
+rest-from line rest n k size e = e ∙ take_all (n - k) (drop k line) (omega (arith, size, length-drop k line))

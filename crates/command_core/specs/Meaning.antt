@@ -1,19 +1,19 @@
 -- What a command's records mean, before any table is looked at.
-use Rattle.std.specs.Prelude.{ℕ, ◌+◌, ◌≡◌, ◌⊎◌, ◌&&◌, ℤ, List, [], ◌∷◌, ◌++◌, true, false, Option, Some, None, Result, Ok, Err, All, bytes_eq, codes, length, option_map, if◌then◌else◌}
+use Rattle.std.specs.Prelude.{ℕ, ◌+◌, ◌≡◌, ◌⊎◌, ◌&&◌, ℤ, List, [], ◌∷◌, ◌++◌, Bool, true, false, Option, Some, None, Result, Ok, Err, All, bytes_eq, codes, length, option_map, if◌then◌else◌}
 use Rattle.std.specs.List.{list_all}
+use Rattle.std.specs.Result.{result_map_both}
 use Rattle.period_core.specs.declared.period.Period.{Period}
 use Rattle.row_core.specs.Name.{is_name}
 use Rattle.row_core.specs.Refusals.{result_and_then}
-use Rattle.row_core.specs.Schema.{schema_of}
+use Rattle.row_core.specs.Schema.{keyed_of, schema_of}
 use Rattle.row_core.specs.declared.schema.Column.{Column}
-use Rattle.row_core.specs.declared.schema.SchemaRefused.{SchemaRefused}
 use Rattle.row_core.specs.declared.value.Kind.{Kind}
 use Rattle.row_core.specs.declared.value.Kind.TheVariants as kind
 use Rattle.command_core.specs.Fields.{claimed, dated, name_in, named, period_in, spanned, with_asof}
 use Rattle.command_core.specs.Pairs.{TextPair, named_pairs}
 use Rattle.command_core.specs.Portions.{conditions_in, settings_in}
 use Rattle.command_core.specs.Records.{Record}
-use Rattle.command_core.specs.Refusal.{fault, schema_refusal}
+use Rattle.command_core.specs.Refusal.{fault, key_refusal, schema_refusal}
 use Rattle.command_core.specs.Words.{begins, is_end, opens_block, verb_of}
 use Rattle.command_core.specs.declared.refusal.Fault.{Fault}
 use Rattle.command_core.specs.declared.refusal.Refusal.{Refusal}
@@ -51,31 +51,46 @@ told number (Err refusal) = refuse number refusal
 abbrev pub kind_named : List ℕ → Option Kind
 kind_named word = if bytes_eq word (codes "int") then Some kind.Int else if bytes_eq word (codes "text") then Some kind.Text else None
 
--- a column before others, where its kind is one and they are columns
-abbrev pub column_before : List ℕ → Option Kind → Option (List (List ℕ × Kind)) → Option (List (List ℕ × Kind))
+-- columns, and the names of a key's, of which there are none where there is no key
+abbrev pub TableForm : Type 0
+TableForm = List (List ℕ × Kind) × List (List ℕ)
+
+-- a column before others, where its kind is one and they have the right form
+abbrev pub column_before : List ℕ → Option Kind → Option TableForm → Option TableForm
 column_before name None more = None
-column_before name (Some kind) more = option_map (λ columns. (name, kind) ∷ columns) more
+column_before name (Some kind) more = option_map (λ form. ((name, kind) ∷ form.0, form.1)) more
 
--- the columns of fields that are names and kinds in turn
-abbrev pub columns_in : Record → Option (List (List ℕ × Kind))
-columns_in [] = Some []
-columns_in (name ∷ []) = None
-columns_in (name ∷ word ∷ fields) = column_before name (kind_named word) (columns_in fields)
+-- fields that are names and kinds in turn, up to a `key` in a name's place, and behind it the names of
+-- the key's columns, at least one
+abbrev pub table_form : Record → Option TableForm
+table_form [] = Some ([], [])
+table_form (last ∷ []) = None
+table_form (name ∷ word ∷ fields) =
+    if bytes_eq name (codes "key") then Some ([], word ∷ fields)
+    else column_before name (kind_named word) (table_form fields)
 
--- a new table of columns, where they may be a table's
-abbrev pub make_table : List ℕ → Result (List Column) SchemaRefused → Result Meaning Refusal
-make_table name (Ok columns) = Ok (Make name columns)
-make_table name (Err refused) = Err (schema_refusal refused)
+-- the columns with their key, or the first refusal, of the columns and then of the key
+abbrev pub table_columns : TableForm → Result (List Column) Refusal
+table_columns form =
+    result_and_then (λ columns. result_map_both (λ keyed. keyed) key_refusal (keyed_of columns form.1))
+    (result_map_both (λ columns. columns) schema_refusal (schema_of form.0))
 
--- a new table, where its name and its columns' names are names
-abbrev pub name_table : List ℕ → Option (List (List ℕ × Kind)) → Result Meaning Refusal
+-- the names of columns and of a key's are names
+abbrev pub is_named : TableForm → Bool
+is_named form = list_all (λ column. is_name column.0) form.0 && list_all is_name form.1
+
+-- a new table of columns, or why there are none
+abbrev pub make_table : List ℕ → Result (List Column) Refusal → Result Meaning Refusal
+make_table name columns = result_map_both (λ made. Make name made) (λ refusal. refusal) columns
+
+-- a new table, where its name and those of its columns and its key are names
+abbrev pub name_table : List ℕ → Option TableForm → Result Meaning Refusal
 name_table name None = Err BadCommand
-name_table name (Some columns) =
-    if is_name name && list_all (λ column. is_name column.0) columns then make_table name (schema_of columns)
-    else Err BadName
+name_table name (Some form) =
+    if is_name name && is_named form then make_table name (table_columns form) else Err BadName
 
 abbrev pub table_meaning : Record → Result Meaning Refusal
-table_meaning (word ∷ name ∷ fields) = name_table name (columns_in fields)
+table_meaning (word ∷ name ∷ fields) = name_table name (table_form fields)
 table_meaning line = Err BadCommand
 
 -- ---- portions of tables
@@ -191,14 +206,8 @@ abbrev pub Means : ℕ → List Record → List Record → Meaning → Type 0
 Means number own later meaning =
     MeansRecord number own meaning ⊎ MeansBlock number own meaning ⊎ MeansUnended number own later meaning
 
--- records tell at most one way to take the first command's from the others, and one meaning of it
-abbrev pub MeaningIsOne : Type 0
-MeaningIsOne =
-    (number : ℕ) (own later taken left : List Record) (one other : Meaning) → own ++ later ≡ taken ++ left
-    → Means number own later one → Means number taken left other → (own ≡ taken) × (later ≡ left) × (one ≡ other)
-
--- these records' first command: which of them it takes, and what it means
-pub record First (number : ℕ) (records : List Record) : Type 0 where
+-- the first command of some records, the first of them of this number: which of them it takes, and what it means
+pub record FirstCommand (number : ℕ) (records : List Record) : Type 0 where
   pub own : List Record
   pub later : List Record
   pub meaning : Meaning

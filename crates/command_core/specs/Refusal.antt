@@ -1,10 +1,14 @@
 -- The names of refusals.
 use Rattle.std.specs.Prelude.{ℕ, List, codes}
+use Rattle.row_core.specs.declared.schema.KeyRefused.{KeyRefused}
+use Rattle.row_core.specs.declared.schema.KeyRefused.TheVariants as key
 use Rattle.row_core.specs.declared.schema.SchemaRefused.{SchemaRefused}
 use Rattle.row_core.specs.declared.schema.SchemaRefused.TheVariants as schema
 use Rattle.command_core.specs.declared.refusal.Fault.{Fault}
+use Rattle.command_core.specs.declared.refusal.NotRead.{NotRead}
+use Rattle.command_core.specs.declared.refusal.NotRead.TheVariants as not_read
 use Rattle.command_core.specs.declared.refusal.Refusal.{Refusal}
-use Rattle.command_core.specs.declared.refusal.Refusal.TheVariants.{BadCommand, BadName, BadNumber, BadPeriod, BadPoint, BadUtf8, Full, Future, NoColumn, NoTable, TableExists, TooLong, TooMany, TwiceNamed, Unended, WrongKind, WrongWidth}
+use Rattle.command_core.specs.declared.refusal.Refusal.TheVariants.{BadCommand, BadName, BadNumber, BadPeriod, BadPoint, BadUtf8, Full, Future, KeyOverlap, NoColumn, NoTable, TableExists, TooLong, TooMany, TwiceNamed, Unended, WrongKind, WrongWidth}
 
 -- a refusal as it is printed
 abbrev pub refusal_text : Refusal → List ℕ
@@ -16,6 +20,7 @@ refusal_text BadPoint = codes "BadPoint"
 refusal_text BadUtf8 = codes "BadUtf8"
 refusal_text Full = codes "Full"
 refusal_text Future = codes "Future"
+refusal_text KeyOverlap = codes "KeyOverlap"
 refusal_text NoColumn = codes "NoColumn"
 refusal_text NoTable = codes "NoTable"
 refusal_text TableExists = codes "TableExists"
@@ -35,3 +40,18 @@ abbrev pub schema_refusal : SchemaRefused → Refusal
 schema_refusal schema.TooMany = TooMany
 schema_refusal schema.TwiceNamed = TwiceNamed
 schema_refusal schema.NoMemory = Full
+
+-- what is wrong with a key, of which the same holds
+abbrev pub key_refusal : KeyRefused → Refusal
+key_refusal key.NoColumn = NoColumn
+key_refusal key.TwiceNamed = TwiceNamed
+key_refusal key.NoMemory = Full
+
+-- why columns, or a key of them, are not read
+abbrev pub schema_not_read : SchemaRefused → NotRead
+schema_not_read schema.NoMemory = not_read.NoMemory
+schema_not_read why = not_read.Refused (schema_refusal why)
+
+abbrev pub key_not_read : KeyRefused → NotRead
+key_not_read key.NoMemory = not_read.NoMemory
+key_not_read why = not_read.Refused (key_refusal why)

@@ -1,9 +1,11 @@
--- The columns of a new table, as a record tells them.
-use Rattle.std.specs.Prelude.{ℕ, ◌+◌, List, Option, Some, None, map, option_map, slice_get}
+-- The columns of a new table and the names of its key, as fields in memory tell them.
+use Rattle.std.specs.Prelude.{ℕ, List, ◌∷◌, Option, None, map, option_map}
 use Rattle.std.specs.Borrow.{Bor}
 use Rattle.row_core.specs.declared.value.Kind.{Kind}
-use Rattle.command_core.specs.Meaning.{kind_named}
+use Rattle.command_core.specs.Lines.{fields_in}
+use Rattle.command_core.specs.Meaning.{TableForm, kind_named}
 use Rattle.command_core.specs.Records.{Record}
+use Rattle.command_core.specs.declared.table_command.RawTable.{RawTable}
 
 -- a column's name and kind
 abbrev pub raw_column : Bor (List ℕ) × Kind → List ℕ × Kind
@@ -12,12 +14,11 @@ raw_column column = (column.0.now, column.1)
 abbrev pub raw_of : List (Bor (List ℕ) × Kind) → List (List ℕ × Kind)
 raw_of columns = map raw_column columns
 
--- a name, and the kind of a word
-abbrev pub column_of : Option (List ℕ) → Option (List ℕ) → Option (List ℕ × Kind)
-column_of None word = None
-column_of (Some name) None = None
-column_of (Some name) (Some word) = option_map (λ kind. (name, kind)) (kind_named word)
+-- the columns, and the names of the key
+abbrev pub form_of : RawTable → TableForm
+form_of table = (raw_of table.columns.items, fields_in table.key)
 
--- the column at a place of a record
-abbrev pub column_at : Record → ℕ → Option (List ℕ × Kind)
-column_at fields place = column_of (slice_get fields place) (slice_get fields (place + 1))
+-- the column that the first two fields tell
+abbrev pub first_column : Record → Option (List ℕ × Kind)
+first_column (name ∷ word ∷ fields) = option_map (λ kind. (name, kind)) (kind_named word)
+first_column fields = None

@@ -1,25 +1,19 @@
 //! Laws of what records mean.
 
 ghost use Rattle.std.specs.Prelude.{◌≡◌, ◌<◌, ℕ, List, length};
-ghost use Rattle.command_core.specs.Meaning.{First, MeaningIsOne};
+ghost use Rattle.command_core.specs.Meaning.{FirstCommand};
 ghost use Rattle.command_core.specs.Records.{AreScriptRecords, Record};
 
-/// The law by which a script is cut into commands in one way: some records tell at most one way to take the first command's from them, and one meaning.
-pub fn meaning_is_one()
-    ensures { MeaningIsOne }
+/// The bytes of a script, whatever they are, have exactly one list of records.
+pub fn script_has_one_list_of_records()
+    ensures exists { (script : List ℕ) → (records : List Record) × AreScriptRecords script records }
+    ensures one { (script : List ℕ) (one other : List Record)
+        → AreScriptRecords script one → AreScriptRecords script other → one ≡ other }
 {}
 
-/// A script has one list of records.
-pub fn records_are_one()
-    ensures { (script : List ℕ) (one other : List Record) → AreScriptRecords script one → AreScriptRecords script other → one ≡ other }
-{}
-
-/// Each text is a script of some records: so of exactly one list.
-pub fn records_exist()
-    ensures { (script : List ℕ) → (records : List Record) × AreScriptRecords script records }
-{}
-
-/// Where there are records they tell a first command: so exactly one.
-pub fn meaning_exists()
-    ensures { (number : ℕ) (records : List Record) → 0 < length records → First number records }
+/// Some records have exactly one first command: which of them it takes, and what it means.
+pub fn records_have_one_first_command()
+    ensures exists { (number : ℕ) (records : List Record) → 0 < length records → FirstCommand number records }
+    ensures one { (number : ℕ) (records : List Record) (one other : FirstCommand number records)
+        → (one.own ≡ other.own) × (one.later ≡ other.later) × (one.meaning ≡ other.meaning) }
 {}

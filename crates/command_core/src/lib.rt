@@ -15,7 +15,7 @@ mod words;
 
 pub use command::{Command, Cut, next_command};
 pub use fields::natural_in;
-pub use laws::{meaning_exists, meaning_is_one, records_are_one, records_exist};
+pub use laws::{records_have_one_first_command, script_has_one_list_of_records};
 pub use lines::{Line, Lines};
 pub use pairs::TextPairs;
 pub use records::{Records, read_records};

@@ -3,6 +3,7 @@ ghost use Rattle.std.specs.Prelude.{◌≡◌};
 ghost use Rattle.command_core.specs.Refusal.{refusal_text};
 ghost use Rattle.command_core.specs.declared.refusal.NotRead.TheVariants.{Refused, NoMemory};
 
+use row_core::{KeyRefused, SchemaRefused};
 use std::alloc::{AllocError, AllocFailed};
 
 /// Why a command is refused.
@@ -24,6 +25,8 @@ pub enum Refusal {
     Full,
     /// There are fewer commits.
     Future,
+    /// The table has a key, and two of its rows would be equal in each column of it and share an instant.
+    KeyOverlap,
     /// The table has no column of that name.
     NoColumn,
     /// There is no table of that name.
@@ -34,7 +37,7 @@ pub enum Refusal {
     TooLong,
     /// There would be more than 16 columns, or more than 64 tables.
     TooMany,
-    /// Two columns have one name.
+    /// Two columns have one name, or a key names one twice.
     TwiceNamed,
     /// A block has no end.
     Unended,
@@ -67,6 +70,7 @@ impl Refusal {
             Refusal::BadUtf8 => b"BadUtf8",
             Refusal::Full => b"Full",
             Refusal::Future => b"Future",
+            Refusal::KeyOverlap => b"KeyOverlap",
             Refusal::NoColumn => b"NoColumn",
             Refusal::NoTable => b"NoTable",
             Refusal::TableExists => b"TableExists",
@@ -92,6 +96,34 @@ impl From<Refusal> for NotRead {
 
     fn from(refusal: Refusal) -> NotRead {
         NotRead::Refused(refusal)
+    }
+}
+
+impl From<SchemaRefused> for NotRead {
+    ghost use Rattle.command_core.specs.Refusal.{schema_not_read};
+
+    ghost from_gives = { λ refused e. e ≡ schema_not_read refused };
+
+    fn from(refused: SchemaRefused) -> NotRead {
+        match refused {
+            SchemaRefused::TooMany => NotRead::Refused(Refusal::TooMany),
+            SchemaRefused::TwiceNamed => NotRead::Refused(Refusal::TwiceNamed),
+            SchemaRefused::NoMemory => NotRead::NoMemory,
+        }
+    }
+}
+
+impl From<KeyRefused> for NotRead {
+    ghost use Rattle.command_core.specs.Refusal.{key_not_read};
+
+    ghost from_gives = { λ refused e. e ≡ key_not_read refused };
+
+    fn from(refused: KeyRefused) -> NotRead {
+        match refused {
+            KeyRefused::NoColumn => NotRead::Refused(Refusal::NoColumn),
+            KeyRefused::TwiceNamed => NotRead::Refused(Refusal::TwiceNamed),
+            KeyRefused::NoMemory => NotRead::NoMemory,
+        }
     }
 }
 

@@ -1,21 +1,30 @@
 //! What a record means that makes a table.
-ghost use Rattle.std.specs.Prelude.{◌≡◌, ◌+◌, ◌<◌, ◌≤◌, IfOk, MatchOption, Some, drop, false, length, option_map, true};
+ghost use Rattle.std.specs.Prelude.{◌≡◌, ◌≤◌, IfOk, MatchOption, Some, false, length, option_map, true};
 ghost use Rattle.std.specs.List.{list_all};
 ghost use Rattle.row_core.specs.Name.{is_name};
 ghost use Rattle.command_core.specs.Command.{Reads, meaning_of};
 ghost use Rattle.command_core.specs.Lines.{fields_in};
-ghost use Rattle.command_core.specs.Meaning.{columns_in, kind_named, name_table, table_meaning};
-ghost use Rattle.command_core.specs.TableCommand.{column_at, raw_column, raw_of};
+ghost use Rattle.command_core.specs.Meaning.{kind_named, name_table, table_columns, table_form, table_meaning};
+ghost use Rattle.command_core.specs.TableCommand.{first_column, form_of, raw_column, raw_of};
 
 use crate::command::Command;
 use crate::lines::Line;
 use crate::refusal::{NotRead, Refusal};
+use crate::words::begins;
 use period_core::NoMemory;
-use row_core::{Kind, Name, Schema, SchemaRefused};
+use row_core::{Kind, Name, Schema};
 use std::alloc::Global;
 
 /// A column's name, which may be none, and its kind.
 type RawColumn<'a> = (&'a [u8], Kind);
+
+/// A new table as its record tells it, where no name has been tested.
+#[derive(Drop)]
+struct RawTable<'a> {
+    columns: Vec<RawColumn<'a>>,
+    /// The names of the key's columns, one a field; no field where there is no key.
+    key: Line<'a>,
+}
 
 /// The kind of that word.
 fn kind_named(word: &[u8]) -> Option<Kind>
@@ -30,12 +39,12 @@ fn kind_named(word: &[u8]) -> Option<Kind>
     }
 }
 
-/// The column at a place of a record: the field there is its name, and the next one its kind.
-fn column_at<'a>(line: Line<'a>, place: usize) -> Option<RawColumn<'a>>
-    requires { place + 1 < length (fields_in line) }
-    ensures { option_map raw_column result ≡ column_at (fields_in line.entry) place }
+/// The column that the first two fields tell: a name, which may be none, and a kind.
+fn first_column<'a>(line: Line<'a>) -> Option<RawColumn<'a>>
+    requires { 2 ≤ length (fields_in line) }
+    ensures { option_map raw_column result ≡ first_column (fields_in line.entry) }
 {
-    let (Some(name), Some(word)) = (line.get(place), line.get(place + 1)) else {
+    let (Some(name), Some(word)) = (line.get(0), line.get(1)) else {
         return None;
     };
     match kind_named(word) {
@@ -44,22 +53,27 @@ fn column_at<'a>(line: Line<'a>, place: usize) -> Option<RawColumn<'a>>
     }
 }
 
-/// The columns of the fields behind a table's name, where they are names and kinds in turn.
-fn raw_columns<'a>(alloc: Global, line: Line<'a>) -> Result<Option<Vec<RawColumn<'a>>>, NoMemory>
-    requires { 2 ≤ length (fields_in line) }
-    ensures { IfOk result (λ columns. option_map (λ v. raw_of v.items) columns ≡ columns_in (drop 2 (fields_in line.entry))) }
+/// The columns and the key of the fields behind a table's name, where these have the right form.
+fn raw_table<'a>(alloc: Global, fields: Line<'a>) -> Result<Option<RawTable<'a>>, NoMemory>
+    ensures { IfOk result (λ table. option_map form_of table ≡ table_form (fields_in fields.entry)) }
 {
-    if line.len() % 2 != 0 {
-        return Ok(None);
-    }
     let mut columns = Vec::new(alloc);
-    for pair in 1..line.len() / 2 {
-        let Some(column) = column_at(line, 2 * pair) else {
+    let mut rest = fields;
+    while rest.len() >= 2 {
+        if begins(rest, b"key") {
+            let key = rest.range(1, rest.len());
+            return Ok(Some(RawTable { columns, key }));
+        }
+        let Some(column) = first_column(rest) else {
             return Ok(None);
         };
         columns.push(column)?;
+        rest = rest.range(2, rest.len());
     }
-    Ok(Some(columns))
+    if rest.len() == 1 {
+        return Ok(None);
+    }
+    Ok(Some(RawTable { columns, key: rest }))
 }
 
 /// The columns by their names, where these are names.
@@ -77,26 +91,48 @@ fn name_columns(alloc: Global, raw: &[RawColumn<'_>]) -> Result<Option<Vec<(Name
     Ok(Some(columns))
 }
 
-/// A table of columns, where its name and theirs are names and the columns may be a table's.
-fn name_table<'a>(
-    alloc: Global,
-    table: &[u8],
-    raw: &[RawColumn<'_>],
-) -> Result<Command<'a>, NotRead>
-    ensures { Reads meaning_of (name_table table.now (Some (raw_of raw.now))) result }
+/// The names of a key's columns, where they are names.
+fn name_key(alloc: Global, key: Line<'_>) -> Result<Option<Vec<Name>>, NoMemory>
+    ensures { IfOk result (λ names. MatchOption names (list_all is_name (fields_in key.entry) ≡ false)
+        (λ v. (list_all is_name (fields_in key.entry) ≡ true) × (v.items ≡ fields_in key.entry))) }
+{
+    let mut names = Vec::with_capacity(alloc, key.len())?;
+    for place in 0..key.len() {
+        let Some(text) = key.get(place) else {
+            unreachable!()
+        };
+        let Ok(name) = Name::parse(text) else {
+            return Ok(None);
+        };
+        names.push(name)?;
+    }
+    Ok(Some(names))
+}
+
+/// The columns with those of the names as their key, where they may be a table's.
+fn make_schema(alloc: Global, columns: &[(Name, Kind)], key: &[Name]) -> Result<Schema, NotRead>
+    ensures { Reads (λ schema. schema) (table_columns (columns.now, key.now)) result }
+{
+    let schema = Schema::new(alloc, columns)?;
+    Ok(schema.with_key(alloc, key)?)
+}
+
+/// A table of columns and a key, where its name and theirs are names, and the columns with that key may
+/// be a table's.
+fn name_table<'a>(alloc: Global, table: &[u8], raw: &RawTable<'_>) -> Result<Command<'a>, NotRead>
+    ensures { Reads meaning_of (name_table table.now (Some (form_of raw.now))) result }
 {
     let Ok(table) = Name::parse(table) else {
         return Err(NotRead::Refused(Refusal::BadName));
     };
-    let Some(columns) = name_columns(alloc, raw)? else {
+    let Some(columns) = name_columns(alloc, &raw.columns)? else {
         return Err(NotRead::Refused(Refusal::BadName));
     };
-    match Schema::new(alloc, &columns) {
-        Ok(schema) => Ok(Command::Make { table, schema }),
-        Err(SchemaRefused::TooMany) => Err(NotRead::Refused(Refusal::TooMany)),
-        Err(SchemaRefused::TwiceNamed) => Err(NotRead::Refused(Refusal::TwiceNamed)),
-        Err(SchemaRefused::NoMemory) => Err(NotRead::NoMemory),
-    }
+    let Some(key) = name_key(alloc, raw.key)? else {
+        return Err(NotRead::Refused(Refusal::BadName));
+    };
+    let schema = make_schema(alloc, &columns, &key)?;
+    Ok(Command::Make { table, schema })
 }
 
 /// What a record means whose word is `table`.
@@ -106,7 +142,7 @@ pub(crate) fn read_table<'a>(alloc: Global, line: Line<'a>) -> Result<Command<'a
     let Some(table) = line.get(1) else {
         return Err(NotRead::Refused(Refusal::BadCommand));
     };
-    let Some(raw) = raw_columns(alloc, line)? else {
+    let Some(raw) = raw_table(alloc, line.range(2, line.len()))? else {
         return Err(NotRead::Refused(Refusal::BadCommand));
     };
     name_table(alloc, table, &raw)

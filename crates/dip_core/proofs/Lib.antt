@@ -9,5 +9,5 @@ pub mod PlacedLemmas
 pub mod StepLemmas
 pub mod DivisionLemmas
 pub mod SortedLemmas
-pub mod OneLemmas
-pub mod ExistsLemmas
+pub mod DipUniqueness
+pub mod DipExistence

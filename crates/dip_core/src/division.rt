@@ -1,7 +1,7 @@
 ghost use Rattle.std.specs.Prelude.{◌≡◌, ◌<◌, ◌≤◌, ◌↔◌, List, [], length, All, IsNone, IfSome, IfOk};
 ghost use Rattle.dip_core.specs.declared.item.Item.{Item};
 ghost use Rattle.dip_core.specs.Item.{IsChain, IsRising, HasDistinctIds};
-ghost use Rattle.dip_core.specs.Division.{all_of, class_at, IsDivision, IsLeast, IsInstant, IsPlaced};
+ghost use Rattle.dip_core.specs.Division.{all_of, class_at, IsDip, IsDivision, IsInstant, IsInstantOf, IsLeast, IsLeastDivision};
 ghost use Rattle.dip_core.specs.Kept.{ArePlaced, IsDivided};
 
 use crate::class::Class;
@@ -65,8 +65,7 @@ impl Division {
 
     /// The least instant that as many items hold as there are parts, whichever items they divide; None exactly without parts.
     pub fn instant(&self) -> Option<Point>
-        ensures none { IsNone result ↔ (self.now ≡ []) }
-        ensures value { (items : List Item) → IsDivision items self.now → IfSome result (IsInstant items (length self.now)) }
+        ensures { IsInstantOf self.now result }
     {
         instant_of(&self.classes)
     }
@@ -89,11 +88,9 @@ fn instant_of(classes: &[Class]) -> Option<Point>
 /// Divides the items, which are at most 1,000,000, into the least number of parts without overlaps. Items of distinct ids are placed one after another, by start, end and id, as `Placer::place` does.
 pub fn create_dip(alloc: Global, items: &[Item]) -> Result<Division, NoMemory>
     requires { length items.now ≤ 1_000_000 }
-    ensures division { IfOk result (IsDivision items.now) }
+    ensures least { IfOk result (IsLeastDivision items.now) }
+    ensures dip { IfOk result (λ division. HasDistinctIds items.now → IsDip items.now division) }
     ensures empty { IfOk result (λ division. (division ≡ []) ↔ (items.now ≡ [])) }
-    ensures rising { IfOk result (All IsRising) }
-    ensures least { IfOk result (λ division. IsLeast items.now (length division)) }
-    ensures placed { IfOk result (λ division. HasDistinctIds items.now → IsPlaced division) }
 {
     let mut sorted = Vec::from_slice(alloc, items)?;
     sorted.sort_unstable();

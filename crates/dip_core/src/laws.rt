@@ -1,7 +1,7 @@
 ghost use Rattle.std.specs.Prelude.{◌≡◌, ℤ, List, [], Option};
 ghost use Rattle.dip_core.specs.declared.item.Item.{Item};
 ghost use Rattle.dip_core.specs.Item.{IdsRise, HasDistinctIds};
-ghost use Rattle.dip_core.specs.Division.{CrowdedDivisionIsLeast, IsDip, IsLeast, PlacedDivisionExists, PlacedDivisionIsLeast, PlacedDivisionIsOne};
+ghost use Rattle.dip_core.specs.Division.{CrowdedDivisionIsLeast, IsDip, IsDivision, IsInstantOf, IsLeast, IsLeastDivision, PlacedDivisionIsLeast, PlacedDivisionIsUnique};
 
 /// The law by which a division is seen to be least: where it has as many classes as some instant's crowd, no division of its items has fewer. No items need no class.
 pub fn crowded_division_is_least()
@@ -14,19 +14,24 @@ pub fn rising_ids_are_distinct()
     ensures { (items : List Item) → IdsRise items → HasDistinctIds items }
 {}
 
-/// The law by which a script has one output: of all divisions of some items, one at most is placed with each class by rising start, whatever the ids are.
-pub fn placed_division_is_one()
-    ensures { PlacedDivisionIsOne }
-{}
-
-/// The division that placing gives is one, with its instant: so what a script prints of it is determined.
-pub fn dip_is_one()
-    ensures { (items : List Item) (one other : List (List Item)) (first last : Option ℤ)
-        → IsDip items one first → IsDip items other last → (one ≡ other) × (first ≡ last) }
-{}
-
-/// Items of distinct ids have a placed division, so exactly one, and it is least.
-pub fn placed_division_exists()
-    ensures exists { PlacedDivisionExists }
+/// Of the divisions of some items whose classes rise, one at most is placed, whatever the ids are; of items of distinct
+/// ids it is least.
+pub fn placed_division_is_unique()
+    ensures one { PlacedDivisionIsUnique }
     ensures least { PlacedDivisionIsLeast }
+{}
+
+/// Items of distinct ids have exactly one dip.
+pub fn items_have_one_dip()
+    ensures exists { (items : List Item) → HasDistinctIds items → (classes : List (List Item)) × IsDip items classes }
+    ensures one { (items : List Item) (one other : List (List Item))
+        → IsDip items one → IsDip items other → one ≡ other }
+{}
+
+/// A least division has exactly one instant.
+pub fn division_has_one_instant()
+    ensures exists { (items : List Item) (classes : List (List Item)) → IsLeastDivision items classes
+        → (instant : Option ℤ) × IsInstantOf classes instant }
+    ensures one { (items : List Item) (classes : List (List Item)) (one other : Option ℤ)
+        → IsDivision items classes → IsInstantOf classes one → IsInstantOf classes other → one ≡ other }
 {}

@@ -15,8 +15,8 @@ pub use division::{Division, create_dip};
 pub use ids::ids_rise;
 pub use item::Item;
 pub use laws::{
-    crowded_division_is_least, dip_is_one, placed_division_exists, placed_division_is_one,
-    rising_ids_are_distinct,
+    crowded_division_is_least, division_has_one_instant, items_have_one_dip,
+    placed_division_is_unique, rising_ids_are_distinct,
 };
 pub use part::Part;
 pub use period_core::NoMemory;

@@ -1,7 +1,7 @@
-ghost use Rattle.std.specs.Prelude.{◌≡◌, ◌<◌, ◌≤◌, [], length, All, Some, None, IfOk, OnErr};
+ghost use Rattle.std.specs.Prelude.{◌≡◌, ◌<◌, ◌≤◌, [], length, Some, None, IfOk, OnErr};
 ghost use Rattle.std.specs.Option.{ForSome};
-ghost use Rattle.dip_core.specs.Item.{IsBelow, IsRising, HasDistinctIds};
-ghost use Rattle.dip_core.specs.Division.{all_of, IsDivision, IsLeast, IsPlaced};
+ghost use Rattle.dip_core.specs.Item.{IsBelow, HasDistinctIds};
+ghost use Rattle.dip_core.specs.Division.{all_of, IsDip, IsLeastDivision};
 ghost use Rattle.dip_core.specs.Placing.{IsGreatest, IsPlaceFor, added};
 
 use crate::class::Class;
@@ -76,10 +76,8 @@ impl Placer {
     /// The parts as a division of all items that were placed.
     pub fn finish(self) -> Division
         ensures parts { result ≡ self.parts }
-        ensures division { IsDivision (all_of self.parts) result }
-        ensures rising { All IsRising result }
-        ensures least { IsLeast (all_of self.parts) (length result) }
-        ensures placed { HasDistinctIds (all_of self.parts) → IsPlaced result }
+        ensures least { IsLeastDivision (all_of self.parts) result }
+        ensures dip { HasDistinctIds (all_of self.parts) → IsDip (all_of self.parts) result }
     {
         let Placer {
             alloc: _,

@@ -10,8 +10,7 @@ use jiff_core::civil;
 use std::alloc::Allocator;
 use std::marker::Model;
 
-// The seconds of a day.
-const DAY: i64 = 86_400;
+const SECONDS_PER_DAY: i64 = 86_400;
 
 /// A second of a date of the proleptic Gregorian calendar, in the years 0001 to 9999. Contracts see its
 /// number: the seconds from 1970-01-01T00:00:00. Points are ordered by it.
@@ -55,7 +54,7 @@ impl Point {
         let Some((front, behind)) = text.split_at_checked(10) else {
             return Err(BadPoint);
         };
-        let Some((year, month, day)) = parts(front) else {
+        let Some((year, month, day)) = date_parts(front) else {
             return Err(BadPoint);
         };
         let Some(date) = date_of(year, month, day) else {
@@ -65,7 +64,8 @@ impl Point {
             return Err(BadPoint);
         };
         Ok(Point {
-            number: date.to_unix_epoch_day() as i64 * DAY + second_number(hour, minute, second),
+            number: date.to_unix_epoch_day() as i64 * SECONDS_PER_DAY
+                + second_number(hour, minute, second),
         })
     }
 
@@ -110,7 +110,7 @@ impl Point {
         ensures year { pos 1 ≤ℤ result.year }
         ensures number { epoch_day result ≡ day_of self.now }
     {
-        match civil::Date::from_unix_epoch_day(self.number.div_euclid(DAY)) {
+        match civil::Date::from_unix_epoch_day(self.number.div_euclid(SECONDS_PER_DAY)) {
             Ok(date) => date,
             Err(_) => unreachable!(),
         }
@@ -121,7 +121,7 @@ impl Point {
         ensures bound { result < 86_400 }
         ensures value { result ≡ second_of self.now }
     {
-        self.number.rem_euclid(DAY) as u32
+        self.number.rem_euclid(SECONDS_PER_DAY) as u32
     }
 }
 
@@ -137,7 +137,7 @@ fn two_digits(tens: u8, ones: u8) -> Option<u8>
 }
 
 // The year, the month and the day that a text names, which there need not be.
-fn parts(text: &[u8]) -> Option<(u16, u8, u8)>
+fn date_parts(text: &[u8]) -> Option<(u16, u8, u8)>
     ensures { MatchOption result ((d : YearMonthDay) → text.now ≢ date_text d)
         (λ p. (p.0 ≤ 9999) × (p.1 < 100) × (p.2 < 100) × (text.now ≡ date_text (record { year = p.0; month = p.1; day = p.2 }))) }
 {

@@ -3,4 +3,5 @@ pub mod NameLemmas
 pub mod TextLemmas
 pub mod FitsLemmas
 pub mod ReadingLemmas
+pub mod KeyLemmas
 pub mod SchemaLemmas

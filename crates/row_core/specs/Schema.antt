@@ -1,13 +1,16 @@
 -- The columns of a table, and what fits them.
-use Rattle.std.specs.Prelude.{◌≢◌, ◌≤◌, ℕ, List, [], ◌∷◌, length, map, Bool, false, ◌||◌, Option, Result, position, nat_lt, AllPairs}
+use Rattle.std.specs.Prelude.{◌≢◌, ◌≤◌, ◌<◌, ℕ, List, [], ◌∷◌, ◌++◌, length, map, count_by, Bool, false, ◌||◌, Option, Some, None, IsSome, is_none, is_some, Result, position, nat_eq, nat_lt, AllPairs}
 use Rattle.std.specs.Cmp.Lexicographic.{pointwise}
-use Rattle.std.specs.List.{list_any}
+use Rattle.std.specs.List.{filter_map, list_any, range_with_len}
+use Rattle.std.specs.Option.{option_eq}
 use Rattle.row_core.specs.Name.{same_name}
 use Rattle.row_core.specs.Refusals.{first_of, refused_or}
 use Rattle.row_core.specs.Value.{kind_of, same_kind}
 use Rattle.row_core.specs.declared.schema.Column.{Column}
 use Rattle.row_core.specs.declared.schema.SchemaRefused.{SchemaRefused}
 use Rattle.row_core.specs.declared.schema.SchemaRefused.TheVariants.{TooMany, TwiceNamed}
+use Rattle.row_core.specs.declared.schema.KeyRefused.{KeyRefused}
+use Rattle.row_core.specs.declared.schema.KeyRefused.TheVariants as key
 use Rattle.row_core.specs.declared.value.Kind.{Kind}
 use Rattle.row_core.specs.declared.value.Value.{Value}
 
@@ -16,14 +19,27 @@ abbrev pub has_twins : List (List ℕ × Kind) → Bool
 has_twins [] = false
 has_twins (pair ∷ pairs) = list_any (λ other. same_name pair.0 other.0) pairs || has_twins pairs
 
--- at most 16 columns, of different names
+-- the column is part of the key
+abbrev pub is_in_key : Column → Bool
+is_in_key column = is_some column.key
+
+-- the place of the column that stands at this place in the key
+abbrev pub key_place : List Column → ℕ → Option ℕ
+key_place columns i = position (λ column. option_eq nat_eq column.key (Some i)) columns
+
+-- the places of the key's columns, in the order of the key's names
+abbrev pub key_of : List Column → List ℕ
+key_of columns = filter_map (key_place columns) (range_with_len 0 (count_by is_in_key columns))
+
+-- at most 16 columns, of different names; where k are in the key, they stand at its places 0 to k - 1
 pub record IsSchema (columns : List Column) : Type 0 where
   pub few : length columns ≤ 16
   pub distinct : AllPairs (λ one other. one.name ≢ other.name) columns
+  pub keyed : (i : ℕ) → i < count_by is_in_key columns → IsSome (key_place columns i)
 
 -- names and kinds as columns
 abbrev pub columns_of : List (List ℕ × Kind) → List Column
-columns_of pairs = map (λ pair. record { name = pair.0; kind = pair.1 }) pairs
+columns_of pairs = map (λ pair. record { name = pair.0; kind = pair.1; key = None }) pairs
 
 -- the columns, or why they are no table's
 abbrev pub schema_of : List (List ℕ × Kind) → Result (List Column) SchemaRefused
@@ -36,3 +52,23 @@ fits columns values = pointwise (λ column value. same_kind column.kind (kind_of
 -- the place of the column of that name
 abbrev pub column_of : List Column → List ℕ → Option ℕ
 column_of columns name = position (λ column. same_name column.name name) columns
+
+-- the column with its place among the names of a key, if it is among them
+abbrev pub in_key : List (List ℕ) → Column → Column
+in_key names column = record column { key = position (λ name. same_name name column.name) names }
+
+-- the columns with those of the names as their key
+abbrev pub keyed : List Column → List (List ℕ) → List Column
+keyed columns names = map (in_key names) columns
+
+-- what is tested of a key's names behind others, in this order
+abbrev pub key_tests : List Column → List (List ℕ) → List (List ℕ) → List (Bool × KeyRefused)
+key_tests columns others [] = []
+key_tests columns others (name ∷ names) =
+    (is_none (column_of columns name), key.NoColumn)
+    ∷ (is_some (position (λ other. same_name other name) others), key.TwiceNamed)
+    ∷ key_tests columns (others ++ name ∷ []) names
+
+-- the columns with that key, or why they have none
+abbrev pub keyed_of : List Column → List (List ℕ) → Result (List Column) KeyRefused
+keyed_of columns names = refused_or (first_of (key_tests columns [] names)) (keyed columns names)

@@ -17,6 +17,6 @@ pub use number::{BadNumber, read_number};
 pub use period_core::NoMemory;
 pub use reading::{Field, RowRefused};
 pub use row::{Row, RowList};
-pub use schema::{Column, Schema, SchemaRefused};
+pub use schema::{Column, KeyRefused, Schema, SchemaRefused};
 pub use text::{Text, TextRefused};
 pub use value::{Kind, Value, ValueRefused, Values, copy_values};

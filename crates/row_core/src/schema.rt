@@ -1,8 +1,8 @@
-ghost use Rattle.std.specs.Prelude.{◌≡◌, ◌<◌, IfOk, IfSome, length, option_map, slice_get, Some};
+ghost use Rattle.std.specs.Prelude.{◌≡◌, ◌<◌, ◌≤◌, [], IfOk, IfSome, count_by, length, map, nat_lt, option_map, position, slice_get, Some};
 ghost use Rattle.std.specs.List.{list_any};
-ghost use Rattle.row_core.specs.Refusals.{IsAnswerUnless};
+ghost use Rattle.row_core.specs.Refusals.{IsAnswerUnless, first_of};
 ghost use Rattle.row_core.specs.Name.{same_name};
-ghost use Rattle.row_core.specs.Schema.{IsSchema, column_of, columns_of, fits, has_twins, schema_of};
+ghost use Rattle.row_core.specs.Schema.{IsSchema, column_of, columns_of, fits, has_twins, in_key, is_in_key, key_of, key_place, key_tests, keyed, keyed_of, schema_of};
 ghost use Rattle.row_core.specs.Value.{kind_of, same_kind, value_of};
 
 use crate::NoMemory;
@@ -14,11 +14,12 @@ use std::marker::Model;
 /// The most columns of a table.
 const MAX_COLUMNS: usize = 16;
 
-/// A column: its name and the kind of its values.
+/// A column: its name, the kind of its values, and its place in the table's key, if it is part of it.
 #[derive(Clone, Copy, Debug, PartialEq, Eq)]
 pub struct Column {
     pub name: Name,
     pub kind: Kind,
+    pub key: Option<usize>,
 }
 
 /// The columns of a table: at most 16, of different names. Contracts see the list of them.
@@ -57,6 +58,27 @@ impl From<NoMemory> for SchemaRefused {
 
     fn from(_error: NoMemory) -> SchemaRefused {
         SchemaRefused::NoMemory
+    }
+}
+
+/// Why columns make no key, in the order of the tests; each name is tested for both before the next one.
+#[derive(Clone, Copy, Debug, PartialEq, Eq)]
+pub enum KeyRefused {
+    /// No column has that name.
+    NoColumn,
+    /// The name stands twice.
+    TwiceNamed,
+    NoMemory,
+}
+
+impl From<NoMemory> for KeyRefused {
+    ghost use Rattle.std.specs.Prelude.{◌≡◌};
+    ghost use Rattle.row_core.specs.declared.schema.KeyRefused.TheVariants as refused;
+
+    ghost from_gives = { λ _ e. e ≡ refused.NoMemory };
+
+    fn from(_error: NoMemory) -> KeyRefused {
+        KeyRefused::NoMemory
     }
 }
 
@@ -132,6 +154,64 @@ impl Schema {
         values_fit(&self.columns, values.as_slice())
     }
 
+    /// These columns, with those of the names as their key, in the order of the names. No names make no key.
+    ///
+    /// # Errors
+    ///
+    /// For each name from the left `NoColumn`, and then `TwiceNamed`; `NoMemory` comes last. The columns are
+    /// then dropped.
+    pub fn with_key(self, alloc: Global, names: &[Name]) -> Result<Schema, KeyRefused>
+        ensures columns { IsAnswerUnless result KeyRefused.NoMemory (keyed_of self names.now) }
+
+        // The key's columns are those of the names, in their order.
+        ensures key { IfOk result (λ schema. map Some (key_of schema) ≡ map (column_of self) names.now) }
+    {
+        if let Some(refused) = key_refusal(&self.columns, names) {
+            return Err(refused);
+        }
+        Ok(Schema {
+            columns: keyed_columns(alloc, &self.columns, names)?,
+        })
+    }
+
+    /// Whether there is a key.
+    pub fn has_key(&self) -> bool
+        ensures some { result ≡ list_any is_in_key self.now }
+        ensures len { result ≡ nat_lt 0 (length (key_of self.now)) }
+    {
+        has_keyed(&self.columns)
+    }
+
+    /// How many columns the key has; 0 where there is none.
+    pub fn key_len(&self) -> u32
+        ensures { result ≡ length (key_of self.now) }
+    {
+        count_in_key(&self.columns) as u32
+    }
+
+    /// The place of the column that stands at that place in the key, where the key's columns have the order
+    /// in which they were named.
+    pub fn key_column(&self, i: u32) -> u32
+        requires { i < length (key_of self.now) }
+        ensures { slice_get (key_of self.now) i ≡ Some result }
+    {
+        match key_place(&self.columns, i as usize) {
+            Some(place) => place as u32,
+            None => unreachable!(),
+        }
+    }
+
+    /// The places of the key's columns, in the order in which they were named.
+    pub fn key_places(&self, alloc: Global) -> Result<Vec<u32>, NoMemory>
+        ensures { IfOk result (λ places. places.items ≡ key_of self.now) }
+    {
+        let mut places = Vec::with_capacity(alloc, self.key_len() as usize)?;
+        for i in 0..self.key_len() {
+            places.push(self.key_column(i))?;
+        }
+        Ok(places)
+    }
+
     /// The value that the bytes write in the column at that place.
     pub fn read_value(&self, alloc: Global, i: u32, bytes: &[u8]) -> Result<Value, ValueRefused>
         requires { i < length self.now }
@@ -150,6 +230,7 @@ fn collect_columns(alloc: Global, pairs: &[(Name, Kind)]) -> Result<Vec<Column>,
         columns.push(Column {
             name: pair.0,
             kind: pair.1,
+            key: None,
         })?;
     }
     Ok(columns)
@@ -191,4 +272,71 @@ fn values_fit(columns: &[Column], values: &[Value]) -> bool
         }
     }
     true
+}
+
+// Whether some column is in the key.
+fn has_keyed(columns: &[Column]) -> bool
+    ensures { result ≡ list_any is_in_key columns.now }
+{
+    columns.iter().any(|column| column.key.is_some())
+}
+
+// How many of the columns are in the key.
+fn count_in_key(columns: &[Column]) -> usize
+    ensures count { result ≡ count_by is_in_key columns.now }
+    ensures few { result ≤ length columns.now }
+{
+    columns.iter().filter(|column| column.key.is_some()).count()
+}
+
+// The place of the column that stands at that place in the key.
+fn key_place(columns: &[Column], i: usize) -> Option<usize>
+    ensures { result ≡ key_place columns.now i }
+{
+    columns.iter().position(|column| column.key == Some(i))
+}
+
+// What refuses a key of those names.
+fn key_refusal(columns: &[Column], names: &[Name]) -> Option<KeyRefused>
+    ensures { result ≡ first_of (key_tests columns.now [] names.now) }
+{
+    for i in 0..names.len() {
+        let name = names[i];
+        if column_place(columns, name).is_none() {
+            return Some(KeyRefused::NoColumn);
+        }
+        if place_among(&names[..i], name).is_some() {
+            return Some(KeyRefused::TwiceNamed);
+        }
+    }
+    None
+}
+
+// The place of the name among those.
+fn place_among(names: &[Name], name: Name) -> Option<usize>
+    ensures { result ≡ position (λ other. same_name other name) names.now }
+{
+    names.iter().position(|other| *other == name)
+}
+
+// The columns with those of the names as their key.
+fn keyed_columns(alloc: Global, columns: &[Column], names: &[Name]) -> Result<Vec<Column>, NoMemory>
+    ensures { IfOk result (λ items. items.items ≡ keyed columns.now names.now) }
+{
+    let mut items = Vec::with_capacity(alloc, columns.len())?;
+    for column in columns {
+        items.push(in_key(names, column))?;
+    }
+    Ok(items)
+}
+
+// The column with its place in the key of those names.
+fn in_key(names: &[Name], column: &Column) -> Column
+    ensures { result ≡ in_key names.now column.now }
+{
+    Column {
+        name: column.name,
+        kind: column.kind,
+        key: place_among(names, column.name),
+    }
 }

@@ -45,14 +45,8 @@ division-told items given d records printed =
     record {
       classes = d.classes;
       instant = told.0;
-      dip = record {
-        division = d.division;
-        least = d.least;
-        placed = d.placed;
-        rising = d.rising;
-        none = (λ h. d.empty.0 (told.1.0.0 h), λ h. told.1.0.1 (d.empty.1 h));
-        crowded = told.1.1 items d.division;
-      };
+      dip = d.dip;
+      at = told.1;
       printed = told.2;
     }
 

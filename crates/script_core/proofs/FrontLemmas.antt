@@ -1,11 +1,10 @@
--- The first commands of a script are a front of all of them, and so is what was written of their answers.
-use Rattle.std.proofs.Common.{◌≡◌, ℕ, List, [], ◌∷◌, ◌++◌, Option, take, drop, refl, sym, ap, ◌∙◌, subst, append_assoc}
-use Rattle.std.proofs.lemmas.List.{take-append-drop}
-use Rattle.std.proofs.lemmas.List.Concat.{flat_map-append}
-use Rattle.command_core.specs.Records.{Record}
-use Rattle.answer_core.specs.Records.{bytes_of}
-use Rattle.script_core.specs.Script.{AppendsFront, Done, Finished, Place, Step, Steps, WritesBegun, WritesPart, output_of, start_of}
-use Rattle.script_core.proofs.OneOutput.{no_step, one_step}
+-- The commands that were done when a run stops are the first of all commands of its script.
+use Rattle.std.proofs.Common.{◌≡◌, ℕ, ◌<◌, List, [], ◌∷◌, ◌++◌, Option, length, refl, sym, ap, ◌∙◌, subst, arith}
+use Rattle.command_core.specs.Records.{AreScriptRecords, Record}
+use Rattle.script_core.specs.Script.{Done, Finished, Place, ReadsScript, Step, Steps, StopsAt, StopsBefore, StopsWithin, output_of, start_of}
+use Rattle.script_core.specs.Writing.{WritesBegun, WritesPart}
+use Rattle.script_core.proofs.OutputExistence.{all_done}
+use Rattle.script_core.proofs.OutputUniqueness.{no_step, one_step}
 
 -- these commands follow the first ones, to the place behind all of them
 abbrev Follow : List Done → List Done → Place → Place → List Done → Type 0
@@ -19,34 +18,63 @@ first_follow old mid last (c ∷ cs) (d ∷ ds) (next, step, more) (next', step'
     let (rest, (is, steps)) = first_follow next' mid last cs ds (subst (λ z. Steps z cs mid) first.1 more) more' over in
     (rest, (ap (λ l. l ∷ ds) (sym first.0) ∙ ap (λ l. c ∷ l) is, steps))
 
-output-append : (first rest : List Done) → output_of (first ++ rest) ≡ output_of first ++ output_of rest
-output-append first rest = flat_map-append (λ (done : Done). bytes_of done.answer) first rest
+-- where records are left there is a next command
+some_next : (place last : Place) (rest : List Done) → 0 < length place.left → Steps place rest last → last.left ≡ []
+    → (next : Done) × (later : List Done) × (rest ≡ next ∷ later)
+some_next place last [] more same over =
+    let none : length place.left ≡ 0 = ap (λ (z : Place). length z.left) same ∙ ap length over in
+    absurd (omega arith)
+some_next place last (d ∷ ds) more steps over = (d, ds, refl)
 
-pub front-begun : (records : List Record) (dones : List Done) (old now : Option (List ℕ)) → Finished records dones → WritesBegun records old now → AppendsFront old now (output_of dones)
-front-begun records dones old now f w =
-    let (rest, (is, steps)) = first_follow (start_of records) w.begun.place f.place w.dones dones w.begun.steps f.steps f.over in
-    (output_of w.dones, output_of rest, ap output_of is ∙ output-append w.dones rest, w.written)
-
--- the command behind the first ones is the next one
-next_is_first : (place last after : Place) (next : Done) (rest : List Done) → Step place next after → Steps place rest last → last.left ≡ [] → (more : List Done) × (rest ≡ next ∷ more)
+-- the command that is done at a place is the next one
+next_is_first : (place last after : Place) (next : Done) (rest : List Done) → Step place next after
+    → Steps place rest last → last.left ≡ [] → (later : List Done) × (rest ≡ next ∷ later)
 next_is_first place last after next [] step same over = absurd (no_step place next after (ap (λ (z : Place). z.left) same ∙ over) step)
 next_is_first place last after next (d ∷ ds) step (mid, step', more) over = (ds, ap (λ l. l ∷ ds) (sym (one_step place next d after mid step step').0))
 
-split-at : (front bytes rest : List ℕ) (size : ℕ) → front ++ (bytes ++ rest) ≡ (front ++ take size bytes) ++ (drop size bytes ++ rest)
-split-at front bytes rest size =
-    ap (λ l. front ++ (l ++ rest)) (sym (take-append-drop size bytes))
-    ∙ (ap (λ l. front ++ l) (append_assoc (take size bytes) (drop size bytes) rest)
-    ∙ sym (append_assoc front (take size bytes) (drop size bytes ++ rest)))
+stops_at : (unread left : Option (List ℕ)) (script : List ℕ) (records : List Record)
+    (first later dones : List Done) (next : Done)
+    → ReadsScript unread left script → AreScriptRecords script records → Finished records dones
+    → dones ≡ first ++ next ∷ later → StopsAt unread left first next
+stops_at unread left script records first later dones next reads parsed finished commands = record {
+  script = script;
+  output = output_of dones;
+  reads = reads;
+  is_output = record { records = records; parsed = parsed; dones = dones; finished = finished; is = refl };
+  later = later;
+  commands = commands;
+}
 
-pub front-part : (records : List Record) (dones : List Done) (old now : Option (List ℕ)) → Finished records dones → WritesPart records old now → AppendsFront old now (output_of dones)
-front-part records dones old now f w =
+pub stops_before : (unread left old new : Option (List ℕ)) (script : List ℕ) (records : List Record)
+    → ReadsScript unread left script → AreScriptRecords script records → WritesBegun records old new
+    → StopsBefore unread left old new
+stops_before unread left old new script records reads parsed w =
+    let (dones, f) = all_done records in
     let (rest, (is, steps)) = first_follow (start_of records) w.place f.place w.dones dones w.steps f.steps f.over in
-    let (more, first) = next_is_first w.place f.place w.after w.next rest w.step steps f.over in (
-      output_of w.dones ++ take w.size (bytes_of w.next.answer),
-      drop w.size (bytes_of w.next.answer) ++ output_of more,
-      ap output_of is
-          ∙ (output-append w.dones rest
-          ∙ (ap (λ l. output_of w.dones ++ output_of l) first
-          ∙ split-at (output_of w.dones) (bytes_of w.next.answer) (output_of more) w.size)),
-      w.written,
-    )
+    let (next, later, first) = some_next w.place f.place rest w.more steps f.over in
+    record {
+      first = w.dones;
+      next = next;
+      stops =
+          stops_at unread left script records w.dones later dones next reads parsed f
+          (is ∙ ap (λ l. w.dones ++ l) first);
+      written = w.written;
+    }
+
+pub stops_within : (unread left old new : Option (List ℕ)) (script : List ℕ) (records : List Record)
+    → ReadsScript unread left script → AreScriptRecords script records → WritesPart records old new
+    → StopsWithin unread left old new
+stops_within unread left old new script records reads parsed w =
+    let (dones, f) = all_done records in
+    let (rest, (is, steps)) = first_follow (start_of records) w.place f.place w.dones dones w.steps f.steps f.over in
+    let (later, first) = next_is_first w.place f.place w.after w.next rest w.step steps f.over in
+    record {
+      first = w.dones;
+      next = w.next;
+      stops =
+          stops_at unread left script records w.dones later dones w.next reads parsed f
+          (is ∙ ap (λ l. w.dones ++ l) first);
+      size = w.size;
+      short = w.short;
+      written = w.written;
+    }

@@ -1,8 +1,9 @@
+pub mod Changing
 pub mod Answering
 pub mod Loading
-pub mod OneAnswer
-pub mod ExistsLemmas
+pub mod AnswerUniqueness
+pub mod OutputExistence
 pub mod FrontLemmas
-pub mod OneOutput
-pub mod OutputLemmas
+pub mod OutputUniqueness
+pub mod RunLemmas
 pub mod Progress

@@ -9,7 +9,8 @@ use Rattle.script_core.specs.Answer.{Answers}
 use Rattle.command_core.specs.Meaning.{Meaning, Means}
 use Rattle.command_core.specs.Records.{Record}
 use Rattle.answer_core.specs.Records.{bytes_of}
-use Rattle.script_core.specs.Script.{Done, Place, Step, Steps, start_of, output_of, Tells, ExplainsAnswering, WritesBegun, WritesPart}
+use Rattle.script_core.specs.Script.{Done, Place, Step, Steps, start_of, output_of, Tells}
+use Rattle.script_core.specs.Writing.{ExplainsAnswering, WritesBegun, WritesPart}
 use Rattle.book_core.specs.History.{History}
 use Rattle.answer_core.specs.Records.{errors_in}
 use Rattle.stream_core.specs.Faults.{ExplainsWriting}
@@ -72,7 +73,8 @@ progress-more records old mid new before after at taken sofar outcome meaning an
 pub progress-begun : (records : List Record) (old now : Option (List ℕ)) (history : History) (at : ℕ) (outcome : Outcome) → at < length records → Progress records old now history at outcome → WritesBegun records old now
 progress-begun records old now history at outcome below p = record {
   dones = p.dones;
-  begun = record { place = place_at records history at; steps = p.steps };
+  place = place_at records history at;
+  steps = p.steps;
   more = omega (arith, length-drop at records);
   written = p.written;
 }
@@ -101,7 +103,8 @@ progress-stopped records old mid new before after at taken sofar meaning answer 
 progress-stopped records old mid new before after at taken sofar meaning answer first second third TooLong p within means answers more le why = why
 progress-stopped records old mid new before after at taken sofar meaning answer first second third NoMemory p within means answers more le why = record {
   dones = p.dones;
-  begun = record { place = place_at records before at; steps = p.steps };
+  place = place_at records before at;
+  steps = p.steps;
   more = more;
   written = Appends-kept old mid new (output_of p.dones) p.written why;
 }

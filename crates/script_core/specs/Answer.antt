@@ -6,7 +6,7 @@ use Rattle.book_core.specs.declared.version.Version.{Version}
 use Rattle.cert_core.specs.Verdict.{IsVerdict}
 use Rattle.cert_core.specs.declared.verdict.Certificate.{Certificate}
 use Rattle.cert_core.specs.declared.verdict.Verdict.{Verdict}
-use Rattle.dip_core.specs.Division.{IsDip}
+use Rattle.dip_core.specs.Division.{IsDip, IsInstantOf}
 use Rattle.dip_core.specs.declared.item.Item.{Item}
 use Rattle.query_core.specs.Query.{items_of}
 use Rattle.command_core.specs.Fields.{both}
@@ -16,11 +16,12 @@ use Rattle.command_core.specs.declared.refusal.Fault.{Fault}
 use Rattle.answer_core.specs.PrintedRecords.{commit_records, division_records, error_record, ok_record, row_records, verdict_record, version_records}
 use Rattle.script_core.specs.State.{claim_of, delete_in, load_in, make_in, rows_on, rows_told, update_in, versions_told}
 
--- the records tell the division of the items by placing, and its instant
+-- the records tell the dip of the items, and its instant
 pub record PrintsDivision (items : List Item) (answer : List Record) : Type 0 where
   pub classes : List (List Item)
   pub instant : Option ℤ
-  pub dip : IsDip items classes instant
+  pub dip : IsDip items classes
+  pub at : IsInstantOf classes instant
   pub printed : answer ≡ division_records (length items) classes instant
 
 -- the records tell the versions that are asked for

@@ -1,5 +1,5 @@
 -- What a change or a query gives.
-use Rattle.std.specs.Prelude.{ℕ, ◌≡◌, ◌↔◌, List, [], All, length, Result, Ok, Err, ⊤}
+use Rattle.std.specs.Prelude.{ℕ, ◌≡◌, List, length, Result, Ok, Err, ⊤}
 use Rattle.answer_core.specs.Answer.{IsPrintedAs}
 use Rattle.answer_core.specs.declared.answer.Answer.{Answer}
 use Rattle.answer_core.specs.declared.answer.Answer.TheVariants as answer
@@ -10,8 +10,7 @@ use Rattle.book_core.specs.declared.version.Version.{Version}
 use Rattle.cert_core.specs.Verdict.{IsVerdict}
 use Rattle.cert_core.specs.declared.verdict.Certificate.{Certificate}
 use Rattle.cert_core.specs.declared.verdict.Verdict.{Verdict}
-use Rattle.dip_core.specs.Division.{IsDivision, IsLeast, IsPlaced}
-use Rattle.dip_core.specs.Item.{IsRising}
+use Rattle.dip_core.specs.Division.{IsDip}
 use Rattle.dip_core.specs.declared.item.Item.{Item}
 use Rattle.command_core.specs.Meaning.{Meaning}
 use Rattle.command_core.specs.Records.{Record}
@@ -39,14 +38,10 @@ IsVersions Are given = (versions : List Version) × Are versions × (given ≡ a
 abbrev pub IsVerdictOn : List Item → List (List ℕ) → Certificate → Answer → Type 0
 IsVerdictOn items claim certificate given = (verdict : Verdict) × IsVerdict items claim certificate verdict × (given ≡ answer.Verdict verdict)
 
--- the answer is the division of the items: the least one, placed, each class by rising start
+-- the answer is the dip of the items
 pub record IsDivided (items : List Item) (given : Answer) : Type 0 where
   pub classes : List (List Item)
-  pub division : IsDivision items classes
-  pub least : IsLeast items (length classes)
-  pub placed : IsPlaced classes
-  pub rising : All IsRising classes
-  pub empty : (classes ≡ []) ↔ (items ≡ [])
+  pub dip : IsDip items classes
   pub is : given ≡ answer.Division (length items) classes
 
 -- the records that the answer is printed as are an answer to the command

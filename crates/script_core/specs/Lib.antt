@@ -4,3 +4,4 @@ pub mod Given
 pub mod Refusal
 pub mod Script
 pub mod State
+pub mod Writing

@@ -11,7 +11,7 @@ use Rattle.book_core.specs.declared.book.RowsRefused.TheVariants as rows
 use Rattle.book_core.specs.declared.book.VersionsRefused.{VersionsRefused}
 use Rattle.book_core.specs.declared.book.VersionsRefused.TheVariants as versions
 use Rattle.command_core.specs.declared.refusal.Refusal.{Refusal}
-use Rattle.command_core.specs.declared.refusal.Refusal.TheVariants.{BadNumber, BadPeriod, BadPoint, BadUtf8, Full, Future, NoColumn, NoTable, TableExists, TooLong, TooMany, WrongKind, WrongWidth}
+use Rattle.command_core.specs.declared.refusal.Refusal.TheVariants.{BadNumber, BadPeriod, BadPoint, BadUtf8, Full, Future, KeyOverlap, NoColumn, NoTable, TableExists, TooLong, TooMany, WrongKind, WrongWidth}
 
 -- what is wrong with a row
 abbrev pub row_refusal : RowRefused → Refusal
@@ -31,6 +31,7 @@ book_refusal book.Full = Full
 book_refusal book.NoTable = NoTable
 book_refusal book.NoColumn = NoColumn
 book_refusal book.WrongKind = WrongKind
+book_refusal book.KeyOverlap = KeyOverlap
 book_refusal book.NoMemory = Full
 
 -- what is wrong with a value

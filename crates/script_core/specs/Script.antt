@@ -7,7 +7,7 @@ use Rattle.answer_core.specs.Records.{errors_in}
 use Rattle.command_core.specs.Meaning.{Meaning, Means}
 use Rattle.script_core.specs.Answer.{Answers}
 use Rattle.book_core.specs.History.{History}
-use Rattle.stream_core.specs.Faults.{HasGrown, HasReadTooMuch, script_limit}
+use Rattle.stream_core.specs.Faults.{HasReadTooMuch, script_limit}
 use Rattle.stream_core.specs.declared.fault.RunFault.{RunFault}
 use Rattle.stream_core.specs.declared.fault.RunFault.TheVariants.{ReadFault, TooLong, NoMemory, WriteFault}
 use Rattle.script_core.specs.declared.outcome.Outcome.{Outcome}
@@ -43,18 +43,13 @@ Steps old (done ∷ more) new = (mid : Place) × Step old done mid × Steps mid 
 abbrev pub output_of : List Done → List ℕ
 output_of dones = flat_map (λ done. bytes_of done.answer) dones
 
--- the first commands of these records, and the place behind them
-pub record Begun (records : List Record) (dones : List Done) : Type 0 where
-  pub place : Place
-  pub steps : Steps (start_of records) dones place
-
 -- all commands of these records
 pub record Finished (records : List Record) (dones : List Done) : Type 0 where
   pub place : Place
   pub steps : Steps (start_of records) dones place
   pub over : place.left ≡ []
 
--- these bytes are the answers to all commands of a script
+-- these bytes are the output of a script: the answers to all its commands, one after another
 pub record IsOutput (script output : List ℕ) : Type 0 where
   pub records : List Record
   pub parsed : AreScriptRecords script records
@@ -69,66 +64,56 @@ pub record Tells (outcome : Outcome) (dones : List Done) : Type 0 where
 
 -- what a writer was given is a front of these bytes
 abbrev pub AppendsFront : Option (List ℕ) → Option (List ℕ) → List ℕ → Type 0
-AppendsFront old new bytes = (front : List ℕ) × (rest : List ℕ) × (bytes ≡ front ++ rest) × Appends old new front
+AppendsFront old new bytes = (size : ℕ) × Appends old new (take size bytes)
 
--- what a writer was given is the output of all these records
-pub record WritesAll (records : List Record) (old new : Option (List ℕ)) (outcome : Outcome) : Type 0 where
-  pub dones : List Done
-  pub finished : Finished records dones
-  pub written : Appends old new (output_of dones)
-  pub tells : Tells outcome dones
-
--- what a writer was given are the answers to the first commands, and there are more
-pub record WritesBegun (records : List Record) (old new : Option (List ℕ)) : Type 0 where
-  pub dones : List Done
-  pub begun : Begun records dones
-  pub more : 0 < length begun.place.left
-  pub written : Appends old new (output_of dones)
-
--- the same, and then a front of the answer to the next command
-pub record WritesPart (records : List Record) (old new : Option (List ℕ)) : Type 0 where
-  pub dones : List Done
-  pub place : Place
-  pub steps : Steps (start_of records) dones place
-  pub next : Done
-  pub after : Place
-  pub step : Step place next after
-  pub size : ℕ
-  pub short : size < length (bytes_of next.answer)
-  pub written : Appends old new (output_of dones ++ take size (bytes_of next.answer))
-
--- why the answering of records stopped
-abbrev pub ExplainsAnswering : List Record → Option (List ℕ) → Option (List ℕ) → ℕ → ℕ → RunFault → Type 0
-ExplainsAnswering records old new before after ReadFault = ⊥
-ExplainsAnswering records old new before after TooLong = ⊥
-ExplainsAnswering records old new before after NoMemory = WritesBegun records old new
-ExplainsAnswering records old new before after WriteFault = WritesPart records old new × HasGrown before after
-
--- these are the records of what a reader gave, to its end and within the limit
-pub record ReadsScript (unread left : Option (List ℕ)) (records : List Record) : Type 0 where
-  pub script : List ℕ
+-- a reader gave these bytes, to its end and within the limit
+pub record ReadsScript (unread left : Option (List ℕ)) (script : List ℕ) : Type 0 where
   pub read : Consumes unread left script
   pub end : IsAtEnd left
   pub within : length script ≤ script_limit
-  pub parsed : AreScriptRecords script records
 
--- the whole script was read, and its output written
-abbrev pub RunsAll : Option (List ℕ) → Option (List ℕ) → Option (List ℕ) → Option (List ℕ) → Outcome → Type 0
-RunsAll unread left old new outcome = (records : List Record) × ReadsScript unread left records × WritesAll records old new outcome
+-- a script was read, and its output written, whole and nothing else; the numbers told are those of its
+-- commands
+pub record RunsAll (unread left old new : Option (List ℕ)) (outcome : Outcome) : Type 0 where
+  pub script : List ℕ
+  pub output : List ℕ
+  pub reads : ReadsScript unread left script
+  pub is_output : IsOutput script output
+  pub written : Appends old new output
+  pub tells : Tells outcome is_output.dones
 
--- the answers to some first commands were written, or the script was not read
-abbrev pub RunsBegun : Option (List ℕ) → Option (List ℕ) → Option (List ℕ) → Option (List ℕ) → Type 0
-RunsBegun unread left old new = Keeps old new ⊎ ((records : List Record) × ReadsScript unread left records × WritesBegun records old new)
+-- a script was read, and this is one of its commands, behind these first ones
+pub record StopsAt (unread left : Option (List ℕ)) (first : List Done) (next : Done) : Type 0 where
+  pub script : List ℕ
+  pub output : List ℕ
+  pub reads : ReadsScript unread left script
+  pub is_output : IsOutput script output
+  pub later : List Done
+  pub commands : is_output.dones ≡ first ++ next ∷ later
 
--- the answers to some first commands and a front of the next one's were written
-abbrev pub RunsPart : Option (List ℕ) → Option (List ℕ) → Option (List ℕ) → Option (List ℕ) → Type 0
-RunsPart unread left old new = (records : List Record) × ReadsScript unread left records × WritesPart records old new
+-- the answers to all commands before one were written
+pub record StopsBefore (unread left old new : Option (List ℕ)) : Type 0 where
+  pub first : List Done
+  pub next : Done
+  pub stops : StopsAt unread left first next
+  pub written : Appends old new (output_of first)
 
--- why a run stopped, and what it wrote
+-- those, and a front of that command's own answer, never all of it
+pub record StopsWithin (unread left old new : Option (List ℕ)) : Type 0 where
+  pub first : List Done
+  pub next : Done
+  pub stops : StopsAt unread left first next
+  pub size : ℕ
+  pub short : size < length (bytes_of next.answer)
+  pub written : Appends old new (output_of first ++ take size (bytes_of next.answer))
+
+-- why a run stopped, and what it wrote; memory may be refused before the script is read
 abbrev pub ExplainsRun : Option (List ℕ) → Option (List ℕ) → Option (List ℕ) → Option (List ℕ) → ℕ → ℕ → ℕ → ℕ → RunFault → Type 0
 ExplainsRun unread left old new reads_before reads_after writes_before writes_after ReadFault =
     (reads_before < reads_after) × (writes_after ≡ writes_before) × Keeps old new
 ExplainsRun unread left old new reads_before reads_after writes_before writes_after TooLong =
     HasReadTooMuch unread left × (writes_after ≡ writes_before) × Keeps old new
-ExplainsRun unread left old new reads_before reads_after writes_before writes_after NoMemory = RunsBegun unread left old new
-ExplainsRun unread left old new reads_before reads_after writes_before writes_after WriteFault = (writes_before < writes_after) × RunsPart unread left old new
+ExplainsRun unread left old new reads_before reads_after writes_before writes_after NoMemory =
+    Keeps old new ⊎ StopsBefore unread left old new
+ExplainsRun unread left old new reads_before reads_after writes_before writes_after WriteFault =
+    (writes_before < writes_after) × StopsWithin unread left old new

@@ -83,6 +83,7 @@ pub(crate) fn book_failure(number: u64, why: BookRefused) -> Failure
         BookRefused::NoTable => refused(number, Refusal::NoTable),
         BookRefused::NoColumn => refused(number, Refusal::NoColumn),
         BookRefused::WrongKind => refused(number, Refusal::WrongKind),
+        BookRefused::KeyOverlap => refused(number, Refusal::KeyOverlap),
         BookRefused::NoMemory => Failure::NoMemory,
     }
 }

@@ -11,7 +11,7 @@ mod queries;
 mod rows;
 mod session;
 
-pub use laws::{records_have_one_answer, runs_agree, runs_write_the_output, script_has_one_output};
+pub use laws::{command_has_one_answer, complete_runs_agree, script_has_one_output};
 pub use outcome::Outcome;
 pub use session::run;
 pub use stream_core::{Counted, RunFault};

@@ -1,5 +1,5 @@
 //! The commands of a script, one after another.
-ghost use Rattle.std.specs.Prelude.{◌≡◌, ℕ, ◌+◌, ◌≤◌, ◌<◌, ◌^◌, List, [], IfErr, IfOk, MatchResult, Some};
+ghost use Rattle.std.specs.Prelude.{◌≡◌, ℕ, ◌+◌, ◌≤◌, ◌<◌, ◌^◌, List, [], IfErr, IfOk, Some};
 ghost use Rattle.std.specs.Io.KnownBytes.{Appends};
 ghost use Rattle.command_core.specs.Command.{meaning_of};
 ghost use Rattle.stream_core.specs.Count.{last_count};
@@ -7,7 +7,8 @@ ghost use Rattle.stream_core.specs.Counted.{failures_of, inner_of};
 ghost use Rattle.stream_core.specs.Faults.{last_failures};
 ghost use Rattle.command_core.specs.Meaning.{behind_length};
 ghost use Rattle.script_core.specs.Given.{Answered, IsAnswer, Printed};
-ghost use Rattle.script_core.specs.Script.{AppendsFront, ExplainsAnswering, ExplainsRun, IsOutput, RunsAll, WritesAll};
+ghost use Rattle.script_core.specs.Script.{AppendsFront, ExplainsRun, IsOutput, RunsAll};
+ghost use Rattle.script_core.specs.Writing.{ExplainsAnswering, WritesAll};
 
 use crate::changes::{delete, load, make, update};
 use crate::failure::Failure;
@@ -157,20 +158,25 @@ pub fn run<R: Read, W: Write>(
     requires reads { failures_of reader.old < last_count }
     requires writes { failures_of writer.old < last_count }
 
+    // Of the script that the reader has, Ok wrote the output, whole and nothing else, and a fault left a front of it.
+    ensures written { (script output : List ℕ)
+        → R.remaining (inner_of reader.old) ≡ Some script → IsOutput script output
+        → IfOk result (λ _. Appends (W.contents (inner_of writer.old)) (W.contents (inner_of writer.new)) output) }
+    ensures front { (script output : List ℕ)
+        → R.remaining (inner_of reader.old) ≡ Some script → IsOutput script output
+        → IfErr result (λ _. AppendsFront (W.contents (inner_of writer.old)) (W.contents (inner_of writer.new)) output) }
+
+    // Ok read a script to its end, wrote its output, and tells how many commands and errors there are in it.
     ensures ok { IfOk result (RunsAll
         (R.remaining (inner_of reader.old)) (R.remaining (inner_of reader.new))
         (W.contents (inner_of writer.old)) (W.contents (inner_of writer.new))) }
+
+    // What each fault says of its cause, and what it leaves: nothing, whole answers, or those and a front of the next.
     ensures fault { IfErr result (ExplainsRun
         (R.remaining (inner_of reader.old)) (R.remaining (inner_of reader.new))
         (W.contents (inner_of writer.old)) (W.contents (inner_of writer.new))
         (failures_of reader.old) (failures_of reader.new)
         (failures_of writer.old) (failures_of writer.new)) }
-
-    // What is written is the script's output, and where the run stops before its end a front of it.
-    ensures output { (script output : List ℕ) → R.remaining (inner_of reader.old) ≡ Some script → IsOutput script output
-        → MatchResult result
-        (λ _. Appends (W.contents (inner_of writer.old)) (W.contents (inner_of writer.new)) output)
-        (λ _. AppendsFront (W.contents (inner_of writer.old)) (W.contents (inner_of writer.new)) output) }
 
     // Neither count falls.
     ensures counts { (failures_of reader.old ≤ failures_of reader.new) × (failures_of writer.old ≤ failures_of writer.new) }

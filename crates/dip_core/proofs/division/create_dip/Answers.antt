@@ -7,7 +7,7 @@ use Rattle.dip_core.specs.declared.item.Item.{Item}
 use Rattle.dip_core.specs.Item.{item_cmp}
 use Rattle.dip_core.specs.Division.{all_of}
 use Rattle.dip_core.specs.Placing.{Placing}
-use Rattle.dip_core.proofs.DivisionLemmas.{no_classes, IsDivision-permutation, IsLeast-permutation, HasDistinctIds-permutation}
+use Rattle.dip_core.proofs.DivisionLemmas.{no_classes, IsLeastDivision-permutation, HasDistinctIds-permutation}
 use Rattle.dip_core.proofs.SortedLemmas.{sorted_step, placed_more}
 use Rattle.dip_core.proofs.division.create_dip.Goals as goal
 use Rattle.dip_core.proofs.division.create_dip.Goals.{After-drop-sorted-2}
@@ -54,14 +54,16 @@ moved c =
     subst (λ xs. IsPermutation xs c.sort_unstable.new.self.items) c.in_ok-sorted.ensures.items c.sort_unstable.ensures.permutation in
     IsPermutation-trans c.args.items.now c.sort_unstable.new.self.items (all_of c.loop-item.placer.parts) sorted placed
 
-pub returns-clause-division : goal.returns-clause-division
-returns-clause-division c = IsDivision-permutation c.args.items.now (all_of c.loop-item.placer.parts) c.finish.result (moved c) c.finish.ensures.division
+pub returns-clause-least : goal.returns-clause-least
+returns-clause-least c =
+    IsLeastDivision-permutation c.args.items.now (all_of c.loop-item.placer.parts) c.finish.result (moved c)
+    c.finish.ensures.least
+
+pub returns-clause-dip : goal.returns-clause-dip
+returns-clause-dip c = λ distinct.
+    let parts = all_of c.loop-item.placer.parts in
+    let dip = c.finish.ensures.dip (HasDistinctIds-permutation c.args.items.now parts (moved c) distinct) in
+    record { divided = returns-clause-least c; placed = dip.placed }
 
 pub returns-clause-empty : goal.returns-clause-empty
-returns-clause-empty c = no_classes c.args.items.now c.finish.result (returns-clause-division c)
-
-pub returns-clause-least : goal.returns-clause-least
-returns-clause-least c = IsLeast-permutation c.args.items.now (all_of c.loop-item.placer.parts) (length c.finish.result) (moved c) c.finish.ensures.least
-
-pub returns-clause-placed : goal.returns-clause-placed
-returns-clause-placed c = λ distinct. c.finish.ensures.placed (HasDistinctIds-permutation c.args.items.now (all_of c.loop-item.placer.parts) (moved c) distinct)
+returns-clause-empty c = no_classes c.args.items.now c.finish.result (returns-clause-least c).division

@@ -1,12 +1,27 @@
-use Rattle.std.proofs.Common.{rules}
-use Rattle.script_core.proofs.OutputLemmas.{run-written}
+use Rattle.std.proofs.Common.{subst}
+use Rattle.command_core.specs.Records.{AreScriptRecords}
+use Rattle.script_core.proofs.RunLemmas.{fault-front, fault-run, ok-run, ok-written}
 use Rattle.script_core.proofs.session.run.Goals as goal
 
 pub returns-clause-ok : goal.returns-clause-ok
-returns-clause-ok g c = search rules
+returns-clause-ok g c =
+    let whole = c.in_ok-script.ensures.whole in
+    let parsed =
+    subst (λ bytes. AreScriptRecords bytes c.in_ok-records.records) c.as_slice.ensures.value c.in_ok-records.ensures in
+    ok-run _ _ _ _ c.in_ok-script.script.items c.in_ok-records.records c.answer_all.result
+    (record { read = whole.0; end = c.in_ok-script.ensures.end; within = whole.1 }) parsed c.answer_all.ensures.ok
 
 pub returns-clause-fault : goal.returns-clause-fault
-returns-clause-fault g c = search rules
+returns-clause-fault g c =
+    let whole = c.in_ok-script.ensures.whole in
+    let parsed =
+    subst (λ bytes. AreScriptRecords bytes c.in_ok-records.records) c.as_slice.ensures.value c.in_ok-records.ensures in
+    fault-run _ _ _ _ c.in_ok-script.script.items c.in_ok-records.records _ _ _ _ c.answer_all.result
+    (record { read = whole.0; end = c.in_ok-script.ensures.end; within = whole.1 }) parsed c.requires.writes
+    c.answer_all.ensures.fault
 
-pub returns-clause-output : goal.returns-clause-output
-returns-clause-output g c = run-written _ _ _ _ _ _ _ _ c.answer_all.result (returns-clause-ok g c) (returns-clause-fault g c)
+pub returns-clause-written : goal.returns-clause-written
+returns-clause-written g c = ok-written _ _ _ _ c.answer_all.result (returns-clause-ok g c)
+
+pub returns-clause-front : goal.returns-clause-front
+returns-clause-front g c = fault-front _ _ _ _ _ _ _ _ c.answer_all.result (returns-clause-fault g c)

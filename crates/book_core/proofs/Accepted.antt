@@ -1,0 +1,52 @@
+-- What is refused for its keys, and what is not.
+use Rattle.std.proofs.Common.{◌≡◌, ℕ, Bool, true, false, Option, Some, None, refl, ap, ◌∙◌, inl, inr}
+use Rattle.std.specs.Prelude.{Result, Err, IfNone, IfSome, IsOkUnless}
+use Rattle.book_core.specs.State.{State, first_refusal, leaves_overlap, or_overlap, refusal_of, table_named, table_of}
+use Rattle.book_core.specs.Keys.{IsRefusedAs, refusal_by}
+use Rattle.book_core.specs.declared.book.BookRefused.{BookRefused}
+use Rattle.book_core.specs.declared.book.BookRefused.TheVariants.{KeyOverlap, NoMemory}
+use Rattle.book_core.specs.declared.change.Change.{Change}
+use Rattle.book_core.specs.declared.keys.ChangeFailure.{ChangeFailure}
+use Rattle.book_core.specs.declared.keys.ChangeFailure.TheVariants as why
+
+first-of_none : (o : Option BookRefused) (overlap : Bool) → or_overlap o overlap ≡ None → o ≡ None
+first-of_none None overlap h = refl
+first-of_none (Some refused) overlap h = cc
+
+none-of_overlap : (o : Option BookRefused) (overlap : Bool) → or_overlap o overlap ≡ None → overlap ≡ false
+none-of_overlap None true h = cc
+none-of_overlap None false h = refl
+none-of_overlap (Some refused) overlap h = cc
+
+-- what is accepted is not refused by the tests before that of keys, and leaves no overlap
+pub first-none : (n : ℕ) (s : State) (c : Change) → refusal_of n s c ≡ None → first_refusal n s c ≡ None
+first-none n s c h = first-of_none (first_refusal n s c) (leaves_overlap c (table_of s (table_named c))) h
+
+pub overlap-none : (n : ℕ) (s : State) (c : Change) → refusal_of n s c ≡ None → leaves_overlap c (table_of s (table_named c)) ≡ false
+overlap-none n s c h = none-of_overlap (first_refusal n s c) (leaves_overlap c (table_of s (table_named c))) h
+
+-- what neither refuses is accepted
+pub accepted-both : (n : ℕ) (s : State) (c : Change) → first_refusal n s c ≡ None → leaves_overlap c (table_of s (table_named c)) ≡ false → refusal_of n s c ≡ None
+accepted-both n s c h k = ap (λ o. or_overlap o (leaves_overlap c (table_of s (table_named c)))) h ∙ ap (or_overlap None) k
+
+-- rows of one key overlap
+pub overlap-refused : (n : ℕ) (s : State) (c : Change) → first_refusal n s c ≡ None → leaves_overlap c (table_of s (table_named c)) ≡ true → refusal_of n s c ≡ Some KeyOverlap
+overlap-refused n s c h k = ap (λ o. or_overlap o (leaves_overlap c (table_of s (table_named c)))) h ∙ ap (or_overlap None) k
+
+-- what the tests before that of keys refuse is refused so
+pub first-refused : (n : ℕ) (s : State) (c : Change) (refused : BookRefused) → first_refusal n s c ≡ Some refused → refusal_of n s c ≡ Some refused
+first-refused n s c refused h = ap (λ o. or_overlap o (leaves_overlap c (table_of s (table_named c)))) h
+
+-- ---- a change that is not made after those tests
+
+pub record IsFailed (refusal : Option BookRefused) (result : Result ℕ BookRefused) : Type 0 where
+  pub refused : IfSome refusal (IsRefusedAs result)
+  pub accepted : IfNone refusal (IsOkUnless result NoMemory)
+
+pub failed : (n : ℕ) (s : State) (c : Change) (failure : ChangeFailure) (result : Result ℕ BookRefused) → first_refusal n s c ≡ None → result ≡ Err (refusal_by failure)
+    → (failure ≡ why.KeyOverlap → leaves_overlap c (table_of s (table_named c)) ≡ true) → IsFailed (refusal_of n s c) result
+failed n s c why.KeyOverlap result h e overlap = rw (overlap-refused n s c h (overlap refl), e) (record { refused = inl refl; accepted = tt })
+failed n s c why.NoMemory result h e overlap = by_overlap (leaves_overlap c (table_of s (table_named c))) refl where
+  by_overlap : (overlap : Bool) → leaves_overlap c (table_of s (table_named c)) ≡ overlap → IsFailed (refusal_of n s c) result
+  by_overlap true k = rw (overlap-refused n s c h k, e) (record { refused = inr (refl, refl); accepted = tt })
+  by_overlap false k = rw (accepted-both n s c h k, e) (record { refused = tt; accepted = refl })

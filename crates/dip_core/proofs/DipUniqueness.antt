@@ -1,0 +1,328 @@
+-- Of the divisions of some items, one at most is placed: going over the items in the order in which they are
+-- placed, where each of them lies is decided by where the items before it lie.
+use Rattle.std.proofs.Common.{◌≡◌, ℕ, zero, suc, ◌+◌, ◌<◌, ◌≤◌, ℤ, ◌≤ℤ◌, ◌<ℤ◌, Bool, true, false, cond, List, [], ◌∷◌, length, get_or, arith, refl, sym, ap, ◌∙◌, inl, inr, subst}
+use Rattle.std.specs.Prelude.{All, AllPairs, Option, Some, None, Any, Contains, count_by}
+use Rattle.std.specs.declared.cmp.Ordering.{Ordering}
+use Rattle.std.specs.declared.cmp.Ordering.TheVariants.{Less, Equal, Greater}
+use Rattle.std.specs.Ordering.{is_lt}
+use Rattle.std.proofs.lemmas.Bool.{both_ways, cases_Bool, cases_lt, cases_order, true≢false}
+use Rattle.std.proofs.lemmas.Cmp.{tied_itself}
+use Rattle.std.proofs.lemmas.Int.{ints, by_lt_z}
+use Rattle.std.proofs.lemmas.List.{get_or_default, same_lists}
+use Rattle.std.proofs.lemmas.List.Elements.{All-contains, All-cons, All-get_or, All-nil, All-weaker, Contains-append_cases, Contains-get_or}
+use Rattle.std.proofs.lemmas.List.Sums.{sum_by-cons}
+use Rattle.std.proofs.lemmas.List.Sorted.{Contains-permutation, IsPermutation-sym}
+use Rattle.period_core.specs.Period.{Overlap}
+use Rattle.period_core.proofs.PeriodLemmas.{Overlap-from_ends}
+use Rattle.period_core.proofs.RisingLemmas.{Contains-cons, Contains-head, Contains-none, rising_is_one}
+use Rattle.dip_core.specs.declared.item.Item.{Item}
+use Rattle.dip_core.specs.Item.{place_cmp, IsApart, IsBefore, IsBelow, IsRising}
+use Rattle.dip_core.specs.Division.{all_of, class_at, IsDip, IsDivision, IsFirstOf, IsFree, IsInstant, IsInstantOf, IsLatestEnd, IsPlaced, LiesInBestFree, OpensClass}
+use Rattle.dip_core.proofs.AddedLemmas.{class_at-past}
+use Rattle.dip_core.proofs.OrderLemmas.{from_le, not_before_itself, place_total}
+use Rattle.dip_core.proofs.StepLemmas.{contains-all_of}
+
+-- ---- how many items come before one
+
+-- x comes before y, as a test
+abbrev is_before : Item → Item → Bool
+is_before x y = is_lt (place_cmp x y)
+
+-- how many of the items come before x
+abbrev rank : List Item → Item → ℕ
+rank items x = count_by (λ y. is_before y x) items
+
+pub less-from_test : (r : Ordering) → is_lt r ≡ true → r ≡ Less
+less-from_test Less e = refl
+less-from_test Equal e = absurd (cc e)
+less-from_test Greater e = absurd (cc e)
+
+before-from_test : (x y : Item) → is_before x y ≡ true → IsBefore x y
+before-from_test x y h = less-from_test (place_cmp x y) h
+
+before-trans : (x y z : Item) → IsBefore x y → IsBefore y z → IsBefore x z
+before-trans x y z = place_total.trans x y z
+
+rank-cons : (x : Item) (items : List Item) (y : Item) → rank (x ∷ items) y ≡ cond (is_before x y) 1 0 + rank items y
+rank-cons x items y = sum_by-cons (λ z. cond (is_before z y) 1 0) x items
+
+le_more : (a b : Bool) (m n : ℕ) → (a ≡ true → b ≡ true) → m ≤ n → cond a 1 0 + m ≤ cond b 1 0 + n
+le_more true true m n follows le = omega arith
+le_more true false m n follows le = absurd (cc (follows refl))
+le_more false true m n follows le = omega arith
+le_more false false m n follows le = omega arith
+
+lt_more : (a b : Bool) (m n : ℕ) → (a ≡ true → b ≡ true) → m < n → cond a 1 0 + m < cond b 1 0 + n
+lt_more true true m n follows lt = omega arith
+lt_more true false m n follows lt = absurd (cc (follows refl))
+lt_more false true m n follows lt = omega arith
+lt_more false false m n follows lt = omega arith
+
+lt_here : (a b : Bool) (m n : ℕ) → a ≡ false → b ≡ true → m ≤ n → cond a 1 0 + m < cond b 1 0 + n
+lt_here true b m n fails holds le = absurd (cc fails)
+lt_here false true m n fails holds le = omega arith
+lt_here false false m n fails holds le = absurd (cc holds)
+
+test_follows : (x y z : Item) → IsBefore y z → is_before x y ≡ true → is_before x z ≡ true
+test_follows x y z before holds = ap is_lt (before-trans x y z (before-from_test x y holds) before)
+
+rank-le : (items : List Item) (y x : Item) → IsBefore y x → rank items y ≤ rank items x
+rank-le [] y x before = omega arith
+rank-le (z ∷ items) y x before =
+    let more = le_more (is_before z y) (is_before z x) (rank items y) (rank items x) (test_follows z y x before) (rank-le items y x before) in
+    omega (arith, more, rank-cons z items y, rank-cons z items x)
+
+-- an item that comes before another has fewer before it
+rank-lt : (items : List Item) (y x : Item) → IsBefore y x → Contains items y → rank items y < rank items x
+rank-lt [] y x before member = absurd (Contains-none y member)
+rank-lt (z ∷ items) y x before (zero, h, e) =
+    let not_itself : is_before z y ≡ false = ap (λ w. is_before w y) e ∙ ap is_lt (tied_itself place_total y) in
+    let earlier : is_before z x ≡ true = ap (λ w. is_before w x) e ∙ ap is_lt before in
+    let more = lt_here (is_before z y) (is_before z x) (rank items y) (rank items x) not_itself earlier (rank-le items y x before) in
+    omega (arith, more, rank-cons z items y, rank-cons z items x)
+rank-lt (z ∷ items) y x before (suc k, h, e) =
+    let more = lt_more (is_before z y) (is_before z x) (rank items y) (rank items x) (test_follows z y x before) (rank-lt items y x before (k, omega arith, e)) in
+    omega (arith, more, rank-cons z items y, rank-cons z items x)
+
+-- ---- what is asked of a class speaks only of its items before x
+
+-- each item of one class that comes before x is an item of the other
+abbrev EarlierIn : List Item → List Item → Item → Type 0
+EarlierIn class other x = (y : Item) → IsBefore y x → Contains class y → Contains other y
+
+some_earlier : (P : Item → Type 0) (class other : List Item) (x : Item) → EarlierIn class other x → ((y : Item) → P y → IsBefore y x) → Any P class → Any P other
+some_earlier P class other x there before (k, y, h, e, p) =
+    let (j, within, same) = there y (before y p) (k, h, e) in
+    (j, y, within, same, p)
+
+all_earlier : (P : Item → Type 0) (class other : List Item) (x : Item) → EarlierIn other class x → All (λ y. IsBefore y x → P y) class → All (λ y. IsBefore y x → P y) other
+all_earlier P class other x back all k d h before =
+    All-contains (λ y. IsBefore y x → P y) class (get_or other k d) all (back (get_or other k d) before (Contains-get_or other k d h)) before
+
+module _ (class other : List Item) (x : Item) (there : EarlierIn class other x) (back : EarlierIn other class x) where
+  free_in : IsFree class x → IsFree other x
+  free_in free = (
+    some_earlier (λ y. IsBefore y x) class other x there (λ y before. before) free.0,
+    all_earlier (λ y. y.period.to ≤ℤ x.period.from) class other x back free.1,
+  )
+
+  latest_in : (e : ℤ) → IsLatestEnd class x e → IsLatestEnd other x e
+  latest_in e latest = (
+    some_earlier (λ y. IsBefore y x × (y.period.to ≡ e)) class other x there (λ y both. both.0) latest.0,
+    all_earlier (λ y. y.period.to ≤ℤ e) class other x back latest.1,
+  )
+
+-- ---- where an item lies is decided by where the items before it lie
+
+-- each class's items before x are those of the other division's class of that number
+abbrev EarlierAgree : List (List Item) → List (List Item) → Item → Type 0
+EarlierAgree one other x = (k : ℕ) → EarlierIn (class_at one k) (class_at other k) x
+
+-- a class with an item is one
+is_class : (classes : List (List Item)) (k : ℕ) (y : Item) → Contains (class_at classes k) y → k < length classes
+is_class classes k y member = elim (cases_lt k (length classes)) [
+  | inl within ↦ within
+  | inr past ↦ absurd (Contains-none y (subst (λ class. Contains class y) (class_at-past classes k past) member))
+]
+
+free_is_class : (classes : List (List Item)) (k : ℕ) (x : Item) → IsFree (class_at classes k) x → k < length classes
+free_is_class classes k x free = let (i, y, h, e, before) = free.0 in is_class classes k y (i, h, e)
+
+module _ (one other : List (List Item)) (x : Item) (there : EarlierAgree one other x) (back : EarlierAgree other one x) where
+  -- in the best of the free classes of both
+  both_best : (k m : ℕ) → LiesInBestFree one k x → LiesInBestFree other m x → k ≡ m
+  both_best k m best best' =
+      let free_there : IsFree (class_at other k) x = free_in (class_at one k) (class_at other k) x (there k) (back k) best.free in
+      let free_here : IsFree (class_at one m) x = free_in (class_at other m) (class_at one m) x (back m) (there m) best'.free in
+      let latest_there : IsLatestEnd (class_at other k) x best.end = latest_in (class_at one k) (class_at other k) x (there k) (back k) best.end best.latest in
+      let latest_here : IsLatestEnd (class_at one m) x best'.end = latest_in (class_at other m) (class_at one m) x (back m) (there m) best'.end best'.latest in
+      elim (best.best m best'.end (free_is_class one m x free_here) free_here latest_here) [
+        | inl sooner ↦ elim (best'.best k best.end (free_is_class other k x free_there) free_there latest_there) [
+          | inl later ↦ absurd (omega (arith, ints, sooner, later))
+          | inr same ↦ let e : best'.end ≡ best.end = same.0 in absurd (omega (arith, ints, sooner, e))
+        ]
+        | inr tied ↦ elim (best'.best k best.end (free_is_class other k x free_there) free_there latest_there) [
+          | inl later ↦ let e : best.end ≡ best'.end = tied.0 in absurd (omega (arith, ints, later, e))
+          | inr same ↦ let low : k ≤ m = tied.1 in let high : m ≤ k = same.1 in omega (arith, low, high)
+        ]
+      ]
+
+  -- it doesn't open a class of one where a class of the other is free
+  best_or_opens : (k m : ℕ) → LiesInBestFree one k x → OpensClass other m x → ⊥
+  best_or_opens k m best opens =
+      let free_there : IsFree (class_at other k) x = free_in (class_at one k) (class_at other k) x (there k) (back k) best.free in
+      opens.none k (free_is_class other k x free_there) free_there
+
+-- a class that isn't empty has a first item
+first_item : (class : List Item) → 0 < length class → (x : Item) × IsFirstOf class x
+first_item [] some = absurd (omega arith)
+first_item (x ∷ []) some = (x, (Contains-head x [], All-cons (λ y. IsBefore y x → ⊥) x [] (not_before_itself x) (All-nil (λ y. IsBefore y x → ⊥))))
+first_item (x ∷ (y ∷ class)) some =
+    let (z, first) = first_item (y ∷ class) (omega arith) in
+    elim (cases_Bool (is_before x z)) [
+      | inl holds ↦ (
+        x,
+        (
+          Contains-head x (y ∷ class),
+          All-cons (λ w. IsBefore w x → ⊥) x (y ∷ class) (not_before_itself x)
+              (All-weaker (λ w. IsBefore w z → ⊥) (λ w. IsBefore w x → ⊥) (λ w never sooner. never (before-trans w x z sooner (before-from_test x z holds))) (y ∷ class) first.1),
+        ),
+      )
+      | inr fails ↦ (
+        z,
+        (Contains-cons x (y ∷ class) z first.0, All-cons (λ w. IsBefore w z → ⊥) x (y ∷ class) (λ sooner. both_ways (is_before x z) fails (ap is_lt sooner)) first.1),
+      )
+    ]
+
+-- it doesn't open a class of one before the class that it opens of the other, which has an item before it
+opens_sooner : (one other : List (List Item)) (x : Item) → EarlierAgree other one x → IsPlaced other → All (λ class. 0 < length class) other
+    → (k m : ℕ) → OpensClass one k x → OpensClass other m x → k < m → m < length other → ⊥
+opens_sooner one other x back placed filled k m opens opens' less within =
+    let (z, first) = first_item (class_at other k) (All-get_or (λ class. 0 < length class) other k [] (omega arith) filled) in
+    let before : IsBefore z x = placed.rise k m z x less within first opens'.opens in
+    All-contains (λ y. IsBefore y x → ⊥) (class_at one k) z opens.opens.1 (back k z before first.0) before
+
+-- in both it lies in the class of one number
+one_class : (one other : List (List Item)) (x : Item) → EarlierAgree one other x → EarlierAgree other one x → IsPlaced one → IsPlaced other
+    → All (λ class. 0 < length class) one → All (λ class. 0 < length class) other
+    → (k m : ℕ) → Contains (class_at one k) x → Contains (class_at other m) x → k ≡ m
+one_class one other x there back placed placed' filled filled' k m member member' =
+    let here : k < length one = is_class one k x member in
+    let here' : m < length other = is_class other m x member' in
+    elim (placed.each k x here member) [
+      | inl best ↦ elim (placed'.each m x here' member') [
+        | inl best' ↦ both_best one other x there back k m best best'
+        | inr opens' ↦ absurd (best_or_opens one other x there back k m best opens')
+      ]
+      | inr opens ↦ elim (placed'.each m x here' member') [
+        | inl best' ↦ absurd (best_or_opens other one x back there m k best' opens)
+        | inr opens' ↦ elim (cases_order k m) [
+          | inl same ↦ same
+          | inr (inl less) ↦ absurd (opens_sooner one other x back placed' filled' k m opens opens' less here')
+          | inr (inr more) ↦ absurd (opens_sooner other one x there placed filled m k opens' opens more here)
+        ]
+      ]
+    ]
+
+-- ---- all items lie in the classes of the same numbers
+
+class_of : (classes : List (List Item)) (x : Item) → Contains (all_of classes) x → (k : ℕ) × Contains (class_at classes k) x
+class_of [] x member = absurd (Contains-none x member)
+class_of (class ∷ classes) x member = elim (Contains-append_cases class (all_of classes) x member) [
+  | inl here ↦ (zero, here)
+  | inr later ↦ let (k, there) = class_of classes x later in (suc k, there)
+]
+
+-- an item of one class of one division is in a class of the other
+in_other : (items : List Item) (one other : List (List Item)) (k : ℕ) (x : Item) → IsDivision items one → IsDivision items other → Contains (class_at one k) x → (m : ℕ) × Contains (class_at other m) x
+in_other items one other k x division division' member =
+    class_of other x
+    (Contains-permutation items (all_of other) x division'.together
+    (Contains-permutation (all_of one) items x (IsPermutation-sym items (all_of one) division.together) (contains-all_of one k x member)))
+
+-- x lies in the class of the same number
+abbrev Agree : List (List Item) → List (List Item) → Item → Type 0
+Agree one other x = (k : ℕ) → Contains (class_at one k) x → Contains (class_at other k) x
+
+item_of : (items : List Item) (classes : List (List Item)) (k : ℕ) (x : Item) → IsDivision items classes → Contains (class_at classes k) x → Contains items x
+item_of items classes k x division member =
+    Contains-permutation (all_of classes) items x (IsPermutation-sym items (all_of classes) division.together) (contains-all_of classes k x member)
+
+module _ (items : List Item) (one other : List (List Item)) (division : IsDivision items one) (division' : IsDivision items other) (placed : IsPlaced one) (placed' : IsPlaced other) where
+  agree_at : (x : Item) → EarlierAgree one other x → EarlierAgree other one x → Agree one other x
+  agree_at x there back k member =
+      let (m, member') = in_other items one other k x division division' member in
+      let same : k ≡ m = one_class one other x there back placed placed' division.filled division'.filled k m member member' in
+      subst (λ n. Contains (class_at other n) x) (sym same) member'
+
+-- those of fewer than n items before them
+agree_below : (items : List Item) (one other : List (List Item)) → IsDivision items one → IsDivision items other → IsPlaced one → IsPlaced other
+    → (n : ℕ) (x : Item) → rank items x < n → Agree one other x × Agree other one x
+agree_below items one other division division' placed placed' zero x less = absurd (omega arith)
+agree_below items one other division division' placed placed' (suc n) x less =
+    let there : EarlierAgree one other x =
+    λ k y before member. (agree_below items one other division division' placed placed' n y
+    (let fewer = rank-lt items y x before (item_of items one k y division member) in omega (arith, fewer, less))).0 k member in
+    let back : EarlierAgree other one x =
+    λ k y before member. (agree_below items one other division division' placed placed' n y
+    (let fewer = rank-lt items y x before (item_of items other k y division' member) in omega (arith, fewer, less))).1 k member in
+    (agree_at items one other division division' placed placed' x there back, agree_at items other one division' division placed' placed x back there)
+
+agree : (items : List Item) (one other : List (List Item)) → IsDivision items one → IsDivision items other → IsPlaced one → IsPlaced other
+    → (x : Item) → Agree one other x
+agree items one other division division' placed placed' x =
+    (agree_below items one other division division' placed placed' (suc (rank items x)) x (omega arith)).0
+
+-- ---- so the classes are the same lists
+
+-- x ends at or before the start of y
+abbrev Precede : Item → Item → Type 0
+Precede x y = x.period.to ≤ℤ y.period.from
+
+not_both_precede : (x y : Item) → Precede x y → Precede y x → ⊥
+not_both_precede x y one other =
+    let held : x.period.from <ℤ x.period.to = x.period.ordered in
+    let held' : y.period.from <ℤ y.period.to = y.period.ordered in
+    omega (arith, ints)
+
+-- items that rise without overlaps end one before the next
+precede-from_rising : (class : List Item) → IsApart class → IsRising class → AllPairs Precede class
+precede-from_rising class apart rising i j d less h =
+    by_order (get_or class i d) (get_or class j d) (apart i j d less h) (rising i j d less h)
+  where
+    by_order : (x y : Item) → (Overlap x.period y.period → ⊥) → (IsBelow y x → ⊥) → Precede x y
+    by_order x y no_overlap not_below =
+        let held : y.period.from <ℤ y.period.to = y.period.ordered in
+        let starts : x.period.from ≤ℤ y.period.from = from_le x y not_below in
+        by_lt_z y.period.from x.period.to
+        (λ inside. absurd (no_overlap (Overlap-from_ends x.period y.period (omega (arith, ints)) inside)))
+        (λ past. past)
+
+-- no more classes than the other has
+no_more : (one other : List (List Item)) → All (λ class. 0 < length class) one → ((x : Item) → Agree one other x) → length one ≤ length other
+no_more one other filled agrees = elim (cases_lt (length other) (length one)) [
+  | inl less ↦
+      let (z, first) = first_item (class_at one (length other)) (All-get_or (λ class. 0 < length class) one (length other) [] less filled) in
+      let within : length other < length other = is_class other (length other) z (agrees z (length other) first.0) in
+      absurd (omega arith)
+  | inr few ↦ few
+]
+
+pub one_placed : (items : List Item) (one other : List (List Item)) → IsDivision items one → IsDivision items other
+    → IsPlaced one → IsPlaced other → All IsRising one → All IsRising other → one ≡ other
+one_placed items one other division division' placed placed' rising rising' =
+    let there : (x : Item) → Agree one other x = agree items one other division division' placed placed' in
+    let back : (x : Item) → Agree other one x = agree items other one division' division placed' placed in
+    let few : length one ≤ length other = no_more one other division.filled there in
+    let many : length other ≤ length one = no_more other one division'.filled back in
+    same_lists one other (omega arith)
+    (λ k d h.
+    let within : k < length other = omega arith in
+    let precede : AllPairs Precede (class_at one k) =
+    precede-from_rising (class_at one k) (All-get_or IsApart one k [] h division.apart) (All-get_or IsRising one k [] h rising) in
+    let precede' : AllPairs Precede (class_at other k) =
+    precede-from_rising (class_at other k) (All-get_or IsApart other k [] within division'.apart) (All-get_or IsRising other k [] within rising') in
+    let same : class_at one k ≡ class_at other k =
+    rising_is_one Precede (class_at one k) (class_at other k) not_both_precede precede precede' (λ x. there x k) (λ x. back x k) in
+    get_or_default one k d [] h ∙ (same ∙ get_or_default other k [] d within))
+
+pub one_dip : (items : List Item) (one other : List (List Item)) → IsDip items one → IsDip items other → one ≡ other
+one_dip items one other p q =
+    one_placed items one other p.divided.division q.divided.division p.placed q.placed p.divided.rising q.divided.rising
+
+-- ---- the instant
+
+one_instant : (items : List Item) (k : ℕ) (one other : ℤ) → IsInstant items k one → IsInstant items k other
+    → one ≡ other
+one_instant items k one other is is' =
+    by_lt_z one other
+    (λ less. absurd (is'.first one less is.crowded))
+    (λ most. by_lt_z other one (λ less. absurd (is.first other less is'.crowded)) (λ least. omega (arith, ints)))
+
+pub one_instant_of : (items : List Item) (classes : List (List Item)) (one other : Option ℤ) → IsDivision items classes
+    → IsInstantOf classes one → IsInstantOf classes other → one ≡ other
+one_instant_of items classes None None division p q = refl
+one_instant_of items classes None (Some t) division p q = absurd (true≢false (q.none.1 (p.none.0 refl)))
+one_instant_of items classes (Some s) None division p q = absurd (true≢false (p.none.1 (q.none.0 refl)))
+one_instant_of items classes (Some s) (Some t) division p q =
+    ap Some (one_instant items (length classes) s t (p.crowded items division) (q.crowded items division))

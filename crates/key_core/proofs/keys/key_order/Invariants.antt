@@ -1,0 +1,7 @@
+use Rattle.std.proofs.Common.{◌≡◌, drop}
+use Rattle.key_core.specs.Order.{key_cmp}
+use Rattle.key_core.proofs.keys.key_order.Given as goal
+
+-- what is left decides
+abbrev pub invariant-loop-column : goal.invariant-loop-column
+invariant-loop-column l = key_cmp (drop l.column-index l.key) l.a l.b ≡ key_cmp l.key l.a l.b

@@ -1,0 +1,44 @@
+-- Rows of a table with a key: no two may be equal in the key's columns and share an instant.
+use Rattle.std.specs.Prelude.{◌≡◌, ℕ, ℤ, List, [], ◌∷◌, All, AllPairs, Bool, true, false, ◌&&◌, ◌||◌, Option, Some, None, is_some, slice_get}
+use Rattle.std.specs.List.{list_all, list_any}
+use Rattle.std.specs.Ordering.{int_eq}
+use Rattle.period_core.specs.Period.{Holds, meet}
+use Rattle.row_core.specs.Name.{same_name}
+use Rattle.row_core.specs.declared.draft.Draft.{Draft}
+use Rattle.row_core.specs.declared.value.Value.{Value}
+use Rattle.row_core.specs.declared.value.Value.TheVariants.{Int, Text}
+
+-- two values are one
+abbrev pub same_value : Value → Value → Bool
+same_value (Int a) (Int b) = int_eq a b
+same_value (Text a) (Text b) = same_name a b
+same_value (Int a) (Text b) = false
+same_value (Text a) (Int b) = false
+
+-- there is one value on both sides, or none on either
+abbrev pub same_maybe : Option Value → Option Value → Bool
+same_maybe None None = true
+same_maybe None (Some b) = false
+same_maybe (Some a) None = false
+same_maybe (Some a) (Some b) = same_value a b
+
+-- the values are equal in each of the columns
+abbrev pub same_key : List ℕ → List Value → List Value → Bool
+same_key key a b = list_all (λ column. same_maybe (slice_get a column) (slice_get b column)) key
+
+-- two rows are equal in each of the key's columns, and share an instant
+abbrev pub collide : List ℕ → Draft → Draft → Bool
+collide key a b = same_key key a.values b.values && is_some (meet a.period b.period)
+
+-- the test holds of two elements at different places
+abbrev pub have_pair : {X : Type 0} → (X → X → Bool) → List X → Bool
+have_pair test [] = false
+have_pair test (x ∷ xs) = list_any (test x) xs || have_pair test xs
+
+-- two rows at different places are equal in each of the key's columns, and share an instant
+abbrev pub have_collision : List ℕ → List Draft → Bool
+have_collision key rows = have_pair (collide key) rows
+
+-- no instant is held by two rows at different places that are equal in each of the key's columns
+abbrev pub AreWithoutOverlaps : List ℕ → List Draft → Type 0
+AreWithoutOverlaps key rows = AllPairs (λ a b. (t : ℤ) → All (λ column. slice_get a.values column ≡ slice_get b.values column) key → Holds a.period t → Holds b.period t → ⊥) rows

@@ -1,0 +1,185 @@
+-- All commands of some records can be done.
+use Rattle.std.proofs.Common.{◌≡◌, ℕ, zero, suc, ◌+◌, ◌<◌, ◌≤◌, List, [], ◌∷◌, ◌++◌, Option, Some, None, Result, Ok, Err, length, refl, ap, ◌∙◌, arith, inl, inr, length-append}
+use Rattle.std.specs.Prelude.{IfOk, nat_le, nat_lt, option_map}
+use Rattle.std.proofs.lemmas.Bool.{cases_lt}
+use Rattle.std.proofs.lemmas.List.{nil_from_length}
+use Rattle.row_core.specs.Refusals.{refused_or, result_and_then}
+use Rattle.book_core.specs.History.{History, IsLegal, state_after}
+use Rattle.book_core.specs.History as history
+use Rattle.book_core.specs.State.{refusal_of}
+use Rattle.book_core.specs.Versions.{AreBetween, AreFromTo, log_of}
+use Rattle.book_core.specs.declared.book.BookRefused.{BookRefused}
+use Rattle.book_core.specs.declared.change.Change.{Change}
+use Rattle.book_core.specs.declared.change.Change.TheVariants as change
+use Rattle.book_core.proofs.Applying.{IsLegal-push}
+use Rattle.book_core.proofs.VersionsExistence.{some_between, some_from_to}
+use Rattle.dip_core.specs.declared.item.Item.{Item}
+use Rattle.dip_core.specs.Item as item
+use Rattle.dip_core.proofs.DipExistence.{some_dip, some_instant}
+use Rattle.dip_core.proofs.IdsLemmas.{HasDistinctIds-from_rising}
+use Rattle.cert_core.specs.declared.verdict.Certificate.{Certificate}
+use Rattle.cert_core.proofs.VerdictExistence.{some_verdict}
+use Rattle.query_core.specs.Query.{items_of}
+use Rattle.query_core.proofs.Ids.{IdsRise-items_of}
+use Rattle.command_core.specs.Fields.{both}
+use Rattle.command_core.specs.Meaning.{FirstCommand, Meaning, Means, Refuse, Make, Load, Update, Delete, Rows, At, Between, FromTo, Dip, Check, Log}
+use Rattle.command_core.specs.Records.{Record}
+use Rattle.command_core.specs.Refusal.{fault}
+use Rattle.command_core.specs.declared.refusal.Fault.{Fault}
+use Rattle.command_core.proofs.MeaningExistence.{some_meaning}
+use Rattle.command_core.proofs.RecordsExistence.{some_records}
+use Rattle.answer_core.specs.PrintedRecords.{commit_records, division_records, error_record, ok_record, row_records, verdict_record, version_records}
+use Rattle.script_core.specs.Answer.{Answers, AnswersChange, AnswersQuery, PrintsDivision, PrintsVerdict, PrintsVersions}
+use Rattle.script_core.specs.Refusal.{book_refusal}
+use Rattle.script_core.specs.Script.{Done, Finished, IsOutput, Place, Steps, output_of, start_of}
+use Rattle.script_core.specs.State.{change_in, claim_of, columns_told, delete_in, load_in, make_in, pairs_told, rows_of, rows_on, rows_told, update_in, versions_told}
+use Rattle.script_core.proofs.AnswerUniqueness.{both-first, not_Ok, rise-told}
+use Rattle.script_core.proofs.OutputUniqueness.{takes_one}
+
+-- ---- a change that is made keeps the history legal
+
+legal-one : (number : ℕ) (h : History) (c : Change) → IsLegal h → IfOk (change_in number h c) IsLegal
+legal-one number h c legal = by_refusal (refusal_of (length h) (state_after h) c) refl where
+  by_refusal : (refusal : Option BookRefused) → refusal_of (length h) (state_after h) c ≡ refusal
+      → IfOk (refused_or (option_map (λ refused. fault number (book_refusal refused)) refusal) (h ++ record { by = 1; change = c } ∷ [])) IsLegal
+  by_refusal None accepted = IsLegal-push h (record { by = 1; change = c }) legal accepted
+  by_refusal (Some why) refused = tt
+
+-- what follows is legal, whatever it follows from
+legal-then : {T : Type 0} (follow : T → Result History Fault) (r : Result T Fault) → ((x : T) → IfOk (follow x) IsLegal) → IfOk (result_and_then follow r) IsLegal
+legal-then follow (Ok x) each = each x
+legal-then follow (Err wrong) each = tt
+
+-- ---- answers
+
+-- a command's answer, and the legal history after it
+record Reply (Answers : List Record → History → Type 0) : Type 0 where
+  answer : List Record
+  after : History
+  answers : Answers answer after
+  legal : IsLegal after
+
+some_change : (before : History) (made : Result History Fault) → IsLegal before → IfOk made IsLegal → Reply (AnswersChange before made)
+some_change before (Ok next) legal then = record { answer = ok_record (length next) ∷ []; after = next; answers = (refl, refl); legal = then }
+some_change before (Err wrong) legal then = record { answer = error_record wrong ∷ []; after = before; answers = (refl, refl); legal = legal }
+
+some_query : {S : Type 0} (before : History) (read : Result S Fault) (Tells : S → List Record → Type 0) → IsLegal before → ((s : S) → read ≡ Ok s → (answer : List Record) × Tells s answer)
+    → Reply (AnswersQuery before read Tells)
+some_query before (Ok s) Tells legal told = let (answer, tells) = told s refl in record { answer = answer; after = before; answers = (tells, refl); legal = legal }
+some_query before (Err wrong) Tells legal told = record { answer = error_record wrong ∷ []; after = before; answers = (refl, refl); legal = legal }
+
+some_division : (items : List Item) → item.IdsRise items → (answer : List Record) × PrintsDivision items answer
+some_division items rise =
+    let (classes, dip) = some_dip items (HasDistinctIds-from_rising items rise) in
+    let (instant, at) = some_instant items classes dip.divided in (
+      division_records (length items) classes instant,
+      record { classes = classes; instant = instant; dip = dip; at = at; printed = refl },
+    )
+
+some_checked : (items : List Item) (claim : List (List ℕ)) (certificate : Certificate) → item.IdsRise items → (answer : List Record) × PrintsVerdict items claim certificate answer
+some_checked items claim certificate rise =
+    let (verdict, applies) = some_verdict items claim certificate rise in
+    (verdict_record verdict ∷ [], record { verdict = verdict; applies = applies; printed = refl })
+
+-- where there is no refusal, none applied
+not_refused : {T E : Type 0} (refusal : Option E) (x y : T) → refused_or refusal x ≡ Ok y → refusal ≡ None
+not_refused None x y e = refl
+not_refused (Some why) x y e = absurd (not_Ok y why e)
+
+none_mapped : {E F : Type 0} (f : E → F) (refusal : Option E) → option_map f refusal ≡ None → refusal ≡ None
+none_mapped f None e = refl
+none_mapped f (Some why) e = cc e
+
+some_reply : (before : History) (number : ℕ) (meaning : Meaning) → IsLegal before → Reply (Answers before number meaning)
+some_reply before number (Refuse wrong) legal = record { answer = error_record wrong ∷ []; after = before; answers = (refl, refl); legal = legal }
+some_reply before number (Make name columns) legal = some_change before (make_in number before name columns) legal (legal-one number before (change.Make name columns) legal)
+some_reply before number (Load name body) legal =
+    some_change before (load_in number before name body) legal
+    (legal-then (λ columns. result_and_then (λ rows. change_in number before (change.Load name rows)) (rows_of columns (number + 1) body)) (columns_told number before name)
+    (λ columns. legal-then (λ rows. change_in number before (change.Load name rows)) (rows_of columns (number + 1) body) (λ rows. legal-one number before (change.Load name rows) legal)))
+some_reply before number (Update name portion sets conds) legal =
+    some_change before (update_in number before name portion sets conds) legal
+    (legal-then (λ columns. result_and_then (λ pairs. change_in number before (change.Update name portion pairs.0 pairs.1)) (both (pairs_told number columns sets) (pairs_told number columns conds))) (columns_told number before name)
+    (λ columns. legal-then (λ pairs. change_in number before (change.Update name portion pairs.0 pairs.1)) (both (pairs_told number columns sets) (pairs_told number columns conds))
+    (λ pairs. legal-one number before (change.Update name portion pairs.0 pairs.1) legal)))
+some_reply before number (Delete name portion conds) legal =
+    some_change before (delete_in number before name portion conds) legal
+    (legal-then (λ columns. result_and_then (λ pairs. change_in number before (change.Delete name portion pairs)) (pairs_told number columns conds)) (columns_told number before name)
+    (λ columns. legal-then (λ pairs. change_in number before (change.Delete name portion pairs)) (pairs_told number columns conds) (λ pairs. legal-one number before (change.Delete name portion pairs) legal)))
+some_reply before number (Rows name asof) legal =
+    some_query before (rows_told number before asof name) (λ rows printed. printed ≡ row_records rows) legal (λ rows read. (row_records rows, refl))
+some_reply before number (At name point asof) legal =
+    some_query before (rows_told number before asof name) (λ rows printed. printed ≡ row_records (rows_on point rows)) legal (λ rows read. (row_records (rows_on point rows), refl))
+some_reply before number (Between name first last) legal =
+    some_query before (versions_told number before (nat_lt last first) name) (λ _ printed. PrintsVersions (AreBetween before (length before) first last name) printed) legal
+    (λ s read.
+    let (versions, are) = some_between before (length before) first last name legal (none_mapped _ (history.versions_refusal before (length before) (nat_lt last first) name) (not_refused _ tt s read)) in
+    (version_records versions, record { versions = versions; asked = are; printed = refl }))
+some_reply before number (FromTo name first end) legal =
+    some_query before (versions_told number before (nat_le end first) name) (λ _ printed. PrintsVersions (AreFromTo before (length before) first end name) printed) legal
+    (λ s read.
+    let (versions, are) = some_from_to before (length before) first end name legal (none_mapped _ (history.versions_refusal before (length before) (nat_le end first) name) (not_refused _ tt s read)) in
+    (version_records versions, record { versions = versions; asked = are; printed = refl }))
+some_reply before number (Dip name asof) legal =
+    some_query before (rows_told number before asof name) (λ rows printed. PrintsDivision (items_of rows) printed) legal
+    (λ rows read. some_division (items_of rows) (IdsRise-items_of rows (rise-told number before asof name rows read)))
+some_reply before number (Check name parts instant asof body) legal =
+    some_query before (both (rows_told number before asof name) (claim_of (number + 1) body))
+    (λ read printed. PrintsVerdict (items_of read.0) read.1 (record { parts = parts; instant = instant }) printed) legal
+    (λ read e.
+    some_checked (items_of read.0) read.1 (record { parts = parts; instant = instant })
+    (IdsRise-items_of read.0 (rise-told number before asof name read.0 (both-first (rows_told number before asof name) (claim_of (number + 1) body) read.0 read.1 e))))
+some_reply before number Log legal = record { answer = commit_records (log_of before); after = before; answers = (refl, refl); legal = legal }
+
+pub some_answer : (before : History) (number : ℕ) (meaning : Meaning) → IsLegal before
+    → (answer : List Record) × (after : History) × Answers before number meaning answer after
+some_answer before number meaning legal =
+    let reply = some_reply before number meaning legal in (reply.answer, reply.after, reply.answers)
+
+-- ---- all commands
+
+-- all commands from a place on
+record Rest (place : Place) : Type 0 where
+  dones : List Done
+  last : Place
+  steps : Steps place dones last
+  over : last.left ≡ []
+
+fewer : (number : ℕ) (own later records : List Record) (meaning : Meaning) → Means number own later meaning → records ≡ own ++ later → length later < length records
+fewer number own later records meaning means is =
+    let (first, rest, starts) = takes_one number own later meaning means in
+    let size : length records ≡ length own + length later = ap length is ∙ length-append own later in
+    let some : length own ≡ suc (length rest) = ap length starts in
+    omega arith
+
+some_rest : (n : ℕ) (place : Place) → IsLegal place.history → length place.left ≤ n → Rest place
+some_rest zero place legal few = record { dones = []; last = place; steps = refl; over = nil_from_length place.left (omega arith) }
+some_rest (suc n) place legal few = elim (cases_lt 0 (length place.left)) [
+  | inr none ↦ record { dones = []; last = place; steps = refl; over = nil_from_length place.left (omega arith) }
+  | inl some ↦
+      let first : FirstCommand place.number place.left = some_meaning place.number place.left some in
+      let reply : Reply (Answers place.history place.number first.meaning) = some_reply place.history place.number first.meaning legal in
+      let next : Place = record { history = reply.after; number = place.number + length first.own; left = first.later } in
+      let less : length first.later < length place.left = fewer place.number first.own first.later place.left first.meaning first.means first.taken in
+      let rest : Rest next = some_rest n next reply.legal (omega arith) in
+      record {
+        dones = record { meaning = first.meaning; answer = reply.answer } ∷ rest.dones;
+        last = rest.last;
+        steps = (next, record { own = first.own; taken = first.taken; number = refl; means = first.means; answers = reply.answers }, rest.steps);
+        over = rest.over;
+      }
+]
+
+none_is_legal : IsLegal []
+none_is_legal n c e = cc e
+
+pub all_done : (records : List Record) → (dones : List Done) × Finished records dones
+all_done records =
+    let rest : Rest (start_of records) = some_rest (length records) (start_of records) none_is_legal (omega arith) in
+    (rest.dones, record { place = rest.last; steps = rest.steps; over = rest.over })
+
+pub some_output : (script : List ℕ) → (output : List ℕ) × IsOutput script output
+some_output script =
+    let (records, parsed) = some_records script in
+    let (dones, finished) = all_done records in
+    (output_of dones, record { records = records; parsed = parsed; dones = dones; finished = finished; is = refl })
