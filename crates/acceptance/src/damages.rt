@@ -3,11 +3,19 @@
 
 ghost use Rattle.std.specs.Prelude.{◌<◌};
 
-use crate::runs::answers_of;
+use script_core::{Counted, run};
 use std::alloc::Global;
 use std::fmt::Write;
 use std::process::Abort;
 use std::test::Fail;
+
+// What a script is answered.
+fn answers_of(alloc: Global, script: &[u8]) -> Result<Vec<u8>, Fail> {
+    let mut reader = Counted::new(script);
+    let mut writer = Counted::new(Vec::new(alloc));
+    run(alloc, &mut reader, &mut writer, 4)?;
+    Ok(writer.into_inner())
+}
 
 // A linear congruential generator.
 #[derive(Drop)]

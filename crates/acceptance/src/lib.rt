@@ -6,23 +6,15 @@ mod books;
 #[cfg(test)]
 mod checks;
 #[cfg(test)]
-mod columns;
-#[cfg(test)]
 mod damages;
 #[cfg(test)]
 mod divisions;
-#[cfg(test)]
-mod keys;
-#[cfg(test)]
-mod pasts;
 #[cfg(test)]
 mod points;
 #[cfg(test)]
 mod portions;
 #[cfg(test)]
 mod rows;
-#[cfg(test)]
-mod runs;
 #[cfg(test)]
 mod scripts;
 #[cfg(test)]

@@ -57,12 +57,10 @@ fn knows_keys(rt: HostRuntime) -> Result<(), Fail> {
     let [c, d, e] = [Name::parse(b"c")?, Name::parse(b"d")?, Name::parse(b"e")?];
     let none = columns(rt.alloc())?.with_key(rt.alloc(), &[])?;
     assert_eq!(rt; none.key_len(), 0);
-    assert!(rt; !none.has_key());
     assert_eq!(rt; none.as_slice(), columns(rt.alloc())?.as_slice());
     let first = columns(rt.alloc())?.with_key(rt.alloc(), &[c])?;
     assert_eq!(rt; (first.key_len(), first.key_column(0)), (1, 0));
     let both = first.with_key(rt.alloc(), &[d, c])?;
-    assert!(rt; both.has_key());
     assert_eq!(rt; both.key_len(), 2);
     assert_eq!(rt; (both.key_column(0), both.key_column(1)), (1, 0));
     let copy = both.copy(rt.alloc())?;

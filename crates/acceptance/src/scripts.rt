@@ -1,4 +1,4 @@
-//! Scripts and their answers.
+//! What a run tells of its commands and refusals.
 
 use script_core::{Counted, Outcome, run};
 use std::alloc::Global;
@@ -27,47 +27,7 @@ fn check(rt: &(impl Abort + Alloc<A = Global>), case: &Case) -> Result<(), Fail>
 }
 
 #[test]
-fn divides_tables(rt: HostRuntime) -> Result<(), Fail> {
-    check(
-        &rt,
-        &Case {
-            script: b"table,t\ndip,t\n",
-            answers: b"ok,1\ndip,0,0,-\n",
-            commands: 2,
-            errors: 0,
-        },
-    )?;
-    check(
-        &rt,
-        &Case {
-            script: b"table,t\nload,t\nrow,2024-01-01,2024-01-05\nrow,2024-01-02,2024-01-04\nrow,2024-01-04,2024-01-08\nrow,2024-01-05,2024-01-06\nrow,2024-01-03,2024-01-09\nend\ndip,t\n",
-            answers: b"ok,1\nok,2\ndip,5,3,2024-01-03\npart,0,1,4\npart,1,2,3\npart,2,5\n",
-            commands: 3,
-            errors: 0,
-        },
-    )?;
-    check(
-        &rt,
-        &Case {
-            script: b"table,t\nload,t\nrow,2024-01-01,2024-01-02\nrow,2024-01-01,2024-01-02\nrow,2024-01-01,2024-01-02\nend\ndip,t\n",
-            answers: b"ok,1\nok,2\ndip,3,3,2024-01-01\npart,0,1\npart,1,2\npart,2,3\n",
-            commands: 3,
-            errors: 0,
-        },
-    )?;
-    check(
-        &rt,
-        &Case {
-            script: b"table,t\nload,t\nrow,2024-01-01,2024-01-02\nrow,2024-01-02,2024-01-03\nrow,2024-01-03,2024-01-04\nend\ndip,t\n",
-            answers: b"ok,1\nok,2\ndip,3,1,2024-01-01\npart,0,1,2,3\n",
-            commands: 3,
-            errors: 0,
-        },
-    )
-}
-
-#[test]
-fn refuses_by_record_and_name(rt: HostRuntime) -> Result<(), Fail> {
+fn counts_commands_and_refusals(rt: HostRuntime) -> Result<(), Fail> {
     check(
         &rt,
         &Case {

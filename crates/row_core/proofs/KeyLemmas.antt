@@ -371,16 +371,3 @@ slice_get-key_of columns i s h =
 pub key_place-is : (columns : List Column) (i : ℕ) → IsSchema columns → i < length (key_of columns)
     → IsSome (key_place columns i)
 key_place-is columns i s h = s.keyed i (omega (arith, length-key_of columns s))
-
-any-counted : (columns : List Column) → list_any is_in_key columns ≡ nat_lt 0 (count_keyed columns)
-any-counted [] = refl
-any-counted (c ∷ cs) =
-    elim (is_in_key c) as (λ b. (b || list_any is_in_key cs) ≡ nat_lt 0 (cond b (1 + count_keyed cs) (count_keyed cs)))
-    [ true ↦ sym (lt-ltb 0 (1 + count_keyed cs) (omega arith)) | false ↦ any-counted cs ]
-
--- some column is in the key exactly where the key has columns
-pub any-key_of : (columns : List Column) → IsSchema columns
-    → list_any is_in_key columns ≡ nat_lt 0 (length (key_of columns))
-any-key_of columns s =
-    any-counted columns
-    ∙ ap (nat_lt 0) (is_count_by count_keyed is_in_key refl (λ _ _. refl) columns ∙ sym (length-key_of columns s))

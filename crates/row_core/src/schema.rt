@@ -1,4 +1,4 @@
-ghost use Rattle.std.specs.Prelude.{◌≡◌, ◌<◌, ◌≤◌, [], IfOk, IfSome, count_by, length, map, nat_lt, option_map, position, slice_get, Some};
+ghost use Rattle.std.specs.Prelude.{◌≡◌, ◌<◌, ◌≤◌, [], IfOk, IfSome, count_by, length, map, option_map, position, slice_get, Some};
 ghost use Rattle.std.specs.List.{list_any};
 ghost use Rattle.row_core.specs.Refusals.{IsAnswerUnless, first_of};
 ghost use Rattle.row_core.specs.Name.{same_name};
@@ -174,14 +174,6 @@ impl Schema {
         })
     }
 
-    /// Whether there is a key.
-    pub fn has_key(&self) -> bool
-        ensures some { result ≡ list_any is_in_key self.now }
-        ensures len { result ≡ nat_lt 0 (length (key_of self.now)) }
-    {
-        has_keyed(&self.columns)
-    }
-
     /// How many columns the key has; 0 where there is none.
     pub fn key_len(&self) -> u32
         ensures { result ≡ length (key_of self.now) }
@@ -272,13 +264,6 @@ fn values_fit(columns: &[Column], values: &[Value]) -> bool
         }
     }
     true
-}
-
-// Whether some column is in the key.
-fn has_keyed(columns: &[Column]) -> bool
-    ensures { result ≡ list_any is_in_key columns.now }
-{
-    columns.iter().any(|column| column.key.is_some())
 }
 
 // How many of the columns are in the key.
