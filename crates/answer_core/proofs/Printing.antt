@@ -10,7 +10,7 @@ use Rattle.book_core.specs.declared.log.Entry.{Entry}
 use Rattle.book_core.specs.declared.version.Version.{Version}
 use Rattle.cert_core.specs.declared.verdict.Verdict.{Verdict}
 use Rattle.cert_core.specs.declared.verdict.Verdict.TheVariants.{WrongCount, EmptyPart, Unknown, Twice, Missing, Overlap, NotCrowded, Yes}
-use Rattle.dip_core.specs.Division.{class_at}
+use Rattle.dip_core.specs.Division.{part_at}
 use Rattle.dip_core.specs.declared.item.Item.{Item}
 use Rattle.command_core.specs.declared.refusal.Fault.{Fault}
 use Rattle.answer_core.specs.Answer.{IsPrintedAs}
@@ -54,7 +54,7 @@ errors_in-division rows classes instant =
     omega (arith, sum_by-cons (λ (line : Record). cond (begins (codes "error") line) 1 0) (heading_record rows classes instant) (part_records 0 classes), errors_in-part_records 0 classes)
 
 -- one more part is printed
-pub Adds-part : (a b c : Draft) (heading : Record) (classes : List (List Item)) (k : ℕ) (items : List Item) → k < length classes → items ≡ class_at classes k
+pub Adds-part : (a b c : Draft) (heading : Record) (classes : List (List Item)) (k : ℕ) (items : List Item) → k < length classes → items ≡ part_at classes k
     → Adds a b (heading ∷ part_records 0 (take k classes)) → Adds b c (part_record k items ∷ []) → Adds a c (heading ∷ part_records 0 (take (k + 1) classes))
 Adds-part a b c heading classes k items lt is first second =
     let next : k + 1 ≡ suc k = omega arith in

@@ -1,6 +1,6 @@
 -- One list is that of all versions that are selected, by rising id.
 use Rattle.std.proofs.Common.{◌≡◌, ℕ, ◌<◌, List, arith}
-use Rattle.period_core.proofs.RisingLemmas.{rising_is_one}
+use Rattle.list_core.proofs.RisingLemmas.{rising_is_one}
 use Rattle.book_core.specs.History.{History}
 use Rattle.book_core.specs.Versions.{AreVersions}
 use Rattle.book_core.specs.declared.version.Version.{Version}

@@ -5,7 +5,7 @@ use Rattle.std.proofs.lemmas.List.{map-append, length-map, get_or-map}
 use Rattle.std.proofs.lemmas.List.Elements.{All-head, All-tail, All-cons, All-nil, All-append, All-contains, All-map, All-weaker, Contains-get_or}
 use Rattle.std.proofs.lemmas.List.Sums.{sum_by-cons}
 use Rattle.std.proofs.lemmas.List.Sorted.{IsPermutation-refl, IsPermutation-sym, IsPermutation-cons, IsPermutation-trans, IsPermutation-remove, Contains-permutation}
-use Rattle.period_core.proofs.RisingLemmas.{Contains-cons, Contains-cons_cases, Contains-none}
+use Rattle.list_core.proofs.RisingLemmas.{Contains-cons, Contains-cons_cases, Contains-none}
 use Rattle.dip_core.specs.declared.item.Item.{Item}
 use Rattle.dip_core.specs.Item.{IdsRise, HasDistinctIds, IsApart}
 use Rattle.dip_core.specs.Division.{all_of}
@@ -70,12 +70,12 @@ permutation-from_members (x ∷ xs) ys dx dy there back =
     ]) in
     IsPermutation-trans (x ∷ xs) (x ∷ remove ys k) ys (IsPermutation-cons x xs (remove ys k) rest) (IsPermutation-sym ys (x ∷ remove ys k) moved)
 
--- ---- the classes that a claim names
+-- ---- the parts that a claim names
 
-ids_of-classes : (classes : List (List Item)) → ids_of (map (map (λ (x : Item). x.id)) classes) ≡ map (λ (x : Item). x.id) (all_of classes)
-ids_of-classes [] = refl
-ids_of-classes (class ∷ classes) =
-    ap (λ l. map (λ (x : Item). x.id) class ++ l) (ids_of-classes classes) ∙ sym (map-append (λ (x : Item). x.id) class (all_of classes))
+ids_of-parts : (parts : List (List Item)) → ids_of (map (map (λ (x : Item). x.id)) parts) ≡ map (λ (x : Item). x.id) (all_of parts)
+ids_of-parts [] = refl
+ids_of-parts (part ∷ parts) =
+    ap (λ l. map (λ (x : Item). x.id) part ++ l) (ids_of-parts parts) ∙ sym (map-append (λ (x : Item). x.id) part (all_of parts))
 
 pub named_items : (items : List Item) (ids : List ℕ) → All (HasItem items) ids → (xs : List Item) × AreNamed items ids xs
 named_items items [] known = ([], record { members = All-nil (Contains items); named = refl })
@@ -93,94 +93,94 @@ pub All-back : {X : Type 0} (P : X → Type 0) (xs ys : List X) → All P (xs ++
 All-back P [] ys all = all
 All-back P (x ∷ xs) ys all = All-back P xs ys (All-tail P x (xs ++ ys) all)
 
-pub record AreClasses (items : List Item) (claim : List (List ℕ)) (classes : List (List Item)) : Type 0 where
-  pub claimed : map (map (λ x. x.id)) classes ≡ claim
-  pub members : All (Contains items) (all_of classes)
+pub record AreClasses (items : List Item) (claim : List (List ℕ)) (parts : List (List Item)) : Type 0 where
+  pub claimed : map (map (λ x. x.id)) parts ≡ claim
+  pub members : All (Contains items) (all_of parts)
 
-named_classes : (items : List Item) (claim : List (List ℕ)) → All (HasItem items) (ids_of claim) → (classes : List (List Item)) × AreClasses items claim classes
+named_classes : (items : List Item) (claim : List (List ℕ)) → All (HasItem items) (ids_of claim) → (parts : List (List Item)) × AreClasses items claim parts
 named_classes items [] known = ([], record { claimed = refl; members = All-nil (Contains items) })
 named_classes items (part ∷ claim) known =
     let (xs, named) = named_items items part (All-front (HasItem items) part (ids_of claim) known) in
-    let (classes, are) = named_classes items claim (All-back (HasItem items) part (ids_of claim) known) in (
-      xs ∷ classes,
+    let (parts, are) = named_classes items claim (All-back (HasItem items) part (ids_of claim) known) in (
+      xs ∷ parts,
       record {
-        claimed = ap (λ l. l ∷ map (map (λ (x : Item). x.id)) classes) named.named ∙ ap (λ l. part ∷ l) are.claimed;
-        members = All-append (Contains items) xs (all_of classes) named.members are.members;
+        claimed = ap (λ l. l ∷ map (map (λ (x : Item). x.id)) parts) named.named ∙ ap (λ l. part ∷ l) are.claimed;
+        members = All-append (Contains items) xs (all_of parts) named.members are.members;
       },
     )
 
--- ---- overlaps of a class, by its ids
+-- ---- overlaps of a part, by its ids
 
-apart-from_ids : (items class : List Item) → All (Contains items) class → IsDistinct (map (λ (x : Item). x.id) class) → HasNoOverlap items (map (λ (x : Item). x.id) class) → IsApart class
-apart-from_ids items class members distinct none i j d less h shared =
-    let long : length (map (λ (x : Item). x.id) class) ≡ length class = length-map class (λ (x : Item). x.id) in
-    let hi : i < length class = omega arith in
-    let named : AreNamed items (map (λ (x : Item). x.id) class) class = record { members = members; named = refl } in
-    none (get_or class i d) (get_or class j d)
-    (IsItemOf-from_named items (map (λ (x : Item). x.id) class) class named (get_or class i d) (Contains-get_or class i d hi))
-    (IsItemOf-from_named items (map (λ (x : Item). x.id) class) class named (get_or class j d) (Contains-get_or class j d h))
-    (λ same. distinct-differ (map (λ (x : Item). x.id) class) distinct i j 0 less (omega arith)
-    (get_or-map (λ (x : Item). x.id) class i d 0 hi ∙ (same ∙ sym (get_or-map (λ (x : Item). x.id) class j d 0 h))))
+apart-from_ids : (items part : List Item) → All (Contains items) part → IsDistinct (map (λ (x : Item). x.id) part) → HasNoOverlap items (map (λ (x : Item). x.id) part) → IsApart part
+apart-from_ids items part members distinct none i j d less h shared =
+    let long : length (map (λ (x : Item). x.id) part) ≡ length part = length-map part (λ (x : Item). x.id) in
+    let hi : i < length part = omega arith in
+    let named : AreNamed items (map (λ (x : Item). x.id) part) part = record { members = members; named = refl } in
+    none (get_or part i d) (get_or part j d)
+    (IsItemOf-from_named items (map (λ (x : Item). x.id) part) part named (get_or part i d) (Contains-get_or part i d hi))
+    (IsItemOf-from_named items (map (λ (x : Item). x.id) part) part named (get_or part j d) (Contains-get_or part j d h))
+    (λ same. distinct-differ (map (λ (x : Item). x.id) part) distinct i j 0 less (omega arith)
+    (get_or-map (λ (x : Item). x.id) part i d 0 hi ∙ (same ∙ sym (get_or-map (λ (x : Item). x.id) part j d 0 h))))
     shared
 
-apart-from_claim : (items : List Item) (classes : List (List Item)) → All (Contains items) (all_of classes) → IsDistinct (ids_of (map (map (λ (x : Item). x.id)) classes)) → All (HasNoOverlap items) (map (map (λ (x : Item). x.id)) classes) → All IsApart classes
+apart-from_claim : (items : List Item) (parts : List (List Item)) → All (Contains items) (all_of parts) → IsDistinct (ids_of (map (map (λ (x : Item). x.id)) parts)) → All (HasNoOverlap items) (map (map (λ (x : Item). x.id)) parts) → All IsApart parts
 apart-from_claim items [] members distinct none = All-nil IsApart
-apart-from_claim items (class ∷ classes) members distinct none =
-    All-cons IsApart class classes
-    (apart-from_ids items class (All-front (Contains items) class (all_of classes) members)
-    (IsDistinct-append_left (map (λ (x : Item). x.id) class) (ids_of (map (map (λ (x : Item). x.id)) classes)) distinct)
-    (All-head (HasNoOverlap items) (map (λ (x : Item). x.id) class) (map (map (λ (x : Item). x.id)) classes) none))
-    (apart-from_claim items classes (All-back (Contains items) class (all_of classes) members)
-    (IsDistinct-append_right (map (λ (x : Item). x.id) class) (ids_of (map (map (λ (x : Item). x.id)) classes)) distinct)
-    (All-tail (HasNoOverlap items) (map (λ (x : Item). x.id) class) (map (map (λ (x : Item). x.id)) classes) none))
+apart-from_claim items (part ∷ parts) members distinct none =
+    All-cons IsApart part parts
+    (apart-from_ids items part (All-front (Contains items) part (all_of parts) members)
+    (IsDistinct-append_left (map (λ (x : Item). x.id) part) (ids_of (map (map (λ (x : Item). x.id)) parts)) distinct)
+    (All-head (HasNoOverlap items) (map (λ (x : Item). x.id) part) (map (map (λ (x : Item). x.id)) parts) none))
+    (apart-from_claim items parts (All-back (Contains items) part (all_of parts) members)
+    (IsDistinct-append_right (map (λ (x : Item). x.id) part) (ids_of (map (map (λ (x : Item). x.id)) parts)) distinct)
+    (All-tail (HasNoOverlap items) (map (λ (x : Item). x.id) part) (map (map (λ (x : Item). x.id)) parts) none))
 
-ids-from_apart : (items class : List Item) → IdsRise items → All (Contains items) class → IsApart class → HasNoOverlap items (map (λ (x : Item). x.id) class)
-ids-from_apart items class rise members apart x y ofx ofy =
-    let named : AreNamed items (map (λ (z : Item). z.id) class) class = record { members = members; named = refl } in
-    no_overlap_apart class apart x y
-    (named-from_IsItemOf items (map (λ (z : Item). z.id) class) class rise named x ofx)
-    (named-from_IsItemOf items (map (λ (z : Item). z.id) class) class rise named y ofy)
+ids-from_apart : (items part : List Item) → IdsRise items → All (Contains items) part → IsApart part → HasNoOverlap items (map (λ (x : Item). x.id) part)
+ids-from_apart items part rise members apart x y ofx ofy =
+    let named : AreNamed items (map (λ (z : Item). z.id) part) part = record { members = members; named = refl } in
+    no_overlap_apart part apart x y
+    (named-from_IsItemOf items (map (λ (z : Item). z.id) part) part rise named x ofx)
+    (named-from_IsItemOf items (map (λ (z : Item). z.id) part) part rise named y ofy)
 
-claim-from_apart : (items : List Item) (classes : List (List Item)) → IdsRise items → All (Contains items) (all_of classes) → All IsApart classes → All (HasNoOverlap items) (map (map (λ (x : Item). x.id)) classes)
+claim-from_apart : (items : List Item) (parts : List (List Item)) → IdsRise items → All (Contains items) (all_of parts) → All IsApart parts → All (HasNoOverlap items) (map (map (λ (x : Item). x.id)) parts)
 claim-from_apart items [] rise members apart = All-nil (HasNoOverlap items)
-claim-from_apart items (class ∷ classes) rise members apart =
-    All-cons (HasNoOverlap items) (map (λ (x : Item). x.id) class) (map (map (λ (x : Item). x.id)) classes)
-    (ids-from_apart items class rise (All-front (Contains items) class (all_of classes) members) (All-head IsApart class classes apart))
-    (claim-from_apart items classes rise (All-back (Contains items) class (all_of classes) members) (All-tail IsApart class classes apart))
+claim-from_apart items (part ∷ parts) rise members apart =
+    All-cons (HasNoOverlap items) (map (λ (x : Item). x.id) part) (map (map (λ (x : Item). x.id)) parts)
+    (ids-from_apart items part rise (All-front (Contains items) part (all_of parts) members) (All-head IsApart part parts apart))
+    (claim-from_apart items parts rise (All-back (Contains items) part (all_of parts) members) (All-tail IsApart part parts apart))
 
-filled_classes : (classes : List (List Item)) → All (λ part. 0 < length part) (map (map (λ (x : Item). x.id)) classes) → All (λ class. 0 < length class) classes
-filled_classes [] filled = All-nil (λ class. 0 < length class)
-filled_classes (class ∷ classes) filled =
-    let first : 0 < length (map (λ (x : Item). x.id) class) = All-head (λ part. 0 < length part) (map (λ (x : Item). x.id) class) (map (map (λ (x : Item). x.id)) classes) filled in
-    All-cons (λ class. 0 < length class) class classes (omega (arith, first, length-map class (λ (x : Item). x.id)))
-    (filled_classes classes (All-tail (λ part. 0 < length part) (map (λ (x : Item). x.id) class) (map (map (λ (x : Item). x.id)) classes) filled))
+filled_classes : (parts : List (List Item)) → All (λ part. 0 < length part) (map (map (λ (x : Item). x.id)) parts) → All (λ part. 0 < length part) parts
+filled_classes [] filled = All-nil (λ part. 0 < length part)
+filled_classes (part ∷ parts) filled =
+    let first : 0 < length (map (λ (x : Item). x.id) part) = All-head (λ part. 0 < length part) (map (λ (x : Item). x.id) part) (map (map (λ (x : Item). x.id)) parts) filled in
+    All-cons (λ part. 0 < length part) part parts (omega (arith, first, length-map part (λ (x : Item). x.id)))
+    (filled_classes parts (All-tail (λ part. 0 < length part) (map (λ (x : Item). x.id) part) (map (map (λ (x : Item). x.id)) parts) filled))
 
-filled_parts : (classes : List (List Item)) → All (λ class. 0 < length class) classes → All (λ part. 0 < length part) (map (map (λ (x : Item). x.id)) classes)
-filled_parts classes filled =
-    All-map (λ part. 0 < length part) (map (λ (x : Item). x.id)) classes
-    (All-weaker (λ class. 0 < length class) (λ class. 0 < length (map (λ (x : Item). x.id) class))
-    (λ class some. omega (arith, some, length-map class (λ (x : Item). x.id))) classes filled)
+filled_parts : (parts : List (List Item)) → All (λ part. 0 < length part) parts → All (λ part. 0 < length part) (map (map (λ (x : Item). x.id)) parts)
+filled_parts parts filled =
+    All-map (λ part. 0 < length part) (map (λ (x : Item). x.id)) parts
+    (All-weaker (λ part. 0 < length part) (λ part. 0 < length (map (λ (x : Item). x.id) part))
+    (λ part some. omega (arith, some, length-map part (λ (x : Item). x.id))) parts filled)
 
 -- ---- both ways
 
 pub IsCertified-from_passes : (items : List Item) (claim : List (List ℕ)) (certificate : Certificate) → IdsRise items → Passes items claim certificate → IsCertified items claim certificate
 IsCertified-from_passes items claim certificate rise passes =
-    let (classes, are) = named_classes items claim passes.known in
-    let all : ids_of (map (map (λ (x : Item). x.id)) classes) ≡ map (λ (x : Item). x.id) (all_of classes) = ids_of-classes classes in
-    let same : ids_of claim ≡ map (λ (x : Item). x.id) (all_of classes) = sym (ap ids_of are.claimed) ∙ all in
-    let distinct : IsDistinct (map (λ (x : Item). x.id) (all_of classes)) = subst IsDistinct same passes.distinct in
+    let (parts, are) = named_classes items claim passes.known in
+    let all : ids_of (map (map (λ (x : Item). x.id)) parts) ≡ map (λ (x : Item). x.id) (all_of parts) = ids_of-parts parts in
+    let same : ids_of claim ≡ map (λ (x : Item). x.id) (all_of parts) = sym (ap ids_of are.claimed) ∙ all in
+    let distinct : IsDistinct (map (λ (x : Item). x.id) (all_of parts)) = subst IsDistinct same passes.distinct in
     record {
-      classes = classes;
+      parts = parts;
       division = record {
-        together = permutation-from_members items (all_of classes) (HasDistinctIds-from_rising items rise) (HasDistinctIds-from_ids (all_of classes) distinct)
+        together = permutation-from_members items (all_of parts) (HasDistinctIds-from_rising items rise) (HasDistinctIds-from_ids (all_of parts) distinct)
             (λ x there.
-            let claimed : Contains (map (λ (y : Item). y.id) (all_of classes)) x.id =
+            let claimed : Contains (map (λ (y : Item). y.id) (all_of parts)) x.id =
             subst (λ l. Contains l x.id) same (All-contains (λ x. Contains (ids_of claim) x.id) items x passes.complete there) in
-            let (y, stands, is) = item_of_id (all_of classes) x.id claimed in
-            subst (Contains (all_of classes)) (same_item items rise y x (All-contains (Contains items) (all_of classes) y are.members stands) there is) stands)
-            (λ y there. All-contains (Contains items) (all_of classes) y are.members there);
-        filled = filled_classes classes (subst (All (λ part. 0 < length part)) (sym are.claimed) passes.filled);
-        apart = apart-from_claim items classes are.members (subst IsDistinct (sym all) distinct) (subst (All (HasNoOverlap items)) (sym are.claimed) passes.apart);
+            let (y, stands, is) = item_of_id (all_of parts) x.id claimed in
+            subst (Contains (all_of parts)) (same_item items rise y x (All-contains (Contains items) (all_of parts) y are.members stands) there is) stands)
+            (λ y there. All-contains (Contains items) (all_of parts) y are.members there);
+        filled = filled_classes parts (subst (All (λ part. 0 < length part)) (sym are.claimed) passes.filled);
+        apart = apart-from_claim items parts are.members (subst IsDistinct (sym all) distinct) (subst (All (HasNoOverlap items)) (sym are.claimed) passes.apart);
       };
       claimed = are.claimed;
       counted = passes.counted;
@@ -189,19 +189,19 @@ IsCertified-from_passes items claim certificate rise passes =
 
 pub Passes-from_certified : (items : List Item) (claim : List (List ℕ)) (certificate : Certificate) → IdsRise items → IsCertified items claim certificate → Passes items claim certificate
 Passes-from_certified items claim certificate rise is =
-    let same : map (λ (x : Item). x.id) (all_of is.classes) ≡ ids_of claim = sym (ids_of-classes is.classes) ∙ ap ids_of is.claimed in
-    let members : All (Contains items) (all_of is.classes) =
-    λ k d h. Contains-permutation (all_of is.classes) items (get_or (all_of is.classes) k d) (IsPermutation-sym items (all_of is.classes) is.division.together) (Contains-get_or (all_of is.classes) k d h) in
+    let same : map (λ (x : Item). x.id) (all_of is.parts) ≡ ids_of claim = sym (ids_of-parts is.parts) ∙ ap ids_of is.claimed in
+    let members : All (Contains items) (all_of is.parts) =
+    λ k d h. Contains-permutation (all_of is.parts) items (get_or (all_of is.parts) k d) (IsPermutation-sym items (all_of is.parts) is.division.together) (Contains-get_or (all_of is.parts) k d h) in
     record {
       counted = is.counted;
-      filled = subst (All (λ part. 0 < length part)) is.claimed (filled_parts is.classes is.division.filled);
+      filled = subst (All (λ part. 0 < length part)) is.claimed (filled_parts is.parts is.division.filled);
       known = subst (All (HasItem items)) same
-          (All-map (HasItem items) (λ (x : Item). x.id) (all_of is.classes)
-          (All-weaker (Contains items) (λ (x : Item). HasItem items x.id) (λ x there. (there.0, x, there.1, there.2, refl)) (all_of is.classes) members));
+          (All-map (HasItem items) (λ (x : Item). x.id) (all_of is.parts)
+          (All-weaker (Contains items) (λ (x : Item). HasItem items x.id) (λ x there. (there.0, x, there.1, there.2, refl)) (all_of is.parts) members));
       distinct = subst IsDistinct same
-          (IsDistinct-from_items (all_of is.classes) (HasDistinctIds-permutation items (all_of is.classes) is.division.together (HasDistinctIds-from_rising items rise)));
+          (IsDistinct-from_items (all_of is.parts) (HasDistinctIds-permutation items (all_of is.parts) is.division.together (HasDistinctIds-from_rising items rise)));
       complete = λ k d h. subst (λ l. Contains l (get_or items k d).id) same
-          (Contains-id (all_of is.classes) (get_or items k d) (Contains-permutation items (all_of is.classes) (get_or items k d) is.division.together (Contains-get_or items k d h)));
-      apart = subst (All (HasNoOverlap items)) is.claimed (claim-from_apart items is.classes rise members is.division.apart);
+          (Contains-id (all_of is.parts) (get_or items k d) (Contains-permutation items (all_of is.parts) (get_or items k d) is.division.together (Contains-get_or items k d h)));
+      apart = subst (All (HasNoOverlap items)) is.claimed (claim-from_apart items is.parts rise members is.division.apart);
       crowded = is.crowded;
     }

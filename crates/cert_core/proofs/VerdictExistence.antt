@@ -10,7 +10,7 @@ use Rattle.std.proofs.lemmas.List.Elements.{All-cons, All-contains, All-nil}
 use Rattle.period_core.specs.declared.period.Period.{Period}
 use Rattle.period_core.specs.Period.{Overlap}
 use Rattle.period_core.proofs.PeriodLemmas.{Overlap-ends, Overlap-from_ends}
-use Rattle.period_core.proofs.RisingLemmas.{Contains-cons, Contains-cons_cases, Contains-none}
+use Rattle.list_core.proofs.RisingLemmas.{Contains-cons, Contains-cons_cases, Contains-none}
 use Rattle.dip_core.specs.declared.item.Item.{Item}
 use Rattle.dip_core.specs.Item.{IdsRise, IsRising, crowd, item_cmp}
 use Rattle.dip_core.proofs.DipExistence.{sorted_items}

@@ -8,7 +8,7 @@ use Rattle.dip_core.specs.declared.item.Item.{Item}
 use Rattle.dip_core.specs.Item.{IdsRise, crowd, IsBefore}
 use Rattle.dip_core.specs.Division.{IsDivision, IsLeast}
 use Rattle.dip_core.proofs.CrowdLemmas.{IsLeast-from_crowd}
-use Rattle.dip_core.proofs.DivisionLemmas.{no_classes}
+use Rattle.dip_core.proofs.DivisionLemmas.{no_parts}
 use Rattle.dip_core.proofs.OrderLemmas.{not_before_itself}
 use Rattle.cert_core.specs.declared.verdict.Certificate.{Certificate}
 use Rattle.cert_core.specs.declared.verdict.Verdict.{Verdict}
@@ -134,19 +134,19 @@ rank-not_yes Yes other = absurd (other refl)
 
 -- ---- the least number
 
-least-from_instant : (items : List Item) (classes : List (List Item)) (parts : ℕ) (instant : Option ℤ) → IsDivision items classes → length classes ≡ parts
-    → MatchOption instant (items ≡ []) (λ t. (items ≢ []) × (crowd items t ≡ parts)) → IsLeast items (length classes)
-least-from_instant items classes parts None division counted none =
+least-from_instant : (items : List Item) (parts : List (List Item)) (count : ℕ) (instant : Option ℤ) → IsDivision items parts → length parts ≡ count
+    → MatchOption instant (items ≡ []) (λ t. (items ≢ []) × (crowd items t ≡ count)) → IsLeast items (length parts)
+least-from_instant items parts count None division counted none =
     let no_items : crowd items (pos 0) ≡ 0 = ap (λ l. crowd l (pos 0)) none in
-    let no_class : length classes ≡ 0 = ap length ((no_classes items classes division).1 none) in
-    IsLeast-from_crowd items classes (pos 0) division (no_items ∙ sym no_class)
-least-from_instant items classes parts (Some t) division counted right = IsLeast-from_crowd items classes t division (right.1 ∙ sym counted)
+    let no_part : length parts ≡ 0 = ap length ((no_parts items parts division).1 none) in
+    IsLeast-from_crowd items parts (pos 0) division (no_items ∙ sym no_part)
+least-from_instant items parts count (Some t) division counted right = IsLeast-from_crowd items parts t division (right.1 ∙ sym counted)
 
 pub IsLeast-from_certified : (items : List Item) (claim : List (List ℕ)) (certificate : Certificate) → IsCertified items claim certificate → IsLeast items certificate.parts
 IsLeast-from_certified items claim certificate is =
-    let size : length claim ≡ length is.classes = sym (ap length is.claimed) ∙ length-map is.classes (map (λ (x : Item). x.id)) in
-    let parts : length is.classes ≡ certificate.parts = sym size ∙ is.counted in
-    subst (IsLeast items) parts (least-from_instant items is.classes certificate.parts certificate.instant is.division parts is.crowded)
+    let size : length claim ≡ length is.parts = sym (ap length is.claimed) ∙ length-map is.parts (map (λ (x : Item). x.id)) in
+    let same : length is.parts ≡ certificate.parts = sym size ∙ is.counted in
+    subst (IsLeast items) same (least-from_instant items is.parts certificate.parts certificate.instant is.division same is.crowded)
 
 -- ---- the fault that was found, or none
 

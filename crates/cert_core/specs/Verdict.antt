@@ -121,8 +121,8 @@ pub record IsVerdict (items : List Item) (claim : List (List ℕ)) (certificate 
 -- the claim's ids are those of a division of the items, part by part, with as many parts as the
 -- certificate says, and its instant is right
 pub record IsCertified (items : List Item) (claim : List (List ℕ)) (certificate : Certificate) : Type 0 where
-  pub classes : List (List Item)
-  pub division : IsDivision items classes
-  pub claimed : map (λ class. map (λ x. x.id) class) classes ≡ claim
+  pub parts : List (List Item)
+  pub division : IsDivision items parts
+  pub claimed : map (λ part. map (λ x. x.id) part) parts ≡ claim
   pub counted : length claim ≡ certificate.parts
   pub crowded : HasRightInstant items certificate

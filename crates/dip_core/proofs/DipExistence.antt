@@ -10,11 +10,11 @@ use Rattle.std.proofs.lemmas.List.{append-nil, nil_from_length}
 use Rattle.std.proofs.lemmas.List.Elements.{All-cons, All-get_or, All-head, All-nil}
 use Rattle.std.proofs.lemmas.List.Kept.{AllPairs-cons}
 use Rattle.std.proofs.lemmas.List.Sorted.{All-permutation, IsPermutation-append_left, IsPermutation-cons, IsPermutation-middle, IsPermutation-refl, IsPermutation-sym, IsPermutation-trans}
-use Rattle.period_core.proofs.RisingLemmas.{AllPairs-tail}
+use Rattle.list_core.proofs.RisingLemmas.{AllPairs-tail}
 use Rattle.dip_core.specs.declared.item.Item.{Item}
 use Rattle.dip_core.specs.Item.{item_cmp, HasDistinctIds, IsBelow, IsChain, IsRising}
-use Rattle.dip_core.specs.Division.{all_of, class_at, IsDip, IsDivision, IsInstant, IsInstantOf, IsLeast, IsLeastDivision, IsPlaced}
-use Rattle.dip_core.specs.Kept.{ArePlaced, opener}
+use Rattle.dip_core.specs.Division.{all_of, part_at, IsDip, IsDivision, IsInstant, IsInstantOf, IsLeast, IsLeastDivision, IsPlaced}
+use Rattle.dip_core.specs.Invariants.{ArePlaced, opener}
 use Rattle.dip_core.specs.Placing.{IsGreatest, IsPlaceFor, added, last_end}
 use Rattle.dip_core.specs.Search.{IsBestPartBelow, NoPartIsFreeBelow}
 use Rattle.dip_core.proofs.AddedLemmas.{all_of-added}
@@ -70,11 +70,11 @@ sorted_items (x ∷ items) =
 abbrev Found : List (List Item) → ℤ → ℕ → Type 0
 Found parts start n = NoPartIsFreeBelow parts start n ⊎ ((k : ℕ) × (end : ℤ) × IsBestPartBelow parts start n k end)
 
-module _ (parts : List (List Item)) (start : ℤ) (n : ℕ) (end : ℤ) (ends : last_end (class_at parts n) ≡ Some end) where
+module _ (parts : List (List Item)) (start : ℤ) (n : ℕ) (end : ℤ) (ends : last_end (part_at parts n) ≡ Some end) where
   none_more : NoPartIsFreeBelow parts start n → start <ℤ end → NoPartIsFreeBelow parts start (n + 1)
   none_more none late j f h e =
-      split_last (λ j. last_end (class_at parts j) ≡ Some f → start <ℤ f) n (λ j less e. none j f less e)
-      (λ e. let same : end ≡ f = same_end (class_at parts n) end f ends e in omega (arith, ints)) j h e
+      split_last (λ j. last_end (part_at parts j) ≡ Some f → start <ℤ f) n (λ j less e. none j f less e)
+      (λ e. let same : end ≡ f = same_end (part_at parts n) end f ends e in omega (arith, ints)) j h e
 
   best_stays : (k : ℕ) (least : ℤ) → IsBestPartBelow parts start n k least → (end ≤ℤ start → least ≤ℤ end) → IsBestPartBelow parts start (n + 1) k least
   best_stays k least so_far no_better = record {
@@ -82,10 +82,10 @@ module _ (parts : List (List Item)) (start : ℤ) (n : ℕ) (end : ℤ) (ends : 
     ends = so_far.ends;
     over = so_far.over;
     best = λ j f h e free.
-        split_last (λ j. last_end (class_at parts j) ≡ Some f → (least <ℤ f) ⊎ ((least ≡ f) × (k ≤ j))) n
+        split_last (λ j. last_end (part_at parts j) ≡ Some f → (least <ℤ f) ⊎ ((least ≡ f) × (k ≤ j))) n
         (λ j less e. so_far.best j f less e free)
         (λ e.
-        let same : end ≡ f = same_end (class_at parts n) end f ends e in
+        let same : end ≡ f = same_end (part_at parts n) end f ends e in
         let most : least ≤ℤ end = no_better (omega (arith, ints)) in
         let w : k < n = so_far.within in
         by_lt_z least f (λ less. inl less) (λ more. inr (omega (arith, ints), omega arith)))
@@ -113,7 +113,7 @@ some_end part filled = let d : Item = some_item part filled in ((get_or part (le
 found_below : (parts : List (List Item)) (start : ℤ) → All (λ part. 0 < length part) parts → (n : ℕ) → n ≤ length parts → Found parts start n
 found_below parts start filled zero le = inl (λ j f h. absurd (omega arith))
 found_below parts start filled (suc n) le =
-    let (end, ends) = some_end (class_at parts n) (All-get_or (λ part. 0 < length part) parts n [] (omega arith) filled) in
+    let (end, ends) = some_end (part_at parts n) (All-get_or (λ part. 0 < length part) parts n [] (omega arith) filled) in
     let next : n + 1 ≡ suc n = omega arith in
     subst (Found parts start) next (found_more parts start n end ends (found_below parts start filled n (omega arith)))
 
@@ -129,19 +129,19 @@ abbrev NotBelowLast : Option Item → Item → Type 0
 NotBelowLast last x = ForSome last (λ z. IsBelow x z → ⊥)
 
 place_all : (parts : List (List Item)) (last : Option Item) (xs : List Item) → ArePlaced parts → IsGreatest parts last → All (NotBelowLast last) xs → IsRising xs
-    → (classes : List (List Item)) × (IsPermutation (all_of parts ++ xs) (all_of classes) × ArePlaced classes)
+    → (all_parts : List (List Item)) × (IsPermutation (all_of parts ++ xs) (all_of all_parts) × ArePlaced all_parts)
 place_all parts last [] are greatest above rising = (parts, (subst (λ l. IsPermutation l (all_of parts)) (sym (append-nil (all_of parts))) (IsPermutation-refl (all_of parts)), are))
 place_all parts last (x ∷ xs) are greatest above rising =
     let over : NotBelowLast last x = All-head (NotBelowLast last) x xs above in
     let (k, place) = some_place parts x.period.from are.filled in
     let later : All (NotBelowLast (Some x)) xs =
     λ i d h z is. subst (λ w. IsBelow (get_or xs i d) w → ⊥) (same_item_at x z is) (rising 0 (suc i) d (omega arith) (omega arith)) in
-    let (classes, (moved, placed)) =
+    let (all_parts, (moved, placed)) =
     place_all (added parts k x) (Some x) xs (ArePlaced-added parts last k x are greatest over place) (IsGreatest-added parts last k x greatest over) later
     (AllPairs-tail (λ v w. IsBelow w v → ⊥) x xs rising) in (
-      classes,
+      all_parts,
       (
-        IsPermutation-trans (all_of parts ++ x ∷ xs) (all_of (added parts k x) ++ xs) (all_of classes)
+        IsPermutation-trans (all_of parts ++ x ∷ xs) (all_of (added parts k x) ++ xs) (all_of all_parts)
             (subst (λ l. IsPermutation l (all_of (added parts k x) ++ xs)) (append_assoc (all_of parts) (x ∷ []) xs)
             (IsPermutation-append_left xs (all_of parts ++ x ∷ []) (all_of (added parts k x)) (all_of-added parts k x)))
             moved,
@@ -160,11 +160,11 @@ none_placed = record {
   placed = λ distinct. record { rise = λ i j x y less h. absurd (omega arith); each = λ k x h. absurd (omega arith) };
 }
 
-some_placed : (items : List Item) → (classes : List (List Item)) × (IsPermutation items (all_of classes) × ArePlaced classes)
+some_placed : (items : List Item) → (parts : List (List Item)) × (IsPermutation items (all_of parts) × ArePlaced parts)
 some_placed items =
     let (xs, (moved, rising)) = sorted_items items in
-    let (classes, (moved', placed)) = place_all [] None xs none_placed refl (λ k d h z is. absurd (none-some z is)) rising in
-    (classes, (IsPermutation-trans items xs (all_of classes) moved moved', placed))
+    let (parts, (moved', placed)) = place_all [] None xs none_placed refl (λ k d h z is. absurd (none-some z is)) rising in
+    (parts, (IsPermutation-trans items xs (all_of parts) moved moved', placed))
 
 -- ---- the instant
 
@@ -174,68 +174,68 @@ IsInstant-permutation xs ys k t moved is = record {
   first = λ s less same. is.first s less (crowd-permutation xs ys moved s ∙ same);
 }
 
--- what is divided into these classes are the same items in another order
-divided_alike : (xs ys : List Item) (classes : List (List Item)) → IsDivision xs classes → IsDivision ys classes
+-- what is divided into these parts are the same items in another order
+divided_alike : (xs ys : List Item) (parts : List (List Item)) → IsDivision xs parts → IsDivision ys parts
     → IsPermutation xs ys
-divided_alike xs ys classes division other =
-    IsPermutation-trans xs (all_of classes) ys division.together (IsPermutation-sym ys (all_of classes) other.together)
+divided_alike xs ys parts division other =
+    IsPermutation-trans xs (all_of parts) ys division.together (IsPermutation-sym ys (all_of parts) other.together)
 
-some_instant-of_many : (items : List Item) (classes : List (List Item)) (t : ℤ) → IsDivision items classes
-    → 0 < length classes
-    → IsInstant items (length classes) t → IsInstantOf classes (Some t)
-some_instant-of_many items classes t division some is = record {
-  none = (λ never. absurd (true≢false never), λ e. let size : length classes ≡ 0 = ap length e in absurd (omega arith));
+some_instant-of_many : (items : List Item) (parts : List (List Item)) (t : ℤ) → IsDivision items parts
+    → 0 < length parts
+    → IsInstant items (length parts) t → IsInstantOf parts (Some t)
+some_instant-of_many items parts t division some is = record {
+  none = (λ never. absurd (true≢false never), λ e. let size : length parts ≡ 0 = ap length e in absurd (omega arith));
   crowded =
-      λ xs other. IsInstant-permutation xs items (length classes) t (divided_alike xs items classes other division) is;
+      λ xs other. IsInstant-permutation xs items (length parts) t (divided_alike xs items parts other division) is;
 }
 
--- a least division has as many classes as the placed one, whose instant is known
-pub some_instant : (items : List Item) (classes : List (List Item)) → IsLeastDivision items classes
-    → (instant : Option ℤ) × IsInstantOf classes instant
-some_instant items classes divided =
-    let (parts, (moved, are)) = some_placed items in
-    let division : IsDivision items parts =
-    IsDivision-permutation items (all_of parts) parts moved (IsDivision-from_placed parts are) in
-    let least : IsLeast items (length parts) =
-    IsLeast-permutation items (all_of parts) (length parts) moved (IsLeast-from_placed parts are) in
-    let few : length parts ≤ length classes = least.least classes divided.division in
-    let many : length classes ≤ length parts = divided.least.least parts division in
-    let same : length parts ≡ length classes = omega arith in
-    elim (cases_lt 0 (length classes)) [
+-- a least division has as many parts as the placed one, whose instant is known
+pub some_instant : (items : List Item) (parts : List (List Item)) → IsLeastDivision items parts
+    → (instant : Option ℤ) × IsInstantOf parts instant
+some_instant items parts divided =
+    let (placed_parts, (moved, are)) = some_placed items in
+    let division : IsDivision items placed_parts =
+    IsDivision-permutation items (all_of placed_parts) placed_parts moved (IsDivision-from_placed placed_parts are) in
+    let least : IsLeast items (length placed_parts) =
+    IsLeast-permutation items (all_of placed_parts) (length placed_parts) moved (IsLeast-from_placed placed_parts are) in
+    let few : length placed_parts ≤ length parts = least.least parts divided.division in
+    let many : length parts ≤ length placed_parts = divided.least.least placed_parts division in
+    let same : length placed_parts ≡ length parts = omega arith in
+    elim (cases_lt 0 (length parts)) [
       | inl some ↦
-          let some' : 0 < length parts = omega arith in
+          let some' : 0 < length placed_parts = omega arith in
           let d : Item =
-          some_item (class_at parts (length parts - 1))
-          (All-get_or (λ part. 0 < length part) parts (length parts - 1) [] (omega arith) are.filled) in
-          let t : ℤ = (opener parts d).period.from in
-          let is : IsInstant items (length parts) t =
-          IsInstant-permutation items (all_of parts) (length parts) t moved (IsInstant-from_placed parts d are some') in
-          (Some t, some_instant-of_many items classes t divided.division some (subst (λ k. IsInstant items k t) same is))
+          some_item (part_at placed_parts (length placed_parts - 1))
+          (All-get_or (λ part. 0 < length part) placed_parts (length placed_parts - 1) [] (omega arith) are.filled) in
+          let t : ℤ = (opener placed_parts d).period.from in
+          let is : IsInstant items (length placed_parts) t =
+          IsInstant-permutation items (all_of placed_parts) (length placed_parts) t moved (IsInstant-from_placed placed_parts d are some') in
+          (Some t, some_instant-of_many items parts t divided.division some (subst (λ k. IsInstant items k t) same is))
       | inr none ↦ (
         None,
-        record { none = (λ h. nil_from_length classes (omega arith), λ e. refl); crowded = λ xs other. tt },
+        record { none = (λ h. nil_from_length parts (omega arith), λ e. refl); crowded = λ xs other. tt },
       )
     ]
 
 -- ---- the dip
 
-pub some_dip : (items : List Item) → HasDistinctIds items → (classes : List (List Item)) × IsDip items classes
+pub some_dip : (items : List Item) → HasDistinctIds items → (parts : List (List Item)) × IsDip items parts
 some_dip items distinct =
-    let (classes, (moved, are)) = some_placed items in (
-      classes,
+    let (parts, (moved, are)) = some_placed items in (
+      parts,
       record {
         divided =
-            IsLeastDivision-permutation items (all_of classes) classes moved (IsLeastDivision-from_placed classes are);
-        placed = are.placed (HasDistinctIds-permutation items (all_of classes) moved distinct);
+            IsLeastDivision-permutation items (all_of parts) parts moved (IsLeastDivision-from_placed parts are);
+        placed = are.placed (HasDistinctIds-permutation items (all_of parts) moved distinct);
       },
     )
 
 -- a placed division is the one that exists, which is least
-pub least-from_placed : (items : List Item) (classes : List (List Item)) → HasDistinctIds items
-    → IsDivision items classes → IsPlaced classes
-    → All IsRising classes → IsLeast items (length classes)
-least-from_placed items classes distinct division placed rising =
+pub least-from_placed : (items : List Item) (parts : List (List Item)) → HasDistinctIds items
+    → IsDivision items parts → IsPlaced parts
+    → All IsRising parts → IsLeast items (length parts)
+least-from_placed items parts distinct division placed rising =
     let (others, dip) = some_dip items distinct in
     subst (λ cs. IsLeast items (length cs))
-    (one_placed items others classes dip.divided.division division dip.placed placed dip.divided.rising rising)
+    (one_placed items others parts dip.divided.division division dip.placed placed dip.divided.rising rising)
     dip.divided.least

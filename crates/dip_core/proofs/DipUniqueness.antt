@@ -14,11 +14,11 @@ use Rattle.std.proofs.lemmas.List.Sums.{sum_by-cons}
 use Rattle.std.proofs.lemmas.List.Sorted.{Contains-permutation, IsPermutation-sym}
 use Rattle.period_core.specs.Period.{Overlap}
 use Rattle.period_core.proofs.PeriodLemmas.{Overlap-from_ends}
-use Rattle.period_core.proofs.RisingLemmas.{Contains-cons, Contains-head, Contains-none, rising_is_one}
+use Rattle.list_core.proofs.RisingLemmas.{Contains-cons, Contains-head, Contains-none, rising_is_one}
 use Rattle.dip_core.specs.declared.item.Item.{Item}
 use Rattle.dip_core.specs.Item.{place_cmp, IsApart, IsBefore, IsBelow, IsRising}
-use Rattle.dip_core.specs.Division.{all_of, class_at, IsDip, IsDivision, IsFirstOf, IsFree, IsInstant, IsInstantOf, IsLatestEnd, IsPlaced, LiesInBestFree, OpensClass}
-use Rattle.dip_core.proofs.AddedLemmas.{class_at-past}
+use Rattle.dip_core.specs.Division.{all_of, part_at, IsDip, IsDivision, IsFirstOf, IsFree, IsInstant, IsInstantOf, IsLatestEnd, IsPlaced, LiesInBestFree, OpensPart}
+use Rattle.dip_core.proofs.AddedLemmas.{part_at-past}
 use Rattle.dip_core.proofs.OrderLemmas.{from_le, not_before_itself, place_total}
 use Rattle.dip_core.proofs.StepLemmas.{contains-all_of}
 
@@ -84,111 +84,111 @@ rank-lt (z ∷ items) y x before (suc k, h, e) =
     let more = lt_more (is_before z y) (is_before z x) (rank items y) (rank items x) (test_follows z y x before) (rank-lt items y x before (k, omega arith, e)) in
     omega (arith, more, rank-cons z items y, rank-cons z items x)
 
--- ---- what is asked of a class speaks only of its items before x
+-- ---- what is asked of a part speaks only of its items before x
 
--- each item of one class that comes before x is an item of the other
+-- each item of one part that comes before x is an item of the other
 abbrev EarlierIn : List Item → List Item → Item → Type 0
-EarlierIn class other x = (y : Item) → IsBefore y x → Contains class y → Contains other y
+EarlierIn part other x = (y : Item) → IsBefore y x → Contains part y → Contains other y
 
-some_earlier : (P : Item → Type 0) (class other : List Item) (x : Item) → EarlierIn class other x → ((y : Item) → P y → IsBefore y x) → Any P class → Any P other
-some_earlier P class other x there before (k, y, h, e, p) =
+some_earlier : (P : Item → Type 0) (part other : List Item) (x : Item) → EarlierIn part other x → ((y : Item) → P y → IsBefore y x) → Any P part → Any P other
+some_earlier P part other x there before (k, y, h, e, p) =
     let (j, within, same) = there y (before y p) (k, h, e) in
     (j, y, within, same, p)
 
-all_earlier : (P : Item → Type 0) (class other : List Item) (x : Item) → EarlierIn other class x → All (λ y. IsBefore y x → P y) class → All (λ y. IsBefore y x → P y) other
-all_earlier P class other x back all k d h before =
-    All-contains (λ y. IsBefore y x → P y) class (get_or other k d) all (back (get_or other k d) before (Contains-get_or other k d h)) before
+all_earlier : (P : Item → Type 0) (part other : List Item) (x : Item) → EarlierIn other part x → All (λ y. IsBefore y x → P y) part → All (λ y. IsBefore y x → P y) other
+all_earlier P part other x back all k d h before =
+    All-contains (λ y. IsBefore y x → P y) part (get_or other k d) all (back (get_or other k d) before (Contains-get_or other k d h)) before
 
-module _ (class other : List Item) (x : Item) (there : EarlierIn class other x) (back : EarlierIn other class x) where
-  free_in : IsFree class x → IsFree other x
+module _ (part other : List Item) (x : Item) (there : EarlierIn part other x) (back : EarlierIn other part x) where
+  free_in : IsFree part x → IsFree other x
   free_in free = (
-    some_earlier (λ y. IsBefore y x) class other x there (λ y before. before) free.0,
-    all_earlier (λ y. y.period.to ≤ℤ x.period.from) class other x back free.1,
+    some_earlier (λ y. IsBefore y x) part other x there (λ y before. before) free.0,
+    all_earlier (λ y. y.period.to ≤ℤ x.period.from) part other x back free.1,
   )
 
-  latest_in : (e : ℤ) → IsLatestEnd class x e → IsLatestEnd other x e
+  latest_in : (e : ℤ) → IsLatestEnd part x e → IsLatestEnd other x e
   latest_in e latest = (
-    some_earlier (λ y. IsBefore y x × (y.period.to ≡ e)) class other x there (λ y both. both.0) latest.0,
-    all_earlier (λ y. y.period.to ≤ℤ e) class other x back latest.1,
+    some_earlier (λ y. IsBefore y x × (y.period.to ≡ e)) part other x there (λ y both. both.0) latest.0,
+    all_earlier (λ y. y.period.to ≤ℤ e) part other x back latest.1,
   )
 
 -- ---- where an item lies is decided by where the items before it lie
 
--- each class's items before x are those of the other division's class of that number
+-- each part's items before x are those of the other division's part of that number
 abbrev EarlierAgree : List (List Item) → List (List Item) → Item → Type 0
-EarlierAgree one other x = (k : ℕ) → EarlierIn (class_at one k) (class_at other k) x
+EarlierAgree one other x = (k : ℕ) → EarlierIn (part_at one k) (part_at other k) x
 
--- a class with an item is one
-is_class : (classes : List (List Item)) (k : ℕ) (y : Item) → Contains (class_at classes k) y → k < length classes
-is_class classes k y member = elim (cases_lt k (length classes)) [
+-- a part with an item is one
+is_part : (parts : List (List Item)) (k : ℕ) (y : Item) → Contains (part_at parts k) y → k < length parts
+is_part parts k y member = elim (cases_lt k (length parts)) [
   | inl within ↦ within
-  | inr past ↦ absurd (Contains-none y (subst (λ class. Contains class y) (class_at-past classes k past) member))
+  | inr past ↦ absurd (Contains-none y (subst (λ part. Contains part y) (part_at-past parts k past) member))
 ]
 
-free_is_class : (classes : List (List Item)) (k : ℕ) (x : Item) → IsFree (class_at classes k) x → k < length classes
-free_is_class classes k x free = let (i, y, h, e, before) = free.0 in is_class classes k y (i, h, e)
+free_is_part : (parts : List (List Item)) (k : ℕ) (x : Item) → IsFree (part_at parts k) x → k < length parts
+free_is_part parts k x free = let (i, y, h, e, before) = free.0 in is_part parts k y (i, h, e)
 
 module _ (one other : List (List Item)) (x : Item) (there : EarlierAgree one other x) (back : EarlierAgree other one x) where
-  -- in the best of the free classes of both
+  -- in the best of the free parts of both
   both_best : (k m : ℕ) → LiesInBestFree one k x → LiesInBestFree other m x → k ≡ m
   both_best k m best best' =
-      let free_there : IsFree (class_at other k) x = free_in (class_at one k) (class_at other k) x (there k) (back k) best.free in
-      let free_here : IsFree (class_at one m) x = free_in (class_at other m) (class_at one m) x (back m) (there m) best'.free in
-      let latest_there : IsLatestEnd (class_at other k) x best.end = latest_in (class_at one k) (class_at other k) x (there k) (back k) best.end best.latest in
-      let latest_here : IsLatestEnd (class_at one m) x best'.end = latest_in (class_at other m) (class_at one m) x (back m) (there m) best'.end best'.latest in
-      elim (best.best m best'.end (free_is_class one m x free_here) free_here latest_here) [
-        | inl sooner ↦ elim (best'.best k best.end (free_is_class other k x free_there) free_there latest_there) [
+      let free_there : IsFree (part_at other k) x = free_in (part_at one k) (part_at other k) x (there k) (back k) best.free in
+      let free_here : IsFree (part_at one m) x = free_in (part_at other m) (part_at one m) x (back m) (there m) best'.free in
+      let latest_there : IsLatestEnd (part_at other k) x best.end = latest_in (part_at one k) (part_at other k) x (there k) (back k) best.end best.latest in
+      let latest_here : IsLatestEnd (part_at one m) x best'.end = latest_in (part_at other m) (part_at one m) x (back m) (there m) best'.end best'.latest in
+      elim (best.best m best'.end (free_is_part one m x free_here) free_here latest_here) [
+        | inl sooner ↦ elim (best'.best k best.end (free_is_part other k x free_there) free_there latest_there) [
           | inl later ↦ absurd (omega (arith, ints, sooner, later))
           | inr same ↦ let e : best'.end ≡ best.end = same.0 in absurd (omega (arith, ints, sooner, e))
         ]
-        | inr tied ↦ elim (best'.best k best.end (free_is_class other k x free_there) free_there latest_there) [
+        | inr tied ↦ elim (best'.best k best.end (free_is_part other k x free_there) free_there latest_there) [
           | inl later ↦ let e : best.end ≡ best'.end = tied.0 in absurd (omega (arith, ints, later, e))
           | inr same ↦ let low : k ≤ m = tied.1 in let high : m ≤ k = same.1 in omega (arith, low, high)
         ]
       ]
 
-  -- it doesn't open a class of one where a class of the other is free
-  best_or_opens : (k m : ℕ) → LiesInBestFree one k x → OpensClass other m x → ⊥
+  -- it doesn't open a part of one where a part of the other is free
+  best_or_opens : (k m : ℕ) → LiesInBestFree one k x → OpensPart other m x → ⊥
   best_or_opens k m best opens =
-      let free_there : IsFree (class_at other k) x = free_in (class_at one k) (class_at other k) x (there k) (back k) best.free in
-      opens.none k (free_is_class other k x free_there) free_there
+      let free_there : IsFree (part_at other k) x = free_in (part_at one k) (part_at other k) x (there k) (back k) best.free in
+      opens.none k (free_is_part other k x free_there) free_there
 
--- a class that isn't empty has a first item
-first_item : (class : List Item) → 0 < length class → (x : Item) × IsFirstOf class x
+-- a part that isn't empty has a first item
+first_item : (part : List Item) → 0 < length part → (x : Item) × IsFirstOf part x
 first_item [] some = absurd (omega arith)
 first_item (x ∷ []) some = (x, (Contains-head x [], All-cons (λ y. IsBefore y x → ⊥) x [] (not_before_itself x) (All-nil (λ y. IsBefore y x → ⊥))))
-first_item (x ∷ (y ∷ class)) some =
-    let (z, first) = first_item (y ∷ class) (omega arith) in
+first_item (x ∷ (y ∷ part)) some =
+    let (z, first) = first_item (y ∷ part) (omega arith) in
     elim (cases_Bool (is_before x z)) [
       | inl holds ↦ (
         x,
         (
-          Contains-head x (y ∷ class),
-          All-cons (λ w. IsBefore w x → ⊥) x (y ∷ class) (not_before_itself x)
-              (All-weaker (λ w. IsBefore w z → ⊥) (λ w. IsBefore w x → ⊥) (λ w never sooner. never (before-trans w x z sooner (before-from_test x z holds))) (y ∷ class) first.1),
+          Contains-head x (y ∷ part),
+          All-cons (λ w. IsBefore w x → ⊥) x (y ∷ part) (not_before_itself x)
+              (All-weaker (λ w. IsBefore w z → ⊥) (λ w. IsBefore w x → ⊥) (λ w never sooner. never (before-trans w x z sooner (before-from_test x z holds))) (y ∷ part) first.1),
         ),
       )
       | inr fails ↦ (
         z,
-        (Contains-cons x (y ∷ class) z first.0, All-cons (λ w. IsBefore w z → ⊥) x (y ∷ class) (λ sooner. both_ways (is_before x z) fails (ap is_lt sooner)) first.1),
+        (Contains-cons x (y ∷ part) z first.0, All-cons (λ w. IsBefore w z → ⊥) x (y ∷ part) (λ sooner. both_ways (is_before x z) fails (ap is_lt sooner)) first.1),
       )
     ]
 
--- it doesn't open a class of one before the class that it opens of the other, which has an item before it
-opens_sooner : (one other : List (List Item)) (x : Item) → EarlierAgree other one x → IsPlaced other → All (λ class. 0 < length class) other
-    → (k m : ℕ) → OpensClass one k x → OpensClass other m x → k < m → m < length other → ⊥
+-- it doesn't open a part of one before the part that it opens of the other, which has an item before it
+opens_sooner : (one other : List (List Item)) (x : Item) → EarlierAgree other one x → IsPlaced other → All (λ part. 0 < length part) other
+    → (k m : ℕ) → OpensPart one k x → OpensPart other m x → k < m → m < length other → ⊥
 opens_sooner one other x back placed filled k m opens opens' less within =
-    let (z, first) = first_item (class_at other k) (All-get_or (λ class. 0 < length class) other k [] (omega arith) filled) in
+    let (z, first) = first_item (part_at other k) (All-get_or (λ part. 0 < length part) other k [] (omega arith) filled) in
     let before : IsBefore z x = placed.rise k m z x less within first opens'.opens in
-    All-contains (λ y. IsBefore y x → ⊥) (class_at one k) z opens.opens.1 (back k z before first.0) before
+    All-contains (λ y. IsBefore y x → ⊥) (part_at one k) z opens.opens.1 (back k z before first.0) before
 
--- in both it lies in the class of one number
-one_class : (one other : List (List Item)) (x : Item) → EarlierAgree one other x → EarlierAgree other one x → IsPlaced one → IsPlaced other
-    → All (λ class. 0 < length class) one → All (λ class. 0 < length class) other
-    → (k m : ℕ) → Contains (class_at one k) x → Contains (class_at other m) x → k ≡ m
-one_class one other x there back placed placed' filled filled' k m member member' =
-    let here : k < length one = is_class one k x member in
-    let here' : m < length other = is_class other m x member' in
+-- in both it lies in the part of one number
+one_part : (one other : List (List Item)) (x : Item) → EarlierAgree one other x → EarlierAgree other one x → IsPlaced one → IsPlaced other
+    → All (λ part. 0 < length part) one → All (λ part. 0 < length part) other
+    → (k m : ℕ) → Contains (part_at one k) x → Contains (part_at other m) x → k ≡ m
+one_part one other x there back placed placed' filled filled' k m member member' =
+    let here : k < length one = is_part one k x member in
+    let here' : m < length other = is_part other m x member' in
     elim (placed.each k x here member) [
       | inl best ↦ elim (placed'.each m x here' member') [
         | inl best' ↦ both_best one other x there back k m best best'
@@ -204,36 +204,36 @@ one_class one other x there back placed placed' filled filled' k m member member
       ]
     ]
 
--- ---- all items lie in the classes of the same numbers
+-- ---- all items lie in the parts of the same numbers
 
-class_of : (classes : List (List Item)) (x : Item) → Contains (all_of classes) x → (k : ℕ) × Contains (class_at classes k) x
-class_of [] x member = absurd (Contains-none x member)
-class_of (class ∷ classes) x member = elim (Contains-append_cases class (all_of classes) x member) [
+part_with : (parts : List (List Item)) (x : Item) → Contains (all_of parts) x → (k : ℕ) × Contains (part_at parts k) x
+part_with [] x member = absurd (Contains-none x member)
+part_with (part ∷ parts) x member = elim (Contains-append_cases part (all_of parts) x member) [
   | inl here ↦ (zero, here)
-  | inr later ↦ let (k, there) = class_of classes x later in (suc k, there)
+  | inr later ↦ let (k, there) = part_with parts x later in (suc k, there)
 ]
 
--- an item of one class of one division is in a class of the other
-in_other : (items : List Item) (one other : List (List Item)) (k : ℕ) (x : Item) → IsDivision items one → IsDivision items other → Contains (class_at one k) x → (m : ℕ) × Contains (class_at other m) x
+-- an item of one part of one division is in a part of the other
+in_other : (items : List Item) (one other : List (List Item)) (k : ℕ) (x : Item) → IsDivision items one → IsDivision items other → Contains (part_at one k) x → (m : ℕ) × Contains (part_at other m) x
 in_other items one other k x division division' member =
-    class_of other x
+    part_with other x
     (Contains-permutation items (all_of other) x division'.together
     (Contains-permutation (all_of one) items x (IsPermutation-sym items (all_of one) division.together) (contains-all_of one k x member)))
 
--- x lies in the class of the same number
+-- x lies in the part of the same number
 abbrev Agree : List (List Item) → List (List Item) → Item → Type 0
-Agree one other x = (k : ℕ) → Contains (class_at one k) x → Contains (class_at other k) x
+Agree one other x = (k : ℕ) → Contains (part_at one k) x → Contains (part_at other k) x
 
-item_of : (items : List Item) (classes : List (List Item)) (k : ℕ) (x : Item) → IsDivision items classes → Contains (class_at classes k) x → Contains items x
-item_of items classes k x division member =
-    Contains-permutation (all_of classes) items x (IsPermutation-sym items (all_of classes) division.together) (contains-all_of classes k x member)
+item_of : (items : List Item) (parts : List (List Item)) (k : ℕ) (x : Item) → IsDivision items parts → Contains (part_at parts k) x → Contains items x
+item_of items parts k x division member =
+    Contains-permutation (all_of parts) items x (IsPermutation-sym items (all_of parts) division.together) (contains-all_of parts k x member)
 
 module _ (items : List Item) (one other : List (List Item)) (division : IsDivision items one) (division' : IsDivision items other) (placed : IsPlaced one) (placed' : IsPlaced other) where
   agree_at : (x : Item) → EarlierAgree one other x → EarlierAgree other one x → Agree one other x
   agree_at x there back k member =
       let (m, member') = in_other items one other k x division division' member in
-      let same : k ≡ m = one_class one other x there back placed placed' division.filled division'.filled k m member member' in
-      subst (λ n. Contains (class_at other n) x) (sym same) member'
+      let same : k ≡ m = one_part one other x there back placed placed' division.filled division'.filled k m member member' in
+      subst (λ n. Contains (part_at other n) x) (sym same) member'
 
 -- those of fewer than n items before them
 agree_below : (items : List Item) (one other : List (List Item)) → IsDivision items one → IsDivision items other → IsPlaced one → IsPlaced other
@@ -253,7 +253,7 @@ agree : (items : List Item) (one other : List (List Item)) → IsDivision items 
 agree items one other division division' placed placed' x =
     (agree_below items one other division division' placed placed' (suc (rank items x)) x (omega arith)).0
 
--- ---- so the classes are the same lists
+-- ---- so the parts are the same lists
 
 -- x ends at or before the start of y
 abbrev Precede : Item → Item → Type 0
@@ -266,9 +266,9 @@ not_both_precede x y one other =
     omega (arith, ints)
 
 -- items that rise without overlaps end one before the next
-precede-from_rising : (class : List Item) → IsApart class → IsRising class → AllPairs Precede class
-precede-from_rising class apart rising i j d less h =
-    by_order (get_or class i d) (get_or class j d) (apart i j d less h) (rising i j d less h)
+precede-from_rising : (part : List Item) → IsApart part → IsRising part → AllPairs Precede part
+precede-from_rising part apart rising i j d less h =
+    by_order (get_or part i d) (get_or part j d) (apart i j d less h) (rising i j d less h)
   where
     by_order : (x y : Item) → (Overlap x.period y.period → ⊥) → (IsBelow y x → ⊥) → Precede x y
     by_order x y no_overlap not_below =
@@ -278,12 +278,12 @@ precede-from_rising class apart rising i j d less h =
         (λ inside. absurd (no_overlap (Overlap-from_ends x.period y.period (omega (arith, ints)) inside)))
         (λ past. past)
 
--- no more classes than the other has
-no_more : (one other : List (List Item)) → All (λ class. 0 < length class) one → ((x : Item) → Agree one other x) → length one ≤ length other
+-- no more parts than the other has
+no_more : (one other : List (List Item)) → All (λ part. 0 < length part) one → ((x : Item) → Agree one other x) → length one ≤ length other
 no_more one other filled agrees = elim (cases_lt (length other) (length one)) [
   | inl less ↦
-      let (z, first) = first_item (class_at one (length other)) (All-get_or (λ class. 0 < length class) one (length other) [] less filled) in
-      let within : length other < length other = is_class other (length other) z (agrees z (length other) first.0) in
+      let (z, first) = first_item (part_at one (length other)) (All-get_or (λ part. 0 < length part) one (length other) [] less filled) in
+      let within : length other < length other = is_part other (length other) z (agrees z (length other) first.0) in
       absurd (omega arith)
   | inr few ↦ few
 ]
@@ -298,12 +298,12 @@ one_placed items one other division division' placed placed' rising rising' =
     same_lists one other (omega arith)
     (λ k d h.
     let within : k < length other = omega arith in
-    let precede : AllPairs Precede (class_at one k) =
-    precede-from_rising (class_at one k) (All-get_or IsApart one k [] h division.apart) (All-get_or IsRising one k [] h rising) in
-    let precede' : AllPairs Precede (class_at other k) =
-    precede-from_rising (class_at other k) (All-get_or IsApart other k [] within division'.apart) (All-get_or IsRising other k [] within rising') in
-    let same : class_at one k ≡ class_at other k =
-    rising_is_one Precede (class_at one k) (class_at other k) not_both_precede precede precede' (λ x. there x k) (λ x. back x k) in
+    let precede : AllPairs Precede (part_at one k) =
+    precede-from_rising (part_at one k) (All-get_or IsApart one k [] h division.apart) (All-get_or IsRising one k [] h rising) in
+    let precede' : AllPairs Precede (part_at other k) =
+    precede-from_rising (part_at other k) (All-get_or IsApart other k [] within division'.apart) (All-get_or IsRising other k [] within rising') in
+    let same : part_at one k ≡ part_at other k =
+    rising_is_one Precede (part_at one k) (part_at other k) not_both_precede precede precede' (λ x. there x k) (λ x. back x k) in
     get_or_default one k d [] h ∙ (same ∙ get_or_default other k [] d within))
 
 pub one_dip : (items : List Item) (one other : List (List Item)) → IsDip items one → IsDip items other → one ≡ other
@@ -319,10 +319,10 @@ one_instant items k one other is is' =
     (λ less. absurd (is'.first one less is.crowded))
     (λ most. by_lt_z other one (λ less. absurd (is.first other less is'.crowded)) (λ least. omega (arith, ints)))
 
-pub one_instant_of : (items : List Item) (classes : List (List Item)) (one other : Option ℤ) → IsDivision items classes
-    → IsInstantOf classes one → IsInstantOf classes other → one ≡ other
-one_instant_of items classes None None division p q = refl
-one_instant_of items classes None (Some t) division p q = absurd (true≢false (q.none.1 (p.none.0 refl)))
-one_instant_of items classes (Some s) None division p q = absurd (true≢false (p.none.1 (q.none.0 refl)))
-one_instant_of items classes (Some s) (Some t) division p q =
-    ap Some (one_instant items (length classes) s t (p.crowded items division) (q.crowded items division))
+pub one_instant_of : (items : List Item) (parts : List (List Item)) (one other : Option ℤ) → IsDivision items parts
+    → IsInstantOf parts one → IsInstantOf parts other → one ≡ other
+one_instant_of items parts None None division p q = refl
+one_instant_of items parts None (Some t) division p q = absurd (true≢false (q.none.1 (p.none.0 refl)))
+one_instant_of items parts (Some s) None division p q = absurd (true≢false (p.none.1 (q.none.0 refl)))
+one_instant_of items parts (Some s) (Some t) division p q =
+    ap Some (one_instant items (length parts) s t (p.crowded items division) (q.crowded items division))

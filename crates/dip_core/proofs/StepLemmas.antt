@@ -11,11 +11,11 @@ use Rattle.std.proofs.lemmas.List.Sorted.{All-permutation, Contains-permutation}
 use Rattle.period_core.specs.Period.{holds_at, Holds}
 use Rattle.dip_core.specs.declared.item.Item.{Item}
 use Rattle.dip_core.specs.Item.{crowd, IsBelow, IsChain, HasDistinctIds}
-use Rattle.dip_core.specs.Division.{all_of, class_at}
+use Rattle.dip_core.specs.Division.{all_of, part_at}
 use Rattle.dip_core.specs.Placing.{added, IsPlaceFor, NoPartIsFree, IsGreatest}
 use Rattle.dip_core.proofs.BestLemmas.{is_part}
-use Rattle.dip_core.specs.Kept.{opener, LastPartIsCrowded, ArePlaced}
-use Rattle.dip_core.proofs.AddedLemmas.{class_at-added_same, class_at-added_other, class_at-past, length-added_joined, length-added_opened, sum_by-added, all_of-added, All-added}
+use Rattle.dip_core.specs.Invariants.{opener, LastPartIsCrowded, ArePlaced}
+use Rattle.dip_core.proofs.AddedLemmas.{part_at-added_same, part_at-added_other, part_at-past, length-added_joined, length-added_opened, sum_by-added, all_of-added, All-added}
 use Rattle.dip_core.proofs.CrowdLemmas.{test-from_holds, crowd-all_of}
 use Rattle.dip_core.proofs.OrderLemmas.{not_below-trans, not_below_itself, from_le, before-from_not_below}
 use Rattle.dip_core.proofs.PlacedLemmas.{IsPlaced-added, last_end_is, same_or_other}
@@ -26,7 +26,7 @@ none_above parts None x empty above = subst (λ ps. All (λ y. IsBelow x y → �
 none_above parts (Some z) x greatest above =
     All-weaker (λ y. IsBelow z y → ⊥) (λ y. IsBelow x y → ⊥) (λ y under. not_below-trans y z x under (above z refl)) (all_of parts) greatest.1
 
-pub contains-all_of : (parts : List (List Item)) (j : ℕ) (y : Item) → Contains (class_at parts j) y → Contains (all_of parts) y
+pub contains-all_of : (parts : List (List Item)) (j : ℕ) (y : Item) → Contains (part_at parts j) y → Contains (all_of parts) y
 contains-all_of [] j y member = member
 contains-all_of (p ∷ parts) zero y member = Contains-append_left p (all_of parts) y member
 contains-all_of (p ∷ parts) (suc j) y member = Contains-append_right p (all_of parts) y (contains-all_of parts j y member)
@@ -56,23 +56,23 @@ chained-added parts k x filled chained place = elim place [
   | inl best ↦
       let w : k < length parts = (is_part parts k best.end best.ends) in
       All-added IsChain parts k x (omega arith) chained
-      (chain-push (class_at parts k) x (All-get_or IsChain parts k [] w chained)
+      (chain-push (part_at parts k) x (All-get_or IsChain parts k [] w chained)
       (λ d h.
-      let ends = last_end_is (class_at parts k) d h in
+      let ends = last_end_is (part_at parts k) d h in
       let known = best.ends in
       let over : best.end ≤ℤ x.period.from = best.over in
-      let same : best.end ≡ (get_or (class_at parts k) (length (class_at parts k) - 1) d).period.to = cc in
+      let same : best.end ≡ (get_or (part_at parts k) (length (part_at parts k) - 1) d).period.to = cc in
       omega (arith, ints)))
   | inr opened ↦
       let past : length parts ≤ k = (let e : k ≡ length parts = opened.0 in omega arith) in
       let within : k ≤ length parts = (let e : k ≡ length parts = opened.0 in omega arith) in
       All-added IsChain parts k x within chained
-      (subst (λ (c : List Item). IsChain (c ++ x ∷ [])) (sym (class_at-past parts k past)) (λ i d h. absurd (omega arith)))
+      (subst (λ (c : List Item). IsChain (c ++ x ∷ [])) (sym (part_at-past parts k past)) (λ i d h. absurd (omega arith)))
 ]
 
 filled-added : (parts : List (List Item)) (k : ℕ) (x : Item) → k ≤ length parts → All (λ part. 0 < length part) parts → All (λ part. 0 < length part) (added parts k x)
 filled-added parts k x within filled =
-    All-added (λ part. 0 < length part) parts k x within filled (omega (arith, length-append (class_at parts k) (x ∷ [])))
+    All-added (λ part. 0 < length part) parts k x within filled (omega (arith, length-append (part_at parts k) (x ∷ [])))
 
 -- ---- the crowd
 
@@ -101,30 +101,30 @@ holder_counts part k d t h holds =
 all_hold : (parts : List (List Item)) (x : Item) → All (λ part. 0 < length part) parts → NoPartIsFree parts x.period.from → All (λ y. IsBelow x y → ⊥) (all_of parts) → length parts ≤ crowd (all_of parts) x.period.from
 all_hold parts x filled none_free above =
     one_each parts x.period.from (λ j d h.
-    let same : get_or parts j d ≡ class_at parts j = get_or_default parts j d [] h in
+    let same : get_or parts j d ≡ part_at parts j = get_or_default parts j d [] h in
     subst (λ part. 1 ≤ crowd part x.period.from) (sym same)
-    (let some : 0 < length (class_at parts j) = All-get_or (λ part. 0 < length part) parts j [] h filled in
-    let last : length (class_at parts j) - 1 < length (class_at parts j) = omega arith in
-    let y : Item = get_or (class_at parts j) (length (class_at parts j) - 1) x in
-    let member : Contains (all_of parts) (get_or (class_at parts j) (length (class_at parts j) - 1) x) =
-    contains-all_of parts j (get_or (class_at parts j) (length (class_at parts j) - 1) x) (Contains-get_or (class_at parts j) (length (class_at parts j) - 1) x last) in
-    holder_counts (class_at parts j) (length (class_at parts j) - 1) x x.period.from last (
-      from_le (get_or (class_at parts j) (length (class_at parts j) - 1) x) x (All-contains (λ y. IsBelow x y → ⊥) (all_of parts) _ above member),
-      none_free j (get_or (class_at parts j) (length (class_at parts j) - 1) x).period.to (last_end_is (class_at parts j) x some),
+    (let some : 0 < length (part_at parts j) = All-get_or (λ part. 0 < length part) parts j [] h filled in
+    let last : length (part_at parts j) - 1 < length (part_at parts j) = omega arith in
+    let y : Item = get_or (part_at parts j) (length (part_at parts j) - 1) x in
+    let member : Contains (all_of parts) (get_or (part_at parts j) (length (part_at parts j) - 1) x) =
+    contains-all_of parts j (get_or (part_at parts j) (length (part_at parts j) - 1) x) (Contains-get_or (part_at parts j) (length (part_at parts j) - 1) x last) in
+    holder_counts (part_at parts j) (length (part_at parts j) - 1) x x.period.from last (
+      from_le (get_or (part_at parts j) (length (part_at parts j) - 1) x) x (All-contains (λ y. IsBelow x y → ⊥) (all_of parts) _ above member),
+      none_free j (get_or (part_at parts j) (length (part_at parts j) - 1) x).period.to (last_end_is (part_at parts j) x some),
     )))
 
 crowd-added : (parts : List (List Item)) (k : ℕ) (x : Item) (t : ℤ) → crowd (all_of (added parts k x)) t ≡ crowd (all_of parts) t + cond (holds_at t x.period) 1 0
 crowd-added parts k x t = sum_by-added (λ y. cond (holds_at t y.period) 1 0) parts k x
 
 -- the first item of the part that is the last one stays
-opener-joined : (parts : List (List Item)) (k : ℕ) (x d : Item) → k < length parts → All (λ part. 0 < length part) parts → get_or (class_at (added parts k x) (length parts - 1)) 0 d ≡ opener parts d
+opener-joined : (parts : List (List Item)) (k : ℕ) (x d : Item) → k < length parts → All (λ part. 0 < length part) parts → get_or (part_at (added parts k x) (length parts - 1)) 0 d ≡ opener parts d
 opener-joined parts k x d within filled = elim (same_or_other (length parts - 1) k) [
   | inl e ↦
-      let joined : class_at (added parts k x) (length parts - 1) ≡ class_at parts (length parts - 1) ++ x ∷ [] =
-      subst (λ n. class_at (added parts k x) n ≡ class_at parts n ++ x ∷ []) (sym e) (class_at-added_same parts k x (omega arith)) in
+      let joined : part_at (added parts k x) (length parts - 1) ≡ part_at parts (length parts - 1) ++ x ∷ [] =
+      subst (λ n. part_at (added parts k x) n ≡ part_at parts n ++ x ∷ []) (sym e) (part_at-added_same parts k x (omega arith)) in
       ap (λ c. get_or c 0 d) joined
-      ∙ get_or_append_left (class_at parts (length parts - 1)) (x ∷ []) d 0 (All-get_or (λ part. 0 < length part) parts (length parts - 1) [] (omega arith) filled)
-  | inr ne ↦ ap (λ c. get_or c 0 d) (class_at-added_other parts k (length parts - 1) x (omega arith) ne)
+      ∙ get_or_append_left (part_at parts (length parts - 1)) (x ∷ []) d 0 (All-get_or (λ part. 0 < length part) parts (length parts - 1) [] (omega arith) filled)
+  | inr ne ↦ ap (λ c. get_or c 0 d) (part_at-added_other parts k (length parts - 1) x (omega arith) ne)
 ]
 
 crowded-joined : (parts : List (List Item)) (k : ℕ) (x : Item) → k < length parts → All (λ part. 0 < length part) parts → LastPartIsCrowded parts → LastPartIsCrowded (added parts k x)
@@ -134,15 +134,15 @@ crowded-joined parts k x within filled crowded d some =
     let more : crowd (all_of (added parts k x)) (opener parts d).period.from ≡ crowd (all_of parts) (opener parts d).period.from + cond (holds_at (opener parts d).period.from x.period) 1 0 =
     crowd-added parts k x (opener parts d).period.from in
     let enough : length parts ≤ crowd (all_of (added parts k x)) (opener parts d).period.from = omega arith in
-    let same : get_or (class_at (added parts k x) (length parts - 1)) 0 d ≡ opener parts d = opener-joined parts k x d within filled in
-    subst (λ n. n ≤ crowd (all_of (added parts k x)) (get_or (class_at (added parts k x) (n - 1)) 0 d).period.from) (sym count)
+    let same : get_or (part_at (added parts k x) (length parts - 1)) 0 d ≡ opener parts d = opener-joined parts k x d within filled in
+    subst (λ n. n ≤ crowd (all_of (added parts k x)) (get_or (part_at (added parts k x) (n - 1)) 0 d).period.from) (sym count)
     (subst (λ (y : Item). length parts ≤ crowd (all_of (added parts k x)) y.period.from) (sym same) enough)
 
 crowded-opened : (parts : List (List Item)) (x : Item) → All (λ part. 0 < length part) parts → NoPartIsFree parts x.period.from → All (λ y. IsBelow x y → ⊥) (all_of parts) → LastPartIsCrowded (added parts (length parts) x)
 crowded-opened parts x filled none_free above d some =
     let count : length (added parts (length parts) x) ≡ length parts + 1 = length-added_opened parts x in
-    let alone : class_at (added parts (length parts) x) (length parts) ≡ x ∷ [] =
-    class_at-added_same parts (length parts) x (omega arith) ∙ ap (λ (c : List Item). c ++ x ∷ []) (class_at-past parts (length parts) (omega arith)) in
+    let alone : part_at (added parts (length parts) x) (length parts) ≡ x ∷ [] =
+    part_at-added_same parts (length parts) x (omega arith) ∙ ap (λ (c : List Item). c ++ x ∷ []) (part_at-past parts (length parts) (omega arith)) in
     let many : length parts ≤ crowd (all_of parts) x.period.from = all_hold parts x filled none_free above in
     let ordered : x.period.from <ℤ x.period.to = x.period.ordered in
     let yes : holds_at x.period.from x.period ≡ true = test-from_holds x.period.from x.period (omega (arith, ints), ordered) in
@@ -150,7 +150,7 @@ crowded-opened parts x filled none_free above d some =
     crowd-added parts (length parts) x x.period.from ∙ ap (λ b. crowd (all_of parts) x.period.from + cond b 1 0) yes in
     let enough : length parts + 1 ≤ crowd (all_of (added parts (length parts) x)) x.period.from = omega arith in
     let last : length (added parts (length parts) x) - 1 ≡ length parts = omega arith in
-    let opens : opener (added parts (length parts) x) d ≡ x = ap (λ n. get_or (class_at (added parts (length parts) x) n) 0 d) last ∙ ap (λ c. get_or c 0 d) alone in
+    let opens : opener (added parts (length parts) x) d ≡ x = ap (λ n. get_or (part_at (added parts (length parts) x) n) 0 d) last ∙ ap (λ c. get_or c 0 d) alone in
     subst (λ n. n ≤ crowd (all_of (added parts (length parts) x)) (opener (added parts (length parts) x) d).period.from) (sym count)
     (subst (λ (y : Item). length parts + 1 ≤ crowd (all_of (added parts (length parts) x)) y.period.from) (sym opens) enough)
 

@@ -1,5 +1,5 @@
 pub mod Item
 pub mod Division
 pub mod Placing
-pub mod Kept
+pub mod Invariants
 pub mod Search

@@ -2,7 +2,7 @@
 use Rattle.std.specs.Prelude.{◌≡◌, ◌⊎◌, ℕ, zero, suc, ◌-◌, ◌≤◌, ℤ, ◌≤ℤ◌, ◌<ℤ◌, List, [], ◌∷◌, ◌++◌, length, All, Contains, Option, Some, MatchOption, option_map, slice_get}
 use Rattle.dip_core.specs.declared.item.Item.{Item}
 use Rattle.dip_core.specs.Item.{IsBelow}
-use Rattle.dip_core.specs.Division.{all_of, class_at}
+use Rattle.dip_core.specs.Division.{all_of, part_at}
 
 -- what contracts see of a placer: its parts, and the item that was placed last
 pub record Placing : Type 0 where
@@ -17,13 +17,13 @@ last_end part = option_map (λ x. x.period.to) (slice_get part (length part - 1)
 -- number
 pub record IsBestPart (parts : List (List Item)) (start : ℤ) (k : ℕ) : Type 0 where
   pub end : ℤ
-  pub ends : last_end (class_at parts k) ≡ Some end
+  pub ends : last_end (part_at parts k) ≡ Some end
   pub over : end ≤ℤ start
-  pub best : (j : ℕ) (f : ℤ) → last_end (class_at parts j) ≡ Some f → f ≤ℤ start → (end <ℤ f) ⊎ ((end ≡ f) × (k ≤ j))
+  pub best : (j : ℕ) (f : ℤ) → last_end (part_at parts j) ≡ Some f → f ≤ℤ start → (end <ℤ f) ⊎ ((end ≡ f) × (k ≤ j))
 
 -- each part ends after the start
 abbrev pub NoPartIsFree : List (List Item) → ℤ → Type 0
-NoPartIsFree parts start = (j : ℕ) (f : ℤ) → last_end (class_at parts j) ≡ Some f → start <ℤ f
+NoPartIsFree parts start = (j : ℕ) (f : ℤ) → last_end (part_at parts j) ≡ Some f → start <ℤ f
 
 -- the part that an item from `start` on goes into: the best of those that have ended, else a new one
 abbrev pub IsPlaceFor : List (List Item) → ℤ → ℕ → Type 0

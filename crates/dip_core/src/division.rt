@@ -1,10 +1,10 @@
 ghost use Rattle.std.specs.Prelude.{◌≡◌, ◌<◌, ◌≤◌, ◌↔◌, List, [], length, All, IsNone, IfSome, IfOk};
 ghost use Rattle.dip_core.specs.declared.item.Item.{Item};
 ghost use Rattle.dip_core.specs.Item.{IsChain, IsRising, HasDistinctIds};
-ghost use Rattle.dip_core.specs.Division.{all_of, class_at, IsDip, IsDivision, IsInstant, IsInstantOf, IsLeast, IsLeastDivision};
-ghost use Rattle.dip_core.specs.Kept.{ArePlaced, IsDivided};
+ghost use Rattle.dip_core.specs.Division.{all_of, part_at, IsDip, IsDivision, IsInstant, IsInstantOf, IsLeast, IsLeastDivision};
+ghost use Rattle.dip_core.specs.Invariants.{ArePlaced, IsDivided};
 
-use crate::class::Class;
+use crate::part_items::PartItems;
 use crate::{Item, NoMemory, Part, Placer};
 use period_core::Point;
 use std::alloc::Global;
@@ -13,28 +13,28 @@ use std::marker::Model;
 /// At most 1,000,000 items in the least number of parts without overlaps. Contracts see the list of its parts.
 #[derive(Drop)]
 pub struct Division {
-    classes: Vec<Class>,
+    parts: Vec<PartItems>,
 }
 
 impl Model for Division {
     ghost use Rattle.std.specs.Prelude.{List};
     ghost use Rattle.dip_core.specs.declared.item.Item.{Item};
-    ghost use Rattle.dip_core.specs.Kept.{IsDivided};
+    ghost use Rattle.dip_core.specs.Invariants.{IsDivided};
 
     ghost Value = { List (List Item) };
 
-    ghost view = { λ d. d.classes.items };
+    ghost view = { λ d. d.parts.items };
 
-    ghost invariant = { λ d. IsDivided d.classes.items };
+    ghost invariant = { λ d. IsDivided d.parts.items };
 }
 
 impl Division {
     /// The only way to a division: a placer ends with parts of which the type's facts hold.
-    pub(crate) fn from_classes(classes: Vec<Class>) -> Division
-        requires { IsDivided classes.items }
-        ensures { result ≡ classes.items }
+    pub(crate) fn from_parts(parts: Vec<PartItems>) -> Division
+        requires { IsDivided parts.items }
+        ensures { result ≡ parts.items }
     {
-        Division { classes }
+        Division { parts }
     }
 
     /// How many parts there are, at most 1,000,000. They divide all their items, each part's items rise, and no division of those items has fewer parts.
@@ -49,17 +49,17 @@ impl Division {
         ensures rising { All IsRising self.now }
         ensures least { (items : List Item) → IsDivision items self.now → IsLeast items (length self.now) }
     {
-        self.classes.len() as u32
+        self.parts.len() as u32
     }
 
     /// The part of that number, which is below `parts`.
     pub fn part(&self, number: u32) -> Part<'_>
         requires { number < length self.now }
-        ensures { result.items.now ≡ class_at self.now number }
+        ensures { result.items.now ≡ part_at self.now number }
     {
-        let class = &self.classes[number as usize];
+        let part = &self.parts[number as usize];
         Part {
-            items: class.items(),
+            items: part.items(),
         }
     }
 
@@ -67,21 +67,21 @@ impl Division {
     pub fn instant(&self) -> Option<Point>
         ensures { IsInstantOf self.now result }
     {
-        instant_of(&self.classes)
+        instant_of(&self.parts)
     }
 }
 
 /// The start of the last part's first item: that part was opened because each other one went on.
-fn instant_of(classes: &[Class]) -> Option<Point>
-    requires { ArePlaced classes.now }
-    ensures none { IsNone result ↔ (classes.now ≡ []) }
-    ensures value { IfSome result (IsInstant (all_of classes.now) (length classes.now)) }
+fn instant_of(parts: &[PartItems]) -> Option<Point>
+    requires { ArePlaced parts.now }
+    ensures none { IsNone result ↔ (parts.now ≡ []) }
+    ensures value { IfSome result (IsInstant (all_of parts.now) (length parts.now)) }
 {
-    if classes.is_empty() {
+    if parts.is_empty() {
         return None;
     }
-    let last = classes.len() - 1;
-    let items = classes[last].items();
+    let last = parts.len() - 1;
+    let items = parts[last].items();
     Some(items[0].period.from)
 }
 

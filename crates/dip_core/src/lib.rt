@@ -2,12 +2,12 @@
 
 //! Divides items into the least number of parts in which no two items overlap, and gives an instant that as many items hold as there are parts.
 
-mod class;
 mod division;
 mod ids;
 mod item;
 mod laws;
 mod part;
+mod part_items;
 mod placer;
 mod placing;
 

@@ -4,7 +4,7 @@ ghost use Rattle.dip_core.specs.Item.{IsBelow, HasDistinctIds};
 ghost use Rattle.dip_core.specs.Division.{all_of, IsDip, IsLeastDivision};
 ghost use Rattle.dip_core.specs.Placing.{IsGreatest, IsPlaceFor, added};
 
-use crate::class::Class;
+use crate::part_items::PartItems;
 use crate::placing::place_item;
 use crate::{Division, Item, NoMemory};
 use std::alloc::Global;
@@ -14,20 +14,20 @@ use std::marker::Model;
 #[derive(Drop)]
 pub struct Placer {
     alloc: Global,
-    classes: Vec<Class>,
+    parts: Vec<PartItems>,
     last: Option<Item>,
     len: u64,
 }
 
 impl Model for Placer {
     ghost use Rattle.dip_core.specs.Placing.{Placing};
-    ghost use Rattle.dip_core.specs.Kept.{IsPlacing};
+    ghost use Rattle.dip_core.specs.Invariants.{IsPlacing};
 
     ghost Value = { Placing };
 
-    ghost view = { λ p. record { parts = p.classes.items; last = p.last } };
+    ghost view = { λ p. record { parts = p.parts.items; last = p.last } };
 
-    ghost invariant = { λ p. IsPlacing p.classes.items p.last p.len };
+    ghost invariant = { λ p. IsPlacing p.parts.items p.last p.len };
 }
 
 impl Placer {
@@ -37,7 +37,7 @@ impl Placer {
     {
         Placer {
             alloc,
-            classes: Vec::new(alloc),
+            parts: Vec::new(alloc),
             last: None,
             len: 0,
         }
@@ -67,7 +67,7 @@ impl Placer {
         ensures added { IfOk result (λ number. self.new ≡ record { parts = added self.old.parts number item; last = Some item }) }
         ensures err { OnErr result (self.new ≡ self.old) }
     {
-        let number = place_item(self.alloc, &mut self.classes, &item)?;
+        let number = place_item(self.alloc, &mut self.parts, &item)?;
         self.last = Some(item);
         self.len += 1;
         Ok(number as u32)
@@ -81,10 +81,10 @@ impl Placer {
     {
         let Placer {
             alloc: _,
-            classes,
+            parts,
             last: _,
             len: _,
         } = self;
-        Division::from_classes(classes)
+        Division::from_parts(parts)
     }
 }

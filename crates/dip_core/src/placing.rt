@@ -2,7 +2,7 @@ ghost use Rattle.std.specs.Prelude.{◌≡◌, ◌+◌, ◌<◌, MatchOption, If
 ghost use Rattle.dip_core.specs.Placing.{IsPlaceFor, IsBestPart, NoPartIsFree, added};
 ghost use Rattle.dip_core.specs.Search.{IsBestPartBelow, NoPartIsFreeBelow};
 
-use crate::class::Class;
+use crate::part_items::PartItems;
 use crate::{Item, NoMemory};
 use period_core::Point;
 use std::alloc::Global;
@@ -15,12 +15,12 @@ struct Ended {
 }
 
 /// One step of `best_part`. Of equal ends the first stays, so the lowest number is found.
-fn better(classes: &[Class], start: Point, number: usize, best: Option<Ended>) -> Option<Ended>
-    requires number_in { number < length classes.now }
-    requires best_so_far { MatchOption best (NoPartIsFreeBelow classes.now start number) (λ b. IsBestPartBelow classes.now start number b.number b.end) }
-    ensures { MatchOption result (NoPartIsFreeBelow classes.now start (number + 1)) (λ b. IsBestPartBelow classes.now start (number + 1) b.number b.end) }
+fn better(parts: &[PartItems], start: Point, number: usize, best: Option<Ended>) -> Option<Ended>
+    requires number_in { number < length parts.now }
+    requires best_so_far { MatchOption best (NoPartIsFreeBelow parts.now start number) (λ b. IsBestPartBelow parts.now start number b.number b.end) }
+    ensures { MatchOption result (NoPartIsFreeBelow parts.now start (number + 1)) (λ b. IsBestPartBelow parts.now start (number + 1) b.number b.end) }
 {
-    let end = classes[number].last_end();
+    let end = parts[number].last_end();
     if end > start {
         return best;
     }
@@ -35,48 +35,48 @@ fn better(classes: &[Class], start: Point, number: usize, best: Option<Ended>) -
 }
 
 /// The placing rule's choice among the parts that have ended by `start`: first to end, then lowest.
-fn best_part(classes: &[Class], start: Point) -> Option<usize>
-    ensures { MatchOption result (NoPartIsFree classes.now start) (IsBestPart classes.now start) }
+fn best_part(parts: &[PartItems], start: Point) -> Option<usize>
+    ensures { MatchOption result (NoPartIsFree parts.now start) (IsBestPart parts.now start) }
 {
     let mut best = None;
-    for number in 0..classes.len() {
-        best = better(classes, start, number, best);
+    for number in 0..parts.len() {
+        best = better(parts, start, number, best);
     }
     let best = best?;
     Some(best.number)
 }
 
 /// Adds the item to that part, and answers the number as `open_part` does.
-fn join_part(classes: &mut Vec<Class>, number: usize, item: &Item) -> Result<usize, NoMemory>
-    requires { number < vec_len classes.old }
+fn join_part(parts: &mut Vec<PartItems>, number: usize, item: &Item) -> Result<usize, NoMemory>
+    requires { number < vec_len parts.old }
     ensures number { IfOk result (λ k. k ≡ number) }
-    ensures ok { OnOk result (classes.new.items ≡ added classes.old.items number item.now) }
-    ensures err { OnErr result (classes.new.items ≡ classes.old.items) }
+    ensures ok { OnOk result (parts.new.items ≡ added parts.old.items number item.now) }
+    ensures err { OnErr result (parts.new.items ≡ parts.old.items) }
 {
-    classes[number].push(item)?;
+    parts[number].push(item)?;
     Ok(number)
 }
 
 /// Adds the item as a new last part, so that the others keep their numbers.
-fn open_part(alloc: Global, classes: &mut Vec<Class>, item: &Item) -> Result<usize, NoMemory>
-    ensures number { IfOk result (λ k. k ≡ vec_len classes.old) }
-    ensures ok { OnOk result (classes.new.items ≡ added classes.old.items (vec_len classes.old) item.now) }
-    ensures err { OnErr result (classes.new.items ≡ classes.old.items) }
+fn open_part(alloc: Global, parts: &mut Vec<PartItems>, item: &Item) -> Result<usize, NoMemory>
+    ensures number { IfOk result (λ k. k ≡ vec_len parts.old) }
+    ensures ok { OnOk result (parts.new.items ≡ added parts.old.items (vec_len parts.old) item.now) }
+    ensures err { OnErr result (parts.new.items ≡ parts.old.items) }
 {
-    let number = classes.len();
-    let class = Class::open(alloc, item)?;
-    classes.push(class)?;
+    let number = parts.len();
+    let part = PartItems::open(alloc, item)?;
+    parts.push(part)?;
     Ok(number)
 }
 
 /// Adds the item where the placing rule says, and answers the number of that part.
-pub fn place_item(alloc: Global, classes: &mut Vec<Class>, item: &Item) -> Result<usize, NoMemory>
-    ensures place { IfOk result (IsPlaceFor classes.old.items item.now.period.from) }
-    ensures added { IfOk result (λ k. classes.new.items ≡ added classes.old.items k item.now) }
-    ensures err { OnErr result (classes.new.items ≡ classes.old.items) }
+pub fn place_item(alloc: Global, parts: &mut Vec<PartItems>, item: &Item) -> Result<usize, NoMemory>
+    ensures place { IfOk result (IsPlaceFor parts.old.items item.now.period.from) }
+    ensures added { IfOk result (λ k. parts.new.items ≡ added parts.old.items k item.now) }
+    ensures err { OnErr result (parts.new.items ≡ parts.old.items) }
 {
-    match best_part(classes, item.period.from) {
-        Some(number) => join_part(classes, number, item),
-        None => open_part(alloc, classes, item),
+    match best_part(parts, item.period.from) {
+        Some(number) => join_part(parts, number, item),
+        None => open_part(alloc, parts, item),
     }
 }

@@ -1,10 +1,10 @@
 -- Keys: as many columns as names, each at the place of its name.
 use Rattle.std.proofs.Common.{◌≡◌, ◌≢◌, ℕ, zero, suc, ◌+◌, ◌<◌, List, [], ◌∷◌, ◌++◌, Bool, true, false, ◌||◌, not, cond, length, map, get_or, Option, Some, None, refl, sym, ap, ◌∙◌, arith, append_assoc}
-use Rattle.std.specs.Prelude.{All, AllPairs, IsSome, count_by, is_some, nat_eq, nat_lt, position, slice_get}
+use Rattle.std.specs.Prelude.{All, AllPairs, IsSome, count_by, is_some, nat_eq, position, slice_get}
 use Rattle.std.specs.Cmp.Lexicographic.{bytes_decides}
 use Rattle.std.specs.List.{AllByRecursion, filter_map, list_any, position_from, range_with_len}
 use Rattle.std.specs.Option.{option_eq}
-use Rattle.std.proofs.lemmas.Bool.{eq-eqb, lt-ltb, ne_eqb}
+use Rattle.std.proofs.lemmas.Bool.{eq-eqb, ne_eqb}
 use Rattle.std.proofs.lemmas.Iterator.Adapters.{position_from-zero}
 use Rattle.std.proofs.lemmas.List.{append-nil}
 use Rattle.std.proofs.lemmas.List.Recursion.{is_count_by, or_push}

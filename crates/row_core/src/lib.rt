@@ -12,11 +12,12 @@ mod text;
 mod value;
 
 pub use draft::{Draft, Drafts};
+pub use list_core::{DeepCopy, List, copy_each};
 pub use name::{BadName, Name};
 pub use number::{BadNumber, read_number};
 pub use period_core::NoMemory;
 pub use reading::{Field, RowRefused};
-pub use row::{Row, RowList};
+pub use row::{Row, RowList, RowOrder};
 pub use schema::{Column, KeyRefused, Schema, SchemaRefused};
 pub use text::{Text, TextRefused};
-pub use value::{Kind, Value, ValueRefused, Values, copy_values};
+pub use value::{Kind, Value, ValueRefused, Values};

@@ -1,12 +1,13 @@
-ghost use Rattle.std.specs.Prelude.{◌≡◌, ◌++◌, ◌==◌, ◌↔◌, [], ◌∷◌, length, IfOk, IsTrue, OnOk, OnErr, slice_get};
-ghost use Rattle.std.specs.Option.{option_copied};
+//! Rows of tables.
+
+ghost use Rattle.std.specs.Prelude.{◌↔◌, IsTrue};
 ghost use Rattle.row_core.specs.Rows.{IdsRise};
 
 use crate::NoMemory;
 use crate::value::Values;
+use list_core::{DeepCopy, List};
 use period_core::Period;
 use std::alloc::Global;
-use std::marker::Model;
 
 /// A row of a table.
 #[derive(Debug, Drop)]
@@ -16,11 +17,8 @@ pub struct Row {
     pub values: Values,
 }
 
-impl Row {
-    /// A row equal to this one.
-    pub fn copy(&self, alloc: Global) -> Result<Row, NoMemory>
-        ensures { IfOk result (λ row. row ≡ self.now) }
-    {
+impl DeepCopy for Row {
+    fn copy(&self, alloc: Global) -> Result<Row, NoMemory> {
         Ok(Row {
             id: self.id,
             period: self.period,
@@ -30,72 +28,19 @@ impl Row {
 }
 
 /// Rows in any order; those that a book answers are of one table, by rising id.
-#[derive(Debug, Drop)]
-pub struct RowList {
-    items: Vec<Row>,
+pub type RowList = List<Row>;
+
+/// What is asked of rows in a list.
+pub trait RowOrder {
+    /// Whether each row's id is below the next one's; of no rows it is.
+    fn ids_rise(&self) -> bool;
 }
 
-impl Model for RowList {
-    ghost use Rattle.std.specs.Prelude.{List};
-    ghost use Rattle.row_core.specs.declared.row.Row.{Row};
-
-    ghost Value = { List Row };
-
-    ghost view = { λ r. r.items.items };
-}
-
-impl RowList {
-    /// The empty list.
-    pub fn new(alloc: Global) -> Self
-        ensures { result ≡ [] }
-    {
-        RowList {
-            items: Vec::new(alloc),
-        }
-    }
-
-    /// How many there are.
-    pub fn len(&self) -> usize
-        ensures { result ≡ length self.now }
-    {
-        self.items.len()
-    }
-
-    /// Whether there are none.
-    pub fn is_empty(&self) -> bool
-        ensures { result ≡ (length self.now == 0) }
-    {
-        self.items.is_empty()
-    }
-
-    /// The row at that place.
-    pub fn get(&self, i: usize) -> Option<&Row>
-        ensures { option_copied result ≡ slice_get self.now i }
-    {
-        self.items.get(i)
-    }
-
-    /// All rows, in their order.
-    pub fn as_slice(&self) -> &[Row]
-        ensures { result.now ≡ self.now }
-    {
-        &self.items
-    }
-
-    /// Adds a row at the end. On `NoMemory` the list is as before, and the row is dropped.
-    pub fn push(&mut self, row: Row) -> Result<(), NoMemory>
-        ensures ok { OnOk result (self.new ≡ self.old ++ row ∷ []) }
-        ensures err { OnErr result (self.new ≡ self.old) }
-    {
-        self.items.push(row)?;
-        Ok(())
-    }
-
-    /// Whether each row's id is below the next one's.
-    pub fn ids_rise(&self) -> bool
+impl RowOrder for RowList {
+    fn ids_rise(&self) -> bool
         ensures { IsTrue result ↔ IdsRise self.now }
     {
-        rows_rise(&self.items)
+        rows_rise(self.as_slice())
     }
 }
 

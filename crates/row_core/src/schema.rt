@@ -8,6 +8,7 @@ ghost use Rattle.row_core.specs.Value.{kind_of, same_kind, value_of};
 use crate::NoMemory;
 use crate::name::Name;
 use crate::value::{Kind, Value, ValueRefused, Values};
+use list_core::DeepCopy;
 use std::alloc::Global;
 use std::marker::Model;
 
@@ -82,6 +83,14 @@ impl From<NoMemory> for KeyRefused {
     }
 }
 
+impl DeepCopy for Schema {
+    fn copy(&self, alloc: Global) -> Result<Schema, NoMemory> {
+        Ok(Schema {
+            columns: Vec::from_slice(alloc, &self.columns)?,
+        })
+    }
+}
+
 impl Schema {
     /// The columns of those names and kinds, in that order.
     pub fn new(alloc: Global, columns: &[(Name, Kind)]) -> Result<Schema, SchemaRefused>
@@ -95,15 +104,6 @@ impl Schema {
         }
         Ok(Schema {
             columns: collect_columns(alloc, columns)?,
-        })
-    }
-
-    /// Columns equal to these.
-    pub fn copy(&self, alloc: Global) -> Result<Schema, NoMemory>
-        ensures { IfOk result (λ schema. schema ≡ self.now) }
-    {
-        Ok(Schema {
-            columns: Vec::from_slice(alloc, &self.columns)?,
         })
     }
 

@@ -7,6 +7,7 @@ ghost use Rattle.row_core.specs.Refusals.{IsAnswerUnless};
 ghost use Rattle.row_core.specs.Value.{text_of};
 
 use crate::NoMemory;
+use list_core::DeepCopy;
 use std::alloc::Global;
 use std::cmp::Ordering;
 use std::marker::Model;
@@ -78,11 +79,10 @@ impl Text {
     {
         self.as_str().as_bytes()
     }
+}
 
-    /// A text equal to this one.
-    pub fn copy(&self, alloc: Global) -> Result<Text, NoMemory>
-        ensures { IfOk result (λ text. text ≡ self.now) }
-    {
+impl DeepCopy for Text {
+    fn copy(&self, alloc: Global) -> Result<Text, NoMemory> {
         Ok(Text {
             text: String::from_str(alloc, self.text.as_str())?,
         })

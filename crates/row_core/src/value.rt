@@ -7,6 +7,7 @@ ghost use Rattle.row_core.specs.Value.{kind_of, same_kind, value_of};
 use crate::NoMemory;
 use crate::number::{BadNumber, read_number};
 use crate::text::{Text, TextRefused, checked_text};
+use list_core::{DeepCopy, copy_each};
 use std::alloc::Global;
 use std::marker::Model;
 use std::sync::Arc;
@@ -120,11 +121,10 @@ impl Value {
             Value::Text(_) => matches!(kind, Kind::Text),
         }
     }
+}
 
-    /// A value equal to this one.
-    pub fn copy(&self, alloc: Global) -> Result<Value, NoMemory>
-        ensures { IfOk result (λ value. value ≡ self.now) }
-    {
+impl DeepCopy for Value {
+    fn copy(&self, alloc: Global) -> Result<Value, NoMemory> {
         match self {
             Value::Int(number) => Ok(Value::Int(*number)),
             Value::Text(text) => Ok(Value::Text(text.copy(alloc)?)),
@@ -211,31 +211,19 @@ impl Values {
         ensures ok { OnOk result (self.new ≡ self.old ++ value ∷ []) }
         ensures err { OnErr result (self.new ≡ self.old) }
     {
-        let mut items = copy_values(self.alloc, self.as_slice())?;
+        let mut items = copy_each(self.alloc, self.as_slice())?;
         items.push(value)?;
         *self = Values::of(self.alloc, items)?;
         Ok(())
     }
+}
 
-    /// A list equal to this one.
-    pub fn copy(&self, alloc: Global) -> Result<Values, NoMemory>
-        ensures { IfOk result (λ values. values ≡ self.now) }
-    {
+impl DeepCopy for Values {
+    fn copy(&self, alloc: Global) -> Result<Values, NoMemory> {
         let shared = match &self.shared {
             Some(items) => Some(Arc::try_clone(items)?),
             None => None,
         };
         Ok(Values { alloc, shared })
     }
-}
-
-/// Values equal to these.
-pub fn copy_values(alloc: Global, values: &[Value]) -> Result<Vec<Value>, NoMemory>
-    ensures { IfOk result (λ copy. copy.items ≡ values.now) }
-{
-    let mut copy = Vec::with_capacity(alloc, values.len())?;
-    for value in values {
-        copy.push(value.copy(alloc)?)?;
-    }
-    Ok(copy)
 }

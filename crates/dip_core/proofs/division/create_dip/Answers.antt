@@ -7,7 +7,7 @@ use Rattle.dip_core.specs.declared.item.Item.{Item}
 use Rattle.dip_core.specs.Item.{item_cmp}
 use Rattle.dip_core.specs.Division.{all_of}
 use Rattle.dip_core.specs.Placing.{Placing}
-use Rattle.dip_core.proofs.DivisionLemmas.{no_classes, IsLeastDivision-permutation, HasDistinctIds-permutation}
+use Rattle.dip_core.proofs.DivisionLemmas.{no_parts, IsLeastDivision-permutation, HasDistinctIds-permutation}
 use Rattle.dip_core.proofs.SortedLemmas.{sorted_step, placed_more}
 use Rattle.dip_core.proofs.division.create_dip.Goals as goal
 use Rattle.dip_core.proofs.division.create_dip.Goals.{After-drop-sorted-2}
@@ -66,4 +66,4 @@ returns-clause-dip c = λ distinct.
     record { divided = returns-clause-least c; placed = dip.placed }
 
 pub returns-clause-empty : goal.returns-clause-empty
-returns-clause-empty c = no_classes c.args.items.now c.finish.result (returns-clause-least c).division
+returns-clause-empty c = no_parts c.args.items.now c.finish.result (returns-clause-least c).division

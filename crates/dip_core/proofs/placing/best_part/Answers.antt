@@ -6,7 +6,7 @@ use Rattle.dip_core.proofs.placing.best_part.Goals as goal
 
 pub returns : goal.returns
 returns c =
-    let parts = c.args.classes.now in
+    let parts = c.args.parts.now in
     let best = c.in_ok-best.best in
     let all : c.loop-number.number ≡ length parts = omega arith in
     let below = MatchOption-at_some _ _ best c.in_ok-best.was c.loop-number.invariant in

@@ -1,19 +1,19 @@
 use Rattle.std.proofs.Common.{◌≡◌, ◌∙◌, subst, sym, ap}
 use Rattle.dip_core.specs.Division.{all_of, IsLeastDivision, IsPlaced}
 use Rattle.dip_core.specs.Placing.{Placing}
-use Rattle.dip_core.specs.Kept.{ArePlaced}
+use Rattle.dip_core.specs.Invariants.{ArePlaced}
 use Rattle.dip_core.proofs.DivisionLemmas.{IsLeastDivision-from_placed}
 use Rattle.dip_core.proofs.placer.Placer.finish.Goals as goal
-use Rattle.dip_core.proofs.placer.Placer.finish.Goals.{After-from_classes}
+use Rattle.dip_core.proofs.placer.Placer.finish.Goals.{After-from_parts}
 
-parts_were : (c : After-from_classes) → c.self.inside.classes.items ≡ c.args.self.parts
+parts_were : (c : After-from_parts) → c.self.inside.parts.items ≡ c.args.self.parts
 parts_were c = ap (λ (p : Placing). p.parts) c.self.view_is
 
-are_placed : (c : After-from_classes) → ArePlaced c.args.self.parts
+are_placed : (c : After-from_parts) → ArePlaced c.args.self.parts
 are_placed c = subst ArePlaced (parts_were c) c.self.invariant.are_placed
 
-result_is : (c : After-from_classes) → c.args.self.parts ≡ c.from_classes.result
-result_is c = sym (c.from_classes.ensures ∙ parts_were c)
+result_is : (c : After-from_parts) → c.args.self.parts ≡ c.from_parts.result
+result_is c = sym (c.from_parts.ensures ∙ parts_were c)
 
 pub returns-clause-least : goal.returns-clause-least
 returns-clause-least c =

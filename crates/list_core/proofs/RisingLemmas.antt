@@ -1,6 +1,7 @@
 -- Lists that rise by an order, and hold the same, are one.
 use Rattle.std.proofs.Common.{◌≡◌, zero, suc, List, [], ◌∷◌, arith, refl, sym, ap, ◌∙◌, inl, inr, ◌⊎◌, subst}
 use Rattle.std.specs.Prelude.{Contains, AllPairs}
+use Rattle.list_core.specs.Wanted.{IsListOf}
 
 pub Contains-head : {X : Type 0} (x : X) (xs : List X) → Contains (x ∷ xs) x
 Contains-head x xs = (0, omega arith, refl)
@@ -56,3 +57,12 @@ rising_is_one R (x ∷ xs) (y ∷ ys) asym one other there back =
     rising_is_one R xs ys asym (AllPairs-tail R x xs one) (AllPairs-tail R y ys other)
     (rest_in R x y xs ys asym one same there) (rest_in R y x ys xs asym other (sym same) back) in
     ap (λ l. x ∷ l) rest ∙ ap (λ w. w ∷ ys) same
+
+-- two lists of all that is wanted are one, where no two things stand before each other
+pub IsListOf-unique : {X : Type 0} (Before : X → X → Type 0) (Wanted : X → Type 0) (one other : List X)
+    → ((x y : X) → Before x y → Before y x → ⊥)
+    → IsListOf Before Wanted one → IsListOf Before Wanted other → one ≡ other
+IsListOf-unique Before Wanted one other asym is is' =
+    rising_is_one Before one other asym is.ordered is'.ordered
+    (λ x member. (is'.exactly x).1 ((is.exactly x).0 member))
+    (λ x member. (is.exactly x).1 ((is'.exactly x).0 member))

@@ -8,12 +8,12 @@ use std::marker::Model;
 
 /// A part's items, at least one, with the last end at hand for placing. Contracts see their list.
 #[derive(Drop)]
-pub struct Class {
+pub struct PartItems {
     items: Vec<Item>,
     end: Point,
 }
 
-impl Model for Class {
+impl Model for PartItems {
     ghost use Rattle.std.specs.Prelude.{◌≡◌, Some, List};
     ghost use Rattle.dip_core.specs.declared.item.Item.{Item};
     ghost use Rattle.dip_core.specs.Placing.{last_end};
@@ -25,14 +25,14 @@ impl Model for Class {
     ghost invariant = { λ c. last_end c.items.items ≡ Some c.end };
 }
 
-impl Class {
+impl PartItems {
     /// A part begins with its first item, so none is ever empty.
-    pub fn open(alloc: Global, item: &Item) -> Result<Class, NoMemory>
-        ensures { IfOk result (λ class. class ≡ item.now ∷ []) }
+    pub fn open(alloc: Global, item: &Item) -> Result<PartItems, NoMemory>
+        ensures { IfOk result (λ part. part ≡ item.now ∷ []) }
     {
         let mut items = Vec::new(alloc);
         items.push(*item)?;
-        Ok(Class {
+        Ok(PartItems {
             items,
             end: item.period.to,
         })

@@ -2,12 +2,12 @@
 use Rattle.std.specs.Prelude.{◌≡◌, ℕ, ◌-◌, ◌<◌, ◌≤◌, List, length, All, Option, slice_index_or}
 use Rattle.dip_core.specs.declared.item.Item.{Item}
 use Rattle.dip_core.specs.Item.{crowd, IsChain, HasDistinctIds}
-use Rattle.dip_core.specs.Division.{all_of, class_at, IsPlaced}
+use Rattle.dip_core.specs.Division.{all_of, part_at, IsPlaced}
 use Rattle.dip_core.specs.Placing.{IsGreatest}
 
 -- the last part's first item, by which that part was opened; d where there is none
 abbrev pub opener : List (List Item) → Item → Item
-opener parts d = slice_index_or (class_at parts (length parts - 1)) 0 d
+opener parts d = slice_index_or (part_at parts (length parts - 1)) 0 d
 
 -- its start is held by at least as many items as there are parts
 abbrev pub LastPartIsCrowded : List (List Item) → Type 0

@@ -1,0 +1,90 @@
+//! Lists.
+
+ghost use Rattle.std.specs.Prelude.{◌≡◌, ◌++◌, ◌==◌, [], ◌∷◌, length, IfOk, OnOk, OnErr, slice_get};
+ghost use Rattle.std.specs.Option.{option_copied};
+
+use crate::copy::{DeepCopy, copy_each};
+use std::alloc::{AllocError, Global};
+use std::marker::Model;
+
+/// Items in their order. Contracts see the list of them.
+#[derive(Debug, Drop)]
+pub struct List<T> {
+    items: Vec<T>,
+}
+
+impl<T> Model for List<T> {
+    ghost use Rattle.std.specs.Prelude.{List};
+
+    ghost Value = { List T };
+
+    ghost view = { λ l. l.items.items };
+}
+
+impl<T> From<Vec<T>> for List<T> {
+    ghost use Rattle.std.specs.Prelude.{◌≡◌};
+
+    ghost from_gives = { λ items list. list ≡ items.items };
+
+    fn from(items: Vec<T>) -> List<T> {
+        List { items }
+    }
+}
+
+impl<T> List<T> {
+    /// The empty list, which takes no memory.
+    pub fn new(alloc: Global) -> Self
+        ensures { result ≡ [] }
+    {
+        List {
+            items: Vec::new(alloc),
+        }
+    }
+
+    /// How many items there are.
+    pub fn len(&self) -> usize
+        ensures { result ≡ length self.now }
+    {
+        self.items.len()
+    }
+
+    /// Whether there are none.
+    pub fn is_empty(&self) -> bool
+        ensures { result ≡ (length self.now == 0) }
+    {
+        self.items.is_empty()
+    }
+
+    /// The item at that place, from 0 on; None exactly past the last.
+    pub fn get(&self, i: usize) -> Option<&T>
+        ensures { option_copied result ≡ slice_get self.now i }
+    {
+        self.items.get(i)
+    }
+
+    /// All items, in their order.
+    pub fn as_slice(&self) -> &[T]
+        ensures { result.now ≡ self.now }
+    {
+        &self.items
+    }
+}
+
+impl<T: Drop> List<T> {
+    /// Adds an item at the end. Where memory is refused the list is as before, and the item is dropped.
+    pub fn push(&mut self, item: T) -> Result<(), AllocError>
+        ensures ok { OnOk result (self.new ≡ self.old ++ item ∷ []) }
+        ensures err { OnErr result (self.new ≡ self.old) }
+    {
+        self.items.push(item)?;
+        Ok(())
+    }
+}
+
+impl<T: DeepCopy> DeepCopy for List<T> {
+    fn copy(&self, alloc: Global) -> Result<List<T>, AllocError> {
+        Ok(List {
+            items: copy_each(alloc, &self.items)?,
+        })
+    }
+}
