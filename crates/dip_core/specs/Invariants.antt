@@ -1,7 +1,7 @@
 -- What a division and a placer keep of their parts.
 use Rattle.std.specs.Prelude.{◌≡◌, ℕ, ◌-◌, ◌<◌, ◌≤◌, List, length, All, Option, slice_index_or}
 use Rattle.dip_core.specs.declared.item.Item.{Item}
-use Rattle.dip_core.specs.Item.{crowd, IsChain, HasDistinctIds}
+use Rattle.dip_core.specs.Item.{crowd, IsChain, HasDistinctIds, item_limit}
 use Rattle.dip_core.specs.Division.{all_of, part_at, IsPlaced}
 use Rattle.dip_core.specs.Placing.{IsGreatest}
 
@@ -25,9 +25,9 @@ pub record IsPlacing (parts : List (List Item)) (last : Option Item) (len : ℕ)
   pub are_placed : ArePlaced parts
   pub greatest : IsGreatest parts last
   pub counted : len ≡ length (all_of parts)
-  pub small : len ≤ 1_000_000
+  pub small : len ≤ item_limit
 
 -- what a division keeps
 pub record IsDivided (parts : List (List Item)) : Type 0 where
   pub are_placed : ArePlaced parts
-  pub small : length (all_of parts) ≤ 1_000_000
+  pub small : length (all_of parts) ≤ item_limit

@@ -1,6 +1,6 @@
 ghost use Rattle.std.specs.Prelude.{◌≡◌, ◌<◌, ◌≤◌, ◌↔◌, List, [], length, All, IsNone, IfSome, IfOk};
 ghost use Rattle.dip_core.specs.declared.item.Item.{Item};
-ghost use Rattle.dip_core.specs.Item.{IsChain, IsRising, HasDistinctIds};
+ghost use Rattle.dip_core.specs.Item.{IsChain, IsRising, HasDistinctIds, item_limit};
 ghost use Rattle.dip_core.specs.Division.{all_of, part_at, IsDip, IsDivision, IsInstant, IsInstantOf, IsLeast, IsLeastDivision};
 ghost use Rattle.dip_core.specs.Invariants.{ArePlaced, IsDivided};
 
@@ -40,8 +40,8 @@ impl Division {
     /// How many parts there are, at most 1,000,000. They divide all their items, each part's items rise, and no division of those items has fewer parts.
     pub fn parts(&self) -> u32
         ensures value { result ≡ length self.now }
-        ensures few { length self.now ≤ 1_000_000 }
-        ensures small { length (all_of self.now) ≤ 1_000_000 }
+        ensures few { length self.now ≤ item_limit }
+        ensures small { length (all_of self.now) ≤ item_limit }
 
         // What the type keeps of each division.
         ensures division { IsDivision (all_of self.now) self.now }
@@ -87,7 +87,7 @@ fn instant_of(parts: &[PartItems]) -> Option<Point>
 
 /// Divides the items, which are at most 1,000,000, into the least number of parts without overlaps. Items of distinct ids are placed one after another, by start, end and id, as `Placer::place` does.
 pub fn create_dip(alloc: Global, items: &[Item]) -> Result<Division, NoMemory>
-    requires { length items.now ≤ 1_000_000 }
+    requires { length items.now ≤ item_limit }
     ensures least { IfOk result (IsLeastDivision items.now) }
     ensures dip { IfOk result (λ division. HasDistinctIds items.now → IsDip items.now division) }
     ensures empty { IfOk result (λ division. (division ≡ []) ↔ (items.now ≡ [])) }

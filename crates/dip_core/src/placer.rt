@@ -1,6 +1,6 @@
 ghost use Rattle.std.specs.Prelude.{◌≡◌, ◌<◌, ◌≤◌, [], length, Some, None, IfOk, OnErr};
 ghost use Rattle.std.specs.Option.{ForSome};
-ghost use Rattle.dip_core.specs.Item.{IsBelow, HasDistinctIds};
+ghost use Rattle.dip_core.specs.Item.{IsBelow, HasDistinctIds, item_limit};
 ghost use Rattle.dip_core.specs.Division.{all_of, IsDip, IsLeastDivision};
 ghost use Rattle.dip_core.specs.Placing.{IsGreatest, IsPlaceFor, added};
 
@@ -54,7 +54,7 @@ impl Placer {
     /// How many items were placed, at most 1,000,000.
     pub fn len(&self) -> u64
         ensures value { result ≡ length (all_of self.now.parts) }
-        ensures small { result ≤ 1_000_000 }
+        ensures small { result ≤ item_limit }
     {
         self.len
     }
@@ -62,7 +62,7 @@ impl Placer {
     /// Places the item, and answers the number of its part: of those that have ended by its start the one that ended first, of several such the lowest, and where there is none a new part. On NoMemory nothing is changed.
     pub fn place(&mut self, item: Item) -> Result<u32, NoMemory>
         requires rises { ForSome self.old.last (λ last. ¬ IsBelow item last) }
-        requires room { length (all_of self.old.parts) < 1_000_000 }
+        requires room { length (all_of self.old.parts) < item_limit }
         ensures place { IfOk result (IsPlaceFor self.old.parts item.period.from) }
         ensures added { IfOk result (λ number. self.new ≡ record { parts = added self.old.parts number item; last = Some item }) }
         ensures err { OnErr result (self.new ≡ self.old) }

@@ -4,7 +4,7 @@ use Rattle.std.proofs.lemmas.Option.{MatchOption-at_some}
 use Rattle.std.proofs.lemmas.List.{take_all, length-take-le}
 use Rattle.std.proofs.lemmas.List.Sorted.{length_permutation, IsPermutation-trans}
 use Rattle.dip_core.specs.declared.item.Item.{Item}
-use Rattle.dip_core.specs.Item.{item_cmp}
+use Rattle.dip_core.specs.Item.{item_cmp, item_limit}
 use Rattle.dip_core.specs.Division.{all_of}
 use Rattle.dip_core.specs.Placing.{Placing}
 use Rattle.dip_core.proofs.DivisionLemmas.{no_parts, IsLeastDivision-permutation, HasDistinctIds-permutation}
@@ -30,7 +30,7 @@ place-requires-clause-room c =
     let all : length c.deref-item-items.result.now ≡ length c.sort_unstable.new.self.items = ap length c.deref-item-items.ensures.value in
     let sorted : length c.sort_unstable.new.self.items ≡ length c.in_ok-sorted.sorted.items = length_permutation _ _ c.sort_unstable.ensures.permutation in
     let copied : length c.in_ok-sorted.sorted.items ≡ length c.args.items.now = ap length c.in_ok-sorted.ensures.items in
-    let room : length c.args.items.now ≤ 1_000_000 = c.requires in
+    let room : length c.args.items.now ≤ item_limit = c.requires in
     omega (arith, within, many, front, all, sorted, copied, room)
 
 pub loop-item-preserved : goal.loop-item-preserved

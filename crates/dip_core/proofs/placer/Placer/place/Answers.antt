@@ -1,7 +1,7 @@
 use Rattle.std.proofs.Common.{rules, arith, ◌≡◌, ◌<◌, ◌+◌, length, subst, sym, ap, Some, List, Option}
 use Rattle.std.specs.Option.{ForSome}
 use Rattle.dip_core.specs.declared.item.Item.{Item}
-use Rattle.dip_core.specs.Item.{IsBelow}
+use Rattle.dip_core.specs.Item.{IsBelow, item_limit}
 use Rattle.dip_core.specs.Division.{all_of}
 use Rattle.dip_core.specs.Placing.{Placing, IsPlaceFor}
 use Rattle.dip_core.specs.Invariants.{IsPlacing}
@@ -23,8 +23,8 @@ invariant_of-self-2 c =
     let parts_were : c.self.inside.parts.items ≡ c.args.self.now.parts = ap (λ (p : Placing). p.parts) c.self.view_is in
     let above : ForSome c.self.inside.last (λ z. IsBelow c.args.item z → ⊥) =
     subst (λ (last : Option Item). ForSome last (λ z. IsBelow c.args.item z → ⊥)) (sym was) c.requires.rises in
-    let room : length (all_of c.self.inside.parts.items) < 1_000_000 =
-    subst (λ (parts : List (List Item)). length (all_of parts) < 1_000_000) (sym parts_were) c.requires.room in
+    let room : length (all_of c.self.inside.parts.items) < item_limit =
+    subst (λ (parts : List (List Item)). length (all_of parts) < item_limit) (sym parts_were) c.requires.room in
     let grown = c.in_ok-number.ensures.added in
     let longer = length-all_of-added c.self.inside.parts.items c.in_ok-number.number c.args.item in
     let counted = c.self.invariant.counted in
