@@ -18,7 +18,8 @@ split_last P n below here j h =
     elim (cases_lt j n) [ inl less ↦ below j less | inr more ↦ let e : n ≡ j = omega arith in subst P e here ]
 
 -- it is the first that has ended
-pub best-first : (parts : List (List Item)) (start : ℤ) (n : ℕ) (end : ℤ) → NoPartIsFreeBelow parts start n → last_end (part_at parts n) ≡ Some end → end ≤ℤ start → IsBestPartBelow parts start (n + 1) n end
+pub best-first : (parts : List (List Item)) (start : ℤ) (n : ℕ) (end : ℤ) → NoPartIsFreeBelow parts start n
+    → last_end (part_at parts n) ≡ Some end → end ≤ℤ start → IsBestPartBelow parts start (n + 1) n end
 best-first parts start n end none ends over = record {
   within = omega arith;
   ends = ends;
@@ -31,7 +32,9 @@ best-first parts start n end none ends over = record {
 }
 
 -- it ended before the best so far
-pub best-better : (parts : List (List Item)) (start : ℤ) (n k : ℕ) (least end : ℤ) → IsBestPartBelow parts start n k least → last_end (part_at parts n) ≡ Some end → end <ℤ least → IsBestPartBelow parts start (n + 1) n end
+pub best-better : (parts : List (List Item)) (start : ℤ) (n k : ℕ) (least end : ℤ)
+    → IsBestPartBelow parts start n k least → last_end (part_at parts n) ≡ Some end → end <ℤ least
+    → IsBestPartBelow parts start (n + 1) n end
 best-better parts start n k least end so_far ends less = record {
   within = omega arith;
   ends = ends;
@@ -48,7 +51,8 @@ best-better parts start n k least end so_far ends less = record {
 }
 
 -- the part that an index gave
-pub last_end-part_at : (parts : List (List Item)) (n : ℕ) (part : List Item) (end : ℤ) → n < length parts → part ≡ get_or parts n part → last_end part ≡ Some end → last_end (part_at parts n) ≡ Some end
+pub last_end-part_at : (parts : List (List Item)) (n : ℕ) (part : List Item) (end : ℤ) → n < length parts
+    → part ≡ get_or parts n part → last_end part ≡ Some end → last_end (part_at parts n) ≡ Some end
 last_end-part_at parts n part end within is ends =
     let same : part ≡ part_at parts n = get_or_read parts n part within is [] in
     rw same at ends
@@ -61,7 +65,8 @@ is_part parts k end ends = elim (cases_lt k (length parts)) [
 ]
 
 -- the best of all parts
-pub best-all : (parts : List (List Item)) (start : ℤ) (k : ℕ) (end : ℤ) → IsBestPartBelow parts start (length parts) k end → IsBestPart parts start k
+pub best-all : (parts : List (List Item)) (start : ℤ) (k : ℕ) (end : ℤ)
+    → IsBestPartBelow parts start (length parts) k end → IsBestPart parts start k
 best-all parts start k end below = record {
   end = end;
   ends = below.ends;
@@ -70,5 +75,6 @@ best-all parts start k end below = record {
 }
 
 -- none of all parts has ended
-pub none-all : (parts : List (List Item)) (start : ℤ) → NoPartIsFreeBelow parts start (length parts) → NoPartIsFree parts start
+pub none-all : (parts : List (List Item)) (start : ℤ) → NoPartIsFreeBelow parts start (length parts)
+    → NoPartIsFree parts start
 none-all parts start none = λ j f ends. none j f (is_part parts j f ends) ends

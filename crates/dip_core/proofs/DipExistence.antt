@@ -40,7 +40,8 @@ insert x (y ∷ ys) rising = elim (cases_Bool (is_lt (item_cmp y x))) [
       let (zs, (moved, risen)) = insert x ys (AllPairs-tail (λ v w. IsBelow w v → ⊥) y ys rising) in
       let over : All (λ w. IsBelow w y → ⊥) zs =
       All-permutation (λ w. IsBelow w y → ⊥) (x ∷ ys) zs moved
-      (All-cons (λ w. IsBelow w y → ⊥) x ys (not_below_back y x under) (λ k d h. rising 0 (suc k) d (omega arith) (omega arith))) in (
+      (All-cons (λ w. IsBelow w y → ⊥) x ys (not_below_back y x under)
+          (λ k d h. rising 0 (suc k) d (omega arith) (omega arith))) in (
         y ∷ zs,
         (
           IsPermutation-trans (x ∷ (y ∷ ys)) (y ∷ (x ∷ ys)) (y ∷ zs)
@@ -76,7 +77,8 @@ module _ (parts : List (List Item)) (start : ℤ) (n : ℕ) (end : ℤ) (ends : 
       split_last (λ j. last_end (part_at parts j) ≡ Some f → start <ℤ f) n (λ j less e. none j f less e)
       (λ e. let same : end ≡ f = same_end (part_at parts n) end f ends e in omega (arith, ints)) j h e
 
-  best_stays : (k : ℕ) (least : ℤ) → IsBestPartBelow parts start n k least → (end ≤ℤ start → least ≤ℤ end) → IsBestPartBelow parts start (n + 1) k least
+  best_stays : (k : ℕ) (least : ℤ) → IsBestPartBelow parts start n k least → (end ≤ℤ start → least ≤ℤ end)
+      → IsBestPartBelow parts start (n + 1) k least
   best_stays k least so_far no_better = record {
     within = let w : k < n = so_far.within in omega arith;
     ends = so_far.ends;
@@ -96,7 +98,8 @@ module _ (parts : List (List Item)) (start : ℤ) (n : ℕ) (end : ℤ) (ends : 
   found_more found = by_lt_z start end
       (λ late. elim found [
         | inl none ↦ inl (none_more none late)
-        | inr best ↦ let (k, least, so_far) = best in inr (k, least, best_stays k least so_far (λ over. absurd (omega (arith, ints))))
+        | inr best ↦ let (k, least, so_far) =
+            best in inr (k, least, best_stays k least so_far (λ over. absurd (omega (arith, ints))))
       ])
       (λ over. elim found [
         | inl none ↦ inr (n, end, best-first parts start n end none ends over)
@@ -108,16 +111,20 @@ module _ (parts : List (List Item)) (start : ℤ) (n : ℕ) (end : ℤ) (ends : 
       ])
 
 some_end : (part : List Item) → 0 < length part → (end : ℤ) × (last_end part ≡ Some end)
-some_end part filled = let d : Item = some_item part filled in ((get_or part (length part - 1) d).period.to, last_end_is part d filled)
+some_end part filled =
+    let d : Item = some_item part filled in ((get_or part (length part - 1) d).period.to, last_end_is part d filled)
 
-found_below : (parts : List (List Item)) (start : ℤ) → All (λ part. 0 < length part) parts → (n : ℕ) → n ≤ length parts → Found parts start n
+found_below : (parts : List (List Item)) (start : ℤ) → All (λ part. 0 < length part) parts → (n : ℕ) → n ≤ length parts
+    → Found parts start n
 found_below parts start filled zero le = inl (λ j f h. absurd (omega arith))
 found_below parts start filled (suc n) le =
-    let (end, ends) = some_end (part_at parts n) (All-get_or (λ part. 0 < length part) parts n [] (omega arith) filled) in
+    let (end, ends) =
+        some_end (part_at parts n) (All-get_or (λ part. 0 < length part) parts n [] (omega arith) filled) in
     let next : n + 1 ≡ suc n = omega arith in
     subst (Found parts start) next (found_more parts start n end ends (found_below parts start filled n (omega arith)))
 
-some_place : (parts : List (List Item)) (start : ℤ) → All (λ part. 0 < length part) parts → (k : ℕ) × IsPlaceFor parts start k
+some_place : (parts : List (List Item)) (start : ℤ) → All (λ part. 0 < length part) parts → (k : ℕ)
+    × IsPlaceFor parts start k
 some_place parts start filled = elim (found_below parts start filled (length parts) (omega arith)) [
   | inl none ↦ (length parts, inr (refl, none-all parts start none))
   | inr best ↦ let (k, end, below) = best in (k, inl (best-all parts start k end below))
@@ -128,16 +135,21 @@ some_place parts start filled = elim (found_below parts start filled (length par
 abbrev NotBelowLast : Option Item → Item → Type 0
 NotBelowLast last x = ForSome last (λ z. IsBelow x z → ⊥)
 
-place_all : (parts : List (List Item)) (last : Option Item) (xs : List Item) → ArePlaced parts → IsGreatest parts last → All (NotBelowLast last) xs → IsRising xs
+place_all : (parts : List (List Item)) (last : Option Item) (xs : List Item) → ArePlaced parts → IsGreatest parts last
+    → All (NotBelowLast last) xs → IsRising xs
     → (all_parts : List (List Item)) × (IsPermutation (all_of parts ++ xs) (all_of all_parts) × ArePlaced all_parts)
-place_all parts last [] are greatest above rising = (parts, (subst (λ l. IsPermutation l (all_of parts)) (sym (append-nil (all_of parts))) (IsPermutation-refl (all_of parts)), are))
+place_all parts last [] are greatest above rising =
+    (parts, (subst (λ l. IsPermutation l (all_of parts)) (sym (append-nil (all_of parts)))
+    (IsPermutation-refl (all_of parts)), are))
 place_all parts last (x ∷ xs) are greatest above rising =
     let over : NotBelowLast last x = All-head (NotBelowLast last) x xs above in
     let (k, place) = some_place parts x.period.from are.filled in
     let later : All (NotBelowLast (Some x)) xs =
-    λ i d h z is. subst (λ w. IsBelow (get_or xs i d) w → ⊥) (same_item_at x z is) (rising 0 (suc i) d (omega arith) (omega arith)) in
+    λ i d h z is. subst (λ w. IsBelow (get_or xs i d) w → ⊥) (same_item_at x z is)
+        (rising 0 (suc i) d (omega arith) (omega arith)) in
     let (all_parts, (moved, placed)) =
-    place_all (added parts k x) (Some x) xs (ArePlaced-added parts last k x are greatest over place) (IsGreatest-added parts last k x greatest over) later
+    place_all (added parts k x) (Some x) xs (ArePlaced-added parts last k x are greatest over place)
+        (IsGreatest-added parts last k x greatest over) later
     (AllPairs-tail (λ v w. IsBelow w v → ⊥) x xs rising) in (
       all_parts,
       (
@@ -163,7 +175,8 @@ none_placed = record {
 some_placed : (items : List Item) → (parts : List (List Item)) × (IsPermutation items (all_of parts) × ArePlaced parts)
 some_placed items =
     let (xs, (moved, rising)) = sorted_items items in
-    let (parts, (moved', placed)) = place_all [] None xs none_placed refl (λ k d h z is. absurd (none-some z is)) rising in
+    let (parts, (moved', placed)) =
+        place_all [] None xs none_placed refl (λ k d h z is. absurd (none-some z is)) rising in
     (parts, (IsPermutation-trans items xs (all_of parts) moved moved', placed))
 
 -- ---- the instant
@@ -197,7 +210,8 @@ some_instant items parts divided =
     let division : IsDivision items placed_parts =
     IsDivision-permutation items (all_of placed_parts) placed_parts moved (IsDivision-from_placed placed_parts are) in
     let least : IsLeast items (length placed_parts) =
-    IsLeast-permutation items (all_of placed_parts) (length placed_parts) moved (IsLeast-from_placed placed_parts are) in
+    IsLeast-permutation items (all_of placed_parts) (length placed_parts) moved
+        (IsLeast-from_placed placed_parts are) in
     let few : length placed_parts ≤ length parts = least.least parts divided.division in
     let many : length parts ≤ length placed_parts = divided.least.least placed_parts division in
     let same : length placed_parts ≡ length parts = omega arith in
@@ -209,7 +223,8 @@ some_instant items parts divided =
           (All-get_or (λ part. 0 < length part) placed_parts (length placed_parts - 1) [] (omega arith) are.filled) in
           let t : ℤ = (opener placed_parts d).period.from in
           let is : IsInstant items (length placed_parts) t =
-          IsInstant-permutation items (all_of placed_parts) (length placed_parts) t moved (IsInstant-from_placed placed_parts d are some') in
+          IsInstant-permutation items (all_of placed_parts) (length placed_parts) t moved
+              (IsInstant-from_placed placed_parts d are some') in
           (Some t, some_instant-of_many items parts t divided.division some (subst (λ k. IsInstant items k t) same is))
       | inr none ↦ (
         None,

@@ -11,7 +11,8 @@ opener parts d = slice_index_or (part_at parts (length parts - 1)) 0 d
 
 -- its start is held by at least as many items as there are parts
 abbrev pub LastPartIsCrowded : List (List Item) → Type 0
-LastPartIsCrowded parts = (d : Item) → 0 < length parts → length parts ≤ crowd (all_of parts) (opener parts d).period.from
+LastPartIsCrowded parts =
+    (d : Item) → 0 < length parts → length parts ≤ crowd (all_of parts) (opener parts d).period.from
 
 -- what is known of the parts at each moment
 pub record ArePlaced (parts : List (List Item)) : Type 0 where

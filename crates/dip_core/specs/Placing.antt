@@ -37,4 +37,5 @@ added (part ∷ parts) (suc k) x = part ∷ added parts k x
 
 -- the last one is an item of the parts, and none of them is above it; None is only without parts
 abbrev pub IsGreatest : List (List Item) → Option Item → Type 0
-IsGreatest parts last = MatchOption last (parts ≡ []) (λ z. Contains (all_of parts) z × All (λ y. IsBelow z y → ⊥) (all_of parts))
+IsGreatest parts last =
+    MatchOption last (parts ≡ []) (λ z. Contains (all_of parts) z × All (λ y. IsBelow z y → ⊥) (all_of parts))

@@ -7,5 +7,6 @@ use Rattle.dip_core.proofs.division.create_dip.Given as goal
 abbrev pub invariant-loop-item : goal.invariant-loop-item
 invariant-loop-item l = record {
   placed : IsPermutation (take l.item-index l.item-items) (all_of l.placer.parts);
-  last : MatchOption l.placer.last (l.item-index ≡ 0) (λ y. (0 < l.item-index) × (y ≡ get_or l.item-items (l.item-index - 1) y));
+  last : MatchOption l.placer.last (l.item-index ≡ 0)
+      (λ y. (0 < l.item-index) × (y ≡ get_or l.item-items (l.item-index - 1) y));
 }

@@ -10,4 +10,5 @@ returns c =
     let best = c.in_ok-best.best in
     let all : c.loop-number.number ≡ length parts = omega arith in
     let below = MatchOption-at_some _ _ best c.in_ok-best.was c.loop-number.invariant in
-    best-all parts c.args.start best.number best.end (subst (λ n. IsBestPartBelow parts c.args.start n best.number best.end) all below)
+    best-all parts c.args.start best.number best.end
+        (subst (λ n. IsBestPartBelow parts c.args.start n best.number best.end) all below)
