@@ -6,7 +6,8 @@ use Rattle.std.proofs.lemmas.List.Elements.{All-head, All-tail}
 use Rattle.cert_core.specs.Claim.{ids_of}
 
 -- a part of those that have ids
-pub filled_before : (claim : List (List ℕ)) (n j : ℕ) → All (λ part. 0 < length part) (take n claim) → j < n → slice_get claim j ≢ Some []
+pub filled_before : (claim : List (List ℕ)) (n j : ℕ) → All (λ part. 0 < length part) (take n claim) → j < n
+    → slice_get claim j ≢ Some []
 filled_before [] n j filled less e = cc e
 filled_before (part ∷ claim) zero j filled less e = absurd (omega arith)
 filled_before (part ∷ claim) (suc n) zero filled less e =
@@ -14,7 +15,8 @@ filled_before (part ∷ claim) (suc n) zero filled less e =
     let none : part ≡ [] = cc in
     let zero_is : length part ≡ 0 = ap length none in
     absurd (omega arith)
-filled_before (part ∷ claim) (suc n) (suc j) filled less e = filled_before claim n j (All-tail (λ part. 0 < length part) part (take n claim) filled) (omega arith) e
+filled_before (part ∷ claim) (suc n) (suc j) filled less e =
+    filled_before claim n j (All-tail (λ part. 0 < length part) part (take n claim) filled) (omega arith) e
 
 -- the ids of a part among all ids
 pub ids_of-part : (claim : List (List ℕ)) (k : ℕ) (part : List ℕ) → slice_get claim k ≡ Some part
@@ -39,7 +41,13 @@ ids_of-part_end (first ∷ claim) zero part e =
     let size : length first ≡ length part = ap length same in
     omega (arith, length-append first (ids_of claim))
 ids_of-part_end (first ∷ claim) (suc k) part e =
-    omega (arith, length-append first (ids_of claim), length-append first (ids_of (take k claim)), ids_of-part_end claim k part e)
+    omega (
+      arith,
+      length-append first (ids_of claim),
+      length-append first
+          (ids_of (take k claim)),
+      ids_of-part_end claim k part e,
+    )
 
 -- those of one more part
 pub ids_of-take : (claim : List (List ℕ)) (k : ℕ) (part : List ℕ) → slice_get claim k ≡ Some part
@@ -52,4 +60,10 @@ ids_of-take (first ∷ claim) zero part e =
 ids_of-take (first ∷ claim) (suc k) part e =
     let next : suc k + 1 ≡ suc (k + 1) = omega arith in
     ap (λ n. length (ids_of (take n (first ∷ claim)))) next
-    ∙ omega (arith, length-append first (ids_of (take (k + 1) claim)), length-append first (ids_of (take k claim)), ids_of-take claim k part e)
+    ∙ omega (
+      arith,
+      length-append first (ids_of (take (k + 1) claim)),
+      length-append first
+          (ids_of (take k claim)),
+      ids_of-take claim k part e,
+    )

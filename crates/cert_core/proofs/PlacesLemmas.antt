@@ -19,21 +19,25 @@ pub HasItem-at : (items : List Item) (p : ℕ) → p < length items → HasItem 
 HasItem-at items p h = let (x, is, same) = item_at items p h in (p, x, h, is, sym same)
 
 -- the place of an item with the id
-pub place_of_item : (items : List Item) (id : ℕ) → HasItem items id → (p : ℕ) × (p < length items) × (id_at items p ≡ id)
+pub place_of_item : (items : List Item) (id : ℕ) → HasItem items id → (p : ℕ) × (p < length items)
+    × (id_at items p ≡ id)
 place_of_item items id (p, x, h, is, same) = (p, h, id_at-get_or items p x h ∙ (ap (λ (z : Item). z.id) is ∙ same))
 
 pub known-from_places : (items : List Item) (ids places : List ℕ) → ArePlaces items ids places → All (HasItem items) ids
 known-from_places items ids places are =
     subst (All (HasItem items)) are.named
-    (All-map (HasItem items) (id_at items) places (All-weaker (λ p. p < length items) (λ p. HasItem items (id_at items p)) (HasItem-at items) places are.within))
+    (All-map (HasItem items) (id_at items) places
+    (All-weaker (λ p. p < length items) (λ p. HasItem items (id_at items p)) (HasItem-at items) places are.within))
 
 pub ArePlaces-nil : (items : List Item) → ArePlaces items [] []
 ArePlaces-nil items = record { within = λ k d h. absurd (omega arith); named = refl }
 
-pub ArePlaces-push : (items : List Item) (ids places : List ℕ) (id p : ℕ) → ArePlaces items ids places → p < length items → id_at items p ≡ id → ArePlaces items (ids ++ id ∷ []) (places ++ p ∷ [])
+pub ArePlaces-push : (items : List Item) (ids places : List ℕ) (id p : ℕ) → ArePlaces items ids places
+    → p < length items → id_at items p ≡ id → ArePlaces items (ids ++ id ∷ []) (places ++ p ∷ [])
 ArePlaces-push items ids places id p are h is = record {
   within = All-push (λ p. p < length items) places p are.within h;
-  named = map-append (id_at items) places (p ∷ []) ∙ (ap (λ l. l ++ id_at items p ∷ []) are.named ∙ ap (λ n. ids ++ n ∷ []) is);
+  named = map-append (id_at items) places (p ∷ [])
+      ∙ (ap (λ l. l ++ id_at items p ∷ []) are.named ∙ ap (λ n. ids ++ n ∷ []) is);
 }
 
 -- what f gives of a contained number
@@ -47,27 +51,33 @@ pub Contains-from_map : (f : ℕ → ℕ) (ps : List ℕ) (i : ℕ) → Contains
 Contains-from_map f [] i (k, h, is) = absurd (omega arith)
 Contains-from_map f (p ∷ ps) i (zero, h, is) = (p, (0, omega arith, refl), is)
 Contains-from_map f (p ∷ ps) i (suc k, h, is) =
-    let (q, (m, less, there), same) = Contains-from_map f ps i (k, omega arith, is) in (q, (suc m, omega arith, there), same)
+    let (q, (m, less, there), same) =
+    Contains-from_map f ps i (k, omega arith, is) in (q, (suc m, omega arith, there), same)
 
 -- an id occurs as often as its place
-count-at : (items : List Item) → IdsRise items → (p : ℕ) → p < length items → (qs : List ℕ) → All (λ q. q < length items) qs
+count-at : (items : List Item) → IdsRise items → (p : ℕ) → p < length items → (qs : List ℕ)
+    → All (λ q. q < length items) qs
     → count_by (λ id. id == id_at items p) (map (id_at items) qs) ≡ count_by (λ q. q == p) qs
 count-at items rise p h [] within = refl
 count-at items rise p h (q ∷ qs) within =
-    let rest : count_by (λ id. id == id_at items p) (map (id_at items) qs) ≡ count_by (λ q. q == p) qs = count-at items rise p h qs (All-tail (λ q. q < length items) q qs within) in
+    let rest : count_by (λ id. id == id_at items p) (map (id_at items) qs) ≡ count_by (λ q. q == p) qs =
+    count-at items rise p h qs (All-tail (λ q. q < length items) q qs within) in
     let first : q < length items = All-head (λ q. q < length items) q qs within in
     let one = count-cons (id_at items q) (id_at items p) (map (id_at items) qs) in
     let other = count-cons q p qs in
     let there : (id_at items q == id_at items p) ≡ true → (q == p) ≡ true =
-    λ yes. subst (λ n. (q == n) ≡ true) (same_place items rise q p first h (eqb-true (id_at items q) (id_at items p) yes)) (eqb-same q) in
+    λ yes. subst (λ n. (q == n) ≡ true)
+    (same_place items rise q p first h (eqb-true (id_at items q) (id_at items p) yes)) (eqb-same q) in
     let back : (q == p) ≡ true → (id_at items q == id_at items p) ≡ true =
     λ yes. subst (λ n. (id_at items q == id_at items n) ≡ true) (eqb-true q p yes) (eqb-same (id_at items q)) in
     grind arith
 
-distinct-map : (items : List Item) → IdsRise items → (places : List ℕ) → All (λ p. p < length items) places → IsDistinct places → IsDistinct (map (id_at items) places)
+distinct-map : (items : List Item) → IdsRise items → (places : List ℕ) → All (λ p. p < length items) places
+    → IsDistinct places → IsDistinct (map (id_at items) places)
 distinct-map items rise [] within distinct i = omega arith
 distinct-map items rise (p ∷ ps) within distinct i =
-    let rest : count_by (λ id. id == i) (map (id_at items) ps) ≤ 1 = distinct-map items rise ps (All-tail (λ p. p < length items) p ps within) (IsDistinct-tail p ps distinct) i in
+    let rest : count_by (λ id. id == i) (map (id_at items) ps) ≤ 1 =
+    distinct-map items rise ps (All-tail (λ p. p < length items) p ps within) (IsDistinct-tail p ps distinct) i in
     let split = count-cons (id_at items p) i (map (id_at items) ps) in
     let first : p < length items = All-head (λ p. p < length items) p ps within in
     let here : (id_at items p == i) ≡ true → count_by (λ id. id == i) (map (id_at items) (p ∷ ps)) ≤ 1 =
@@ -77,22 +87,28 @@ distinct-map items rise (p ∷ ps) within distinct i =
     omega arith) in
     grind arith
 
-pub IsDistinct-at : (items : List Item) (ids places : List ℕ) → IdsRise items → ArePlaces items ids places → IsDistinct places → IsDistinct ids
-IsDistinct-at items ids places rise are distinct = subst IsDistinct are.named (distinct-map items rise places are.within distinct)
+pub IsDistinct-at : (items : List Item) (ids places : List ℕ) → IdsRise items → ArePlaces items ids places
+    → IsDistinct places → IsDistinct ids
+IsDistinct-at items ids places rise are distinct =
+    subst IsDistinct are.named (distinct-map items rise places are.within distinct)
 
-pub IsTwice-at : (items : List Item) (ids places : List ℕ) (p : ℕ) → IdsRise items → ArePlaces items ids places → IsTwice places p → IsTwice ids (id_at items p)
+pub IsTwice-at : (items : List Item) (ids places : List ℕ) (p : ℕ) → IdsRise items → ArePlaces items ids places
+    → IsTwice places p → IsTwice ids (id_at items p)
 IsTwice-at items ids places p rise are twice = record {
   before = map (id_at items) twice.before;
   after = map (id_at items) twice.after;
-  stands = sym are.named ∙ (ap (map (id_at items)) twice.stands ∙ map-append (id_at items) twice.before (p ∷ twice.after));
+  stands = sym are.named
+      ∙ (ap (map (id_at items)) twice.stands ∙ map-append (id_at items) twice.before (p ∷ twice.after));
   again = Contains-map (id_at items) twice.before p twice.again;
-  first = distinct-map items rise twice.before (front twice.before (p ∷ twice.after) (subst (All (λ q. q < length items)) twice.stands are.within)) twice.first;
+  first = distinct-map items rise twice.before
+      (front twice.before (p ∷ twice.after) (subst (All (λ q. q < length items)) twice.stands are.within)) twice.first;
 }
   where
     front : (xs ys : List ℕ) → All (λ q. q < length items) (xs ++ ys) → All (λ q. q < length items) xs
     front [] ys all k d h = absurd (omega arith)
     front (x ∷ xs) ys all zero d h = all 0 d (omega arith)
-    front (x ∷ xs) ys all (suc k) d h = front xs ys (All-tail (λ q. q < length items) x (xs ++ ys) all) k d (omega arith)
+    front (x ∷ xs) ys all (suc k) d h =
+        front xs ys (All-tail (λ q. q < length items) x (xs ++ ys) all) k d (omega arith)
 
 -- ---- marks
 
@@ -102,16 +118,20 @@ AreMarks-nil marks none = record {
   each = λ k d h. absurd (omega arith);
 }
 
-pub AreMarks-push : (places : List ℕ) (marks : List Bool) (p : ℕ) → AreMarks places marks → p < length marks → AreMarks (places ++ p ∷ []) (set marks p true)
+pub AreMarks-push : (places : List ℕ) (marks : List Bool) (p : ℕ) → AreMarks places marks → p < length marks
+    → AreMarks (places ++ p ∷ []) (set marks p true)
 AreMarks-push places marks p are h =
     let long : length (set marks p true) ≡ length marks = length-set marks p true in
     record {
       marked = λ q less yes. elim (place_cases q) [
         | inl same ↦ subst (Contains (places ++ p ∷ [])) (sym same) (Contains-push places p)
-        | inr other ↦ Contains-append_left places (p ∷ []) q (are.marked q (omega arith) (sym (get_or-set_other marks p q true false other) ∙ yes))
+        | inr other ↦
+            Contains-append_left places (p ∷ []) q
+            (are.marked q (omega arith) (sym (get_or-set_other marks p q true false other) ∙ yes))
       ];
       each = All-push (λ q. (q < length (set marks p true)) × (get_or (set marks p true) q false ≡ true)) places p
-          (All-weaker (λ q. (q < length marks) × (get_or marks q false ≡ true)) (λ q. (q < length (set marks p true)) × (get_or (set marks p true) q false ≡ true))
+          (All-weaker (λ q. (q < length marks) × (get_or marks q false ≡ true))
+          (λ q. (q < length (set marks p true)) × (get_or (set marks p true) q false ≡ true))
           (λ q was. (let less : q < length marks = was.0 in omega arith, still q was.1)) places are.each)
           (omega arith, get_or-set_same marks p true false h);
     }
@@ -129,16 +149,21 @@ AreMarks-push places marks p are h =
     ]
 
 -- the id of the first place without a mark is missing
-pub IsMissing-at : (items : List Item) (ids places : List ℕ) (marks : List Bool) (p : ℕ) → IdsRise items → ArePlaces items ids places → AreMarks places marks → length marks ≡ length items → IsFirstUnmarked marks p → IsMissing items ids (id_at items p)
+pub IsMissing-at : (items : List Item) (ids places : List ℕ) (marks : List Bool) (p : ℕ) → IdsRise items
+    → ArePlaces items ids places → AreMarks places marks → length marks ≡ length items → IsFirstUnmarked marks p
+    → IsMissing items ids (id_at items p)
 IsMissing-at items ids places marks p rise are marked long free =
     let within : p < length marks = free.within in
     let place : p < length items = omega arith in
     record {
       known = HasItem-at items p place;
       missing = λ there.
-          let (q, stands, same) = Contains-from_map (id_at items) places (id_at items p) (subst (λ l. Contains l (id_at items p)) (sym are.named) there) in
+          let (q, stands, same) =
+          Contains-from_map (id_at items) places (id_at items p)
+          (subst (λ l. Contains l (id_at items p)) (sym are.named) there) in
           let q_in : q < length items = All-contains (λ q. q < length items) places q are.within stands in
-          let q_marked = All-contains (λ q. (q < length marks) × (get_or marks q false ≡ true)) places q marked.each stands in
+          let q_marked =
+          All-contains (λ q. (q < length marks) × (get_or marks q false ≡ true)) places q marked.each stands in
           let one : q ≡ p = same_place items rise q p q_in place same in
           let yes : get_or marks p false ≡ true = subst (λ n. get_or marks n false ≡ true) one q_marked.1 in
           let at : get_or marks p true ≡ get_or marks p false = get_or_default marks p true false within in
@@ -147,7 +172,9 @@ IsMissing-at items ids places marks p rise are marked long free =
       least = λ other has below.
           let (q, q_in, is) = place_of_item items other has in
           let before : q < p = sooner q q_in (subst (λ n. n < id_at items p) (sym is) below) in
-          subst (Contains ids) is (subst (λ l. Contains l (id_at items q)) are.named (Contains-map (id_at items) places q (marked.marked q (omega arith) (free.first q before))));
+          subst (Contains ids) is
+          (subst (λ l. Contains l (id_at items q)) are.named
+          (Contains-map (id_at items) places q (marked.marked q (omega arith) (free.first q before))));
     }
   where
     sooner : (q : ℕ) → q < length items → id_at items q < id_at items p → q < p
@@ -155,58 +182,75 @@ IsMissing-at items ids places marks p rise are marked long free =
       | inl less ↦ let far : id_at items p < id_at items q = id_at-rises items rise p q less h in absurd (omega arith)
       | inr more ↦ elim (cases_lt q p) [
         | inl less ↦ less
-        | inr most ↦ let e : q ≡ p = omega arith in let same : id_at items q ≡ id_at items p = ap (id_at items) e in absurd (omega arith)
+        | inr most ↦ let e : q ≡ p =
+            omega arith in let same : id_at items q ≡ id_at items p = ap (id_at items) e in absurd (omega arith)
       ]
     ]
 
 -- where each place is marked, each item's id is there
-pub complete-at : (items : List Item) (ids places : List ℕ) (marks : List Bool) → ArePlaces items ids places → AreMarks places marks → length marks ≡ length items → All (λ mark. mark ≡ true) marks → All (λ x. Contains ids x.id) items
+pub complete-at : (items : List Item) (ids places : List ℕ) (marks : List Bool) → ArePlaces items ids places
+    → AreMarks places marks → length marks ≡ length items → All (λ mark. mark ≡ true) marks
+    → All (λ x. Contains ids x.id) items
 complete-at items ids places marks are marked long all k d h =
     let there : Contains places k = marked.marked k (omega arith) (all k false (omega arith)) in
     subst (Contains ids) (id_at-get_or items k d h)
     (subst (λ l. Contains l (id_at items k)) are.named (Contains-map (id_at items) places k there))
 
-pub marked_each : (places : List ℕ) (marks : List Bool) (p : ℕ) → AreMarks places marks → Contains places p → get_or marks p false ≡ true
-marked_each places marks p are there = (All-contains (λ q. (q < length marks) × (get_or marks q false ≡ true)) places p are.each there).1
+pub marked_each : (places : List ℕ) (marks : List Bool) (p : ℕ) → AreMarks places marks → Contains places p
+    → get_or marks p false ≡ true
+marked_each places marks p are there =
+    (All-contains (λ q. (q < length marks) × (get_or marks q false ≡ true)) places p are.each there).1
 
 -- ---- neighbours
 
-pub before_is : (xs : List Item) (n : ℕ) (x : Item) → 1 ≤ n → n < length xs → x ≡ get_or xs (n - 1) x → (d : Item) → get_or xs (n - 1) d ≡ x
+pub before_is : (xs : List Item) (n : ℕ) (x : Item) → 1 ≤ n → n < length xs → x ≡ get_or xs (n - 1) x → (d : Item)
+    → get_or xs (n - 1) d ≡ x
 before_is xs n x low h is d = sym (get_or_read xs (n - 1) x (omega arith) is d)
 
-pub after_is : (xs : List Item) (n : ℕ) (x : Item) → 1 ≤ n → n < length xs → x ≡ get_or xs n x → (d : Item) → get_or xs (n - 1 + 1) d ≡ x
+pub after_is : (xs : List Item) (n : ℕ) (x : Item) → 1 ≤ n → n < length xs → x ≡ get_or xs n x → (d : Item)
+    → get_or xs (n - 1 + 1) d ≡ x
 after_is xs n x low h is d =
     let e : n - 1 + 1 ≡ n = omega arith in
     ap (λ m. get_or xs m d) e ∙ sym (get_or_read xs n x h is d)
 
 -- ---- a part's places
 
-pub ArePlaces-part : (items : List Item) (claim : List (List ℕ)) (places : List ℕ) (k : ℕ) (part : List ℕ) (start : ℕ) → ArePlaces items (ids_of claim) places → slice_get claim k ≡ Some part → start ≡ length (ids_of (take k claim))
+pub ArePlaces-part : (items : List Item) (claim : List (List ℕ)) (places : List ℕ) (k : ℕ) (part : List ℕ) (start : ℕ)
+    → ArePlaces items (ids_of claim) places → slice_get claim k ≡ Some part → start ≡ length (ids_of (take k claim))
     → ArePlaces items part (take (start + length part - start) (drop start places))
 ArePlaces-part items claim places k part start are is at =
     let size : start + length part - start ≡ length part = omega arith in
     record {
-      within = All-take (λ p. p < length items) (start + length part - start) (drop start places) (All-drop (λ p. p < length items) start places are.within);
+      within = All-take (λ p. p < length items) (start + length part - start) (drop start places)
+          (All-drop (λ p. p < length items) start places are.within);
       named = sym (take-map (id_at items) (start + length part - start) (drop start places))
-          ∙ (ap (take (start + length part - start)) (sym (drop-map (id_at items) start places) ∙ ap (drop start) are.named)
+          ∙ (ap (take (start + length part - start))
+          (sym (drop-map (id_at items) start places) ∙ ap (drop start) are.named)
           ∙ (ap (λ n. take n (drop start (ids_of claim))) size
           ∙ (ap (λ n. take (length part) (drop n (ids_of claim))) at ∙ ids_of-part claim k part is)));
     }
 
-pub IsDistinct-part : (claim : List (List ℕ)) (k : ℕ) (part : List ℕ) → IsDistinct (ids_of claim) → slice_get claim k ≡ Some part → IsDistinct part
+pub IsDistinct-part : (claim : List (List ℕ)) (k : ℕ) (part : List ℕ) → IsDistinct (ids_of claim)
+    → slice_get claim k ≡ Some part → IsDistinct part
 IsDistinct-part claim k part distinct is =
     let later : IsDistinct (drop (length (ids_of (take k claim))) (ids_of claim)) =
-    IsDistinct-append_right (take (length (ids_of (take k claim))) (ids_of claim)) (drop (length (ids_of (take k claim))) (ids_of claim))
+    IsDistinct-append_right (take (length (ids_of (take k claim))) (ids_of claim))
+    (drop (length (ids_of (take k claim))) (ids_of claim))
     (subst IsDistinct (sym (take-append-drop (length (ids_of (take k claim))) (ids_of claim))) distinct) in
     subst IsDistinct (ids_of-part claim k part is)
-    (IsDistinct-append_left (take (length part) (drop (length (ids_of (take k claim))) (ids_of claim))) (drop (length part) (drop (length (ids_of (take k claim))) (ids_of claim)))
-    (subst IsDistinct (sym (take-append-drop (length part) (drop (length (ids_of (take k claim))) (ids_of claim)))) later))
+    (IsDistinct-append_left (take (length part) (drop (length (ids_of (take k claim))) (ids_of claim)))
+    (drop (length part) (drop (length (ids_of (take k claim))) (ids_of claim)))
+    (subst IsDistinct
+    (sym (take-append-drop (length part) (drop (length (ids_of (take k claim))) (ids_of claim)))) later))
 
-pub ArePlaces-same : (items : List Item) (ids others places at : List ℕ) → ids ≡ others → at ≡ places → ArePlaces items ids places → ArePlaces items others at
-ArePlaces-same items ids others places at same is are = subst (ArePlaces items others) (sym is) (subst (λ l. ArePlaces items l places) same are)
+pub ArePlaces-same : (items : List Item) (ids others places at : List ℕ) → ids ≡ others → at ≡ places
+    → ArePlaces items ids places → ArePlaces items others at
+ArePlaces-same items ids others places at same is are =
+    subst (ArePlaces items others) (sym is) (subst (λ l. ArePlaces items l places) same are)
 
 -- what stands twice is one of the places
 pub IsTwice-within : (P : ℕ → Type 0) (places : List ℕ) (p : ℕ) → All P places → IsTwice places p → P p
 IsTwice-within P places p all twice =
     All-contains P places p all
-    (subst (λ l. Contains l p) (sym twice.stands) (Contains-append_right twice.before (p ∷ twice.after) p (0, omega arith, refl)))
+    (subst (λ l. Contains l p) (sym twice.stands)
+    (Contains-append_right twice.before (p ∷ twice.after) p (0, omega arith, refl)))

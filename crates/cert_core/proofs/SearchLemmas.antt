@@ -20,11 +20,14 @@ not_lower m n less = grind (arith, nat_tests)
 sorted_ids : (items : List Item) → IdsRise items → IsSortedBy (λ x y. is_lt (nat_cmp x.id y.id)) items
 sorted_ids items rise k d low h = not_lower (get_or items (k + 1) d).id (get_or items k d).id (rise k d h)
 
-pub place_found : (items : List Item) (id : ℕ) (r : Result ℕ ℕ) → IdsRise items → IsSearchInRange r (length items) → IsBinarySearchResult (λ x. nat_cmp x.id id) items r
-    → MatchOption (result_ok r) ((p : ℕ) → p < length items → id_at items p ≢ id) (λ p. (p < length items) × (id_at items p ≡ id))
+pub place_found : (items : List Item) (id : ℕ) (r : Result ℕ ℕ) → IdsRise items → IsSearchInRange r (length items)
+    → IsBinarySearchResult (λ x. nat_cmp x.id id) items r
+    → MatchOption (result_ok r) ((p : ℕ) → p < length items → id_at items p ≢ id)
+    (λ p. (p < length items) × (id_at items p ≡ id))
 place_found items id (Ok p) rise within found =
     let (x, is, same) = item_at items p within in
-    let equal : MatchOrdering Equal ((get_or items p x).id < id) ((get_or items p x).id ≡ id) (id < (get_or items p x).id) = ranked (get_or items p x).id id Equal (sym (found x)) in
+    let equal : MatchOrdering Equal ((get_or items p x).id < id) ((get_or items p x).id ≡ id)
+    (id < (get_or items p x).id) = ranked (get_or items p x).id id Equal (sym (found x)) in
     (within, same ∙ (ap (λ (y : Item). y.id) (sym is) ∙ equal))
 place_found items id (Err i) rise within found = λ p h same.
     let point = found (searchable_from_sorted nat_cmp_total (λ x. x.id) items id (sorted_ids items rise)) in
@@ -32,9 +35,12 @@ place_found items id (Err i) rise within found = λ p h same.
     let here : (get_or items p x).id ≡ id = sym (id_at-get_or items p x h) ∙ same in
     elim (cases_lt p i) [
       | inl less ↦
-          let below : MatchOrdering Less ((get_or items p x).id < id) ((get_or items p x).id ≡ id) (id < (get_or items p x).id) = ranked (get_or items p x).id id Less (sym (point.0 p x (omega arith) less)) in
+          let below : MatchOrdering Less ((get_or items p x).id < id) ((get_or items p x).id ≡ id)
+          (id < (get_or items p x).id) =
+          ranked (get_or items p x).id id Less (sym (point.0 p x (omega arith) less)) in
           absurd (omega arith)
       | inr more ↦
-          let above : MatchOrdering Greater ((get_or items p x).id < id) ((get_or items p x).id ≡ id) (id < (get_or items p x).id) = ranked (get_or items p x).id id Greater (sym (point.1 p x more h)) in
+          let above : MatchOrdering Greater ((get_or items p x).id < id) ((get_or items p x).id ≡ id)
+          (id < (get_or items p x).id) = ranked (get_or items p x).id id Greater (sym (point.1 p x more h)) in
           absurd (omega arith)
     ]

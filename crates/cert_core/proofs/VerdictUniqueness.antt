@@ -24,13 +24,16 @@ use Rattle.cert_core.proofs.VerdictLemmas.{not_overlapping_part}
 -- ---- the first place of two
 
 -- where a list is split at two places, the sooner number stands before the later one
-sooner : (ids b1 a1 b2 a2 : List ℕ) (x1 x2 : ℕ) → ids ≡ b1 ++ x1 ∷ a1 → ids ≡ b2 ++ x2 ∷ a2 → length b1 < length b2 → Contains b2 x1
+sooner : (ids b1 a1 b2 a2 : List ℕ) (x1 x2 : ℕ) → ids ≡ b1 ++ x1 ∷ a1 → ids ≡ b2 ++ x2 ∷ a2 → length b1 < length b2
+    → Contains b2 x1
 sooner ids b1 a1 b2 a2 x1 x2 one other less =
     let here : get_or (b1 ++ x1 ∷ a1) (length b1) x1 ≡ x1 = get_or_at b1 x1 a1 x1 (length b1) refl in
-    let there : get_or (b2 ++ x2 ∷ a2) (length b1) x1 ≡ get_or b2 (length b1) x1 = get_or_append_left b2 (x2 ∷ a2) x1 (length b1) less in
+    let there : get_or (b2 ++ x2 ∷ a2) (length b1) x1 ≡ get_or b2 (length b1) x1 =
+    get_or_append_left b2 (x2 ∷ a2) x1 (length b1) less in
     (length b1, less, sym there ∙ (ap (λ l. get_or l (length b1) x1) (sym other ∙ one) ∙ here))
 
-same_split : (ids b1 a1 b2 a2 : List ℕ) (x1 x2 : ℕ) → ids ≡ b1 ++ x1 ∷ a1 → ids ≡ b2 ++ x2 ∷ a2 → length b1 ≡ length b2 → x1 ≡ x2
+same_split : (ids b1 a1 b2 a2 : List ℕ) (x1 x2 : ℕ) → ids ≡ b1 ++ x1 ∷ a1 → ids ≡ b2 ++ x2 ∷ a2 → length b1 ≡ length b2
+    → x1 ≡ x2
 same_split ids b1 a1 b2 a2 x1 x2 one other same =
     sym (get_or_at b1 x1 a1 0 (length b1) refl)
     ∙ (ap (λ l. get_or l (length b1) 0) (sym one ∙ other) ∙ get_or_at b2 x2 a2 0 (length b1) (sym same))
@@ -44,27 +47,41 @@ first_of_two m n one other same = elim (cases_lt m n) [
 
 one_empty : (claim : List (List ℕ)) (k j : ℕ) → IsEmptyPart claim k → IsEmptyPart claim j → k ≡ j
 one_empty claim k j one other =
-    first_of_two k j (λ less. absurd (other.first k less one.empty)) (λ less. absurd (one.first j less other.empty)) (λ same. same)
+    first_of_two k j (λ less. absurd (other.first k less one.empty)) (λ less. absurd (one.first j less other.empty))
+    (λ same. same)
 
 one_unknown : (items : List Item) (ids : List ℕ) (a b : ℕ) → IsUnknown items ids a → IsUnknown items ids b → a ≡ b
 one_unknown items ids a b one other =
     first_of_two (length one.before) (length other.before)
-    (λ less. absurd (one.unknown (All-contains (HasItem items) other.before a other.first (sooner ids one.before one.after other.before other.after a b one.stands other.stands less))))
-    (λ less. absurd (other.unknown (All-contains (HasItem items) one.before b one.first (sooner ids other.before other.after one.before one.after b a other.stands one.stands less))))
+    (λ less. absurd
+    (one.unknown
+    (All-contains (HasItem items) other.before a other.first
+    (sooner ids one.before one.after other.before other.after a b one.stands other.stands less))))
+    (λ less. absurd
+    (other.unknown
+    (All-contains (HasItem items) one.before b one.first
+    (sooner ids other.before other.after one.before one.after b a other.stands one.stands less))))
     (λ same. same_split ids one.before one.after other.before other.after a b one.stands other.stands same)
 
 -- what stands twice in a shorter front stands twice in a longer one
-twice_sooner : (ids : List ℕ) (a b : ℕ) (one : IsTwice ids a) (other : IsTwice ids b) → length one.before < length other.before → ⊥
+twice_sooner : (ids : List ℕ) (a b : ℕ) (one : IsTwice ids a) (other : IsTwice ids b)
+    → length one.before < length other.before → ⊥
 twice_sooner ids a b one other less =
     let (p, h, is) = one.again in
     let within : p < length other.before = omega arith in
-    let front : get_or (one.before ++ a ∷ one.after) p a ≡ get_or one.before p a = get_or_append_left one.before (a ∷ one.after) a p h in
-    let first : get_or (other.before ++ b ∷ other.after) p a ≡ get_or other.before p a = get_or_append_left other.before (b ∷ other.after) a p within in
-    let here : get_or (one.before ++ a ∷ one.after) (length one.before) a ≡ a = get_or_at one.before a one.after a (length one.before) refl in
-    let last : get_or (other.before ++ b ∷ other.after) (length one.before) a ≡ get_or other.before (length one.before) a = get_or_append_left other.before (b ∷ other.after) a (length one.before) less in
+    let front : get_or (one.before ++ a ∷ one.after) p a ≡ get_or one.before p a =
+    get_or_append_left one.before (a ∷ one.after) a p h in
+    let first : get_or (other.before ++ b ∷ other.after) p a ≡ get_or other.before p a =
+    get_or_append_left other.before (b ∷ other.after) a p within in
+    let here : get_or (one.before ++ a ∷ one.after) (length one.before) a ≡ a =
+    get_or_at one.before a one.after a (length one.before) refl in
+    let last : get_or (other.before ++ b ∷ other.after) (length one.before) a ≡ get_or other.before
+    (length one.before) a = get_or_append_left other.before (b ∷ other.after) a (length one.before) less in
     let same : other.before ++ b ∷ other.after ≡ one.before ++ a ∷ one.after = sym other.stands ∙ one.stands in
     distinct-differ other.before other.first p (length one.before) a h less
-    (sym first ∙ (ap (λ l. get_or l p a) same ∙ (front ∙ (is ∙ (sym here ∙ (ap (λ l. get_or l (length one.before) a) (sym same) ∙ last))))))
+    (sym first
+    ∙ (ap (λ l. get_or l p a) same
+    ∙ (front ∙ (is ∙ (sym here ∙ (ap (λ l. get_or l (length one.before) a) (sym same) ∙ last))))))
 
 one_twice : (ids : List ℕ) (a b : ℕ) → IsTwice ids a → IsTwice ids b → a ≡ b
 one_twice ids a b one other =
@@ -93,45 +110,57 @@ order_cases : (x y : Item) (r : Ordering) → place_cmp x y ≡ r → IsBefore x
 order_cases x y Less e = inl e
 order_cases x y Greater e = inr (inl (place_total.antisymm y x ∙ ap ordering_reverse e))
 order_cases x y Equal e =
-    let equal : nat_cmp x.id y.id ≡ Equal = last_equal (int_cmp x.period.from y.period.from) (int_cmp x.period.to y.period.to) (nat_cmp x.id y.id) e in
+    let equal : nat_cmp x.id y.id ≡ Equal =
+    last_equal (int_cmp x.period.from y.period.from) (int_cmp x.period.to y.period.to) (nat_cmp x.id y.id) e in
     let same : MatchOrdering Equal (x.id < y.id) (x.id ≡ y.id) (y.id < x.id) = ranked x.id y.id Equal (sym equal) in
     inr (inr same)
 
-one_just_before : (items : List Item) (part : List ℕ) (x v y : Item) → IsJustBefore items part x y → IsJustBefore items part v y → x.id ≡ v.id
+one_just_before : (items : List Item) (part : List ℕ) (x v y : Item) → IsJustBefore items part x y
+    → IsJustBefore items part v y → x.id ≡ v.id
 one_just_before items part x v y one other = elim (order_cases x v (place_cmp x v) refl) [
   | inl before ↦ absurd (one.between v other.one before other.before)
   | inr (inl before) ↦ absurd (other.between x one.one before one.before)
   | inr (inr same) ↦ same
 ]
 
-one_first_overlap : (items : List Item) (part : List ℕ) (a b c d : ℕ) → IdsRise items → IsFirstOverlap items part a b → IsFirstOverlap items part c d → (a ≡ c) × (b ≡ d)
+one_first_overlap : (items : List Item) (part : List ℕ) (a b c d : ℕ) → IdsRise items → IsFirstOverlap items part a b
+    → IsFirstOverlap items part c d → (a ≡ c) × (b ≡ d)
 one_first_overlap items part a b c d rise one other = elim (order_cases one.y other.y (place_cmp one.y other.y) refl) [
   | inl before ↦ absurd (other.first one.x one.y one.neighbours before one.overlap)
   | inr (inl before) ↦ absurd (one.first other.x other.y other.neighbours before other.overlap)
   | inr (inr same) ↦
-      let item : one.y ≡ other.y = same_item items rise one.y other.y one.neighbours.other.0 other.neighbours.other.0 same in
-      let first : one.x.id ≡ other.x.id = one_just_before items part one.x other.x one.y one.neighbours (subst (IsJustBefore items part other.x) (sym item) other.neighbours) in
+      let item : one.y ≡ other.y =
+      same_item items rise one.y other.y one.neighbours.other.0 other.neighbours.other.0 same in
+      let first : one.x.id ≡ other.x.id =
+      one_just_before items part one.x other.x one.y one.neighbours
+      (subst (IsJustBefore items part other.x) (sym item) other.neighbours) in
       (sym one.ids.0 ∙ (first ∙ other.ids.0), sym one.ids.1 ∙ (same ∙ other.ids.1))
 ]
 
-overlap_sooner : (items : List Item) (claim : List (List ℕ)) (a b c d : ℕ) → IdsRise items → (one : IsOverlap items claim a b) (other : IsOverlap items claim c d) → one.number < other.number → ⊥
+overlap_sooner : (items : List Item) (claim : List (List ℕ)) (a b c d : ℕ) → IdsRise items
+    → (one : IsOverlap items claim a b) (other : IsOverlap items claim c d) → one.number < other.number → ⊥
 overlap_sooner items claim a b c d rise one other less =
     let within : other.number < length claim = slice_get_within claim other.number other.part other.is_part in
     let front : length (take other.number claim) ≡ other.number = length-take-le other.number claim (omega arith) in
     let here : get_or (take other.number claim) one.number [] ≡ one.part =
-    get_or-take other.number claim one.number [] less ∙ get_or_from_slice_get claim one.number one.part [] one.is_part in
-    let none : HasNoOverlap items one.part = subst (HasNoOverlap items) here (other.earlier one.number [] (omega arith)) in
+    get_or-take other.number claim one.number [] less
+    ∙ get_or_from_slice_get claim one.number one.part [] one.is_part in
+    let none : HasNoOverlap items one.part =
+    subst (HasNoOverlap items) here (other.earlier one.number [] (omega arith)) in
     not_overlapping_part items one.part a b rise none one.overlap
 
-one_overlap : (items : List Item) (claim : List (List ℕ)) (a b c d : ℕ) → IdsRise items → IsOverlap items claim a b → IsOverlap items claim c d → (a ≡ c) × (b ≡ d)
+one_overlap : (items : List Item) (claim : List (List ℕ)) (a b c d : ℕ) → IdsRise items → IsOverlap items claim a b
+    → IsOverlap items claim c d → (a ≡ c) × (b ≡ d)
 one_overlap items claim a b c d rise one other =
     first_of_two one.number other.number
     (λ less. absurd (overlap_sooner items claim a b c d rise one other less))
     (λ less. absurd (overlap_sooner items claim c d a b rise other one less))
     (λ same.
     let part : one.part ≡ other.part =
-    sym (get_or_from_slice_get claim one.number one.part [] one.is_part) ∙ (ap (λ n. get_or claim n []) same ∙ get_or_from_slice_get claim other.number other.part [] other.is_part) in
-    one_first_overlap items other.part a b c d rise (subst (λ p. IsFirstOverlap items p a b) part one.overlap) other.overlap)
+    sym (get_or_from_slice_get claim one.number one.part [] one.is_part)
+    ∙ (ap (λ n. get_or claim n []) same ∙ get_or_from_slice_get claim other.number other.part [] other.is_part) in
+    one_first_overlap items other.part a b c d rise
+    (subst (λ p. IsFirstOverlap items p a b) part one.overlap) other.overlap)
 
 -- ---- a verdict by its rank and its numbers
 
@@ -183,10 +212,12 @@ AppliesAt items claim certificate (suc (suc zero)) n m = IsUnknown items (ids_of
 AppliesAt items claim certificate (suc (suc (suc zero))) n m = IsTwice (ids_of claim) n × (m ≡ 0)
 AppliesAt items claim certificate (suc (suc (suc (suc zero)))) n m = IsMissing items (ids_of claim) n × (m ≡ 0)
 AppliesAt items claim certificate (suc (suc (suc (suc (suc zero))))) n m = IsOverlap items claim n m
-AppliesAt items claim certificate (suc (suc (suc (suc (suc (suc zero)))))) n m = IsNotCrowded items certificate n × (m ≡ 0)
+AppliesAt items claim certificate (suc (suc (suc (suc (suc (suc zero)))))) n m =
+    IsNotCrowded items certificate n × (m ≡ 0)
 AppliesAt items claim certificate (suc (suc (suc (suc (suc (suc (suc k))))))) n m = (n ≡ 0) × (m ≡ 0)
 
-applies_at : (items : List Item) (claim : List (List ℕ)) (certificate : Certificate) (v : Verdict) → Applies items claim certificate v → AppliesAt items claim certificate (rank v) (first_number v) (second_number v)
+applies_at : (items : List Item) (claim : List (List ℕ)) (certificate : Certificate) (v : Verdict)
+    → Applies items claim certificate v → AppliesAt items claim certificate (rank v) (first_number v) (second_number v)
 applies_at items claim certificate (WrongCount n) is = (is, refl)
 applies_at items claim certificate (EmptyPart n) is = (is, refl)
 applies_at items claim certificate (Unknown n) is = (is, refl)
@@ -196,24 +227,36 @@ applies_at items claim certificate (Overlap n m) is = is
 applies_at items claim certificate (NotCrowded n) is = (is, refl)
 applies_at items claim certificate Yes is = (refl, refl)
 
-one_at : (items : List Item) (claim : List (List ℕ)) (certificate : Certificate) (i a b c d : ℕ) → IdsRise items → AppliesAt items claim certificate i a b → AppliesAt items claim certificate i c d → (a ≡ c) × (b ≡ d)
+one_at : (items : List Item) (claim : List (List ℕ)) (certificate : Certificate) (i a b c d : ℕ) → IdsRise items
+    → AppliesAt items claim certificate i a b → AppliesAt items claim certificate i c d → (a ≡ c) × (b ≡ d)
 one_at items claim certificate zero a b c d rise one other = (one.0.0 ∙ sym other.0.0, one.1 ∙ sym other.1)
-one_at items claim certificate (suc zero) a b c d rise one other = (one_empty claim a c one.0 other.0, one.1 ∙ sym other.1)
-one_at items claim certificate (suc (suc zero)) a b c d rise one other = (one_unknown items (ids_of claim) a c one.0 other.0, one.1 ∙ sym other.1)
-one_at items claim certificate (suc (suc (suc zero))) a b c d rise one other = (one_twice (ids_of claim) a c one.0 other.0, one.1 ∙ sym other.1)
-one_at items claim certificate (suc (suc (suc (suc zero)))) a b c d rise one other = (one_missing items (ids_of claim) a c one.0 other.0, one.1 ∙ sym other.1)
-one_at items claim certificate (suc (suc (suc (suc (suc zero))))) a b c d rise one other = one_overlap items claim a b c d rise one other
-one_at items claim certificate (suc (suc (suc (suc (suc (suc zero)))))) a b c d rise one other = (one.0.0 ∙ sym other.0.0, one.1 ∙ sym other.1)
-one_at items claim certificate (suc (suc (suc (suc (suc (suc (suc k))))))) a b c d rise one other = (one.0 ∙ sym other.0, one.1 ∙ sym other.1)
+one_at items claim certificate (suc zero) a b c d rise one other =
+    (one_empty claim a c one.0 other.0, one.1 ∙ sym other.1)
+one_at items claim certificate (suc (suc zero)) a b c d rise one other =
+    (one_unknown items (ids_of claim) a c one.0 other.0, one.1 ∙ sym other.1)
+one_at items claim certificate (suc (suc (suc zero))) a b c d rise one other =
+    (one_twice (ids_of claim) a c one.0 other.0, one.1 ∙ sym other.1)
+one_at items claim certificate (suc (suc (suc (suc zero)))) a b c d rise one other =
+    (one_missing items (ids_of claim) a c one.0 other.0, one.1 ∙ sym other.1)
+one_at items claim certificate (suc (suc (suc (suc (suc zero))))) a b c d rise one other =
+    one_overlap items claim a b c d rise one other
+one_at items claim certificate (suc (suc (suc (suc (suc (suc zero)))))) a b c d rise one other =
+    (one.0.0 ∙ sym other.0.0, one.1 ∙ sym other.1)
+one_at items claim certificate (suc (suc (suc (suc (suc (suc (suc k))))))) a b c d rise one other =
+    (one.0 ∙ sym other.0, one.1 ∙ sym other.1)
 
-pub one_verdict : (items : List Item) (claim : List (List ℕ)) (certificate : Certificate) (v w : Verdict) → IdsRise items → IsVerdict items claim certificate v → IsVerdict items claim certificate w → v ≡ w
+pub one_verdict : (items : List Item) (claim : List (List ℕ)) (certificate : Certificate) (v w : Verdict)
+    → IdsRise items → IsVerdict items claim certificate v → IsVerdict items claim certificate w → v ≡ w
 one_verdict items claim certificate v w rise one other =
     first_of_two (rank v) (rank w)
     (λ less. absurd (other.first v less one.applies))
     (λ less. absurd (one.first w less other.applies))
     (λ same.
-    let (a, b) = one_at items claim certificate (rank w) (first_number v) (second_number v) (first_number w) (second_number w) rise
-    (subst (λ i. AppliesAt items claim certificate i (first_number v) (second_number v)) same (applies_at items claim certificate v one.applies))
+    let (a, b) = one_at items claim certificate (rank w) (first_number v) (second_number v) (first_number w)
+    (second_number w) rise
+    (subst (λ i. AppliesAt items claim certificate i (first_number v) (second_number v)) same
+    (applies_at items claim certificate v one.applies))
     (applies_at items claim certificate w other.applies) in
     sym (made-numbers v) ∙ (ap (λ i. made i (first_number v) (second_number v)) same
-    ∙ (ap (λ n. made (rank w) n (second_number v)) a ∙ (ap (λ m. made (rank w) (first_number w) m) b ∙ made-numbers w))))
+    ∙ (ap (λ n. made (rank w) n (second_number v)) a
+    ∙ (ap (λ m. made (rank w) (first_number w) m) b ∙ made-numbers w))))

@@ -114,7 +114,8 @@ rank (NotCrowded n) = 6
 rank Yes = 7
 
 -- the first verdict that applies
-pub record IsVerdict (items : List Item) (claim : List (List ℕ)) (certificate : Certificate) (verdict : Verdict) : Type 0 where
+pub record IsVerdict (items : List Item) (claim : List (List ℕ)) (certificate : Certificate)
+    (verdict : Verdict) : Type 0 where
   pub applies : Applies items claim certificate verdict
   pub first : (other : Verdict) → rank other < rank verdict → Applies items claim certificate other → ⊥
 

@@ -41,7 +41,7 @@ insert x (y ∷ ys) rising = elim (cases_Bool (is_lt (item_cmp y x))) [
       let over : All (λ w. IsBelow w y → ⊥) zs =
       All-permutation (λ w. IsBelow w y → ⊥) (x ∷ ys) zs moved
       (All-cons (λ w. IsBelow w y → ⊥) x ys (not_below_back y x under)
-          (λ k d h. rising 0 (suc k) d (omega arith) (omega arith))) in (
+      (λ k d h. rising 0 (suc k) d (omega arith) (omega arith))) in (
         y ∷ zs,
         (
           IsPermutation-trans (x ∷ (y ∷ ys)) (y ∷ (x ∷ ys)) (y ∷ zs)
@@ -119,7 +119,7 @@ found_below : (parts : List (List Item)) (start : ℤ) → All (λ part. 0 < len
 found_below parts start filled zero le = inl (λ j f h. absurd (omega arith))
 found_below parts start filled (suc n) le =
     let (end, ends) =
-        some_end (part_at parts n) (All-get_or (λ part. 0 < length part) parts n [] (omega arith) filled) in
+    some_end (part_at parts n) (All-get_or (λ part. 0 < length part) parts n [] (omega arith) filled) in
     let next : n + 1 ≡ suc n = omega arith in
     subst (Found parts start) next (found_more parts start n end ends (found_below parts start filled n (omega arith)))
 
@@ -138,18 +138,23 @@ NotBelowLast last x = ForSome last (λ z. IsBelow x z → ⊥)
 place_all : (parts : List (List Item)) (last : Option Item) (xs : List Item) → ArePlaced parts → IsGreatest parts last
     → All (NotBelowLast last) xs → IsRising xs
     → (all_parts : List (List Item)) × (IsPermutation (all_of parts ++ xs) (all_of all_parts) × ArePlaced all_parts)
-place_all parts last [] are greatest above rising =
-    (parts, (subst (λ l. IsPermutation l (all_of parts)) (sym (append-nil (all_of parts)))
-    (IsPermutation-refl (all_of parts)), are))
+place_all parts last [] are greatest above rising = (
+  parts,
+  (
+    subst (λ l. IsPermutation l (all_of parts)) (sym (append-nil (all_of parts)))
+        (IsPermutation-refl (all_of parts)),
+    are,
+  ),
+)
 place_all parts last (x ∷ xs) are greatest above rising =
     let over : NotBelowLast last x = All-head (NotBelowLast last) x xs above in
     let (k, place) = some_place parts x.period.from are.filled in
     let later : All (NotBelowLast (Some x)) xs =
     λ i d h z is. subst (λ w. IsBelow (get_or xs i d) w → ⊥) (same_item_at x z is)
-        (rising 0 (suc i) d (omega arith) (omega arith)) in
+    (rising 0 (suc i) d (omega arith) (omega arith)) in
     let (all_parts, (moved, placed)) =
     place_all (added parts k x) (Some x) xs (ArePlaced-added parts last k x are greatest over place)
-        (IsGreatest-added parts last k x greatest over) later
+    (IsGreatest-added parts last k x greatest over) later
     (AllPairs-tail (λ v w. IsBelow w v → ⊥) x xs rising) in (
       all_parts,
       (
@@ -176,7 +181,7 @@ some_placed : (items : List Item) → (parts : List (List Item)) × (IsPermutati
 some_placed items =
     let (xs, (moved, rising)) = sorted_items items in
     let (parts, (moved', placed)) =
-        place_all [] None xs none_placed refl (λ k d h z is. absurd (none-some z is)) rising in
+    place_all [] None xs none_placed refl (λ k d h z is. absurd (none-some z is)) rising in
     (parts, (IsPermutation-trans items xs (all_of parts) moved moved', placed))
 
 -- ---- the instant
@@ -211,7 +216,7 @@ some_instant items parts divided =
     IsDivision-permutation items (all_of placed_parts) placed_parts moved (IsDivision-from_placed placed_parts are) in
     let least : IsLeast items (length placed_parts) =
     IsLeast-permutation items (all_of placed_parts) (length placed_parts) moved
-        (IsLeast-from_placed placed_parts are) in
+    (IsLeast-from_placed placed_parts are) in
     let few : length placed_parts ≤ length parts = least.least parts divided.division in
     let many : length parts ≤ length placed_parts = divided.least.least placed_parts division in
     let same : length placed_parts ≡ length parts = omega arith in
@@ -224,7 +229,7 @@ some_instant items parts divided =
           let t : ℤ = (opener placed_parts d).period.from in
           let is : IsInstant items (length placed_parts) t =
           IsInstant-permutation items (all_of placed_parts) (length placed_parts) t moved
-              (IsInstant-from_placed placed_parts d are some') in
+          (IsInstant-from_placed placed_parts d are some') in
           (Some t, some_instant-of_many items parts t divided.division some (subst (λ k. IsInstant items k t) same is))
       | inr none ↦ (
         None,

@@ -70,7 +70,7 @@ rank-le : (items : List Item) (y x : Item) → IsBefore y x → rank items y ≤
 rank-le [] y x before = omega arith
 rank-le (z ∷ items) y x before =
     let more = le_more (is_before z y) (is_before z x) (rank items y) (rank items x) (test_follows z y x before)
-        (rank-le items y x before) in
+    (rank-le items y x before) in
     omega (arith, more, rank-cons z items y, rank-cons z items x)
 
 -- an item that comes before another has fewer before it
@@ -80,11 +80,11 @@ rank-lt (z ∷ items) y x before (zero, h, e) =
     let not_itself : is_before z y ≡ false = ap (λ w. is_before w y) e ∙ ap is_lt (tied_itself place_total y) in
     let earlier : is_before z x ≡ true = ap (λ w. is_before w x) e ∙ ap is_lt before in
     let more = lt_here (is_before z y) (is_before z x) (rank items y) (rank items x) not_itself earlier
-        (rank-le items y x before) in
+    (rank-le items y x before) in
     omega (arith, more, rank-cons z items y, rank-cons z items x)
 rank-lt (z ∷ items) y x before (suc k, h, e) =
     let more = lt_more (is_before z y) (is_before z x) (rank items y) (rank items x) (test_follows z y x before)
-        (rank-lt items y x before (k, omega arith, e)) in
+    (rank-lt items y x before (k, omega arith, e)) in
     omega (arith, more, rank-cons z items y, rank-cons z items x)
 
 -- ---- what is asked of a part speaks only of its items before x
@@ -103,7 +103,7 @@ all_earlier : (P : Item → Type 0) (part other : List Item) (x : Item) → Earl
     → All (λ y. IsBefore y x → P y) part → All (λ y. IsBefore y x → P y) other
 all_earlier P part other x back all k d h before =
     All-contains (λ y. IsBefore y x → P y) part (get_or other k d) all
-        (back (get_or other k d) before (Contains-get_or other k d h)) before
+    (back (get_or other k d) before (Contains-get_or other k d h)) before
 
 module _ (part other : List Item) (x : Item) (there : EarlierIn part other x) (back : EarlierIn other part x) where
   free_in : IsFree part x → IsFree other x
@@ -140,13 +140,13 @@ module _ (one other : List (List Item)) (x : Item) (there : EarlierAgree one oth
   both_best : (k m : ℕ) → LiesInBestFree one k x → LiesInBestFree other m x → k ≡ m
   both_best k m best best' =
       let free_there : IsFree (part_at other k) x =
-          free_in (part_at one k) (part_at other k) x (there k) (back k) best.free in
+      free_in (part_at one k) (part_at other k) x (there k) (back k) best.free in
       let free_here : IsFree (part_at one m) x =
-          free_in (part_at other m) (part_at one m) x (back m) (there m) best'.free in
+      free_in (part_at other m) (part_at one m) x (back m) (there m) best'.free in
       let latest_there : IsLatestEnd (part_at other k) x best.end =
-          latest_in (part_at one k) (part_at other k) x (there k) (back k) best.end best.latest in
+      latest_in (part_at one k) (part_at other k) x (there k) (back k) best.end best.latest in
       let latest_here : IsLatestEnd (part_at one m) x best'.end =
-          latest_in (part_at other m) (part_at one m) x (back m) (there m) best'.end best'.latest in
+      latest_in (part_at other m) (part_at one m) x (back m) (there m) best'.end best'.latest in
       elim (best.best m best'.end (free_is_part one m x free_here) free_here latest_here) [
         | inl sooner ↦ elim (best'.best k best.end (free_is_part other k x free_there) free_there latest_there) [
           | inl later ↦ absurd (omega (arith, ints, sooner, later))
@@ -162,15 +162,20 @@ module _ (one other : List (List Item)) (x : Item) (there : EarlierAgree one oth
   best_or_opens : (k m : ℕ) → LiesInBestFree one k x → OpensPart other m x → ⊥
   best_or_opens k m best opens =
       let free_there : IsFree (part_at other k) x =
-          free_in (part_at one k) (part_at other k) x (there k) (back k) best.free in
+      free_in (part_at one k) (part_at other k) x (there k) (back k) best.free in
       opens.none k (free_is_part other k x free_there) free_there
 
 -- a part that isn't empty has a first item
 first_item : (part : List Item) → 0 < length part → (x : Item) × IsFirstOf part x
 first_item [] some = absurd (omega arith)
-first_item (x ∷ []) some =
-    (x, (Contains-head x [], All-cons (λ y. IsBefore y x → ⊥) x [] (not_before_itself x)
-    (All-nil (λ y. IsBefore y x → ⊥))))
+first_item (x ∷ []) some = (
+  x,
+  (
+    Contains-head x [],
+    All-cons (λ y. IsBefore y x → ⊥) x [] (not_before_itself x)
+        (All-nil (λ y. IsBefore y x → ⊥)),
+  ),
+)
 first_item (x ∷ (y ∷ part)) some =
     let (z, first) = first_item (y ∷ part) (omega arith) in
     elim (cases_Bool (is_before x z)) [
@@ -180,14 +185,17 @@ first_item (x ∷ (y ∷ part)) some =
           Contains-head x (y ∷ part),
           All-cons (λ w. IsBefore w x → ⊥) x (y ∷ part) (not_before_itself x)
               (All-weaker (λ w. IsBefore w z → ⊥) (λ w. IsBefore w x → ⊥)
-                  (λ w never sooner. never (before-trans w x z sooner (before-from_test x z holds)))
-                  (y ∷ part) first.1),
+              (λ w never sooner. never (before-trans w x z sooner (before-from_test x z holds)))
+              (y ∷ part) first.1),
         ),
       )
       | inr fails ↦ (
         z,
-        (Contains-cons x (y ∷ part) z first.0, All-cons (λ w. IsBefore w z → ⊥) x (y ∷ part)
-            (λ sooner. both_ways (is_before x z) fails (ap is_lt sooner)) first.1),
+        (
+          Contains-cons x (y ∷ part) z first.0,
+          All-cons (λ w. IsBefore w z → ⊥) x (y ∷ part)
+              (λ sooner. both_ways (is_before x z) fails (ap is_lt sooner)) first.1,
+        ),
       )
     ]
 
@@ -197,7 +205,7 @@ opens_sooner : (one other : List (List Item)) (x : Item) → EarlierAgree other 
     → (k m : ℕ) → OpensPart one k x → OpensPart other m x → k < m → m < length other → ⊥
 opens_sooner one other x back placed filled k m opens opens' less within =
     let (z, first) =
-        first_item (part_at other k) (All-get_or (λ part. 0 < length part) other k [] (omega arith) filled) in
+    first_item (part_at other k) (All-get_or (λ part. 0 < length part) other k [] (omega arith) filled) in
     let before : IsBefore z x = placed.rise k m z x less within first opens'.opens in
     All-contains (λ y. IsBefore y x → ⊥) (part_at one k) z opens.opens.1 (back k z before first.0) before
 
@@ -240,7 +248,7 @@ in_other items one other k x division division' member =
     part_with other x
     (Contains-permutation items (all_of other) x division'.together
     (Contains-permutation (all_of one) items x (IsPermutation-sym items (all_of one) division.together)
-        (contains-all_of one k x member)))
+    (contains-all_of one k x member)))
 
 -- x lies in the part of the same number
 abbrev Agree : List (List Item) → List (List Item) → Item → Type 0
@@ -250,7 +258,7 @@ item_of : (items : List Item) (parts : List (List Item)) (k : ℕ) (x : Item) �
     → Contains (part_at parts k) x → Contains items x
 item_of items parts k x division member =
     Contains-permutation (all_of parts) items x (IsPermutation-sym items (all_of parts) division.together)
-        (contains-all_of parts k x member)
+    (contains-all_of parts k x member)
 
 module _ (items : List Item) (one other : List (List Item)) (division : IsDivision items one)
     (division' : IsDivision items other) (placed : IsPlaced one) (placed' : IsPlaced other) where
@@ -258,7 +266,7 @@ module _ (items : List Item) (one other : List (List Item)) (division : IsDivisi
   agree_at x there back k member =
       let (m, member') = in_other items one other k x division division' member in
       let same : k ≡ m =
-          one_part one other x there back placed placed' division.filled division'.filled k m member member' in
+      one_part one other x there back placed placed' division.filled division'.filled k m member member' in
       subst (λ n. Contains (part_at other n) x) (sym same) member'
 
 -- those of fewer than n items before them
@@ -270,12 +278,15 @@ agree_below items one other division division' placed placed' (suc n) x less =
     let there : EarlierAgree one other x =
     λ k y before member. (agree_below items one other division division' placed placed' n y
     (let fewer = rank-lt items y x before (item_of items one k y division member) in omega
-        (arith, fewer, less))).0 k member in
+    (arith, fewer, less))).0 k member in
     let back : EarlierAgree other one x =
     λ k y before member. (agree_below items one other division division' placed placed' n y
     (let fewer = rank-lt items y x before (item_of items other k y division' member) in omega
-        (arith, fewer, less))).1 k member in
-    (agree_at items one other division division' placed placed' x there back, agree_at items other one division' division placed' placed x back there)
+    (arith, fewer, less))).1 k member in (
+      agree_at items one other division division' placed placed' x there back,
+      agree_at items other one division'
+          division placed' placed x back there,
+    )
 
 agree : (items : List Item) (one other : List (List Item)) → IsDivision items one → IsDivision items other
     → IsPlaced one → IsPlaced other
@@ -314,7 +325,7 @@ no_more : (one other : List (List Item)) → All (λ part. 0 < length part) one 
 no_more one other filled agrees = elim (cases_lt (length other) (length one)) [
   | inl less ↦
       let (z, first) = first_item (part_at one (length other))
-          (All-get_or (λ part. 0 < length part) one (length other) [] less filled) in
+      (All-get_or (λ part. 0 < length part) one (length other) [] less filled) in
       let within : length other < length other = is_part other (length other) z (agrees z (length other) first.0) in
       absurd (omega arith)
   | inr few ↦ few
@@ -332,13 +343,13 @@ one_placed items one other division division' placed placed' rising rising' =
     let within : k < length other = omega arith in
     let precede : AllPairs Precede (part_at one k) =
     precede-from_rising (part_at one k) (All-get_or IsApart one k [] h division.apart)
-        (All-get_or IsRising one k [] h rising) in
+    (All-get_or IsRising one k [] h rising) in
     let precede' : AllPairs Precede (part_at other k) =
     precede-from_rising (part_at other k) (All-get_or IsApart other k [] within division'.apart)
-        (All-get_or IsRising other k [] within rising') in
+    (All-get_or IsRising other k [] within rising') in
     let same : part_at one k ≡ part_at other k =
     rising_is_one Precede (part_at one k) (part_at other k) not_both_precede precede precede' (λ x. there x k)
-        (λ x. back x k) in
+    (λ x. back x k) in
     get_or_default one k d [] h ∙ (same ∙ get_or_default other k [] d within))
 
 pub one_dip : (items : List Item) (one other : List (List Item)) → IsDip items one → IsDip items other → one ≡ other

@@ -35,9 +35,9 @@ last_end_latest part e chain filled ends k d h =
     elim (cases_lt k (length part - 1)) [
       | inl less ↦
           let far : (get_or part k d).period.to ≤ℤ (get_or part (length part - 1) d).period.from =
-              chain_far part chain k (length part - 1) d less (omega arith) in
+          chain_far part chain k (length part - 1) d less (omega arith) in
           let held : (get_or part (length part - 1) d).period.from <ℤ (get_or part (length part - 1) d).period.to =
-              (get_or part (length part - 1) d).period.ordered in
+          (get_or part (length part - 1) d).period.ordered in
           omega (arith, ints)
       | inr more ↦
           let same : length part - 1 ≡ k = omega arith in
@@ -55,8 +55,8 @@ latest-last_end part x e f chain filled before ends latest =
     let end : e ≡ (get_or part (length part - 1) x).period.to = last_end_of part x e filled ends in
     let last : length part - 1 < length part = omega arith in
     let low : (get_or part (length part - 1) x).period.to ≤ℤ f =
-        latest.1 (length part - 1) x last
-        (before (get_or part (length part - 1) x) (Contains-get_or part (length part - 1) x last)) in
+    latest.1 (length part - 1) x last
+    (before (get_or part (length part - 1) x) (Contains-get_or part (length part - 1) x last)) in
     omega (arith, ints)
 
 pub same_or_other : (j k : ℕ) → (j ≡ k) ⊎ (j ≢ k)
@@ -81,8 +81,14 @@ not_in_empty c z empty member =
 free-from_end : (part : List Item) (x : Item) (e : ℤ) → IsChain part → 0 < length part
     → ((y : Item) → Contains part y → IsBefore y x) → last_end part ≡ Some e → e ≤ℤ x.period.from → IsFree part x
 free-from_end part x e chain filled before ends over = (
-  (0, get_or part 0 x, filled, get_or_default part 0 (get_or part 0 x) x filled, before (get_or part 0 x)
-      (Contains-get_or part 0 x filled)),
+  (
+    0,
+    get_or part 0 x,
+    filled,
+    get_or_default part 0 (get_or part 0 x) x filled,
+    before (get_or part 0 x)
+        (Contains-get_or part 0 x filled),
+  ),
   λ k d h earlier.
       let high : (get_or part k d).period.to ≤ℤ e = last_end_latest part e chain filled ends k d h in
       omega (arith, ints),
@@ -98,8 +104,11 @@ latest-from_end part x e chain filled before ends =
         get_or part (length part - 1) x,
         last,
         get_or_default part (length part - 1) (get_or part (length part - 1) x) x last,
-        (before (get_or part (length part - 1) x) (Contains-get_or part (length part - 1) x last), sym
-            (last_end_of part x e filled ends)),
+        (
+          before (get_or part (length part - 1) x) (Contains-get_or part (length part - 1) x last),
+          sym
+              (last_end_of part x e filled ends),
+        ),
       ),
       λ k d h earlier. last_end_latest part e chain filled ends k d h,
     )
@@ -110,7 +119,7 @@ end-from_free : (part : List Item) (x : Item) → 0 < length part → ((y : Item
 end-from_free part x filled before free =
     let last : length part - 1 < length part = omega arith in
     free.1 (length part - 1) x last
-        (before (get_or part (length part - 1) x) (Contains-get_or part (length part - 1) x last))
+    (before (get_or part (length part - 1) x) (Contains-get_or part (length part - 1) x last))
 
 module _ (parts : List (List Item)) (k : ℕ) (x : Item)
     (filled : All (λ part. 0 < length part) parts) (chained : All IsChain parts)
@@ -118,9 +127,12 @@ module _ (parts : List (List Item)) (k : ℕ) (x : Item)
     (before : (j : ℕ) (y : Item) → Contains (part_at parts j) y → IsBefore y x)
     (placed : IsPlaced parts) where
   within : k ≤ length parts
-  within = elim place [ inl best ↦
-      (let w : k < length parts = (is_part parts k best.end best.ends) in omega arith) | inr opened ↦
-      (let e : k ≡ length parts = opened.0 in omega arith) ]
+  within = elim place [
+    | inl best ↦
+        (let w : k < length parts = (is_part parts k best.end best.ends) in omega arith)
+    | inr opened ↦
+        (let e : k ≡ length parts = opened.0 in omega arith)
+  ]
 
   grown : (j : ℕ) → Grown (part_at parts j) (part_at (added parts k x) j) x
   grown j = elim (same_or_other j k) [
@@ -158,7 +170,7 @@ module _ (parts : List (List Item)) (k : ℕ) (x : Item)
     | inl less ↦
         placed.rise i j y z below less
         (first_old (part_at parts i) (part_at (added parts k x) i) x y (grown i) (part_filled i (omega arith))
-            (before i) first)
+        (before i) first)
         (first_old (part_at parts j) (part_at (added parts k x) j) x z (grown j) (part_filled j less) (before j) second)
     | inr past ↦
         elim (contains_old (part_at parts j) (part_at (added parts k x) j) x z (grown j) second.0) [
@@ -166,7 +178,7 @@ module _ (parts : List (List Item)) (k : ℕ) (x : Item)
           | inr same ↦
               let earlier : i < length parts = before_new i j below h past in
               let old = first_old (part_at parts i) (part_at (added parts k x) i) x y (grown i) (part_filled i earlier)
-                  (before i) first in
+              (before i) first in
               subst (λ w. IsBefore y w) same (before i y old.0)
         ]
   ]
@@ -179,7 +191,7 @@ module _ (parts : List (List Item)) (k : ℕ) (x : Item)
         | inr opened ↦
             let e : length (added parts (length parts) x) ≡ length parts + 1 = length-added_opened parts x in
             let f : length (added parts k x) ≡ length parts + 1 =
-                subst (λ n. length (added parts n x) ≡ length parts + 1) (sym opened.0) e in
+            subst (λ n. length (added parts n x) ≡ length parts + 1) (sym opened.0) e in
             omega arith
       ]
 
@@ -188,8 +200,11 @@ module _ (parts : List (List Item)) (k : ℕ) (x : Item)
   old_item m z member =
       let late : IsBefore x z → ⊥ = later m z member in
       let there : m < length parts =
-          elim (cases_lt m (length parts)) [ inl less ↦ less | inr past ↦
-          absurd (not_in_empty (part_at parts m) z (part_at-past parts m past) member) ] in
+      elim (cases_lt m (length parts)) [
+        | inl less ↦ less
+        | inr past ↦
+            absurd (not_in_empty (part_at parts m) z (part_at-past parts m past) member)
+      ] in
       elim (placed.each m z there member) [
         | inl best ↦ inl (record {
           free = free_new (part_at parts m) (part_at (added parts k x) m) x z (grown m) late best.free;
@@ -212,18 +227,18 @@ module _ (parts : List (List Item)) (k : ℕ) (x : Item)
         | inl best ↦ inl (record {
           free = free_new (part_at parts k) (part_at (added parts k x) k) x x (grown k) late
               (free-from_end (part_at parts k) x best.end (part_chained k (is_part parts k best.end best.ends))
-                  (part_filled k (is_part parts k best.end best.ends)) (before k) best.ends best.over);
+              (part_filled k (is_part parts k best.end best.ends)) (before k) best.ends best.over);
           end = best.end;
           latest = latest_new (part_at parts k) (part_at (added parts k x) k) x x (grown k) late best.end
               (latest-from_end (part_at parts k) x best.end (part_chained k (is_part parts k best.end best.ends))
-                  (part_filled k (is_part parts k best.end best.ends)) (before k) best.ends);
+              (part_filled k (is_part parts k best.end best.ends)) (before k) best.ends);
           best = λ j f h free latest.
               let there : j < length parts = was_there j x late free in
               let old = old_free j x late free in
               let ends = last_end_is (part_at parts j) x (part_filled j there) in
               let same = latest-last_end (part_at parts j) x
-                  (get_or (part_at parts j) (length (part_at parts j) - 1) x).period.to f (part_chained j there)
-                  (part_filled j there) (before j) ends
+              (get_or (part_at parts j) (length (part_at parts j) - 1) x).period.to f (part_chained j there)
+              (part_filled j there) (before j) ends
               (latest_old (part_at parts j) (part_at (added parts k x) j) x x (grown j) late f latest) in
               let over = end-from_free (part_at parts j) x (part_filled j there) (before j) old in
               best.best j f (ends ∙ ap Some (sym same)) (subst (λ e. e ≤ℤ x.period.from) (sym same) over);
@@ -232,18 +247,20 @@ module _ (parts : List (List Item)) (k : ℕ) (x : Item)
           none = λ j h free.
               let there : j < length parts = was_there j x late free in
               let over : (get_or (part_at parts j) (length (part_at parts j) - 1) x).period.to ≤ℤ x.period.from =
-                  end-from_free (part_at parts j) x (part_filled j there) (before j) (old_free j x late free) in
+              end-from_free (part_at parts j) x (part_filled j there) (before j) (old_free j x late free) in
               let ends = last_end_is (part_at parts j) x (part_filled j there) in
               let above : x.period.from <ℤ (get_or (part_at parts j) (length (part_at parts j) - 1) x).period.to =
-                  opened.1 j _ ends in
+              opened.1 j _ ends in
               absurd (omega (arith, ints));
           opens =
               let past : length parts ≤ k = (let e : k ≡ length parts = opened.0 in omega arith) in
               let alone : part_at (added parts k x) k ≡ x ∷ [] = part_at-added_same parts k x within
-                  ∙ ap (λ (c : List Item). c ++ x ∷ []) (part_at-past parts k past) in
-              subst (λ c. IsFirstOf c x) (sym alone)
-                  ((0, omega arith, refl), All-cons (λ y. IsBefore y x → ⊥) x [] late
-                  (All-nil (λ y. IsBefore y x → ⊥)));
+              ∙ ap (λ (c : List Item). c ++ x ∷ []) (part_at-past parts k past) in
+              subst (λ c. IsFirstOf c x) (sym alone) (
+                (0, omega arith, refl),
+                All-cons (λ y. IsBefore y x → ⊥) x [] late
+                    (All-nil (λ y. IsBefore y x → ⊥)),
+              );
         })
       ]
 

@@ -27,7 +27,7 @@ none_above parts None x empty above =
     subst (λ ps. All (λ y. IsBelow x y → ⊥) (all_of ps)) (sym empty) (All-nil (λ y. IsBelow x y → ⊥))
 none_above parts (Some z) x greatest above =
     All-weaker (λ y. IsBelow z y → ⊥) (λ y. IsBelow x y → ⊥) (λ y under. not_below-trans y z x under (above z refl))
-        (all_of parts) greatest.1
+    (all_of parts) greatest.1
 
 pub contains-all_of : (parts : List (List Item)) (j : ℕ) (y : Item) → Contains (part_at parts j) y
     → Contains (all_of parts) y
@@ -47,7 +47,7 @@ chain-push part x chain fits i d h =
     elim (cases_lt (i + 1) (length part)) [
       | inl less ↦
           let next : get_or (part ++ x ∷ []) (i + 1) d ≡ get_or part (i + 1) d =
-              get_or_append_left part (x ∷ []) d (i + 1) less in
+          get_or_append_left part (x ∷ []) d (i + 1) less in
           subst (λ (y : Item). y.period.to ≤ℤ (get_or (part ++ x ∷ []) (i + 1) d).period.from) (sym here)
           (subst (λ (y : Item). (get_or part i d).period.to ≤ℤ y.period.from) (sym next) (chain i d less))
       | inr more ↦
@@ -77,14 +77,14 @@ chained-added parts k x filled chained place = elim place [
       let within : k ≤ length parts = (let e : k ≡ length parts = opened.0 in omega arith) in
       All-added IsChain parts k x within chained
       (subst (λ (c : List Item). IsChain (c ++ x ∷ [])) (sym (part_at-past parts k past))
-          (λ i d h. absurd (omega arith)))
+      (λ i d h. absurd (omega arith)))
 ]
 
 filled-added : (parts : List (List Item)) (k : ℕ) (x : Item) → k ≤ length parts → All (λ part. 0 < length part) parts
     → All (λ part. 0 < length part) (added parts k x)
 filled-added parts k x within filled =
     All-added (λ part. 0 < length part) parts k x within filled
-        (omega (arith, length-append (part_at parts k) (x ∷ [])))
+    (omega (arith, length-append (part_at parts k) (x ∷ [])))
 
 -- ---- the crowd
 
@@ -101,16 +101,16 @@ one_each parts t each =
     go (p ∷ ps) each =
         let first : 1 ≤ crowd p t = All-head (λ part. 1 ≤ crowd part t) p ps each in
         let rest : length ps ≤ sum_by (λ part. crowd part t) ps =
-            go ps (All-tail (λ part. 1 ≤ crowd part t) p ps each) in
+        go ps (All-tail (λ part. 1 ≤ crowd part t) p ps each) in
         let split : sum_by (λ part. crowd part t) (p ∷ ps) ≡ crowd p t + sum_by (λ part. crowd part t) ps =
-            sum_by-cons (λ part. crowd part t) p ps in
+        sum_by-cons (λ part. crowd part t) p ps in
         omega arith
 
 holder_counts : (part : List Item) (k : ℕ) (d : Item) (t : ℤ) → k < length part → Holds (get_or part k d).period t
     → 1 ≤ crowd part t
 holder_counts part k d t h holds =
     let one : cond (holds_at t (get_or part k d).period) 1 0 ≤ crowd part t =
-        get_or-le-sum_by (λ x. cond (holds_at t x.period) 1 0) part k d h in
+    get_or-le-sum_by (λ x. cond (holds_at t x.period) 1 0) part k d h in
     let yes : holds_at t (get_or part k d).period ≡ true = test-from_holds t (get_or part k d).period holds in
     rw yes at one
 
@@ -127,7 +127,7 @@ all_hold parts x filled none_free above =
     let y : Item = get_or (part_at parts j) (length (part_at parts j) - 1) x in
     let member : Contains (all_of parts) (get_or (part_at parts j) (length (part_at parts j) - 1) x) =
     contains-all_of parts j (get_or (part_at parts j) (length (part_at parts j) - 1) x)
-        (Contains-get_or (part_at parts j) (length (part_at parts j) - 1) x last) in
+    (Contains-get_or (part_at parts j) (length (part_at parts j) - 1) x last) in
     holder_counts (part_at parts j) (length (part_at parts j) - 1) x x.period.from last (
       from_le (get_or (part_at parts j) (length (part_at parts j) - 1) x) x
           (All-contains (λ y. IsBelow x y → ⊥) (all_of parts) _ above member),
@@ -146,10 +146,10 @@ opener-joined parts k x d within filled = elim (same_or_other (length parts - 1)
   | inl e ↦
       let joined : part_at (added parts k x) (length parts - 1) ≡ part_at parts (length parts - 1) ++ x ∷ [] =
       subst (λ n. part_at (added parts k x) n ≡ part_at parts n ++ x ∷ []) (sym e)
-          (part_at-added_same parts k x (omega arith)) in
+      (part_at-added_same parts k x (omega arith)) in
       ap (λ c. get_or c 0 d) joined
       ∙ get_or_append_left (part_at parts (length parts - 1)) (x ∷ []) d 0
-          (All-get_or (λ part. 0 < length part) parts (length parts - 1) [] (omega arith) filled)
+      (All-get_or (λ part. 0 < length part) parts (length parts - 1) [] (omega arith) filled)
   | inr ne ↦ ap (λ c. get_or c 0 d) (part_at-added_other parts k (length parts - 1) x (omega arith) ne)
 ]
 
@@ -159,13 +159,13 @@ crowded-joined parts k x within filled crowded d some =
     let count : length (added parts k x) ≡ length parts = length-added_joined parts k x within in
     let old : length parts ≤ crowd (all_of parts) (opener parts d).period.from = crowded d (omega arith) in
     let more : crowd (all_of (added parts k x)) (opener parts d).period.from ≡ crowd (all_of parts)
-        (opener parts d).period.from + cond (holds_at (opener parts d).period.from x.period) 1 0 =
+    (opener parts d).period.from + cond (holds_at (opener parts d).period.from x.period) 1 0 =
     crowd-added parts k x (opener parts d).period.from in
     let enough : length parts ≤ crowd (all_of (added parts k x)) (opener parts d).period.from = omega arith in
     let same : get_or (part_at (added parts k x) (length parts - 1)) 0 d ≡ opener parts d =
-        opener-joined parts k x d within filled in
+    opener-joined parts k x d within filled in
     subst (λ n. n ≤ crowd (all_of (added parts k x)) (get_or (part_at (added parts k x) (n - 1)) 0 d).period.from)
-        (sym count)
+    (sym count)
     (subst (λ (y : Item). length parts ≤ crowd (all_of (added parts k x)) y.period.from) (sym same) enough)
 
 crowded-opened : (parts : List (List Item)) (x : Item) → All (λ part. 0 < length part) parts
@@ -175,21 +175,21 @@ crowded-opened parts x filled none_free above d some =
     let count : length (added parts (length parts) x) ≡ length parts + 1 = length-added_opened parts x in
     let alone : part_at (added parts (length parts) x) (length parts) ≡ x ∷ [] =
     part_at-added_same parts (length parts) x (omega arith)
-        ∙ ap (λ (c : List Item). c ++ x ∷ []) (part_at-past parts (length parts) (omega arith)) in
+    ∙ ap (λ (c : List Item). c ++ x ∷ []) (part_at-past parts (length parts) (omega arith)) in
     let many : length parts ≤ crowd (all_of parts) x.period.from = all_hold parts x filled none_free above in
     let ordered : x.period.from <ℤ x.period.to = x.period.ordered in
     let yes : holds_at x.period.from x.period ≡ true =
-        test-from_holds x.period.from x.period (omega (arith, ints), ordered) in
+    test-from_holds x.period.from x.period (omega (arith, ints), ordered) in
     let more : crowd (all_of (added parts (length parts) x)) x.period.from ≡ crowd (all_of parts) x.period.from + 1 =
     crowd-added parts (length parts) x x.period.from ∙ ap (λ b. crowd (all_of parts) x.period.from + cond b 1 0) yes in
     let enough : length parts + 1 ≤ crowd (all_of (added parts (length parts) x)) x.period.from = omega arith in
     let last : length (added parts (length parts) x) - 1 ≡ length parts = omega arith in
     let opens : opener (added parts (length parts) x) d ≡ x =
-        ap (λ n. get_or (part_at (added parts (length parts) x) n) 0 d) last ∙ ap (λ c. get_or c 0 d) alone in
+    ap (λ n. get_or (part_at (added parts (length parts) x) n) 0 d) last ∙ ap (λ c. get_or c 0 d) alone in
     subst (λ n. n ≤ crowd (all_of (added parts (length parts) x))
-        (opener (added parts (length parts) x) d).period.from) (sym count)
+    (opener (added parts (length parts) x) d).period.from) (sym count)
     (subst (λ (y : Item). length parts + 1 ≤ crowd (all_of (added parts (length parts) x)) y.period.from)
-        (sym opens) enough)
+    (sym opens) enough)
 
 -- ---- the places
 
@@ -198,13 +198,13 @@ other_ids : (parts : List (List Item)) (k : ℕ) (x : Item) → HasDistinctIds (
 other_ids parts k x distinct y member e =
     let (i, h, same) = member in
     let total : count_by (λ z. z.id == x.id) (all_of (added parts k x)) ≡ count_by (λ z. z.id == x.id)
-        (all_of parts) + cond (x.id == x.id) 1 0 =
+    (all_of parts) + cond (x.id == x.id) 1 0 =
     sum_by-added (λ z. cond (z.id == x.id) 1 0) parts k x in
     let most : count_by (λ z. z.id == x.id) (all_of (added parts k x)) ≤ 1 = distinct x.id in
     let one : cond ((get_or (all_of parts) i y).id == x.id) 1 0 ≤ count_by (λ z. z.id == x.id) (all_of parts) =
     get_or-le-sum_by (λ z. cond (z.id == x.id) 1 0) (all_of parts) i y h in
     let yes : ((get_or (all_of parts) i y).id == x.id) ≡ true =
-        eq-eqb (get_or (all_of parts) i y).id x.id (ap (λ (z : Item). z.id) same ∙ e) in
+    eq-eqb (get_or (all_of parts) i y).id x.id (ap (λ (z : Item). z.id) same ∙ e) in
     let itself : (x.id == x.id) ≡ true = eq-eqb x.id x.id refl in
     let one' = rw yes at one in
     let total' = rw itself at total in
@@ -214,16 +214,19 @@ distinct-before : (parts : List (List Item)) (k : ℕ) (x : Item) → HasDistinc
     → HasDistinctIds (all_of parts)
 distinct-before parts k x distinct i =
     let total : count_by (λ z. z.id == i) (all_of (added parts k x)) ≡ count_by (λ z. z.id == i) (all_of parts) + cond
-        (x.id == i) 1 0 =
+    (x.id == i) 1 0 =
     sum_by-added (λ z. cond (z.id == i) 1 0) parts k x in
     let most : count_by (λ z. z.id == i) (all_of (added parts k x)) ≤ 1 = distinct i in
     omega arith
 
 pub place-within : (parts : List (List Item)) (start : ℤ) (k : ℕ) → IsPlaceFor parts start k → k ≤ length parts
 place-within parts start k place =
-    elim place [ inl best ↦
-    (let w : k < length parts = (is_part parts k best.end best.ends) in omega arith) | inr opened ↦
-    (let e : k ≡ length parts = opened.0 in omega arith) ]
+    elim place [
+      | inl best ↦
+          (let w : k < length parts = (is_part parts k best.end best.ends) in omega arith)
+      | inr opened ↦
+          (let e : k ≡ length parts = opened.0 in omega arith)
+    ]
 
 pub ArePlaced-added : (parts : List (List Item)) (last : Option Item) (k : ℕ) (x : Item) → ArePlaced parts
     → IsGreatest parts last → ForSome last (λ z. IsBelow x z → ⊥) → IsPlaceFor parts x.period.from k
@@ -244,7 +247,7 @@ ArePlaced-added parts last k x are greatest above place =
           (λ j y member.
           let all : Contains (all_of parts) y = contains-all_of parts j y member in
           before-from_not_below y x (All-contains (λ y. IsBelow x y → ⊥) (all_of parts) y over all)
-              (other_ids parts k x distinct y all))
+          (other_ids parts k x distinct y all))
           (are.placed (distinct-before parts k x distinct));
     }
 

@@ -37,7 +37,8 @@ impl Division {
         Division { parts }
     }
 
-    /// How many parts there are, at most 1,000,000. They divide all their items, each part's items rise, and no division of those items has fewer parts.
+    /// How many parts there are, at most 1,000,000. They divide all their items, each part's items rise,
+    /// and no division of those items has fewer parts.
     pub fn parts(&self) -> u32
         ensures value { result ≡ length self.now }
         ensures few { length self.now ≤ item_limit }
@@ -63,7 +64,8 @@ impl Division {
         }
     }
 
-    /// The least instant that as many items hold as there are parts, whichever items they divide; None exactly without parts.
+    /// The least instant that as many items hold as there are parts, whichever items they divide; None
+    /// exactly without parts.
     pub fn instant(&self) -> Option<Point>
         ensures { IsInstantOf self.now result }
     {
@@ -85,7 +87,8 @@ fn instant_of(parts: &[PartItems]) -> Option<Point>
     Some(items[0].period.from)
 }
 
-/// Divides the items, which are at most 1,000,000, into the least number of parts without overlaps. Items of distinct ids are placed one after another, by start, end and id, as `Placer::place` does.
+/// Divides the items, which are at most 1,000,000, into the least number of parts without overlaps. Items
+/// of distinct ids are placed one after another, by start, end and id, as `Placer::place` does.
 pub fn create_dip(alloc: Global, items: &[Item]) -> Result<Division, NoMemory>
     requires { length items.now ≤ item_limit }
     ensures least { IfOk result (IsLeastDivision items.now) }

@@ -3,7 +3,8 @@ ghost use Rattle.dip_core.specs.declared.item.Item.{Item};
 ghost use Rattle.dip_core.specs.Item.{IdsRise, HasDistinctIds};
 ghost use Rattle.dip_core.specs.Division.{CrowdedDivisionIsLeast, IsDip, IsDivision, IsInstantOf, IsLeast, IsLeastDivision, PlacedDivisionIsLeast, PlacedDivisionIsUnique};
 
-/// The law by which a division is seen to be least: where it has as many parts as some instant's crowd, no division of its items has fewer. No items need no part.
+/// The law by which a division is seen to be least: where it has as many parts as some instant's crowd, no
+/// division of its items has fewer. No items need no part.
 pub fn crowded_division_is_least()
     ensures crowded { CrowdedDivisionIsLeast }
     ensures none { IsLeast [] 0 }
@@ -14,8 +15,8 @@ pub fn rising_ids_are_distinct()
     ensures { (items : List Item) → IdsRise items → HasDistinctIds items }
 {}
 
-/// Of the divisions of some items whose parts rise, one at most is placed, whatever the ids are; of items of distinct
-/// ids it is least.
+/// Of the divisions of some items whose parts rise, one at most is placed, whatever the ids are; of items
+/// of distinct ids it is least.
 pub fn placed_division_is_unique()
     ensures one { PlacedDivisionIsUnique }
     ensures least { PlacedDivisionIsLeast }

@@ -1,6 +1,7 @@
 #![tactic(auto)]
 
-//! Divides items into the least number of parts in which no two items overlap, and gives an instant that as many items hold as there are parts.
+//! Divides items into the least number of parts in which no two items overlap, and gives an instant that as
+//! many items hold as there are parts.
 
 mod division;
 mod ids;

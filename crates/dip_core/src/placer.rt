@@ -10,7 +10,8 @@ use crate::{Division, Item, NoMemory};
 use std::alloc::Global;
 use std::marker::Model;
 
-/// Places items one after another, none below the one before it, into parts without overlaps. Contracts see the parts and the item that was placed last.
+/// Places items one after another, none below the one before it, into parts without overlaps. Contracts see
+/// the parts and the item that was placed last.
 #[derive(Drop)]
 pub struct Placer {
     alloc: Global,
@@ -59,7 +60,9 @@ impl Placer {
         self.len
     }
 
-    /// Places the item, and answers the number of its part: of those that have ended by its start the one that ended first, of several such the lowest, and where there is none a new part. On NoMemory nothing is changed.
+    /// Places the item, and answers the number of its part: of those that have ended by its start the one
+    /// that ended first, of several such the lowest, and where there is none a new part. On NoMemory
+    /// nothing is changed.
     pub fn place(&mut self, item: Item) -> Result<u32, NoMemory>
         requires rises { ForSome self.old.last (λ last. ¬ IsBelow item last) }
         requires room { length (all_of self.old.parts) < item_limit }

@@ -25,7 +25,8 @@ module _ {X : Type 0} (test : X → X → Bool) where
   meeting-none [] = refl
   meeting-none (y ∷ ys) = meeting-none ys
 
-  meeting-cons : (x : X) (old new : List X) → have_meeting (x ∷ old) new ≡ (list_any (test x) new || have_meeting old new)
+  meeting-cons : (x : X) (old new : List X)
+      → have_meeting (x ∷ old) new ≡ (list_any (test x) new || have_meeting old new)
   meeting-cons x old [] = refl
   meeting-cons x old (y ∷ ys) =
       ap (λ t. (test x y || list_any (λ x. test x y) old) || t) (meeting-cons x old ys)
@@ -38,7 +39,8 @@ module _ {X : Type 0} (test : X → X → Bool) where
       regroup false false c d = refl
 
   -- the old ones may be left out of the pairs
-  pub pairs-added : (old new : List X) → have_pair test old ≡ false → (have_pair test new || have_meeting old new) ≡ have_pair test (old ++ new)
+  pub pairs-added : (old new : List X) → have_pair test old ≡ false
+      → (have_pair test new || have_meeting old new) ≡ have_pair test (old ++ new)
   pairs-added [] new none = sym (or_nothing (have_pair test new) (have_meeting [] new) (meeting-none new))
   pairs-added (x ∷ xs) new none =
       let both = or_parts (list_any (test x) xs) (have_pair test xs) none in
@@ -48,7 +50,8 @@ module _ {X : Type 0} (test : X → X → Bool) where
       ∙ ap (λ t. (t || list_any (test x) new) || have_pair test (xs ++ new)) (sym both.0)
       ∙ ap (λ t. t || have_pair test (xs ++ new)) (sym (list_any-append (test x) xs new))
 
-  any-filtered : (x : X) (p : X → Bool) (xs : List X) → list_any (test x) xs ≡ false → list_any (test x) (filter p xs) ≡ false
+  any-filtered : (x : X) (p : X → Bool) (xs : List X) → list_any (test x) xs ≡ false
+      → list_any (test x) (filter p xs) ≡ false
   any-filtered x p [] none = refl
   any-filtered x p (y ∷ ys) none =
       let both = or_parts (test x y) (list_any (test x) ys) none in
@@ -63,6 +66,7 @@ module _ {X : Type 0} (test : X → X → Bool) where
   pairs-filtered p (x ∷ xs) none =
       let both = or_parts (list_any (test x) xs) (have_pair test xs) none in
       elim (p x) as (λ b. have_pair test (cond b (x ∷ filter p xs) (filter p xs)) ≡ false) [
-        | true ↦ or_from (list_any (test x) (filter p xs)) (have_pair test (filter p xs)) (any-filtered x p xs both.0) (pairs-filtered p xs both.1)
+        | true ↦ or_from (list_any (test x) (filter p xs)) (have_pair test (filter p xs)) (any-filtered x p xs both.0)
+            (pairs-filtered p xs both.1)
         | false ↦ pairs-filtered p xs both.1
       ]

@@ -40,10 +40,12 @@ same_bool false false f g = refl
 
 meet-flips : (x y : Period) → is_some (meet x y) ≡ is_some (meet y x)
 meet-flips x y = same_bool (is_some (meet x y)) (is_some (meet y x))
-    (λ e. (let at = shared x y e in shares y x at.0 at.2 at.1)) (λ e. (let at = shared y x e in shares x y at.0 at.2 at.1))
+    (λ e. (let at = shared x y e in shares y x at.0 at.2 at.1))
+    (λ e. (let at = shared y x e in shares x y at.0 at.2 at.1))
 
 -- a period that begins between two that share an instant shares one with the first
-meet-between : (x y z : Period) → x.from ≤ℤ y.from → y.from ≤ℤ z.from → is_some (meet x z) ≡ true → is_some (meet x y) ≡ true
+meet-between : (x y z : Period) → x.from ≤ℤ y.from → y.from ≤ℤ z.from → is_some (meet x z) ≡ true
+    → is_some (meet x y) ≡ true
 meet-between x y z low high e =
     let at = shared x z e in
     let t = at.0 in
@@ -58,7 +60,9 @@ not_less a b h = grind (arith, ints)
 -- ---- rows
 
 pub collide-flips : (key : List ℕ) (a b : Draft) → collide key a b ≡ collide key b a
-collide-flips key a b = ap (λ t. t && is_some (meet a.period b.period)) (same_key-flips key a.values b.values) ∙ ap (λ t. same_key key b.values a.values && t) (meet-flips a.period b.period)
+collide-flips key a b =
+    ap (λ t. t && is_some (meet a.period b.period)) (same_key-flips key a.values b.values)
+    ∙ ap (λ t. same_key key b.values a.values && t) (meet-flips a.period b.period)
 
 then-not_less : (o p : Ordering) → is_lt (ordering_then o p) ≡ false → is_lt o ≡ false
 then-not_less Less p h = h
@@ -68,24 +72,33 @@ then-not_less Greater p h = refl
 then-tied : (o p : Ordering) → o ≡ Equal → is_lt (ordering_then o p) ≡ false → is_lt p ≡ false
 then-tied o p e h = sym (ap (λ q. is_lt (ordering_then q p)) e) ∙ h
 
-collide-between : (key : List ℕ) (x y z : KeyedRow) → is_lt (row_cmp key y x) ≡ false → is_lt (row_cmp key z y) ≡ false → collide key (row_in x) (row_in z) ≡ true → collide key (row_in x) (row_in y) ≡ true
+collide-between : (key : List ℕ) (x y z : KeyedRow) → is_lt (row_cmp key y x) ≡ false → is_lt (row_cmp key z y) ≡ false
+    → collide key (row_in x) (row_in z) ≡ true → collide key (row_in x) (row_in y) ≡ true
 collide-between key x y z low high e =
     let xs = x.values.now in
     let ys = y.values.now in
     let zs = z.values.now in
     let both = and_parts (same_key key xs zs) (is_some (meet x.period z.period)) e in
     let tie = key-tie key xs zs both.0 in
-    let first = key-between key xs ys zs tie (then-not_less (key_cmp key ys xs) (int_cmp y.period.from x.period.from) low) (then-not_less (key_cmp key zs ys) (int_cmp z.period.from y.period.from) high) in
+    let first = key-between key xs ys zs tie
+    (then-not_less (key_cmp key ys xs) (int_cmp y.period.from x.period.from) low)
+    (then-not_less (key_cmp key zs ys) (int_cmp z.period.from y.period.from) high) in
     let back : key_cmp key ys xs ≡ Equal = (key_total key).antisymm ys xs ∙ ap ordering_reverse first in
     let next : key_cmp key zs ys ≡ Equal = sym ((key_total key).congr xs zs ys tie) ∙ first in
-    let begins = not_less x.period.from y.period.from (then-tied (key_cmp key ys xs) (int_cmp y.period.from x.period.from) back low) in
-    let goes_on = not_less y.period.from z.period.from (then-tied (key_cmp key zs ys) (int_cmp z.period.from y.period.from) next high) in
-    ap (λ t. t && is_some (meet x.period y.period)) (key-same key xs ys first) ∙ meet-between x.period y.period z.period begins goes_on both.1
+    let begins = not_less x.period.from y.period.from
+    (then-tied (key_cmp key ys xs) (int_cmp y.period.from x.period.from) back low) in
+    let goes_on = not_less y.period.from z.period.from
+    (then-tied (key_cmp key zs ys) (int_cmp z.period.from y.period.from) next high) in
+    ap (λ t. t && is_some (meet x.period y.period)) (key-same key xs ys first)
+    ∙ meet-between x.period y.period z.period begins goes_on both.1
 
 -- sorted rows: two of them collide exactly where two neighbours do
-pub collision-from_neighbours : (key : List ℕ) (rows sorted : List KeyedRow) → IsPermutation rows sorted → IsSortedBy (λ a b. is_lt (row_cmp key a b)) sorted
+pub collision-from_neighbours : (key : List ℕ) (rows sorted : List KeyedRow) → IsPermutation rows sorted
+    → IsSortedBy (λ a b. is_lt (row_cmp key a b)) sorted
     → have_neighbours (λ a b. collide key (row_in a) (row_in b)) sorted ≡ have_collision key (map row_in rows)
 collision-from_neighbours key rows sorted moved up =
-    neighbours-pairs_sorted (λ a b. collide key (row_in a) (row_in b)) (λ a b. is_lt (row_cmp key a b)) (collide-between key) (ranks_by (row_total key) (λ a. a)) sorted up
-    ∙ sym (have_pair-permutation (λ a b. collide key (row_in a) (row_in b)) (λ a b. collide-flips key (row_in a) (row_in b)) rows sorted moved)
+    neighbours-pairs_sorted (λ a b. collide key (row_in a) (row_in b)) (λ a b. is_lt (row_cmp key a b))
+    (collide-between key) (ranks_by (row_total key) (λ a. a)) sorted up
+    ∙ sym (have_pair-permutation (λ a b. collide key (row_in a) (row_in b))
+    (λ a b. collide-flips key (row_in a) (row_in b)) rows sorted moved)
     ∙ sym (have_pair-map (collide key) row_in rows)

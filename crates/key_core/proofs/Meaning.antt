@@ -23,18 +23,24 @@ maybe-self (Some a) = value-self a
 maybe-equal : (a b : Option Value) → a ≡ b → same_maybe a b ≡ true
 maybe-equal a b e = ap (same_maybe a) (sym e) ∙ maybe-self a
 
-key-equal : (key : List ℕ) (a b : List Value) → All (λ column. slice_get a column ≡ slice_get b column) key → same_key key a b ≡ true
+key-equal : (key : List ℕ) (a b : List Value) → All (λ column. slice_get a column ≡ slice_get b column) key
+    → same_key key a b ≡ true
 key-equal [] a b h = refl
 key-equal (column ∷ columns) a b h =
-    ap (λ t. t && same_key columns a b) (maybe-equal (slice_get a column) (slice_get b column) (h 0 column (omega arith)))
+    ap (λ t. t && same_key columns a b)
+    (maybe-equal (slice_get a column) (slice_get b column) (h 0 column (omega arith)))
     ∙ key-equal columns a b (λ k d lt. h (suc k) d (omega arith))
 
 -- no instant is held by two rows of one key
-pub without_overlaps : (key : List ℕ) (rows : List Draft) → have_collision key rows ≡ false → AreWithoutOverlaps key rows
+pub without_overlaps : (key : List ℕ) (rows : List Draft) → have_collision key rows ≡ false
+    → AreWithoutOverlaps key rows
 without_overlaps key rows none i j d below inside t same at_one at_other =
     let a = get_or rows i d in
     let b = get_or rows j d in
-    let apart = apart_from_distinct (collide key) rows i j d (distinct-from_none (collide key) rows none) below inside in
-    let both : collide key a b ≡ true = ap (λ s. s && is_some (meet a.period b.period)) (key-equal key a.values b.values same) ∙ shares a.period b.period t at_one at_other in
+    let apart =
+    apart_from_distinct (collide key) rows i j d (distinct-from_none (collide key) rows none) below inside in
+    let both : collide key a b ≡ true =
+    ap (λ s. s && is_some (meet a.period b.period)) (key-equal key a.values b.values same)
+    ∙ shares a.period b.period t at_one at_other in
     let bad : true ≡ false = sym both ∙ apart in
     absurd (cc)

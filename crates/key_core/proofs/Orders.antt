@@ -79,10 +79,13 @@ maybe_total = record {
 
 pub key_total : (key : List ℕ) → IsTotalOrder (key_cmp key)
 key_total [] = record { antisymm = λ x y. refl; trans = λ x y z e f. e; congr = λ x y z e. refl }
-key_total (column ∷ columns) = then_total (on_total (λ (values : List Value). slice_get values column) maybe_total) (key_total columns)
+key_total (column ∷ columns) =
+    then_total (on_total (λ (values : List Value). slice_get values column) maybe_total) (key_total columns)
 
 pub row_total : (key : List ℕ) → IsTotalOrder (row_cmp key)
-row_total key = then_total (on_total (λ (row : KeyedRow). row.values.now) (key_total key)) (on_total (λ (row : KeyedRow). row.period.from) int_cmp_total)
+row_total key =
+    then_total (on_total (λ (row : KeyedRow). row.values.now) (key_total key))
+    (on_total (λ (row : KeyedRow). row.period.from) int_cmp_total)
 
 -- ---- ties
 
@@ -101,10 +104,12 @@ ties_self {X} {R} total x = by_cmp (R x x) (total.antisymm x x) where
 
 -- values that are one tie
 value-tie : (a b : Value) → same_value a b ≡ true → value_cmp a b ≡ Equal
-value-tie (Int a) (Int b) e = ap (λ n. value_cmp (Int a) (Int n)) (sym ((Decides-int_eq a b).0 e)) ∙ ties_self value_total (Int a)
+value-tie (Int a) (Int b) e =
+    ap (λ n. value_cmp (Int a) (Int n)) (sym ((Decides-int_eq a b).0 e)) ∙ ties_self value_total (Int a)
 value-tie (Int a) (Text b) e = cc
 value-tie (Text a) (Int b) e = cc
-value-tie (Text a) (Text b) e = ap (λ n. value_cmp (Text a) (Text n)) (sym ((bytes_decides a b).0 e)) ∙ ties_self value_total (Text a)
+value-tie (Text a) (Text b) e =
+    ap (λ n. value_cmp (Text a) (Text n)) (sym ((bytes_decides a b).0 e)) ∙ ties_self value_total (Text a)
 
 maybe-same : (a b : Option Value) → maybe_cmp a b ≡ Equal → same_maybe a b ≡ true
 maybe-same None None e = refl
@@ -127,13 +132,15 @@ pub key-same : (key : List ℕ) (a b : List Value) → key_cmp key a b ≡ Equal
 key-same [] a b e = refl
 key-same (column ∷ columns) a b e =
     let both = then-tie (maybe_cmp (slice_get a column) (slice_get b column)) (key_cmp columns a b) e in
-    ap (λ t. t && same_key columns a b) (maybe-same (slice_get a column) (slice_get b column) both.0) ∙ key-same columns a b both.1
+    ap (λ t. t && same_key columns a b) (maybe-same (slice_get a column) (slice_get b column) both.0)
+    ∙ key-same columns a b both.1
 
 pub key-tie : (key : List ℕ) (a b : List Value) → same_key key a b ≡ true → key_cmp key a b ≡ Equal
 key-tie [] a b e = refl
 key-tie (column ∷ columns) a b e =
     let both = and_parts (same_maybe (slice_get a column) (slice_get b column)) (same_key columns a b) e in
-    ap (λ o. ordering_then o (key_cmp columns a b)) (maybe-tie (slice_get a column) (slice_get b column) both.0) ∙ key-tie columns a b both.1
+    ap (λ o. ordering_then o (key_cmp columns a b)) (maybe-tie (slice_get a column) (slice_get b column) both.0)
+    ∙ key-tie columns a b both.1
 
 pub key-is_eq : (key : List ℕ) (a b : List Value) → is_eq (key_cmp key a b) ≡ same_key key a b
 key-is_eq key a b = by_cmp (key_cmp key a b) refl (same_key key a b) refl where
@@ -146,18 +153,23 @@ key-is_eq key a b = by_cmp (key_cmp key a b) refl (same_key key a b) refl where
   by_cmp Greater e true f = let g = key-tie key a b f in let bad : Greater ≡ Equal = sym e ∙ g in cc
 
 pub same_key-flips : (key : List ℕ) (a b : List Value) → same_key key a b ≡ same_key key b a
-same_key-flips key a b = sym (key-is_eq key a b) ∙ ap is_eq ((key_total key).antisymm a b) ∙ flipped (key_cmp key b a) ∙ key-is_eq key b a where
-  flipped : (o : Ordering) → is_eq (ordering_reverse o) ≡ is_eq o
-  flipped Less = refl
-  flipped Equal = refl
-  flipped Greater = refl
+same_key-flips key a b =
+    sym (key-is_eq key a b) ∙ ap is_eq ((key_total key).antisymm a b) ∙ flipped (key_cmp key b a)
+    ∙ key-is_eq key b a where
+      flipped : (o : Ordering) → is_eq (ordering_reverse o) ≡ is_eq o
+      flipped Less = refl
+      flipped Equal = refl
+      flipped Greater = refl
 
 -- what stands between two ties with both
-pub key-between : (key : List ℕ) (x y z : List Value) → key_cmp key x z ≡ Equal → is_lt (key_cmp key y x) ≡ false → is_lt (key_cmp key z y) ≡ false → key_cmp key x y ≡ Equal
+pub key-between : (key : List ℕ) (x y z : List Value) → key_cmp key x z ≡ Equal → is_lt (key_cmp key y x) ≡ false
+    → is_lt (key_cmp key z y) ≡ false → key_cmp key x y ≡ Equal
 key-between key x y z tie low high =
-    by_cmp (key_cmp key x y) (ap is_lt ((key_total key).antisymm y x) ∙ refl) (ap is_lt ((key_total key).congr x z y tie) ∙ high) low
+    by_cmp (key_cmp key x y) (ap is_lt ((key_total key).antisymm y x) ∙ refl)
+    (ap is_lt ((key_total key).congr x z y tie) ∙ high) low
   where
-    by_cmp : (o : Ordering) → is_lt (key_cmp key y x) ≡ is_lt (ordering_reverse o) → is_lt o ≡ false → is_lt (key_cmp key y x) ≡ false → o ≡ Equal
+    by_cmp : (o : Ordering) → is_lt (key_cmp key y x) ≡ is_lt (ordering_reverse o) → is_lt o ≡ false
+        → is_lt (key_cmp key y x) ≡ false → o ≡ Equal
     by_cmp Less e f g = cc
     by_cmp Equal e f g = refl
     by_cmp Greater e f g = let bad : true ≡ false = sym e ∙ g in cc

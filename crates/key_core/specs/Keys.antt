@@ -41,4 +41,6 @@ have_collision key rows = have_pair (collide key) rows
 
 -- no instant is held by two rows at different places that are equal in each of the key's columns
 abbrev pub AreWithoutOverlaps : List ℕ → List Draft → Type 0
-AreWithoutOverlaps key rows = AllPairs (λ a b. (t : ℤ) → All (λ column. slice_get a.values column ≡ slice_get b.values column) key → Holds a.period t → Holds b.period t → ⊥) rows
+AreWithoutOverlaps key rows =
+    AllPairs (λ a b. (t : ℤ) → All (λ column. slice_get a.values column ≡ slice_get b.values column) key
+    → Holds a.period t → Holds b.period t → ⊥) rows

@@ -26,7 +26,8 @@ maybe_cmp (Some a) (Some b) = value_cmp a b
 -- by the values in the columns, the first column first
 abbrev pub key_cmp : List ℕ → List Value → List Value → Ordering
 key_cmp [] a b = Equal
-key_cmp (column ∷ columns) a b = ordering_then (maybe_cmp (slice_get a column) (slice_get b column)) (key_cmp columns a b)
+key_cmp (column ∷ columns) a b =
+    ordering_then (maybe_cmp (slice_get a column) (slice_get b column)) (key_cmp columns a b)
 
 -- by key, and then by start
 abbrev pub row_cmp : List ℕ → KeyedRow → KeyedRow → Ordering

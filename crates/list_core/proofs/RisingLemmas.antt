@@ -16,14 +16,16 @@ Contains-cons_cases x xs z (suc k, h, e) = inr (k, omega arith, e)
 pub Contains-none : {X : Type 0} (z : X) → Contains [] z → ⊥
 Contains-none z (k, h, e) = omega arith
 
-pub AllPairs-head : {X : Type 0} (R : X → X → Type 0) (x : X) (xs : List X) (z : X) → AllPairs R (x ∷ xs) → Contains xs z → R x z
+pub AllPairs-head : {X : Type 0} (R : X → X → Type 0) (x : X) (xs : List X) (z : X) → AllPairs R (x ∷ xs)
+    → Contains xs z → R x z
 AllPairs-head R x xs z rises (k, h, e) = subst (λ w. R x w) e (rises 0 (suc k) z (omega arith) (omega arith))
 
 pub AllPairs-tail : {X : Type 0} (R : X → X → Type 0) (x : X) (xs : List X) → AllPairs R (x ∷ xs) → AllPairs R xs
 AllPairs-tail R x xs rises i j d less h = rises (suc i) (suc j) d (omega arith) (omega arith)
 
 -- what is contained in the rest of a list is contained in the rest of another, where the first elements are one
-rest_in : {X : Type 0} (R : X → X → Type 0) (x y : X) (xs ys : List X) → ((v w : X) → R v w → R w v → ⊥) → AllPairs R (x ∷ xs) → x ≡ y
+rest_in : {X : Type 0} (R : X → X → Type 0) (x y : X) (xs ys : List X) → ((v w : X) → R v w → R w v → ⊥)
+    → AllPairs R (x ∷ xs) → x ≡ y
     → ((z : X) → Contains (x ∷ xs) z → Contains (y ∷ ys) z) → (z : X) → Contains xs z → Contains ys z
 rest_in R x y xs ys asym rises same in_other z member =
     elim (Contains-cons_cases y ys z (in_other z (Contains-cons x xs z member))) [
@@ -34,7 +36,8 @@ rest_in R x y xs ys asym rises same in_other z member =
     ]
 
 -- the first elements are one
-first_is_one : {X : Type 0} (R : X → X → Type 0) (x y : X) (xs ys : List X) → ((v w : X) → R v w → R w v → ⊥) → AllPairs R (x ∷ xs) → AllPairs R (y ∷ ys)
+first_is_one : {X : Type 0} (R : X → X → Type 0) (x y : X) (xs ys : List X) → ((v w : X) → R v w → R w v → ⊥)
+    → AllPairs R (x ∷ xs) → AllPairs R (y ∷ ys)
     → Contains (y ∷ ys) x → Contains (x ∷ xs) y → x ≡ y
 first_is_one R x y xs ys asym one other there back =
     elim (Contains-cons_cases y ys x there) [
@@ -46,13 +49,15 @@ first_is_one R x y xs ys asym one other there back =
     ]
 
 -- lists that rise, and hold the same, are one
-pub rising_is_one : {X : Type 0} (R : X → X → Type 0) (xs ys : List X) → ((v w : X) → R v w → R w v → ⊥) → AllPairs R xs → AllPairs R ys
+pub rising_is_one : {X : Type 0} (R : X → X → Type 0) (xs ys : List X) → ((v w : X) → R v w → R w v → ⊥)
+    → AllPairs R xs → AllPairs R ys
     → ((z : X) → Contains xs z → Contains ys z) → ((z : X) → Contains ys z → Contains xs z) → xs ≡ ys
 rising_is_one R [] [] asym one other there back = refl
 rising_is_one R [] (y ∷ ys) asym one other there back = absurd (Contains-none y (back y (Contains-head y ys)))
 rising_is_one R (x ∷ xs) [] asym one other there back = absurd (Contains-none x (there x (Contains-head x xs)))
 rising_is_one R (x ∷ xs) (y ∷ ys) asym one other there back =
-    let same : x ≡ y = first_is_one R x y xs ys asym one other (there x (Contains-head x xs)) (back y (Contains-head y ys)) in
+    let same : x ≡ y =
+        first_is_one R x y xs ys asym one other (there x (Contains-head x xs)) (back y (Contains-head y ys)) in
     let rest : xs ≡ ys =
     rising_is_one R xs ys asym (AllPairs-tail R x xs one) (AllPairs-tail R y ys other)
     (rest_in R x y xs ys asym one same there) (rest_in R y x ys xs asym other (sym same) back) in

@@ -33,7 +33,8 @@ pub Precedes-end : (x y : Period) → Precedes x y → x.to ≤ℤ y.from
 Precedes-end x y p =
     let one : x.from <ℤ x.to = x.ordered in
     let other : y.from <ℤ y.to = y.ordered in
-    let last : (x.to -ℤ pos 1) <ℤ y.from = p (x.to -ℤ pos 1) y.from (omega (arith, ints), omega (arith, ints)) (omega (arith, ints), other) in
+    let last : (x.to -ℤ pos 1) <ℤ y.from =
+    p (x.to -ℤ pos 1) y.from (omega (arith, ints), omega (arith, ints)) (omega (arith, ints), other) in
     omega (arith, ints)
 
 -- nothing lies between two periods that touch
@@ -73,7 +74,8 @@ Period-same p q from to =
     subst A from a q.ordered
 
 -- a period is what lies between its ends
-between_if-some : (a b : ℤ) (test : Bool) (e : int_lt a b ≡ test) (p : Period) → p.from ≡ a → p.to ≡ b → between_if a b test e ≡ Some p
+between_if-some : (a b : ℤ) (test : Bool) (e : int_lt a b ≡ test) (p : Period) → p.from ≡ a → p.to ≡ b
+    → between_if a b test e ≡ Some p
 between_if-some a b true e p from to = ap Some (Period-same _ p (sym from) (sym to))
 between_if-some a b false e p from to =
     let ordered : p.from <ℤ p.to = p.ordered in
@@ -82,7 +84,8 @@ between_if-some a b false e p from to =
 pub between-some : (a b : ℤ) (p : Period) → p.from ≡ a → p.to ≡ b → between a b ≡ Some p
 between-some a b p from to = between_if-some a b (int_lt a b) refl p from to
 
-between_if-holds : (a b : ℤ) (test : Bool) (e : int_lt a b ≡ test) (t : ℤ) → HoldsIn (between_if a b test e) t ↔ ((a ≤ℤ t) × (t <ℤ b))
+between_if-holds : (a b : ℤ) (test : Bool) (e : int_lt a b ≡ test) (t : ℤ)
+    → HoldsIn (between_if a b test e) t ↔ ((a ≤ℤ t) × (t <ℤ b))
 between_if-holds a b true e t = (λ h. h, λ h. h)
 between_if-holds a b false e t = (λ h. absurd h, λ h. grind (arith, ints))
 
@@ -94,9 +97,13 @@ between-holds a b t = between_if-holds a b (int_lt a b) refl t
 pub meet-holds : (x y : Period) (t : ℤ) → HoldsIn (meet x y) t ↔ (Holds x t × Holds y t)
 meet-holds x y t =
     let it = between-holds (int_max x.from y.from) (int_min x.to y.to) t in (
-      λ h. let both = it.0 h in let one : int_max x.from y.from ≤ℤ t = both.0 in let other : t <ℤ int_min x.to y.to = both.1 in
-          ((omega (arith, ints, clamps), omega (arith, ints, clamps)), (omega (arith, ints, clamps), omega (arith, ints, clamps))),
-      λ h. let a : x.from ≤ℤ t = h.0.0 in let b : t <ℤ x.to = h.0.1 in let c : y.from ≤ℤ t = h.1.0 in let d : t <ℤ y.to = h.1.1 in
+      λ h. let both =
+          it.0 h in let one : int_max x.from y.from ≤ℤ t = both.0 in let other : t <ℤ int_min x.to y.to = both.1 in (
+            (omega (arith, ints, clamps), omega (arith, ints, clamps)),
+            (omega (arith, ints, clamps), omega (arith, ints, clamps)),
+          ),
+      λ h. let a : x.from ≤ℤ t =
+          h.0.0 in let b : t <ℤ x.to = h.0.1 in let c : y.from ≤ℤ t = h.1.0 in let d : t <ℤ y.to = h.1.1 in
           it.1 (omega (arith, ints, clamps), omega (arith, ints, clamps)),
     )
 

@@ -17,10 +17,12 @@ returns-then-is_empty c =
 pub loop-number-preserved : goal.loop-number-preserved
 loop-number-preserved c =
     let some : 0 < length c.part.result.now = grind arith in
-    All-more (λ part. 0 < length part) c.args.claim.now c.loop-number.number [] (omega (arith, c.len-number-end.ensures)) c.loop-number.invariant
+    All-more (λ part. 0 < length part) c.args.claim.now c.loop-number.number []
+    (omega (arith, c.len-number-end.ensures)) c.loop-number.invariant
     (rw (get_or_from_slice_get c.args.claim.now c.loop-number.number c.part.result.now [] c.part.ensures) some)
 
 pub returns : goal.returns
 returns c =
-    let all : take c.loop-number.number c.args.claim.now ≡ c.args.claim.now = take_all c.loop-number.number c.args.claim.now (omega (arith, c.len-number-end.ensures)) in
+    let all : take c.loop-number.number c.args.claim.now ≡ c.args.claim.now =
+    take_all c.loop-number.number c.args.claim.now (omega (arith, c.len-number-end.ensures)) in
     subst (All (λ part. 0 < length part)) all c.loop-number.invariant

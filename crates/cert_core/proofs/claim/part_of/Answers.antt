@@ -3,7 +3,8 @@ use Rattle.cert_core.proofs.CutLemmas.{Rise-at, slice_get-cut_at}
 use Rattle.cert_core.proofs.claim.part_of.Goals as goal
 use Rattle.cert_core.proofs.claim.part_of.Goals.{After-end_of-end}
 
-ends : (c : After-end_of-end) → (get_or c.args.starts.now c.args.number 0 ≤ c.end_of-end.result) × (c.end_of-end.result ≤ length c.args.ids.now)
+ends : (c : After-end_of-end) → (get_or c.args.starts.now c.args.number 0 ≤ c.end_of-end.result)
+    × (c.end_of-end.result ≤ length c.args.ids.now)
 ends c =
     subst (λ n. (get_or c.args.starts.now c.args.number 0 ≤ n) × (n ≤ length c.args.ids.now)) (sym c.end_of-end.ensures)
     (Rise-at c.args.starts.now (length c.args.ids.now) c.args.number c.requires.cut.rise c.requires.there)
@@ -23,4 +24,6 @@ slice_bounds-result-end c = (ends c).1
 pub returns : goal.returns
 returns c =
     slice_get-cut_at c.args.starts.now c.args.ids.now c.args.number c.requires.there
-    ∙ ap (λ n. Some (take (n - get_or c.args.starts.now c.args.number 0) (drop (get_or c.args.starts.now c.args.number 0) c.args.ids.now))) (sym c.end_of-end.ensures)
+    ∙ ap (λ n. Some
+    (take (n - get_or c.args.starts.now c.args.number 0)
+    (drop (get_or c.args.starts.now c.args.number 0) c.args.ids.now))) (sym c.end_of-end.ensures)

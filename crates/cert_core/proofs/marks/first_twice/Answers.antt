@@ -10,33 +10,49 @@ use Rattle.cert_core.proofs.marks.first_twice.Goals.{Else-marks-place, Then-mark
 
 pub returns-then-marks-place : goal.returns-then-marks-place
 returns-then-marks-place c =
-    let within : get_or c.args.places.now c.loop-place.place-index 0 < length c.args.marks.now = c.requires.within c.loop-place.place-index 0 c.loop-place-test.true in
+    let within : get_or c.args.places.now c.loop-place.place-index 0 < length c.args.marks.now =
+    c.requires.within c.loop-place.place-index 0 c.loop-place-test.true in
     record {
       before = take c.loop-place.place-index c.args.places.now;
       after = drop (c.loop-place.place-index + 1) c.args.places.now;
-      stands = sym (take-append-drop c.loop-place.place-index c.args.places.now) ∙ ap (λ l. take c.loop-place.place-index c.args.places.now ++ l) (drop_more c.args.places.now c.loop-place.place-index 0 c.loop-place-test.true);
-      again = c.loop-place.invariant.marked.marked (get_or c.args.places.now c.loop-place.place-index 0) (omega (arith, within, c.loop-place.auto.marks)) c.if-marks-place.true;
+      stands = sym (take-append-drop c.loop-place.place-index c.args.places.now)
+          ∙ ap (λ l. take c.loop-place.place-index c.args.places.now ++ l)
+          (drop_more c.args.places.now c.loop-place.place-index 0 c.loop-place-test.true);
+      again = c.loop-place.invariant.marked.marked (get_or c.args.places.now c.loop-place.place-index 0)
+          (omega (arith, within, c.loop-place.auto.marks)) c.if-marks-place.true;
       first = c.loop-place.invariant.distinct;
     }
 
 -- the place was not there before
-new : (c : Else-marks-place) → Contains (take c.loop-place.place-index c.args.places.now) (get_or c.args.places.now c.loop-place.place-index 0) → ⊥
+new : (c : Else-marks-place)
+    → Contains (take c.loop-place.place-index c.args.places.now) (get_or c.args.places.now c.loop-place.place-index 0)
+    → ⊥
 new c there =
     let yes : get_or c.loop-place.marks (get_or c.args.places.now c.loop-place.place-index 0) false ≡ true =
-    marked_each (take c.loop-place.place-index c.args.places.now) c.loop-place.marks (get_or c.args.places.now c.loop-place.place-index 0) c.loop-place.invariant.marked there in
-    let no : get_or c.loop-place.marks (get_or c.args.places.now c.loop-place.place-index 0) false ≡ false = c.if-marks-place.false in
+    marked_each (take c.loop-place.place-index c.args.places.now) c.loop-place.marks
+    (get_or c.args.places.now c.loop-place.place-index 0) c.loop-place.invariant.marked there in
+    let no : get_or c.loop-place.marks (get_or c.args.places.now c.loop-place.place-index 0) false ≡ false =
+    c.if-marks-place.false in
     cc (yes, no)
 
 pub loop-place-preserved : goal.loop-place-preserved
 loop-place-preserved c =
-    let within : get_or c.args.places.now c.loop-place.place-index 0 < length c.args.marks.now = c.requires.within c.loop-place.place-index 0 c.loop-place-test.true in
-    let longer : take (c.loop-place.place-index + 1) c.args.places.now ≡ take c.loop-place.place-index c.args.places.now ++ get_or c.args.places.now c.loop-place.place-index 0 ∷ [] =
+    let within : get_or c.args.places.now c.loop-place.place-index 0 < length c.args.marks.now =
+    c.requires.within c.loop-place.place-index 0 c.loop-place-test.true in
+    let longer : take
+    (c.loop-place.place-index + 1) c.args.places.now ≡ take c.loop-place.place-index c.args.places.now ++ get_or
+    c.args.places.now c.loop-place.place-index 0 ∷ [] =
     take_more c.args.places.now c.loop-place.place-index 0 c.loop-place-test.true in
     record {
-      marked = subst (λ ps. AreMarks ps (set c.loop-place.marks (get_or c.args.places.now c.loop-place.place-index 0) true)) (sym longer)
-          (AreMarks-push (take c.loop-place.place-index c.args.places.now) c.loop-place.marks (get_or c.args.places.now c.loop-place.place-index 0) c.loop-place.invariant.marked (omega (arith, within, c.loop-place.auto.marks)));
+      marked = subst
+          (λ ps. AreMarks ps (set c.loop-place.marks (get_or c.args.places.now c.loop-place.place-index 0) true))
+          (sym longer)
+          (AreMarks-push (take c.loop-place.place-index c.args.places.now) c.loop-place.marks
+          (get_or c.args.places.now c.loop-place.place-index 0) c.loop-place.invariant.marked
+          (omega (arith, within, c.loop-place.auto.marks)));
       distinct = subst IsDistinct (sym longer)
-          (IsDistinct-push (take c.loop-place.place-index c.args.places.now) (get_or c.args.places.now c.loop-place.place-index 0) c.loop-place.invariant.distinct (new c));
+          (IsDistinct-push (take c.loop-place.place-index c.args.places.now)
+          (get_or c.args.places.now c.loop-place.place-index 0) c.loop-place.invariant.distinct (new c));
     }
 
 pub loop-place-init : goal.loop-place-init
@@ -44,5 +60,9 @@ loop-place-init c = record { marked = AreMarks-nil c.args.marks.now c.requires.n
 
 pub returns : goal.returns
 returns c =
-    let all : take c.loop-place.place-index c.args.places.now ≡ c.args.places.now = take_all c.loop-place.place-index c.args.places.now c.loop-place-test.false in
-    (subst IsDistinct all c.loop-place.invariant.distinct, subst (λ ps. AreMarks ps c.loop-place.marks) all c.loop-place.invariant.marked)
+    let all : take c.loop-place.place-index c.args.places.now ≡ c.args.places.now =
+    take_all c.loop-place.place-index c.args.places.now c.loop-place-test.false in (
+      subst IsDistinct all c.loop-place.invariant.distinct,
+      subst
+          (λ ps. AreMarks ps c.loop-place.marks) all c.loop-place.invariant.marked,
+    )

@@ -14,11 +14,15 @@ use Rattle.cert_core.proofs.overlap.first_overlap.Goals.{After-part}
 -- the part's places end within all of them
 ends : (c : After-part) → c.loop-number.start + length c.part.result.now ≤ length c.args.places.now
 ends c =
-    let size : length (map (id_at c.args.items.now) c.args.places.now) ≡ length c.args.places.now = length-map c.args.places.now (id_at c.args.items.now) in
-    let all : length (map (id_at c.args.items.now) c.args.places.now) ≡ length (ids_of c.args.claim.now) = ap length c.requires.places.named in
-    let within : length (ids_of (take c.loop-number.number c.args.claim.now)) + length c.part.result.now ≤ length (ids_of c.args.claim.now) =
+    let size : length (map (id_at c.args.items.now) c.args.places.now) ≡ length c.args.places.now =
+    length-map c.args.places.now (id_at c.args.items.now) in
+    let all : length (map (id_at c.args.items.now) c.args.places.now) ≡ length (ids_of c.args.claim.now) =
+    ap length c.requires.places.named in
+    let within : length (ids_of (take c.loop-number.number c.args.claim.now)) + length c.part.result.now ≤ length
+    (ids_of c.args.claim.now) =
     ids_of-part_end c.args.claim.now c.loop-number.number c.part.result.now c.part.ensures in
-    let start : c.loop-number.start ≡ length (ids_of (take c.loop-number.number c.args.claim.now)) = c.loop-number.invariant.start in
+    let start : c.loop-number.start ≡ length (ids_of (take c.loop-number.number c.args.claim.now)) =
+    c.loop-number.invariant.start in
     omega (arith, size, all, within, start)
 
 pub overflow_add-end : goal.overflow_add-end
@@ -39,7 +43,8 @@ returns-in-Some c =
       is_part = c.part.ensures;
       earlier = c.loop-number.invariant.apart;
       overlap = found c.part.result.now
-          (ArePlaces-part c.args.items.now c.args.claim.now c.args.places.now c.loop-number.number c.part.result.now c.loop-number.start c.requires.places c.part.ensures c.loop-number.invariant.start)
+          (ArePlaces-part c.args.items.now c.args.claim.now c.args.places.now c.loop-number.number c.part.result.now
+          c.loop-number.start c.requires.places c.part.ensures c.loop-number.invariant.start)
           (IsDistinct-part c.args.claim.now c.loop-number.number c.part.result.now c.requires.distinct c.part.ensures);
     }
 
@@ -47,16 +52,21 @@ pub loop-number-preserved : goal.loop-number-preserved
 loop-number-preserved c =
     let found = rw c.in_default.is at c.in_ok-pair.ensures in
     let none : HasNoOverlap c.args.items.now c.part.result.now = found c.part.result.now
-    (ArePlaces-part c.args.items.now c.args.claim.now c.args.places.now c.loop-number.number c.part.result.now c.loop-number.start c.requires.places c.part.ensures c.loop-number.invariant.start)
+    (ArePlaces-part c.args.items.now c.args.claim.now c.args.places.now c.loop-number.number c.part.result.now
+    c.loop-number.start c.requires.places c.part.ensures c.loop-number.invariant.start)
     (IsDistinct-part c.args.claim.now c.loop-number.number c.part.result.now c.requires.distinct c.part.ensures) in
     let here : get_or c.args.claim.now c.loop-number.number c.part.result.now ≡ c.part.result.now =
     get_or_from_slice_get c.args.claim.now c.loop-number.number c.part.result.now c.part.result.now c.part.ensures in
     record {
-      start = ap (λ n. n + length c.part.result.now) c.loop-number.invariant.start ∙ sym (ids_of-take c.args.claim.now c.loop-number.number c.part.result.now c.part.ensures);
-      apart = All-more (HasNoOverlap c.args.items.now) c.args.claim.now c.loop-number.number c.part.result.now (omega (arith, c.len-number-end.ensures)) c.loop-number.invariant.apart
+      start = ap (λ n. n + length c.part.result.now) c.loop-number.invariant.start
+          ∙ sym (ids_of-take c.args.claim.now c.loop-number.number c.part.result.now c.part.ensures);
+      apart = All-more (HasNoOverlap c.args.items.now) c.args.claim.now c.loop-number.number c.part.result.now
+          (omega (arith, c.len-number-end.ensures)) c.loop-number.invariant.apart
           (subst (HasNoOverlap c.args.items.now) (sym here) none);
     }
 
 pub returns : goal.returns
 returns c =
-    subst (All (HasNoOverlap c.args.items.now)) (take_all c.loop-number.number c.args.claim.now (omega (arith, c.len-number-end.ensures))) c.loop-number.invariant.apart
+    subst (All (HasNoOverlap c.args.items.now))
+    (take_all c.loop-number.number c.args.claim.now
+    (omega (arith, c.len-number-end.ensures))) c.loop-number.invariant.apart

@@ -9,23 +9,32 @@ use Rattle.cert_core.proofs.overlap.take_items.Goals as goal
 
 pub loop-place-preserved : goal.loop-place-preserved
 loop-place-preserved c =
-    let within : get_or c.args.places.now c.loop-place.place-index 0 < length c.args.items.now = c.requires c.loop-place.place-index 0 c.loop-place-test.true in
-    let here : id_at c.args.items.now (get_or c.args.places.now c.loop-place.place-index 0) ≡ c.index-items-place.result.id =
-    id_at-get_or c.args.items.now (get_or c.args.places.now c.loop-place.place-index 0) c.index-items-place.result within ∙ ap (λ (x : Item). x.id) (sym c.index-items-place.is) in
+    let within : get_or c.args.places.now c.loop-place.place-index 0 < length c.args.items.now =
+    c.requires c.loop-place.place-index 0 c.loop-place-test.true in
+    let here : id_at c.args.items.now
+    (get_or c.args.places.now c.loop-place.place-index 0) ≡ c.index-items-place.result.id =
+    id_at-get_or c.args.items.now
+    (get_or c.args.places.now c.loop-place.place-index 0) c.index-items-place.result within
+    ∙ ap (λ (x : Item). x.id) (sym c.index-items-place.is) in
     record {
       members = subst (All (Contains c.args.items.now)) (sym c.in_ok-push.ensures.items)
-          (All-push (Contains c.args.items.now) c.loop-place.taken.items c.index-items-place.result c.loop-place.invariant.members
+          (All-push
+          (Contains c.args.items.now) c.loop-place.taken.items c.index-items-place.result
+          c.loop-place.invariant.members
           (get_or c.args.places.now c.loop-place.place-index 0, within, sym c.index-items-place.is));
       named = ap (map (λ (x : Item). x.id)) c.in_ok-push.ensures.items
           ∙ (map_push (λ (x : Item). x.id) c.loop-place.taken.items c.index-items-place.result
           ∙ (ap (λ l. l ++ c.index-items-place.result.id ∷ []) c.loop-place.invariant.named
-          ∙ (ap (λ n. map (id_at c.args.items.now) (take c.loop-place.place-index c.args.places.now) ++ n ∷ []) (sym here)
-          ∙ sym (map_more (id_at c.args.items.now) c.args.places.now c.loop-place.place-index 0 c.loop-place-test.true))));
+          ∙ (ap (λ n. map (id_at c.args.items.now) (take c.loop-place.place-index c.args.places.now) ++ n ∷ [])
+          (sym here)
+          ∙ sym (map_more
+          (id_at c.args.items.now) c.args.places.now c.loop-place.place-index 0 c.loop-place-test.true))));
     }
 
 pub returns : goal.returns
 returns c = λ ids are. record {
   members = c.loop-place.invariant.members;
   named = c.loop-place.invariant.named
-      ∙ (ap (map (id_at c.args.items.now)) (take_all c.loop-place.place-index c.args.places.now c.loop-place-test.false) ∙ are.named);
+      ∙ (ap (map (id_at c.args.items.now))
+      (take_all c.loop-place.place-index c.args.places.now c.loop-place-test.false) ∙ are.named);
 }

@@ -6,5 +6,6 @@ use Rattle.cert_core.proofs.places.place_of.Goals as goal
 pub returns : goal.returns
 returns c =
     let facts = c.binary_search_by_key.ensures in
-    let found = place_found c.args.items.now c.args.id c.binary_search_by_key.result c.requires facts.bound (facts.position (λ x. x.id) (answers_always _ _ _ (λ f a r g called. search rules))) in
+    let found = place_found c.args.items.now c.args.id c.binary_search_by_key.result c.requires facts.bound
+    (facts.position (λ x. x.id) (answers_always _ _ _ (λ f a r g called. search rules))) in
     rw c.ok.ensures.value found

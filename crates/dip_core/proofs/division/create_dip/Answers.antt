@@ -18,25 +18,26 @@ back n = omega arith
 pub place-requires-clause-rises : goal.place-requires-clause-rises
 place-requires-clause-rises c = λ y is.
     let sorted : IsSorted item_cmp c.deref-item-items.result.now =
-        subst (IsSorted item_cmp) (sym c.deref-item-items.ensures.value) c.sort_unstable.ensures.sorted in
+    subst (IsSorted item_cmp) (sym c.deref-item-items.ensures.value) c.sort_unstable.ensures.sorted in
     let last = MatchOption-at_some _ _ y is c.loop-item.invariant.last in
     let within : c.loop-item.item-index < length c.deref-item-items.result.now = omega arith in
-    sorted_step c.deref-item-items.result.now c.loop-item.item-index c.item-item.result y sorted last.0 within c.item-item.is last.1
+    sorted_step c.deref-item-items.result.now c.loop-item.item-index c.item-item.result y sorted last.0 within
+    c.item-item.is last.1
 
 pub place-requires-clause-room : goal.place-requires-clause-room
 place-requires-clause-room c =
     let within : c.loop-item.item-index < length c.deref-item-items.result.now = omega arith in
     let many : length (all_of c.loop-item.placer.parts) ≡ length
-        (take c.loop-item.item-index c.deref-item-items.result.now) =
-        length_permutation _ _ c.loop-item.invariant.placed in
+    (take c.loop-item.item-index c.deref-item-items.result.now) =
+    length_permutation _ _ c.loop-item.invariant.placed in
     let front : length (take c.loop-item.item-index c.deref-item-items.result.now) ≡ c.loop-item.item-index =
-        length-take-le c.loop-item.item-index c.deref-item-items.result.now (omega arith) in
+    length-take-le c.loop-item.item-index c.deref-item-items.result.now (omega arith) in
     let all : length c.deref-item-items.result.now ≡ length c.sort_unstable.new.self.items =
-        ap length c.deref-item-items.ensures.value in
+    ap length c.deref-item-items.ensures.value in
     let sorted : length c.sort_unstable.new.self.items ≡ length c.in_ok-sorted.sorted.items =
-        length_permutation _ _ c.sort_unstable.ensures.permutation in
+    length_permutation _ _ c.sort_unstable.ensures.permutation in
     let copied : length c.in_ok-sorted.sorted.items ≡ length c.args.items.now =
-        ap length c.in_ok-sorted.ensures.items in
+    ap length c.in_ok-sorted.ensures.items in
     let room : length c.args.items.now ≤ item_limit = c.requires in
     omega (arith, within, many, front, all, sorted, copied, room)
 
@@ -49,26 +50,30 @@ loop-item-preserved c =
           (λ (parts : List (List Item)). IsPermutation
           (take (c.loop-item.item-index + 1) c.deref-item-items.result.now) (all_of parts))
           (sym (ap (λ (p : Placing). p.parts) grown))
-          (placed_more c.deref-item-items.result.now c.loop-item.item-index c.item-item.result c.loop-item.placer.parts c.in_ok-place.field-0 within c.item-item.is c.loop-item.invariant.placed);
+          (placed_more c.deref-item-items.result.now c.loop-item.item-index c.item-item.result c.loop-item.placer.parts
+          c.in_ok-place.field-0 within c.item-item.is c.loop-item.invariant.placed);
       last = subst
           (λ (last : Option Item). MatchOption last (c.loop-item.item-index + 1 ≡ 0)
           (λ y. (0 < c.loop-item.item-index + 1)
           × (y ≡ get_or c.deref-item-items.result.now (c.loop-item.item-index + 1 - 1) y)))
-          (sym (ap (λ (p : Placing). p.last) grown))
-          (omega arith, subst (λ n. c.item-item.result ≡ get_or c.deref-item-items.result.now n c.item-item.result)
-              (back c.loop-item.item-index) c.item-item.is);
+          (sym (ap (λ (p : Placing). p.last) grown)) (
+            omega arith,
+            subst (λ n. c.item-item.result ≡ get_or c.deref-item-items.result.now n c.item-item.result)
+                (back c.loop-item.item-index) c.item-item.is,
+          );
     }
 
 -- all items are placed
 moved : (c : After-drop-sorted-2) → IsPermutation c.args.items.now (all_of c.loop-item.placer.parts)
 moved c =
     let all : take c.loop-item.item-index c.deref-item-items.result.now ≡ c.deref-item-items.result.now =
-        take_all c.loop-item.item-index c.deref-item-items.result.now c.loop-item-test.false in
+    take_all c.loop-item.item-index c.deref-item-items.result.now c.loop-item-test.false in
     let placed : IsPermutation c.sort_unstable.new.self.items (all_of c.loop-item.placer.parts) =
     subst (λ xs. IsPermutation xs (all_of c.loop-item.placer.parts))
-        (all ∙ c.deref-item-items.ensures.value) c.loop-item.invariant.placed in
+    (all ∙ c.deref-item-items.ensures.value) c.loop-item.invariant.placed in
     let sorted : IsPermutation c.args.items.now c.sort_unstable.new.self.items =
-    subst (λ xs. IsPermutation xs c.sort_unstable.new.self.items) c.in_ok-sorted.ensures.items c.sort_unstable.ensures.permutation in
+    subst (λ xs. IsPermutation xs c.sort_unstable.new.self.items) c.in_ok-sorted.ensures.items
+    c.sort_unstable.ensures.permutation in
     IsPermutation-trans c.args.items.now c.sort_unstable.new.self.items (all_of c.loop-item.placer.parts) sorted placed
 
 pub returns-clause-least : goal.returns-clause-least

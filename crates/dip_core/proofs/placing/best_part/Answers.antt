@@ -11,4 +11,4 @@ returns c =
     let all : c.loop-number.number ≡ length parts = omega arith in
     let below = MatchOption-at_some _ _ best c.in_ok-best.was c.loop-number.invariant in
     best-all parts c.args.start best.number best.end
-        (subst (λ n. IsBestPartBelow parts c.args.start n best.number best.end) all below)
+    (subst (λ n. IsBestPartBelow parts c.args.start n best.number best.end) all below)

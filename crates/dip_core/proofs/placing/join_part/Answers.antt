@@ -9,6 +9,6 @@ pub returns-clause-ok : goal.returns-clause-ok
 returns-clause-ok c =
     let within : c.args.number < length c.args.parts.now.items = omega arith in
     let same : c.index_mut.result.now ≡ part_at c.args.parts.now.items c.args.number =
-        get_or_read c.args.parts.now.items c.args.number c.index_mut.result.now within c.index_mut.ensures.value [] in
+    get_or_read c.args.parts.now.items c.args.number c.index_mut.result.now within c.index_mut.ensures.value [] in
     added-set c.args.parts.now.items c.args.number c.args.item.now c.push.new.self within
     (c.in_ok-push.ensures.ok ∙ ap (λ (part : List Item). part ++ c.args.item.now ∷ []) same)

@@ -9,4 +9,5 @@ pub returns : goal.returns
 returns c =
     c.neighbours_collide.ensures
     ∙ ap (have_neighbours (λ (a b : KeyedRow). collide c.args.key.now (row_in a) (row_in b))) c.deref.ensures.value
-    ∙ collision-from_neighbours c.args.key.now c.args.rows.now.items c.sort_rows.new.rows.items c.sort_rows.ensures.permutation c.sort_rows.ensures.sorted
+    ∙ collision-from_neighbours c.args.key.now c.args.rows.now.items c.sort_rows.new.rows.items
+    c.sort_rows.ensures.permutation c.sort_rows.ensures.sorted

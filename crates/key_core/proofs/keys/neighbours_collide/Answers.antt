@@ -12,10 +12,12 @@ loop-i-preserved c =
     let within = c.loop-i-test.true in
     ap (λ n. have_neighbours test (drop n c.args.rows.now)) back
     ∙ ap (λ t. t || have_neighbours test (drop c.loop-i.i c.args.rows.now)) (sym c.if-collide.false ∙ c.collide.ensures)
-    ∙ sym (neighbours-next test c.args.rows.now c.loop-i.i c.index-rows-i.result c.index-rows-i-in-loop-i.result (omega arith) (omega arith) c.index-rows-i.is c.index-rows-i-in-loop-i.is)
+    ∙ sym (neighbours-next test c.args.rows.now c.loop-i.i c.index-rows-i.result c.index-rows-i-in-loop-i.result
+    (omega arith) (omega arith) c.index-rows-i.is c.index-rows-i-in-loop-i.is)
     ∙ c.loop-i.invariant
 
 pub returns : goal.returns
 returns c =
     let past = c.loop-i-test.false in
-    sym (neighbours-end (λ (a b : KeyedRow). collide c.args.key.now (row_in a) (row_in b)) c.args.rows.now c.loop-i.i (omega arith) (omega arith)) ∙ c.loop-i.invariant
+    sym (neighbours-end (λ (a b : KeyedRow). collide c.args.key.now (row_in a) (row_in b)) c.args.rows.now c.loop-i.i
+    (omega arith) (omega arith)) ∙ c.loop-i.invariant

@@ -8,5 +8,7 @@ use Rattle.key_core.proofs.keys.sort_rows.Goals as goal
 
 pub returns-clause-sorted : goal.returns-clause-sorted
 returns-clause-sorted c =
-    c.sort_unstable_by.ensures.sorted (λ a b. is_lt (row_cmp c.args.key.now a b)) (ranks_by (row_total c.args.key.now) (λ a. a))
-    (always_returns_same _ (λ a r. is_lt r ≡ is_lt (row_cmp c.args.key.now a.0.now a.1.0.now)) _ (λ a r g called. (search rules, search rules)))
+    c.sort_unstable_by.ensures.sorted (λ a b. is_lt (row_cmp c.args.key.now a b))
+    (ranks_by (row_total c.args.key.now) (λ a. a))
+    (always_returns_same _ (λ a r. is_lt r ≡ is_lt (row_cmp c.args.key.now a.0.now a.1.0.now)) _
+    (λ a r g called. (search rules, search rules)))

@@ -4,4 +4,7 @@ use Rattle.cert_core.proofs.CutLemmas.{ids_of-cut_at}
 use Rattle.cert_core.proofs.claim.Claim.ids.Goals as goal
 
 pub returns : goal.returns
-returns c = c.deref.ensures.value ∙ (sym (ids_of-cut_at c.self.inside.starts.items c.self.inside.ids.items c.self.invariant) ∙ ap ids_of c.self.view_is)
+returns c =
+    c.deref.ensures.value
+    ∙ (sym (ids_of-cut_at c.self.inside.starts.items c.self.inside.ids.items c.self.invariant)
+    ∙ ap ids_of c.self.view_is)

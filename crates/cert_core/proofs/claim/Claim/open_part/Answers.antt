@@ -11,7 +11,8 @@ grown c =
 
 pub invariant_of-self-2 : goal.invariant_of-self-2
 invariant_of-self-2 c =
-    subst (λ starts. IsCut starts (length c.self.inside.ids.items)) (sym (grown c)) (IsCut-open c.self.inside.starts.items (length c.self.inside.ids.items) c.self.invariant)
+    subst (λ starts. IsCut starts (length c.self.inside.ids.items)) (sym (grown c))
+    (IsCut-open c.self.inside.starts.items (length c.self.inside.ids.items) c.self.invariant)
 
 pub returns-clause-ok : goal.returns-clause-ok
 returns-clause-ok c =

@@ -5,8 +5,11 @@ use Rattle.cert_core.proofs.claim.Claim.part.Goals as goal
 
 pub part_of-requires-clause-there : goal.part_of-requires-clause-there
 part_of-requires-clause-there c =
-    let parts : length (cut_at c.self.inside.starts.items c.self.inside.ids.items) ≡ length c.args.self.now = ap length c.self.view_is in
-    let starts : length (cut_at c.self.inside.starts.items c.self.inside.ids.items) ≡ length c.self.inside.starts.items = length-cut_at c.self.inside.starts.items c.self.inside.ids.items in
+    let parts : length (cut_at c.self.inside.starts.items c.self.inside.ids.items) ≡ length c.args.self.now =
+    ap length c.self.view_is in
+    let starts : length
+    (cut_at c.self.inside.starts.items c.self.inside.ids.items) ≡ length c.self.inside.starts.items =
+    length-cut_at c.self.inside.starts.items c.self.inside.ids.items in
     let there : c.args.number < length c.args.self.now = c.requires in
     let same : length c.deref-2.result.now ≡ length c.self.inside.starts.items = ap length c.deref-2.ensures.value in
     omega (arith, parts, starts, there, same)

@@ -13,7 +13,8 @@ pub overflow_cast-result : goal.overflow_cast-result
 overflow_cast-result c =
     let few = length-le-all_of c.self.inside.parts.items c.self.invariant.are_placed.filled in
     let within =
-        place-within c.self.inside.parts.items c.args.item.period.from c.in_ok-number.number c.in_ok-number.ensures.place in
+    place-within c.self.inside.parts.items c.args.item.period.from c.in_ok-number.number
+    c.in_ok-number.ensures.place in
     let small = c.self.invariant.small in
     let counted = c.self.invariant.counted in
     search (rules, few, within, small, counted)
@@ -32,8 +33,10 @@ invariant_of-self-2 c =
     subst (λ (parts : List (List Item)). IsPlacing parts (Some c.args.item) (c.self.inside.len + 1)) (sym grown)
     (record {
       are_placed =
-          ArePlaced-added c.self.inside.parts.items c.self.inside.last c.in_ok-number.number c.args.item c.self.invariant.are_placed c.self.invariant.greatest above c.in_ok-number.ensures.place;
-      greatest = IsGreatest-added c.self.inside.parts.items c.self.inside.last c.in_ok-number.number c.args.item c.self.invariant.greatest above;
+          ArePlaced-added c.self.inside.parts.items c.self.inside.last c.in_ok-number.number c.args.item
+          c.self.invariant.are_placed c.self.invariant.greatest above c.in_ok-number.ensures.place;
+      greatest = IsGreatest-added c.self.inside.parts.items c.self.inside.last c.in_ok-number.number c.args.item
+          c.self.invariant.greatest above;
       counted = omega (arith, longer, counted);
       small = omega (arith, counted, room);
     })
@@ -42,4 +45,5 @@ pub returns-clause-place : goal.returns-clause-place
 returns-clause-place c =
     let parts_were : c.self.inside.parts.items ≡ c.args.self.now.parts = ap (λ (p : Placing). p.parts) c.self.view_is in
     subst (λ (parts : List
-        (List Item)). IsPlaceFor parts c.args.item.period.from c.in_ok-number.number) parts_were c.in_ok-number.ensures.place
+    (List Item)). IsPlaceFor parts c.args.item.period.from c.in_ok-number.number) parts_were
+    c.in_ok-number.ensures.place
