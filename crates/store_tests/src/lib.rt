@@ -1,0 +1,11 @@
+//! Tests from outside of points, rows, tables and books.
+#![tactic(auto)]
+
+#[cfg(test)]
+mod books;
+#[cfg(test)]
+mod points;
+#[cfg(test)]
+mod portions;
+#[cfg(test)]
+mod rows;
