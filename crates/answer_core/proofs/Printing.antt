@@ -7,7 +7,7 @@ use Rattle.std.proofs.Math.Seq.{take-suc}
 use Rattle.csv.specs.Writing.{row_text}
 use Rattle.row_core.specs.declared.row.Row.{Row}
 use Rattle.book_core.specs.declared.log.Entry.{Entry}
-use Rattle.book_core.specs.declared.version.Version.{Version}
+use Rattle.version_core.specs.declared.version.Version.{Version}
 use Rattle.cert_core.specs.declared.verdict.Verdict.{Verdict}
 use Rattle.cert_core.specs.declared.verdict.Verdict.TheVariants.{WrongCount, EmptyPart, Unknown, Twice, Missing, Overlap, NotCrowded, Yes}
 use Rattle.dip_core.specs.Division.{part_at}

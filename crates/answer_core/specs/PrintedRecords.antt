@@ -8,7 +8,7 @@ use Rattle.row_core.specs.declared.value.Value.TheVariants.{Int, Text}
 use Rattle.book_core.specs.declared.log.ChangeKind.{ChangeKind}
 use Rattle.book_core.specs.declared.log.ChangeKind.TheVariants.{Make, Load, Update, Delete}
 use Rattle.book_core.specs.declared.log.Entry.{Entry}
-use Rattle.book_core.specs.declared.version.Version.{Version}
+use Rattle.version_core.specs.declared.version.Version.{Version}
 use Rattle.cert_core.specs.declared.verdict.Verdict.{Verdict}
 use Rattle.cert_core.specs.declared.verdict.Verdict.TheVariants.{WrongCount, EmptyPart, Unknown, Twice, Missing, Overlap, NotCrowded, Yes}
 use Rattle.dip_core.specs.declared.item.Item.{Item}

@@ -1,13 +1,12 @@
 -- What is refused for its keys, and what is not.
 use Rattle.std.proofs.Common.{◌≡◌, ℕ, Bool, true, false, Option, Some, None, refl, ap, ◌∙◌, inl, inr}
 use Rattle.std.specs.Prelude.{Result, Err, IfNone, IfSome, IsOkUnless}
-use Rattle.book_core.specs.State.{State, first_refusal, leaves_overlap, or_overlap, refusal_of, table_named, table_of}
-use Rattle.book_core.specs.Keys.{IsRefusedAs, refusal_by}
-use Rattle.book_core.specs.declared.book.BookRefused.{BookRefused}
-use Rattle.book_core.specs.declared.book.BookRefused.TheVariants.{KeyOverlap, NoMemory}
-use Rattle.book_core.specs.declared.change.Change.{Change}
-use Rattle.book_core.specs.declared.keys.ChangeFailure.{ChangeFailure}
-use Rattle.book_core.specs.declared.keys.ChangeFailure.TheVariants as why
+use Rattle.version_core.specs.declared.change.Change.{Change}
+use Rattle.version_core.specs.declared.keys.ChangeFailure.{ChangeFailure}
+use Rattle.version_core.specs.declared.keys.ChangeFailure.TheVariants as why
+use Rattle.book_core.specs.State.{State, first_refusal, leaves_overlap, or_overlap, refusal_of, table_named, table_of, IsRefusedAs, refusal_by}
+use Rattle.book_core.specs.declared.refusal.BookRefused.{BookRefused}
+use Rattle.book_core.specs.declared.refusal.BookRefused.TheVariants.{KeyOverlap, NoMemory}
 
 first-of_none : (o : Option BookRefused) (overlap : Bool) → or_overlap o overlap ≡ None → o ≡ None
 first-of_none None overlap h = refl
@@ -32,10 +31,6 @@ accepted-both n s c h k = ap (λ o. or_overlap o (leaves_overlap c (table_of s (
 -- rows of one key overlap
 pub overlap-refused : (n : ℕ) (s : State) (c : Change) → first_refusal n s c ≡ None → leaves_overlap c (table_of s (table_named c)) ≡ true → refusal_of n s c ≡ Some KeyOverlap
 overlap-refused n s c h k = ap (λ o. or_overlap o (leaves_overlap c (table_of s (table_named c)))) h ∙ ap (or_overlap None) k
-
--- what the tests before that of keys refuse is refused so
-pub first-refused : (n : ℕ) (s : State) (c : Change) (refused : BookRefused) → first_refusal n s c ≡ Some refused → refusal_of n s c ≡ Some refused
-first-refused n s c refused h = ap (λ o. or_overlap o (leaves_overlap c (table_of s (table_named c)))) h
 
 -- ---- a change that is not made after those tests
 

@@ -8,14 +8,18 @@ use Rattle.std.proofs.lemmas.List.Folds.{list_any-append}
 use Rattle.row_core.specs.Name.{same_name}
 use Rattle.row_core.specs.declared.draft.Draft.{Draft}
 use Rattle.row_core.specs.declared.row.Row.{Row}
-use Rattle.book_core.specs.State.{numbered, drafts_of, removes}
+use Rattle.version_core.specs.Rows.{numbered, drafts_of, removes}
+use Rattle.version_core.specs.Shown.{shows, shown}
+use Rattle.version_core.specs.Made.{made}
+use Rattle.version_core.specs.Open.{closed}
+use Rattle.version_core.specs.declared.change.Change.{Change}
+use Rattle.version_core.specs.declared.change.Change.TheVariants.{Make, Load, Update, Delete}
+use Rattle.version_core.specs.declared.version.Version.{Version}
+use Rattle.version_core.proofs.ListLemmas.{count-append, count-cons}
+use Rattle.version_core.proofs.MakingLemmas.{length-numbered}
 use Rattle.book_core.specs.History.{History}
 use Rattle.book_core.specs.Versions.{new_ids}
-use Rattle.book_core.specs.Kept.{kept_table, Kept, shows, shown, made, closed, kept_changed, at_kept, kept_after, kept_from, IsNumbered, IsTimely, IsWellKept}
-use Rattle.book_core.specs.declared.change.Change.{Change}
-use Rattle.book_core.specs.declared.change.Change.TheVariants.{Make, Load, Update, Delete}
-use Rattle.book_core.specs.declared.version.Version.{Version}
-use Rattle.book_core.proofs.Portions.{count-append, count-cons}
+use Rattle.book_core.specs.StoredTables.{kept_table, StoredTable, kept_table_after, at_kept, kept_tables_after, kept_tables_from, IsNumbered, IsTimely, IsWellKept}
 
 -- rows with rising ids above lo and at most hi
 abbrev pub RiseIn : ℕ → ℕ → List Row → Type 0
@@ -133,10 +137,6 @@ all_new : (lo hi used : ℕ) (rows : List Row) (ds : List Draft) → RiseIn lo h
 all_new lo hi used rows [] s k = tt
 all_new lo hi used rows (d ∷ ds) s k = (has-high lo hi (used + 1) rows s (omega arith), all_new lo hi (used + 1) rows ds s (omega arith))
 
-length-numbered : (used : ℕ) (ds : List Draft) → length (numbered used ds) ≡ length ds
-length-numbered used [] = refl
-length-numbered used (d ∷ ds) = ap suc (length-numbered (used + 1) ds)
-
 -- how many ids a change adds to rows, and how many it takes
 pub ids_added : (q : Row → Bool) (used : ℕ) (rows : List Row) (ds : List Draft) → RiseIn 0 used rows → new_ids (filter (λ r. not (q r)) rows ++ numbered used ds) rows ≡ length ds
 ids_added q used rows ds s =
@@ -191,10 +191,10 @@ timely_made : (n : ℕ) (rows : List Row) → AllByRecursion (IsTimely n) (made 
 timely_made n [] = tt
 timely_made n (r ∷ rs) = (record { begun = omega arith; ended = tt }, timely_made n rs)
 
-well_next : (n : ℕ) (t : Kept) → IsWellKept n t → IsWellKept (n + 1) t
+well_next : (n : ℕ) (t : StoredTable) → IsWellKept n t → IsWellKept (n + 1) t
 well_next n t h = record { ids = h.ids; times = timely_all_next n t.versions h.times }
 
-well_changed : (n : ℕ) (c : Change) (t : Kept) → IsWellKept n t → IsWellKept (n + 1) (kept_changed n c t)
+well_changed : (n : ℕ) (c : Change) (t : StoredTable) → IsWellKept n t → IsWellKept (n + 1) (kept_table_after n c t)
 well_changed n c t h =
     let ds = drafts_of c t.schema (shown n t.versions) in
     let e : length t.versions ≡ 0 + length (map (closed (n + 1) (removes c t.schema)) t.versions) = omega (arith, length-map t.versions (closed (n + 1) (removes c t.schema))) in
@@ -203,35 +203,35 @@ well_changed n c t h =
       times = timely_changed n (removes c t.schema) t.versions (made (n + 1) (numbered (length t.versions) ds)) h.times (timely_made (n + 1) (numbered (length t.versions) ds));
     }
 
-all_next : (n : ℕ) (ts : List Kept) → AllByRecursion (IsWellKept n) ts → AllByRecursion (IsWellKept (n + 1)) ts
+all_next : (n : ℕ) (ts : List StoredTable) → AllByRecursion (IsWellKept n) ts → AllByRecursion (IsWellKept (n + 1)) ts
 all_next n [] h = tt
 all_next n (t ∷ ts) h = (well_next n t h.0, all_next n ts h.1)
 
-all_at_kept : (n : ℕ) (c : Change) (name : List ℕ) (ts : List Kept) → AllByRecursion (IsWellKept n) ts → AllByRecursion (IsWellKept (n + 1)) (at_kept name (kept_changed n c) ts)
+all_at_kept : (n : ℕ) (c : Change) (name : List ℕ) (ts : List StoredTable) → AllByRecursion (IsWellKept n) ts → AllByRecursion (IsWellKept (n + 1)) (at_kept name (kept_table_after n c) ts)
 all_at_kept n c name [] h = tt
-all_at_kept n c name (t ∷ ts) h = elim (same_name t.name name) as (λ b. AllByRecursion (IsWellKept (n + 1)) (cond b (kept_changed n c t ∷ ts) (t ∷ at_kept name (kept_changed n c) ts))) [
+all_at_kept n c name (t ∷ ts) h = elim (same_name t.name name) as (λ b. AllByRecursion (IsWellKept (n + 1)) (cond b (kept_table_after n c t ∷ ts) (t ∷ at_kept name (kept_table_after n c) ts))) [
   | true ↦ (well_changed n c t h.0, all_next n ts h.1)
   | false ↦ (well_next n t h.0, all_at_kept n c name ts h.1)
 ]
 
-all_and : (P : Kept → Type 0) (ts : List Kept) (t : Kept) → AllByRecursion P ts → P t → AllByRecursion P (ts ++ t ∷ [])
+all_and : (P : StoredTable → Type 0) (ts : List StoredTable) (t : StoredTable) → AllByRecursion P ts → P t → AllByRecursion P (ts ++ t ∷ [])
 all_and P [] t h k = (k, tt)
 all_and P (u ∷ us) t h k = (h.0, all_and P us t h.1 k)
 
-all_after : (n : ℕ) (c : Change) (ts : List Kept) → AllByRecursion (IsWellKept n) ts → AllByRecursion (IsWellKept (n + 1)) (kept_after n ts c)
+all_after : (n : ℕ) (c : Change) (ts : List StoredTable) → AllByRecursion (IsWellKept n) ts → AllByRecursion (IsWellKept (n + 1)) (kept_tables_after n ts c)
 all_after n (Make table schema) ts h = all_and (IsWellKept (n + 1)) ts (record { name = table; schema = schema; versions = [] }) (all_next n ts h) (record { ids = tt; times = tt })
 all_after n (Load table rows) ts h = all_at_kept n (Load table rows) table ts h
 all_after n (Update table portion sets conds) ts h = all_at_kept n (Update table portion sets conds) table ts h
 all_after n (Delete table portion conds) ts h = all_at_kept n (Delete table portion conds) table ts h
 
-all_from : (n : ℕ) (ts : List Kept) (cs : History) → AllByRecursion (IsWellKept n) ts → AllByRecursion (IsWellKept (n + length cs)) (kept_from n ts cs)
+all_from : (n : ℕ) (ts : List StoredTable) (cs : History) → AllByRecursion (IsWellKept n) ts → AllByRecursion (IsWellKept (n + length cs)) (kept_tables_from n ts cs)
 all_from n ts [] h = let e : n ≡ n + 0 = omega arith in subst (λ m. AllByRecursion (IsWellKept m) ts) e h
-all_from n ts (c ∷ cs) h = let e : n + 1 + length cs ≡ n + suc (length cs) = omega arith in subst (λ m. AllByRecursion (IsWellKept m) (kept_from n ts (c ∷ cs))) e (all_from (n + 1) (kept_after n ts c.change) cs (all_after n c.change ts h))
+all_from n ts (c ∷ cs) h = let e : n + 1 + length cs ≡ n + suc (length cs) = omega arith in subst (λ m. AllByRecursion (IsWellKept m) (kept_tables_from n ts (c ∷ cs))) e (all_from (n + 1) (kept_tables_after n ts c.change) cs (all_after n c.change ts h))
 
 -- all tables of a book are well kept
-pub all_well_kept : (h : History) → AllByRecursion (IsWellKept (length h)) (kept_from 0 [] h)
-all_well_kept h = let e : 0 + length h ≡ length h = omega arith in subst (λ m. AllByRecursion (IsWellKept m) (kept_from 0 [] h)) e (all_from 0 [] h tt)
+pub all_well_kept : (h : History) → AllByRecursion (IsWellKept (length h)) (kept_tables_from 0 [] h)
+all_well_kept h = let e : 0 + length h ≡ length h = omega arith in subst (λ m. AllByRecursion (IsWellKept m) (kept_tables_from 0 [] h)) e (all_from 0 [] h tt)
 
-pub found_well : (n : ℕ) (name : List ℕ) (ts : List Kept) → AllByRecursion (IsWellKept n) ts → IfSome (kept_table name ts) (IsWellKept n)
+pub found_well : (n : ℕ) (name : List ℕ) (ts : List StoredTable) → AllByRecursion (IsWellKept n) ts → IfSome (kept_table name ts) (IsWellKept n)
 found_well n name [] h = tt
 found_well n name (t ∷ ts) h = elim (same_name t.name name) as (λ b. IfSome (cond b (Some t) (kept_table name ts)) (IsWellKept n)) [ true ↦ h.0 | false ↦ found_well n name ts h.1 ]

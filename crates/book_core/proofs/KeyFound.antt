@@ -5,48 +5,48 @@ use Rattle.std.specs.List.{AllByRecursion}
 use Rattle.std.proofs.lemmas.List.{take_all}
 use Rattle.row_core.specs.Schema.{key_of}
 use Rattle.row_core.specs.declared.row.Row.{Row}
-use Rattle.book_core.specs.Keys.{IsUnbroken, overlap_after, overlap_in, rows_left}
+use Rattle.version_core.specs.Keys.{overlap_after, rows_left, break_key}
+use Rattle.version_core.specs.Open.{current}
+use Rattle.version_core.specs.Rows.{drafts_of, unnumbered}
+use Rattle.version_core.specs.declared.change.Change.{Change}
+use Rattle.version_core.specs.declared.change.Change.TheVariants.{Make, Load, Update, Delete}
+use Rattle.version_core.proofs.Unbroken.{delete-unbroken, make-unbroken}
+use Rattle.book_core.specs.StoredTables.{IsUnbroken, overlap_in, AreKept, IsWellKept, StoredTable, kept_table, table_at}
 use Rattle.book_core.specs.History.{History, IsLegal, state_after}
-use Rattle.book_core.specs.Kept.{AreKept, IsWellKept, Kept, kept_table, table_at}
-use Rattle.book_core.specs.Open.{current}
-use Rattle.book_core.specs.State.{Table, break_key, breaks_key, drafts_of, leaves_overlap, table_named, table_of, unnumbered}
-use Rattle.book_core.specs.declared.change.Change.{Change}
-use Rattle.book_core.specs.declared.change.Change.TheVariants.{Make, Load, Update, Delete}
+use Rattle.book_core.specs.State.{Table, breaks_key, leaves_overlap, table_named, table_of}
 use Rattle.book_core.proofs.Applying.{found_in, newest_of}
-use Rattle.book_core.proofs.KeyLaw.{found-unbroken, unbroken}
-use Rattle.book_core.proofs.KeyLemmas.{breaks-changed}
-use Rattle.book_core.proofs.OpenLemmas.{shown-current}
+use Rattle.book_core.proofs.KeyLaw.{breaks-changed, found-unbroken, unbroken}
+use Rattle.book_core.proofs.Shown.{shown-current}
 use Rattle.book_core.proofs.Tables.{well_named}
-use Rattle.book_core.proofs.Unbroken.{delete-unbroken, make-unbroken}
 
 -- the rows that the change leaves and makes of a table, by the rows that are there
-tested : Change → Kept → List Row → Bool
+tested : Change → StoredTable → List Row → Bool
 tested c t rows = break_key (key_of t.schema) (rows_left c t.schema rows ++ drafts_of c t.schema rows)
 
 -- those of the open versions are those of the table that the newest commit shows
-after-found : (n : ℕ) (c : Change) (t : Kept) → IsWellKept n t → overlap_after c t.schema t.versions ≡ tested c t (table_at n t).rows
+after-found : (n : ℕ) (c : Change) (t : StoredTable) → IsWellKept n t → overlap_after c t.schema t.versions ≡ tested c t (table_at n t).rows
 unfolding tested
 after-found n c t well = ap (λ rows. break_key (key_of t.schema) (rows_left c t.schema rows ++ drafts_of c t.schema rows)) (sym (shown-current n t.versions well.times))
 
 -- what is tested tells whether the change leaves rows of one key that share an instant
-pub overlap-found : (n : ℕ) (c : Change) (t : Kept) → IsWellKept n t → IsUnbroken t → overlap_after c t.schema t.versions ≡ leaves_overlap c (Some (table_at n t))
+pub overlap-found : (n : ℕ) (c : Change) (t : StoredTable) → IsWellKept n t → IsUnbroken t → overlap_after c t.schema t.versions ≡ leaves_overlap c (Some (table_at n t))
 unfolding tested
 overlap-found n (Make name schema) t well none = make-unbroken name schema t.schema (current t.versions) none
 overlap-found n (Load name rows) t well none = after-found n (Load name rows) t well ∙ sym (breaks-changed (Load name rows) (table_at n t))
 overlap-found n (Update name portion sets conds) t well none = after-found n (Update name portion sets conds) t well ∙ sym (breaks-changed (Update name portion sets conds) (table_at n t))
 overlap-found n (Delete name portion conds) t well none = delete-unbroken name portion conds t.schema (current t.versions) none
 
-pub overlap-in : (n : ℕ) (c : Change) (t : Kept) (o : Option Kept) → IsWellKept n t → IsUnbroken t → o ≡ Some t → overlap_after c t.schema t.versions ≡ overlap_in n c o
+pub overlap-in : (n : ℕ) (c : Change) (t : StoredTable) (o : Option StoredTable) → IsWellKept n t → IsUnbroken t → o ≡ Some t → overlap_after c t.schema t.versions ≡ overlap_in n c o
 overlap-in n c t o well none e = overlap-found n c t well none ∙ ap (overlap_in n c) (sym e)
 
 -- ---- what a book keeps
 
 -- its tables are those of the newest state, in which no two rows of one key share an instant
-unbroken-shown : (n : ℕ) (o : Option Kept) → IfSome (option_map (table_at n) o) (λ (t : Table). breaks_key t ≡ false) → IfSome o (IsWellKept n) → IfSome o IsUnbroken
+unbroken-shown : (n : ℕ) (o : Option StoredTable) → IfSome (option_map (table_at n) o) (λ (t : Table). breaks_key t ≡ false) → IfSome o (IsWellKept n) → IfSome o IsUnbroken
 unbroken-shown n None h well = tt
 unbroken-shown n (Some t) h well = ap (λ rows. break_key (key_of t.schema) (map unnumbered rows)) (sym (shown-current n t.versions well.times)) ∙ h
 
-pub unbroken-named : (h now : History) (ts : List Kept) (name : List ℕ) → AreKept h ts → h ≡ now → IfSome (kept_table name ts) IsUnbroken
+pub unbroken-named : (h now : History) (ts : List StoredTable) (name : List ℕ) → AreKept h ts → h ≡ now → IfSome (kept_table name ts) IsUnbroken
 unbroken-named h now ts name k v =
     let n = length now in
     let legal : IsLegal now = rw v at k.legal in
@@ -56,7 +56,7 @@ unbroken-named h now ts name k v =
     (rw (sym v) (well_named h ts name k))
 
 -- the test of keys of the table of that name is the one of the newest state
-pub overlap-named : (h now : History) (ts : List Kept) (c : Change) (n : ℕ) → AreKept h ts → h ≡ now → n ≡ length h → overlap_in n c (kept_table (table_named c) ts) ≡ leaves_overlap c (table_of (state_after now) (table_named c))
+pub overlap-named : (h now : History) (ts : List StoredTable) (c : Change) (n : ℕ) → AreKept h ts → h ≡ now → n ≡ length h → overlap_in n c (kept_table (table_named c) ts) ≡ leaves_overlap c (table_of (state_after now) (table_named c))
 overlap-named h now ts c n k v e =
     ap (λ m. overlap_in m c (kept_table (table_named c) ts)) (e ∙ ap length v)
     ∙ ap (leaves_overlap c) (found_in (length now) (state_after now) ts (table_named c) (newest_of h now ts k v))

@@ -1,7 +1,8 @@
 -- No state of a legal history has rows of one key that share an instant.
-use Rattle.std.proofs.Common.{◌≡◌, ℕ, ◌+◌, List, [], ◌∷◌, map, take, zero, suc, Bool, true, false, cond, Option, Some, None, refl, ap, ◌∙◌, arith}
-use Rattle.std.specs.Prelude.{◌≢◌, All, IfSome, fold}
+use Rattle.std.proofs.Common.{◌≡◌, ℕ, ◌+◌, List, [], ◌∷◌, ◌++◌, map, take, zero, suc, Bool, true, false, not, cond, Option, Some, None, refl, ap, ◌∙◌, arith}
+use Rattle.std.specs.Prelude.{◌≢◌, All, IfSome, filter, fold}
 use Rattle.std.specs.List.{AllByRecursion}
+use Rattle.std.proofs.lemmas.List.{map-append}
 use Rattle.std.proofs.lemmas.List.Elements.{All-from_recursion}
 use Rattle.period_core.specs.declared.period.Period.{Period}
 use Rattle.row_core.specs.Name.{same_name}
@@ -10,14 +11,27 @@ use Rattle.row_core.specs.declared.draft.Draft.{Draft}
 use Rattle.key_core.specs.Keys.{have_collision}
 use Rattle.key_core.proofs.Meaning.{without_overlaps}
 use Rattle.key_core.proofs.Replaced.{append-all}
+use Rattle.version_core.specs.Rows.{Pair, drafts_of, numbered, removes, unnumbered}
+use Rattle.version_core.specs.Keys.{break_key, rows_left}
+use Rattle.version_core.specs.declared.change.Change.{Change}
+use Rattle.version_core.specs.declared.change.Change.TheVariants.{Make, Load, Update, Delete}
+use Rattle.version_core.proofs.Unbroken.{delete-unbroken}
 use Rattle.book_core.specs.History.{History, IsLegal, state_after}
-use Rattle.book_core.specs.State.{Pair, State, Table, after, at_table, KeyHolds, break_key, breaks_key, changed, leaves_overlap, refusal_of, table_of, unnumbered}
-use Rattle.book_core.specs.declared.change.Change.{Change}
-use Rattle.book_core.specs.declared.change.Change.TheVariants.{Make, Load, Update, Delete}
+use Rattle.book_core.specs.State.{State, Table, after, at_table, KeyHolds, breaks_key, changed, leaves_overlap, refusal_of, table_of}
 use Rattle.book_core.proofs.Accepted.{overlap-none}
-use Rattle.book_core.proofs.KeyLemmas.{breaks-changed}
 use Rattle.book_core.proofs.Sound.{LegalFrom, legal_from}
-use Rattle.book_core.proofs.Unbroken.{delete-unbroken}
+
+-- new rows without their ids
+pub unnumbered-numbered : (used : ℕ) (ds : List Draft) → map unnumbered (numbered used ds) ≡ ds
+unnumbered-numbered used [] = refl
+unnumbered-numbered used (d ∷ ds) = ap (λ l. d ∷ l) (unnumbered-numbered (used + 1) ds)
+
+-- a table breaks its key after a change exactly where the rows do that are left and made
+pub breaks-changed : (c : Change) (t : Table) → breaks_key (changed c t) ≡ break_key (key_of t.schema) (rows_left c t.schema t.rows ++ drafts_of c t.schema t.rows)
+breaks-changed c t =
+    let ds = drafts_of c t.schema t.rows in
+    ap (break_key (key_of t.schema))
+    (map-append unnumbered (filter (λ row. not (removes c t.schema row)) t.rows) (numbered t.used ds) ∙ ap (λ l. rows_left c t.schema t.rows ++ l) (unnumbered-numbered t.used ds))
 
 -- ---- states
 

@@ -2,22 +2,25 @@
 use Rattle.std.proofs.Common.{◌≡◌, ℕ, ◌+◌, ◌<◌, ◌≤◌, List, [], ◌∷◌, ◌++◌, length, map, Bool, true, false, not, cond, Option, Some, None, refl, ap, sym, ◌∙◌, arith, suc, leb, length-append}
 use Rattle.std.specs.Prelude.{option_map, unwrap_or, IfSome, is_none}
 use Rattle.std.proofs.lemmas.List.{take_all}
+use Rattle.std.proofs.lemmas.List.Sums.{fold-append}
 use Rattle.row_core.specs.Name.{same_name}
 use Rattle.row_core.specs.declared.schema.Column.{Column}
-use Rattle.book_core.specs.State.{State, Table, table_named, table_of, rows_of, at_table, after, changed, first_refusal, refusal_of, removes, drafts_of}
+use Rattle.book_core.specs.Limits.{commit_limit, table_limit}
+use Rattle.version_core.specs.Rows.{removes, drafts_of}
+use Rattle.version_core.specs.Shown.{shown}
+use Rattle.version_core.specs.declared.change.Change.{Change}
+use Rattle.version_core.specs.declared.change.Change.TheVariants.{Make, Load, Update, Delete}
+use Rattle.book_core.specs.State.{State, Table, table_named, table_of, rows_of, at_table, after, changed, first_refusal, refusal_of}
 use Rattle.book_core.specs.History.{History, state_after, rows_at}
 use Rattle.book_core.specs.Versions.{new_ids, kind_of, entry_at, entries_from, log_of}
-use Rattle.book_core.specs.Kept.{kept_table, Kept, IsBook, shown, table_at, kept_from, IsWellKept, added_in, closed_in}
-use Rattle.book_core.specs.declared.change.Change.{Change}
-use Rattle.book_core.specs.declared.change.Change.TheVariants.{Make, Load, Update, Delete}
-use Rattle.book_core.specs.declared.change.Commit.{Commit}
+use Rattle.book_core.specs.StoredTables.{kept_table, StoredTable, IsBook, table_at, kept_tables_from, IsWellKept, added_in, closed_in}
+use Rattle.book_core.specs.declared.commit.Commit.{Commit}
 use Rattle.book_core.specs.declared.log.Entry.{Entry}
-use Rattle.book_core.specs.declared.book.BookRefused.TheVariants.{TableExists, TooMany, Full}
+use Rattle.book_core.specs.declared.refusal.BookRefused.TheVariants.{TableExists, TooMany, Full}
 use Rattle.book_core.proofs.Accepted.{first-none}
 use Rattle.book_core.proofs.Reading.{rows_at-append, table_of-map}
 use Rattle.book_core.proofs.Applying.{first_of-none, newest_of}
 use Rattle.book_core.proofs.Ids.{shown_rise_all, ids_added, ids_taken, all_well_kept, found_well}
-use Rattle.std.proofs.lemmas.List.Sums.{fold-append}
 
 -- entries
 
@@ -52,24 +55,24 @@ rows-at_table name c (t ∷ ts) = by_test (rows-at_table name c ts) (same_name t
 
 -- how many ids a change of rows adds and takes, of the table that was found
 
-added_of : (n : ℕ) (c : Change) (o : Option Kept) → IfSome o (IsWellKept n) → new_ids (unwrap_or (option_map (λ t. (changed c t).rows) (option_map (table_at n) o)) []) (unwrap_or (option_map (λ t. t.rows) (option_map (table_at n) o)) []) ≡ added_in n c o
+added_of : (n : ℕ) (c : Change) (o : Option StoredTable) → IfSome o (IsWellKept n) → new_ids (unwrap_or (option_map (λ t. (changed c t).rows) (option_map (table_at n) o)) []) (unwrap_or (option_map (λ t. t.rows) (option_map (table_at n) o)) []) ≡ added_in n c o
 added_of n c None w = refl
 added_of n c (Some t) w = ids_added (removes c t.schema) (length t.versions) (shown n t.versions) (drafts_of c t.schema (shown n t.versions)) (shown_rise_all n t.versions w.ids)
 
-closed_of : (n : ℕ) (c : Change) (o : Option Kept) → IfSome o (IsWellKept n) → new_ids (unwrap_or (option_map (λ t. t.rows) (option_map (table_at n) o)) []) (unwrap_or (option_map (λ t. (changed c t).rows) (option_map (table_at n) o)) []) ≡ closed_in n c o
+closed_of : (n : ℕ) (c : Change) (o : Option StoredTable) → IfSome o (IsWellKept n) → new_ids (unwrap_or (option_map (λ t. t.rows) (option_map (table_at n) o)) []) (unwrap_or (option_map (λ t. (changed c t).rows) (option_map (table_at n) o)) []) ≡ closed_in n c o
 closed_of n c None w = refl
 closed_of n c (Some t) w = ids_taken (removes c t.schema) (length t.versions) (shown n t.versions) (drafts_of c t.schema (shown n t.versions)) (shown_rise_all n t.versions w.ids)
 
 -- the new entry has those numbers
 
-portion_added : (n : ℕ) (c : Change) (name : List ℕ) (s : State) (ts : List Kept) → s ≡ map (table_at n) ts → IfSome (kept_table name ts) (IsWellKept n) → new_ids (rows_of (at_table name (changed c) s) name) (rows_of s name) ≡ added_in n c (kept_table name ts)
+portion_added : (n : ℕ) (c : Change) (name : List ℕ) (s : State) (ts : List StoredTable) → s ≡ map (table_at n) ts → IfSome (kept_table name ts) (IsWellKept n) → new_ids (rows_of (at_table name (changed c) s) name) (rows_of s name) ≡ added_in n c (kept_table name ts)
 portion_added n c name s ts e w =
     let there = ap (λ s. table_of s name) e ∙ table_of-map n ts name in
     ap (λ rows. new_ids rows (rows_of s name)) (rows-at_table name c s)
     ∙ ap (λ o. new_ids (unwrap_or (option_map (λ t. (changed c t).rows) o) []) (unwrap_or (option_map (λ t. t.rows) o) [])) there
     ∙ added_of n c (kept_table name ts) w
 
-portion_closed : (n : ℕ) (c : Change) (name : List ℕ) (s : State) (ts : List Kept) → s ≡ map (table_at n) ts → IfSome (kept_table name ts) (IsWellKept n) → new_ids (rows_of s name) (rows_of (at_table name (changed c) s) name) ≡ closed_in n c (kept_table name ts)
+portion_closed : (n : ℕ) (c : Change) (name : List ℕ) (s : State) (ts : List StoredTable) → s ≡ map (table_at n) ts → IfSome (kept_table name ts) (IsWellKept n) → new_ids (rows_of s name) (rows_of (at_table name (changed c) s) name) ≡ closed_in n c (kept_table name ts)
 portion_closed n c name s ts e w =
     let there = ap (λ s. table_of s name) e ∙ table_of-map n ts name in
     ap (λ rows. new_ids (rows_of s name) rows) (rows-at_table name c s)
@@ -79,7 +82,7 @@ portion_closed n c name s ts e w =
 -- a table that was not there has no rows before and after it is made
 
 table_absent : (n : ℕ) (s : State) (name : List ℕ) (schema : List Column) → first_refusal n s (Make name schema) ≡ None → is_none (table_of s name) ≡ true
-table_absent n s name schema h = by_test (is_none (table_of s name)) (first_of-none ((not (is_none (table_of s name)), TableExists) ∷ (leb 64 (length s), TooMany) ∷ (leb 1000000 n, Full) ∷ []) h).0 where
+table_absent n s name schema h = by_test (is_none (table_of s name)) (first_of-none ((not (is_none (table_of s name)), TableExists) ∷ (leb table_limit (length s), TooMany) ∷ (leb commit_limit n, Full) ∷ []) h).0 where
   by_test : (b : Bool) → not b ≡ false → b ≡ true
   by_test true k = refl
   by_test false k = absurd (cc)
@@ -95,11 +98,11 @@ rows-made name schema (t ∷ ts) = elim (same_name t.name name) as (λ b. unwrap
   | false ↦ rows-made name schema ts
 ]
 
-nothing_found : (n : ℕ) (c : Change) (o : Option Kept) (asked : Option Table) → is_none asked ≡ true → asked ≡ option_map (table_at n) o → (added_in n c o ≡ 0) × (closed_in n c o ≡ 0)
+nothing_found : (n : ℕ) (c : Change) (o : Option StoredTable) (asked : Option Table) → is_none asked ≡ true → asked ≡ option_map (table_at n) o → (added_in n c o ≡ 0) × (closed_in n c o ≡ 0)
 nothing_found n c None asked h e = (refl, refl)
 nothing_found n c (Some t) asked h e = absurd (let k : is_none (Some (table_at n t)) ≡ true = ap is_none (sym e) ∙ h in cc)
 
-entry_added : (n : ℕ) (s : State) (ts : List Kept) (c : Change) → s ≡ map (table_at n) ts → first_refusal n s c ≡ None → IfSome (kept_table (table_named c) ts) (IsWellKept n) → (new_ids (rows_of (after s c) (table_named c)) (rows_of s (table_named c)) ≡ added_in n c (kept_table (table_named c) ts)) × (new_ids (rows_of s (table_named c)) (rows_of (after s c) (table_named c)) ≡ closed_in n c (kept_table (table_named c) ts))
+entry_added : (n : ℕ) (s : State) (ts : List StoredTable) (c : Change) → s ≡ map (table_at n) ts → first_refusal n s c ≡ None → IfSome (kept_table (table_named c) ts) (IsWellKept n) → (new_ids (rows_of (after s c) (table_named c)) (rows_of s (table_named c)) ≡ added_in n c (kept_table (table_named c) ts)) × (new_ids (rows_of s (table_named c)) (rows_of (after s c) (table_named c)) ≡ closed_in n c (kept_table (table_named c) ts))
 entry_added n s ts (Make name schema) e r w =
     let gone = table_absent n s name schema r in
     let before = no_rows (table_of s name) gone in
@@ -125,11 +128,11 @@ rows_at-old h c name =
     rows_at-append h (c ∷ []) (length h) name (omega arith)
     ∙ ap (λ l. rows_of (state_after l) name) (take_all (length h) h (omega arith))
 
-abbrev pub new_entry : ℕ → ℕ → Change → List Kept → Entry
+abbrev pub new_entry : ℕ → ℕ → Change → List StoredTable → Entry
 new_entry n by c ts = record { number = n + 1; by = by; kind = kind_of c; table = table_named c; added = added_in n c (kept_table (table_named c) ts); closed = closed_in n c (kept_table (table_named c) ts) }
 
 -- an entry of those counts
-pub entry_same : (n m by added took : ℕ) (c : Change) (ts : List Kept) (entry : Entry) → n ≡ m → added ≡ added_in n c (kept_table (table_named c) ts) → took ≡ closed_in n c (kept_table (table_named c) ts)
+pub entry_same : (n m by added took : ℕ) (c : Change) (ts : List StoredTable) (entry : Entry) → n ≡ m → added ≡ added_in n c (kept_table (table_named c) ts) → took ≡ closed_in n c (kept_table (table_named c) ts)
     → entry ≡ record { number = n + 1; by = by; kind = kind_of c; table = table_named c; added = added; closed = took } → entry ≡ new_entry m by c ts
 entry_same n m by added took c ts entry e a b h =
     h ∙ ap (λ k. record { number = n + 1; by = by; kind = kind_of c; table = table_named c; added = k; closed = took }) a
@@ -137,12 +140,12 @@ entry_same n m by added took c ts entry e a b h =
     ∙ ap (λ k. new_entry k by c ts) e
 
 -- the log with the new entry
-pub log-push : (h now new : History) (ts : List Kept) (log logged : List Entry) (c : Commit) → IsBook h ts log → h ≡ now → refusal_of (length now) (state_after now) c.change ≡ None → new ≡ h ++ c ∷ [] → logged ≡ log ++ new_entry (length h) c.by c.change ts ∷ [] → logged ≡ log_of new
+pub log-push : (h now new : History) (ts : List StoredTable) (log logged : List Entry) (c : Commit) → IsBook h ts log → h ≡ now → refusal_of (length now) (state_after now) c.change ≡ None → new ≡ h ++ c ∷ [] → logged ≡ log ++ new_entry (length h) c.by c.change ts ∷ [] → logged ≡ log_of new
 log-push h now new ts log logged c k v r n l =
     let accepted : first_refusal (length h) (state_after h) c.change ≡ None = first-none (length h) (state_after h) c.change (ap (λ x. refusal_of (length x) (state_after x) c.change) v ∙ r) in
     let name = table_named c.change in
     let s = newest_of h h ts k.kept refl in
-    let well = found_well (length h) name (kept_from 0 [] h) (all_well_kept h) in
+    let well = found_well (length h) name (kept_tables_from 0 [] h) (all_well_kept h) in
     let there : IfSome (kept_table name ts) (IsWellKept (length h)) = rw k.kept.tables well in
     let both = entry_added (length h) (state_after h) ts c.change s accepted there in
     let was = ap (λ xs. new_ids xs (rows_at (h ++ c ∷ []) (length h) name)) (rows_at-new h c name) ∙ ap (λ xs. new_ids (rows_of (after (state_after h) c.change) name) xs) (rows_at-old h c name) ∙ both.0 in

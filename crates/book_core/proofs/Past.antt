@@ -6,10 +6,11 @@ use Rattle.std.proofs.lemmas.Bool.{le-leb, lt-ltb, leb-true, leb-false, ltb-true
 use Rattle.std.proofs.lemmas.List.Kept.{AllPairs-cons}
 use Rattle.std.proofs.lemmas.List.Elements.{All-from_recursion}
 use Rattle.row_core.specs.declared.row.Row.{Row}
+use Rattle.version_core.specs.Shown.{is_behind, shows, row_shown, shown, end_at, version_seen, seen}
+use Rattle.version_core.specs.declared.version.Version.{Version}
 use Rattle.book_core.specs.History.{History, rows_at}
 use Rattle.book_core.specs.Versions.{HasId, IsVersion, IsAfter, AreVersions}
-use Rattle.book_core.specs.Kept.{Kept, is_behind, shows, row_shown, shown, end_at, version_seen, seen, IsNumbered, IsTimely, IsTableOf}
-use Rattle.book_core.specs.declared.version.Version.{Version}
+use Rattle.book_core.specs.StoredTables.{StoredTable, IsNumbered, IsTimely, IsTableOf}
 
 -- membership by recursion
 
@@ -110,7 +111,7 @@ begins n u t = when_shown u.sysfrom u (omega arith) (later u.systo t.ended) wher
 
 -- of the history's rows
 
-module _ (h : History) (name : List ℕ) (t : Kept) (table : IsTableOf h name t) where
+module _ (h : History) (name : List ℕ) (t : StoredTable) (table : IsTableOf h name t) where
   has_id : (n : ℕ) (u : Version) → n ≤ length h → In u t.versions → shows n u ≡ true → HasId h name n u.row.id
   has_id n u k i s =
       let here : In u.row (shown n t.versions) = in_filtered (row_shown n) t.versions u u.row i (ap (λ b. cond b (Some u.row) None) s) in
@@ -235,7 +236,7 @@ seen_above at m last k (v ∷ vs) s =
       lower a b (v ∷ vs) h s = (let x = s.0 in omega (arith, x), lower a b vs h s.1)
 
 -- what is seen of the table of that name is what is asked for
-pub seen_are : (h : History) (name : List ℕ) (t : Kept) (at m last : ℕ) (Selected : Version → Type 0) (vs : List Version) → IsTableOf h name t → at ≤ length h → ((v : Version) → Selected v → (v.sysfrom ≤ last) × IsAfter v.systo m) → ((v : Version) → (v.sysfrom ≤ last) × IsAfter v.systo m → Selected v) → vs ≡ seen at m last t.versions → AreVersions h at name Selected vs
+pub seen_are : (h : History) (name : List ℕ) (t : StoredTable) (at m last : ℕ) (Selected : Version → Type 0) (vs : List Version) → IsTableOf h name t → at ≤ length h → ((v : Version) → Selected v → (v.sysfrom ≤ last) × IsAfter v.systo m) → ((v : Version) → (v.sysfrom ≤ last) × IsAfter v.systo m → Selected v) → vs ≡ seen at m last t.versions → AreVersions h at name Selected vs
 seen_are h name t at m last Selected vs table k to from e = rw e (record {
   rising = (seen_above at m last 0 t.versions table.well.ids).1;
   exactly = λ v. ((λ c. let l = listed_is h name t table at m last v k c in (l.0, from v l.1)), (λ p. let q = to v p.1 in is_listed h name t table at m last v k p.0 q.0 q.1));
@@ -264,5 +265,5 @@ seen_at_once at n (v ∷ vs) k = by_test (leb v.sysfrom n) refl (is_behind (end_
   by_test true r false true e rest = absurd (cc)
   by_test false r c d e rest = neither (leb v.sysfrom at) (record { row = v.row; sysfrom = v.sysfrom; systo = end_at at v.systo }) (seen at n n vs) (shown n vs) rest
 
-pub rows_at_once : (h : History) (name : List ℕ) (t : Kept) (at m n : ℕ) (vs : List Version) → IsTableOf h name t → at ≤ length h → m ≡ n → n ≤ at → vs ≡ seen at m n t.versions → map (λ (v : Version). v.row) vs ≡ rows_at h n name
+pub rows_at_once : (h : History) (name : List ℕ) (t : StoredTable) (at m n : ℕ) (vs : List Version) → IsTableOf h name t → at ≤ length h → m ≡ n → n ≤ at → vs ≡ seen at m n t.versions → map (λ (v : Version). v.row) vs ≡ rows_at h n name
 rows_at_once h name t at m n vs table k e b s = ap (map (λ (v : Version). v.row)) (s ∙ ap (λ m. seen at m n t.versions) e) ∙ seen_at_once at n t.versions b ∙ sym (table.past n (omega arith))

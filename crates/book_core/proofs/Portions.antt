@@ -1,21 +1,18 @@
 -- What a change of a portion makes of the versions.
-use Rattle.std.proofs.Common.{◌≡◌, ℕ, ◌+◌, ◌<◌, ◌≤◌, List, [], ◌∷◌, ◌++◌, length, Bool, true, false, cond, Option, Some, None, refl, ap, sym, ◌∙◌, arith, take, drop, get_or, append_assoc, ◌||◌, ltb, leb}
-use Rattle.std.specs.Prelude.{filter, flat_map, is_some, count_by}
-use Rattle.std.proofs.lemmas.List.{append-nil, drop_more, take_all}
+use Rattle.std.proofs.Common.{◌≡◌, ℕ, ◌+◌, ◌<◌, List, [], ◌∷◌, ◌++◌, length, Bool, true, false, cond, Option, Some, None, refl, ap, sym, ◌∙◌, drop, get_or, append_assoc, ◌||◌, ltb, leb}
+use Rattle.std.specs.Prelude.{flat_map, is_some}
+use Rattle.std.proofs.lemmas.List.{drop_more}
 use Rattle.std.proofs.lemmas.List.Concat.{flat_map-cons}
-use Rattle.std.proofs.lemmas.List.Elements.{filter-append}
-use Rattle.std.proofs.lemmas.List.Sums.{sum_by-append, sum_by-cons}
 use Rattle.std.proofs.lemmas.Grind.{flat_map-append}
 use Rattle.period_core.specs.declared.period.Period.{Period}
-use Rattle.row_core.specs.declared.row.Row.{Row}
-use Rattle.row_core.specs.declared.schema.Column.{Column}
-use Rattle.book_core.specs.State.{Table, tests_of, full_tests, pair_tests, Pair, changed, parts_in, parts_of, removes}
 use Rattle.row_core.specs.Refusals.{first_of}
-use Rattle.book_core.specs.declared.book.BookRefused.{BookRefused}
-use Rattle.book_core.specs.declared.book.BookRefused.TheVariants.{Full}
-use Rattle.book_core.specs.declared.change.Change.{Change}
-use Rattle.book_core.specs.declared.change.Change.TheVariants.{Update}
-use Rattle.book_core.specs.declared.version.Version.{Version}
+use Rattle.version_core.specs.Limits.{version_limit}
+use Rattle.book_core.specs.Limits.{commit_limit}
+use Rattle.version_core.specs.Rows.{Pair}
+use Rattle.version_core.specs.declared.change.Change.TheVariants.{Update}
+use Rattle.book_core.specs.State.{Table, tests_of, full_tests, pair_tests, changed}
+use Rattle.book_core.specs.declared.refusal.BookRefused.{BookRefused}
+use Rattle.book_core.specs.declared.refusal.BookRefused.TheVariants.{Full}
 
 -- the first test that applies
 
@@ -48,37 +45,12 @@ refused_here f xs i x o all h e r s k = first_of-some_or (f x) (flat_map f (drop
 pub allowed_here : {X E : Type 0} (f : X → List (Bool × E)) (xs : List X) (i : ℕ) (x : X) (o all : Option E) → i < length xs → x ≡ get_or xs i x → o ≡ first_of (f x) → is_some o ≡ false → first_of (flat_map f (drop i xs)) ≡ all → first_of (flat_map f (drop (i + 1) xs)) ≡ all
 allowed_here f xs i x o all h e r s k = sym (first_of-none_or (f x) (flat_map f (drop (i + 1) xs)) o r s) ∙ ap first_of (sym (left_more f xs i x h e)) ∙ k
 
--- the parts of one more version
-
-pub parts-append : (c : Change) (columns : List Column) (xs ys : List Row) → parts_in c columns (xs ++ ys) ≡ parts_in c columns xs ++ parts_in c columns ys
-parts-append c columns xs ys = ap (flat_map (parts_of c columns)) (filter-append (removes c columns) xs ys) ∙ flat_map-append (parts_of c columns) (filter (removes c columns) xs) (filter (removes c columns) ys)
-
--- the rows that are taken of one more version
-
-pub count-cons : {X : Type 0} (p : X → Bool) (x : X) (xs : List X) → count_by p (x ∷ xs) ≡ cond (p x) 1 0 + count_by p xs
-count-cons p x xs = sum_by-cons (λ x. cond (p x) 1 0) x xs
-
-pub count-append : {X : Type 0} (p : X → Bool) (xs ys : List X) → count_by p (xs ++ ys) ≡ count_by p xs + count_by p ys
-count-append p xs ys = sum_by-append (λ x. cond (p x) 1 0) xs ys
-
--- the rewritten versions
-
-drop_whole : (vs : List Version) → drop (length vs) vs ≡ []
-drop_whole [] = refl
-drop_whole (v ∷ vs) = drop_whole vs
-
--- what is written through a slice of all is what is there
-pub written_back : (len : ℕ) (new items : List Version) → len ≡ length items → length new ≡ length items → take len (new ++ drop (length new) items) ≡ new
-written_back len new items e n =
-    let enough : length new ≤ len = omega arith in
-    ap (λ k. take len (new ++ drop k items)) n ∙ ap (λ l. take len (new ++ l)) (drop_whole items) ∙ ap (take len) (append-nil new) ∙ take_all len new enough
-
 -- the refusals
 
 pub conds_refused : {E : Type 0} (a b : List (Bool × E)) (o : Option E) (e : E) → o ≡ first_of a → o ≡ Some e → Some e ≡ first_of (a ++ b)
 conds_refused a b o e h k = sym (first_of-some_then a b e (sym h ∙ k))
 
-pub conds_then : (a : List (Bool × BookRefused)) (o : Option BookRefused) (n used : ℕ) (full : Bool) → o ≡ first_of a → o ≡ None → full ≡ (leb 1000000 n || ltb 1000000 used) → cond full (Some Full) None ≡ first_of (a ++ full_tests n used)
+pub conds_then : (a : List (Bool × BookRefused)) (o : Option BookRefused) (n used : ℕ) (full : Bool) → o ≡ first_of a → o ≡ None → full ≡ (leb commit_limit n || ltb version_limit used) → cond full (Some Full) None ≡ first_of (a ++ full_tests n used)
 conds_then a o n used full h k e = ap (λ b. cond b (Some Full) None) e ∙ sym (first_of-none_then a (full_tests n used) (sym h ∙ k))
 
 update_tests : (n : ℕ) (name : List ℕ) (portion : Period) (sets conds : List Pair) (t : Table) → tests_of n (Update name portion sets conds) t ≡ flat_map (pair_tests t.schema) sets ++ (flat_map (pair_tests t.schema) conds ++ full_tests n (changed (Update name portion sets conds) t).used)

@@ -1,40 +1,26 @@
 -- Lemmas for the functions that read a book.
-use Rattle.std.proofs.Common.{◌≡◌, ℕ, ◌+◌, ◌<◌, ◌≤◌, List, [], ◌∷◌, ◌++◌, length, map, true, false, cond, Option, Some, None, refl, ap, sym, ◌∙◌, take, get_or}
+use Rattle.std.proofs.Common.{◌≡◌, ℕ, ◌≤◌, List, [], ◌∷◌, ◌++◌, length, map, true, false, cond, Option, Some, None, refl, ap, sym, ◌∙◌}
 use Rattle.std.specs.Prelude.{option_map, unwrap_or, IfNone, option_copied}
 use Rattle.std.specs.Borrow.{Bor}
-use Rattle.std.specs.List.{cons_option}
-use Rattle.std.proofs.lemmas.List.{append-nil, take_more, take-append-le}
-use Rattle.std.proofs.lemmas.List.Elements.{filter_map-append}
+use Rattle.std.proofs.lemmas.List.{take-append-le}
 use Rattle.row_core.specs.Name.{same_name}
-use Rattle.row_core.specs.declared.row.Row.{Row}
+use Rattle.version_core.specs.Shown.{shown}
 use Rattle.book_core.specs.State.{table_of, rows_of}
 use Rattle.book_core.specs.History.{History, state_after, rows_at}
-use Rattle.book_core.specs.Kept.{kept_table, Kept, shows, row_shown, shown, table_at, kept_from, AreKept}
-use Rattle.book_core.specs.declared.version.Version.{Version}
+use Rattle.book_core.specs.StoredTables.{kept_table, StoredTable, table_at, kept_tables_from, AreKept}
 use Rattle.book_core.proofs.Shown.{rows_at-kept, newest-kept}
 
-pub shown-take_more : (n i : ℕ) (vs : List Version) (v : Version) → i < length vs → v ≡ get_or vs i v → shown n (take (i + 1) vs) ≡ shown n (take i vs) ++ cons_option (row_shown n v) []
-shown-take_more n i vs v h e = ap (shown n) (take_more vs i v h) ∙ filter_map-append (row_shown n) (take i vs) (get_or vs i v ∷ []) ∙ ap (λ u. shown n (take i vs) ++ cons_option (row_shown n u) []) (sym e)
-
--- a version that is shown adds its row
-pub shown-more : (n i : ℕ) (vs : List Version) (v : Version) (rows : List Row) → i < length vs → v ≡ get_or vs i v → shows n v ≡ true → rows ≡ shown n (take i vs) → rows ++ v.row ∷ [] ≡ shown n (take (i + 1) vs)
-shown-more n i vs v rows h e t k = ap (λ l. l ++ v.row ∷ []) k ∙ sym (shown-take_more n i vs v h e ∙ ap (λ b. shown n (take i vs) ++ cons_option (cond b (Some v.row) None) []) t)
-
--- one that is not adds none
-pub shown-same : (n i : ℕ) (vs : List Version) (v : Version) (rows : List Row) → i < length vs → v ≡ get_or vs i v → shows n v ≡ false → rows ≡ shown n (take i vs) → rows ≡ shown n (take (i + 1) vs)
-shown-same n i vs v rows h e t k = k ∙ sym (shown-take_more n i vs v h e ∙ ap (λ b. shown n (take i vs) ++ cons_option (cond b (Some v.row) None) []) t ∙ append-nil _)
-
 -- a look-up in what commit n shows
-pub table_of-map : (n : ℕ) (ts : List Kept) (name : List ℕ) → table_of (map (table_at n) ts) name ≡ option_map (table_at n) (kept_table name ts)
+pub table_of-map : (n : ℕ) (ts : List StoredTable) (name : List ℕ) → table_of (map (table_at n) ts) name ≡ option_map (table_at n) (kept_table name ts)
 table_of-map n [] name = refl
 table_of-map n (t ∷ ts) name = elim (same_name t.name name) as (λ b. cond b (Some (table_at n t)) (table_of (map (table_at n) ts) name) ≡ option_map (table_at n) (cond b (Some t) (kept_table name ts))) [ true ↦ refl | false ↦ table_of-map n ts name ]
 
 -- a look-up in the newest state
-pub table_of-newest : (h : History) (ts : List Kept) (name : List ℕ) (o : Option Kept) → ts ≡ kept_from 0 [] h → o ≡ kept_table name ts → table_of (state_after h) name ≡ option_map (table_at (length h)) o
+pub table_of-newest : (h : History) (ts : List StoredTable) (name : List ℕ) (o : Option StoredTable) → ts ≡ kept_tables_from 0 [] h → o ≡ kept_table name ts → table_of (state_after h) name ≡ option_map (table_at (length h)) o
 table_of-newest h ts name o e f = ap (λ s. table_of s name) (sym (newest-kept h)) ∙ ap (λ l. table_of (map (table_at (length h)) l) name) (sym e) ∙ table_of-map (length h) ts name ∙ ap (option_map (table_at (length h))) (sym f)
 
 -- the rows that commit n shows of the table of that name
-pub rows_at-found : (h : History) (ts : List Kept) (name : List ℕ) (n : ℕ) (t : Kept) → ts ≡ kept_from 0 [] h → n ≤ length h → Some t ≡ kept_table name ts → shown n t.versions ≡ rows_at h n name
+pub rows_at-found : (h : History) (ts : List StoredTable) (name : List ℕ) (n : ℕ) (t : StoredTable) → ts ≡ kept_tables_from 0 [] h → n ≤ length h → Some t ≡ kept_table name ts → shown n t.versions ≡ rows_at h n name
 rows_at-found h ts name n t e k f =
     ap (λ o. unwrap_or (option_map (λ u. u.rows) (option_map (table_at n) o)) []) f
     ∙ ap (λ o. unwrap_or (option_map (λ u. u.rows) o) []) (sym (table_of-map n ts name))
@@ -46,6 +32,6 @@ pub rows_at-append : (h more : History) (n : ℕ) (name : List ℕ) → n ≤ le
 rows_at-append h more n name k = ap (λ l. rows_of (state_after l) name) (take-append-le n h more k)
 
 -- where none is found there is none
-pub table_of-absent : (h now : History) (ts asked : List Kept) (name : List ℕ) (o : Option (Bor Kept)) → AreKept h ts → h ≡ now → asked ≡ ts → option_copied o ≡ kept_table name asked → IfNone o (table_of (state_after now) name ≡ None)
-table_of-absent h now ts asked name None k v e f = table_of-newest now asked name None (e ∙ k.tables ∙ ap (kept_from 0 []) v) f
+pub table_of-absent : (h now : History) (ts asked : List StoredTable) (name : List ℕ) (o : Option (Bor StoredTable)) → AreKept h ts → h ≡ now → asked ≡ ts → option_copied o ≡ kept_table name asked → IfNone o (table_of (state_after now) name ≡ None)
+table_of-absent h now ts asked name None k v e f = table_of-newest now asked name None (e ∙ k.tables ∙ ap (kept_tables_from 0 []) v) f
 table_of-absent h now ts asked name (Some t) k v e f = tt

@@ -5,10 +5,11 @@ use Rattle.std.specs.List.{AllByRecursion}
 use Rattle.row_core.specs.Name.{same_name}
 use Rattle.row_core.specs.Rows.{IdsRise}
 use Rattle.row_core.specs.declared.row.Row.{Row}
+use Rattle.version_core.specs.Rows.{drafts_of, numbered, removes}
+use Rattle.version_core.specs.declared.change.Change.{Change}
+use Rattle.version_core.specs.declared.change.Change.TheVariants.{Make, Load, Update, Delete}
 use Rattle.book_core.specs.History.{History, rows_at, state_after}
-use Rattle.book_core.specs.State.{State, Table, after, at_table, changed, drafts_of, numbered, removes, rows_of, table_of}
-use Rattle.book_core.specs.declared.change.Change.{Change}
-use Rattle.book_core.specs.declared.change.Change.TheVariants.{Make, Load, Update, Delete}
+use Rattle.book_core.specs.State.{State, Table, after, at_table, changed, rows_of, table_of}
 use Rattle.book_core.proofs.Ids.{RiseIn, RiseIn-filter, RiseIn-lower, numbered_rise}
 use Rattle.book_core.proofs.Sound.{rising-rows}
 

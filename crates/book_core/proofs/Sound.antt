@@ -17,19 +17,25 @@ use Rattle.row_core.specs.declared.row.Row.{Row}
 use Rattle.row_core.specs.declared.schema.Column.{Column}
 use Rattle.row_core.specs.declared.value.Value.{Value}
 use Rattle.key_core.proofs.Replaced.{append-all, append-parts}
-use Rattle.book_core.specs.State.{Pair, State, Table, after, changed, drafts_of, full_tests, is_of_kind, is_touched, numbered, pair_tests, part, parts_of, first_refusal, refusal_of, removes, set_at, table_of, tests_of, with_table}
+use Rattle.version_core.specs.Limits.{version_limit}
+use Rattle.book_core.specs.Limits.{commit_limit}
+use Rattle.version_core.specs.Rows.{Pair, drafts_of, is_touched, numbered, part, parts_of, removes, set_at}
+use Rattle.version_core.specs.Open.{closed}
+use Rattle.version_core.specs.Made.{made}
+use Rattle.version_core.specs.Shown.{shown, shows}
+use Rattle.version_core.specs.declared.change.Change.{Change}
+use Rattle.version_core.specs.declared.change.Change.TheVariants.{Make, Load, Update, Delete}
+use Rattle.version_core.specs.declared.version.Version.{Version}
+use Rattle.book_core.specs.State.{State, Table, after, changed, full_tests, is_of_kind, pair_tests, first_refusal, refusal_of, table_of, tests_of, with_table}
 use Rattle.book_core.specs.History.{History, IsLegal, schema_in, state_after}
-use Rattle.book_core.specs.Kept.{kept_table, IsSound, IsTableOf, Kept, at_kept, closed, kept_after, kept_changed, kept_from, made, shown, shows, table_at}
-use Rattle.book_core.specs.declared.book.BookRefused.{BookRefused}
-use Rattle.book_core.specs.declared.book.BookRefused.TheVariants.{Full, WrongKind}
-use Rattle.book_core.specs.declared.change.Change.{Change}
-use Rattle.book_core.specs.declared.change.Change.TheVariants.{Make, Load, Update, Delete}
-use Rattle.book_core.specs.declared.change.Commit.{Commit}
-use Rattle.book_core.specs.declared.version.Version.{Version}
+use Rattle.book_core.specs.StoredTables.{kept_table, IsSound, IsTableOf, StoredTable, at_kept, kept_tables_after, kept_table_after, kept_tables_from, table_at}
+use Rattle.book_core.specs.declared.refusal.BookRefused.{BookRefused}
+use Rattle.book_core.specs.declared.refusal.BookRefused.TheVariants.{Full, WrongKind}
+use Rattle.book_core.specs.declared.commit.Commit.{Commit}
 use Rattle.book_core.proofs.Accepted.{first-none}
 use Rattle.book_core.proofs.Applying.{few, first_of-none, last_of}
 use Rattle.book_core.proofs.Ids.{RiseIn, shown_rise_all}
-use Rattle.book_core.proofs.Shown.{Ties, Ties-after, Ties-none, length-kept_changed}
+use Rattle.book_core.proofs.Shown.{Ties, Ties-after, Ties-none, length-kept_table_after}
 
 -- a list's values fit the columns
 abbrev FitRows : List Column → List Row → Type 0
@@ -116,7 +122,7 @@ shown-fits n columns (v ∷ vs) h = elim (shows n v) as (λ b. FitRows columns (
   | false ↦ shown-fits n columns vs h.1
 ]
 
-drafts-fit : (n : ℕ) (c : Change) (t : Kept) → first_of (tests_of n c (table_at n t)) ≡ None → FitRows t.schema (shown n t.versions) → FitDrafts t.schema (drafts_of c t.schema (shown n t.versions))
+drafts-fit : (n : ℕ) (c : Change) (t : StoredTable) → first_of (tests_of n c (table_at n t)) ≡ None → FitRows t.schema (shown n t.versions) → FitDrafts t.schema (drafts_of c t.schema (shown n t.versions))
 drafts-fit n (Make name schema) t h k = tt
 drafts-fit n (Load name rows) t h k =
     let tests = first_of-none (tests_of n (Load name rows) (table_at n t)) h in
@@ -145,33 +151,33 @@ closed-fits n goes columns (v ∷ vs) h = (
   closed-fits n goes columns vs h.1,
 )
 
-used-few : (n used : ℕ) (tests : List (Bool × BookRefused)) → first_of (tests ++ (leb 1000000 n || ltb 1000000 used, Full) ∷ []) ≡ None → used ≤ 1000000
-used-few n used tests h = ltb-false 1000000 used (or_parts _ _ (last_of (λ (t : Bool × BookRefused). t.0 ≡ false) tests (leb 1000000 n || ltb 1000000 used, Full) (first_of-none _ h))).1
+used-few : (n used : ℕ) (tests : List (Bool × BookRefused)) → first_of (tests ++ (leb commit_limit n || ltb version_limit used, Full) ∷ []) ≡ None → used ≤ version_limit
+used-few n used tests h = ltb-false version_limit used (or_parts _ _ (last_of (λ (t : Bool × BookRefused). t.0 ≡ false) tests (leb commit_limit n || ltb version_limit used, Full) (first_of-none _ h))).1
 
-changed-few : (n : ℕ) (c : Change) (t : Table) → t.used ≤ 1000000 → first_of (tests_of n c t) ≡ None → (changed c t).used ≤ 1000000
+changed-few : (n : ℕ) (c : Change) (t : Table) → t.used ≤ version_limit → first_of (tests_of n c t) ≡ None → (changed c t).used ≤ version_limit
 changed-few n (Make name schema) t few h = omega arith
 changed-few n (Load name rows) t few h = used-few n (changed (Load name rows) t).used ((not (list_all (λ d. fits t.schema d.values) rows), WrongKind) ∷ []) h
 changed-few n (Update name portion sets conds) t few h = used-few n (changed (Update name portion sets conds) t).used (flat_map (pair_tests t.schema) (sets ++ conds)) h
 changed-few n (Delete name portion conds) t few h = used-few n (changed (Delete name portion conds) t).used (flat_map (pair_tests t.schema) conds) h
 
-sound_changed : (n : ℕ) (c : Change) (t : Kept) → first_of (tests_of n c (table_at n t)) ≡ None → IsSound t → IsSound (kept_changed n c t)
+sound_changed : (n : ℕ) (c : Change) (t : StoredTable) → first_of (tests_of n c (table_at n t)) ≡ None → IsSound t → IsSound (kept_table_after n c t)
 sound_changed n c t h s =
     let ds = drafts_of c t.schema (shown n t.versions) in
     record {
-      few = let used = changed-few n c (table_at n t) s.few h in omega (arith, length-kept_changed n c t, used);
+      few = let used = changed-few n c (table_at n t) s.few h in omega (arith, length-kept_table_after n c t, used);
       fit = append-all (λ (v : Version). fits t.schema v.row.values ≡ true) (map (closed (n + 1) (removes c t.schema)) t.versions) (made (n + 1) (numbered (length t.versions) ds))
           (closed-fits (n + 1) (removes c t.schema) t.schema t.versions s.fit)
           (made-fits (n + 1) (length t.versions) t.schema ds (drafts-fit n c t h (shown-fits n t.schema t.versions s.fit)));
     }
 
-sound_at_kept : (n : ℕ) (c : Change) (name : List ℕ) (ts : List Kept) → with_table (table_of (map (table_at n) ts) name) (λ t. first_of (tests_of n c t)) ≡ None → AllByRecursion IsSound ts → AllByRecursion IsSound (at_kept name (kept_changed n c) ts)
+sound_at_kept : (n : ℕ) (c : Change) (name : List ℕ) (ts : List StoredTable) → with_table (table_of (map (table_at n) ts) name) (λ t. first_of (tests_of n c t)) ≡ None → AllByRecursion IsSound ts → AllByRecursion IsSound (at_kept name (kept_table_after n c) ts)
 sound_at_kept n c name [] h s = tt
 sound_at_kept n c name (t ∷ ts) h s = by_test (λ k. sound_at_kept n c name ts k s.1) (same_name t.name name) h where
-  by_test : (with_table (table_of (map (table_at n) ts) name) (λ t. first_of (tests_of n c t)) ≡ None → AllByRecursion IsSound (at_kept name (kept_changed n c) ts)) → (b : Bool) → with_table (cond b (Some (table_at n t)) (table_of (map (table_at n) ts) name)) (λ t. first_of (tests_of n c t)) ≡ None → AllByRecursion IsSound (cond b (kept_changed n c t ∷ ts) (t ∷ at_kept name (kept_changed n c) ts))
+  by_test : (with_table (table_of (map (table_at n) ts) name) (λ t. first_of (tests_of n c t)) ≡ None → AllByRecursion IsSound (at_kept name (kept_table_after n c) ts)) → (b : Bool) → with_table (cond b (Some (table_at n t)) (table_of (map (table_at n) ts) name)) (λ t. first_of (tests_of n c t)) ≡ None → AllByRecursion IsSound (cond b (kept_table_after n c t ∷ ts) (t ∷ at_kept name (kept_table_after n c) ts))
   by_test rest true k = (sound_changed n c t k s.0, s.1)
   by_test rest false k = (s.0, rest k)
 
-sound_after : (n : ℕ) (c : Change) (ts : List Kept) → first_refusal n (map (table_at n) ts) c ≡ None → AllByRecursion IsSound ts → AllByRecursion IsSound (kept_after n ts c)
+sound_after : (n : ℕ) (c : Change) (ts : List StoredTable) → first_refusal n (map (table_at n) ts) c ≡ None → AllByRecursion IsSound ts → AllByRecursion IsSound (kept_tables_after n ts c)
 sound_after n (Make name schema) ts h s = append-all IsSound ts _ s (record { few = omega arith; fit = tt }, tt)
 sound_after n (Load name rows) ts h s = sound_at_kept n (Load name rows) name ts h s
 sound_after n (Update name portion sets conds) ts h s = sound_at_kept n (Update name portion sets conds) name ts h s
@@ -192,20 +198,20 @@ legal_from n s (c ∷ cs) h = (
   legal_from (n + 1) (after s c.change) cs (λ k d e. let m : n + 1 + k ≡ n + suc k = omega arith in ap (λ m. refusal_of m (fold (λ s c. after s c.change) (after s c.change) (take k cs)) d.change) m ∙ h (suc k) d e),
 )
 
-sound_from : (n : ℕ) (s : State) (ts : List Kept) (cs : History) → Ties n s ts → LegalFrom n s cs → AllByRecursion IsSound ts → AllByRecursion IsSound (kept_from n ts cs)
+sound_from : (n : ℕ) (s : State) (ts : List StoredTable) (cs : History) → Ties n s ts → LegalFrom n s cs → AllByRecursion IsSound ts → AllByRecursion IsSound (kept_tables_from n ts cs)
 unfolding LegalFrom
 sound_from n s ts [] t l h = h
 sound_from n s ts (c ∷ cs) t l h =
-    sound_from (n + 1) (after s c.change) (kept_after n ts c.change) cs (Ties-after n s ts c.change t) l.1
+    sound_from (n + 1) (after s c.change) (kept_tables_after n ts c.change) cs (Ties-after n s ts c.change t) l.1
     (sound_after n c.change ts (ap (λ x. first_refusal n x c.change) t.newest ∙ first-none n s c.change l.0) h)
 
 -- the tables of a legal history
-pub all_sound : (h : History) → IsLegal h → AllByRecursion IsSound (kept_from 0 [] h)
+pub all_sound : (h : History) → IsLegal h → AllByRecursion IsSound (kept_tables_from 0 [] h)
 all_sound h legal =
     sound_from 0 [] [] h Ties-none (legal_from 0 [] h (λ k c e. let m : 0 + k ≡ k = omega arith in ap (λ m. refusal_of m (state_after (take k h)) c.change) m ∙ legal k c e)) tt
 
 -- a legal history has at most a million commits
-pub few_commits : (h : History) → IsLegal h → length h ≤ 1000000
+pub few_commits : (h : History) → IsLegal h → length h ≤ commit_limit
 few_commits [] legal = omega arith
 few_commits (c ∷ cs) legal =
     let last = get_or (c ∷ cs) (length cs) c in
@@ -214,7 +220,7 @@ few_commits (c ∷ cs) legal =
 
 -- what is shown of a sound table
 
-pub found_sound : (name : List ℕ) (ts : List Kept) → AllByRecursion IsSound ts → IfSome (kept_table name ts) IsSound
+pub found_sound : (name : List ℕ) (ts : List StoredTable) → AllByRecursion IsSound ts → IfSome (kept_table name ts) IsSound
 found_sound name [] h = tt
 found_sound name (t ∷ ts) h = elim (same_name t.name name) as (λ b. IfSome (cond b (Some t) (kept_table name ts)) IsSound) [ true ↦ h.0 | false ↦ found_sound name ts h.1 ]
 
@@ -229,13 +235,13 @@ rising-rows lo hi (r ∷ s ∷ rows) h zero d lt = h.2.0
 rising-rows lo hi (r ∷ s ∷ rows) h (suc k) d lt = let e : suc k + 1 ≡ suc (k + 1) = omega arith in rw e (rising-rows r.id hi (s ∷ rows) h.2 k d (omega arith))
 
 -- of the rows that a commit shows: at most a million, by rising ids, and they fit the columns
-pub rows-few : (h : History) (name : List ℕ) (t : Kept) (n : ℕ) (rows : List Row) → IsTableOf h name t → rows ≡ shown n t.versions → length rows ≤ 1000000
+pub rows-few : (h : History) (name : List ℕ) (t : StoredTable) (n : ℕ) (rows : List Row) → IsTableOf h name t → rows ≡ shown n t.versions → length rows ≤ version_limit
 rows-few h name t n rows table e = omega (arith, ap length e, few_shown n t.versions, table.sound.few)
 
-pub rows-rise : (h : History) (name : List ℕ) (t : Kept) (n : ℕ) (rows : List Row) → IsTableOf h name t → rows ≡ shown n t.versions → IdsRise rows
+pub rows-rise : (h : History) (name : List ℕ) (t : StoredTable) (n : ℕ) (rows : List Row) → IsTableOf h name t → rows ≡ shown n t.versions → IdsRise rows
 rows-rise h name t n rows table e = rw e (rising-rows 0 (length t.versions) (shown n t.versions) (shown_rise_all n t.versions table.well.ids))
 
-pub rows-fit : (h : History) (name : List ℕ) (t : Kept) (n : ℕ) (rows : List Row) → IsTableOf h name t → rows ≡ shown n t.versions → IfSome (schema_in h name) (λ columns. All (λ row. IsTrue (fits columns row.values)) rows)
+pub rows-fit : (h : History) (name : List ℕ) (t : StoredTable) (n : ℕ) (rows : List Row) → IsTableOf h name t → rows ≡ shown n t.versions → IfSome (schema_in h name) (λ columns. All (λ row. IsTrue (fits columns row.values)) rows)
 rows-fit h name t n rows table e =
     let columns : schema_in h name ≡ Some t.schema = ap (option_map (λ (u : Table). u.schema)) table.newest in
     rw (columns, e) (All-from_recursion (λ (row : Row). fits t.schema row.values ≡ true) (shown n t.versions) (shown-fits n t.schema t.versions table.sound.fit))

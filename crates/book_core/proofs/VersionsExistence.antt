@@ -2,12 +2,13 @@
 use Rattle.std.proofs.Common.{◌≡◌, ℕ, ◌-◌, ◌<◌, ◌≤◌, List, [], ◌∷◌, length, Bool, false, Option, Some, None, refl, sym, ap, arith, subst}
 use Rattle.std.specs.Prelude.{IfSome, is_none, nat_le, nat_lt}
 use Rattle.std.proofs.lemmas.Bool.{both_ways, leb-false, ltb-false}
+use Rattle.version_core.specs.Shown.{seen}
+use Rattle.version_core.specs.declared.version.Version.{Version}
 use Rattle.book_core.specs.History.{History, IsLegal, state_after, versions_refusal}
-use Rattle.book_core.specs.Kept.{Kept, IsSound, IsTableOf, IsWellKept, kept_from, kept_table, seen}
+use Rattle.book_core.specs.StoredTables.{StoredTable, IsSound, IsTableOf, IsWellKept, kept_tables_from, kept_table}
 use Rattle.book_core.specs.State.{table_of}
 use Rattle.book_core.specs.Versions.{AreBetween, AreFromTo, IsAfter}
-use Rattle.book_core.specs.declared.version.Version.{Version}
-use Rattle.book_core.specs.declared.book.VersionsRefused.TheVariants.{BadPeriod, Future, NoTable}
+use Rattle.book_core.specs.declared.refusal.VersionsRefused.TheVariants.{BadPeriod, Future, NoTable}
 use Rattle.book_core.proofs.Applying.{first_of-none}
 use Rattle.book_core.proofs.Ids.{all_well_kept, found_well}
 use Rattle.book_core.proofs.Past.{seen_are}
@@ -15,17 +16,17 @@ use Rattle.book_core.proofs.Reading.{rows_at-found, table_of-newest}
 use Rattle.book_core.proofs.Sound.{all_sound, found_sound}
 
 -- the table of a name that a legal history has
-some_table : (h : History) (name : List ℕ) → IsLegal h → is_none (table_of (state_after h) name) ≡ false → (t : Kept) × IsTableOf h name t
-some_table h name legal there = by_kept (kept_table name (kept_from 0 [] h)) refl where
-  by_kept : (o : Option Kept) → o ≡ kept_table name (kept_from 0 [] h) → (t : Kept) × IsTableOf h name t
-  by_kept None f = absurd (both_ways (is_none (table_of (state_after h) name)) there (ap is_none (table_of-newest h (kept_from 0 [] h) name None refl f)))
+some_table : (h : History) (name : List ℕ) → IsLegal h → is_none (table_of (state_after h) name) ≡ false → (t : StoredTable) × IsTableOf h name t
+some_table h name legal there = by_kept (kept_table name (kept_tables_from 0 [] h)) refl where
+  by_kept : (o : Option StoredTable) → o ≡ kept_table name (kept_tables_from 0 [] h) → (t : StoredTable) × IsTableOf h name t
+  by_kept None f = absurd (both_ways (is_none (table_of (state_after h) name)) there (ap is_none (table_of-newest h (kept_tables_from 0 [] h) name None refl f)))
   by_kept (Some t) f = (
     t,
     record {
-      newest = table_of-newest h (kept_from 0 [] h) name (Some t) refl f;
-      past = λ n le. sym (rows_at-found h (kept_from 0 [] h) name n t refl le f);
-      well = subst (λ o. IfSome o (IsWellKept (length h))) (sym f) (found_well (length h) name (kept_from 0 [] h) (all_well_kept h));
-      sound = subst (λ o. IfSome o IsSound) (sym f) (found_sound name (kept_from 0 [] h) (all_sound h legal));
+      newest = table_of-newest h (kept_tables_from 0 [] h) name (Some t) refl f;
+      past = λ n le. sym (rows_at-found h (kept_tables_from 0 [] h) name n t refl le f);
+      well = subst (λ o. IfSome o (IsWellKept (length h))) (sym f) (found_well (length h) name (kept_tables_from 0 [] h) (all_well_kept h));
+      sound = subst (λ o. IfSome o IsSound) (sym f) (found_sound name (kept_tables_from 0 [] h) (all_sound h legal));
     },
   )
 
@@ -33,7 +34,7 @@ some_table h name legal there = by_kept (kept_table name (kept_from 0 [] h)) ref
 record MayRead (h : History) (at : ℕ) (is_bad : Bool) (name : List ℕ) : Type 0 where
   within : at ≤ length h
   right : is_bad ≡ false
-  table : Kept
+  table : StoredTable
   is_table : IsTableOf h name table
 
 may_read : (h : History) (at : ℕ) (is_bad : Bool) (name : List ℕ) → IsLegal h → versions_refusal h at is_bad name ≡ None → MayRead h at is_bad name

@@ -1,9 +1,9 @@
 -- One list is that of all versions that are selected, by rising id.
 use Rattle.std.proofs.Common.{◌≡◌, ℕ, ◌<◌, List, arith}
 use Rattle.list_core.proofs.RisingLemmas.{rising_is_one}
+use Rattle.version_core.specs.declared.version.Version.{Version}
 use Rattle.book_core.specs.History.{History}
 use Rattle.book_core.specs.Versions.{AreVersions}
-use Rattle.book_core.specs.declared.version.Version.{Version}
 
 pub one_list : (h : History) (at : ℕ) (name : List ℕ) (Selected : Version → Type 0) (one other : List Version)
     → AreVersions h at name Selected one → AreVersions h at name Selected other → one ≡ other

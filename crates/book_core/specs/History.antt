@@ -1,14 +1,14 @@
 -- Histories: what was accepted, oldest first, and what it shows.
 use Rattle.std.specs.Prelude.{◌≡◌, ℕ, List, [], ◌∷◌, length, fold, take, Bool, Option, Some, None, is_none, option_map, slice_get, nat_lt}
+use Rattle.row_core.specs.Refusals.{first_of}
 use Rattle.row_core.specs.declared.row.Row.{Row}
 use Rattle.row_core.specs.declared.schema.Column.{Column}
 use Rattle.book_core.specs.State.{State, after, table_of, rows_of, refusal_of}
-use Rattle.row_core.specs.Refusals.{first_of}
-use Rattle.book_core.specs.declared.change.Commit.{Commit}
-use Rattle.book_core.specs.declared.book.RowsRefused.{RowsRefused}
-use Rattle.book_core.specs.declared.book.RowsRefused.TheVariants.{Future, NoTable}
-use Rattle.book_core.specs.declared.book.VersionsRefused.{VersionsRefused}
-use Rattle.book_core.specs.declared.book.VersionsRefused.TheVariants as no_versions
+use Rattle.book_core.specs.declared.commit.Commit.{Commit}
+use Rattle.book_core.specs.declared.refusal.RowsRefused.{RowsRefused}
+use Rattle.book_core.specs.declared.refusal.RowsRefused.TheVariants.{Future, NoTable}
+use Rattle.book_core.specs.declared.refusal.VersionsRefused.{VersionsRefused}
+use Rattle.book_core.specs.declared.refusal.VersionsRefused.TheVariants as no_versions
 
 -- the accepted changes, oldest first
 abbrev pub History : Type 0

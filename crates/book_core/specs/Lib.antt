@@ -1,7 +1,5 @@
-pub mod Finding
 pub mod History
-pub mod Keys
-pub mod Kept
-pub mod Open
+pub mod Limits
 pub mod State
+pub mod StoredTables
 pub mod Versions

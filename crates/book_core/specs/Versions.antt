@@ -2,15 +2,15 @@
 use Rattle.std.specs.Prelude.{ℕ, ◌+◌, ◌≤◌, ◌<◌, List, [], ◌∷◌, map, Option, MatchOption, Contains, count_by, not, ◌↔◌, nat_eq, AllPairs}
 use Rattle.std.specs.List.{list_any}
 use Rattle.row_core.specs.declared.row.Row.{Row}
+use Rattle.version_core.specs.declared.change.Change.{Change}
+use Rattle.version_core.specs.declared.change.Change.TheVariants.{Make, Load, Update, Delete}
+use Rattle.version_core.specs.declared.version.Version.{Version}
 use Rattle.book_core.specs.State.{table_named}
 use Rattle.book_core.specs.History.{History, rows_at}
-use Rattle.book_core.specs.declared.change.Change.{Change}
-use Rattle.book_core.specs.declared.change.Change.TheVariants.{Make, Load, Update, Delete}
-use Rattle.book_core.specs.declared.change.Commit.{Commit}
+use Rattle.book_core.specs.declared.commit.Commit.{Commit}
 use Rattle.book_core.specs.declared.log.ChangeKind.{ChangeKind}
 use Rattle.book_core.specs.declared.log.ChangeKind.TheVariants as kind
 use Rattle.book_core.specs.declared.log.Entry.{Entry}
-use Rattle.book_core.specs.declared.version.Version.{Version}
 
 -- commit n shows a row of the table with the id
 abbrev pub HasId : History → List ℕ → ℕ → ℕ → Type 0

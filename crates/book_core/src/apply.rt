@@ -4,24 +4,25 @@ ghost use Rattle.std.specs.Prelude.{◌≡◌, ◌+◌, ◌≤◌, ◌<◌, [], 
 ghost use Rattle.std.specs.List.{list_all, AllByRecursion};
 ghost use Rattle.row_core.specs.Refusals.{first_of};
 ghost use Rattle.row_core.specs.Schema.{fits};
-ghost use Rattle.book_core.specs.Keys.{IsUnbroken, overlap_in};
-ghost use Rattle.book_core.specs.State.{changed, tests_of, pair_tests, full_tests, parts_in, table_named};
-ghost use Rattle.book_core.specs.Kept.{kept_table, table_at, shown, at_kept, kept_after, kept_changed, added_in, closed_in, HasRoom, IsTimely, IsWellKept};
+ghost use Rattle.version_core.specs.Limits.{version_limit};
+ghost use Rattle.version_core.specs.Rows.{parts_in};
+ghost use Rattle.version_core.specs.Shown.{shown};
+ghost use Rattle.book_core.specs.Limits.{commit_limit};
+ghost use Rattle.book_core.specs.State.{changed, tests_of, pair_tests, full_tests, table_named};
+ghost use Rattle.book_core.specs.StoredTables.{IsUnbroken, overlap_in, kept_table, table_at, at_kept, kept_tables_after, kept_table_after, added_in, closed_in, HasRoom, IsTimely, IsWellKept};
 
-use crate::book::BookRefused;
-use crate::change::Change;
-use crate::keys::ChangeFailure;
-use crate::portion::pairs_refusal;
+use crate::pairs::pairs_refusal;
+use crate::refusal::BookRefused;
 use crate::table::{Table, place_of};
-use crate::versions::{Counts, Versions};
 use row_core::{Draft, Name, NoMemory, Schema, Value};
 use std::alloc::Global;
+use version_core::{Change, ChangeFailure, VERSION_LIMIT, VersionCounts, Versions};
 
-/// The most commits of a book, and the most versions of a table.
-pub const LIMIT: usize = 1_000_000;
+/// The most commits of a book.
+pub(crate) const COMMIT_LIMIT: usize = 1_000_000;
 
 /// What refuses a change of a table's rows, after the first commits.
-pub fn refusal_in(table: &Table, commits: usize, change: &Change) -> Option<BookRefused>
+pub(crate) fn refusal_in(table: &Table, commits: usize, change: &Change) -> Option<BookRefused>
     requires { IsWellKept commits table.now }
     ensures { result ≡ first_of (tests_of commits change.now (table_at commits table.now)) }
 {
@@ -87,14 +88,14 @@ fn portion_refusal(
 /// not in a table without room, nor in one with room for all that there can be.
 fn is_full_by_parts(schema: &Schema, versions: &Versions, commits: usize, change: &Change) -> bool
     requires { AllByRecursion (IsTimely commits) versions.now }
-    ensures { result ≡ (nat_le 1000000 commits || nat_lt 1000000 (length versions.now
+    ensures { result ≡ (nat_le commit_limit commits || nat_lt version_limit (length versions.now
         + length (parts_in change.now schema.now (shown commits versions.now)))) }
 {
     let used = versions.len();
-    if commits >= LIMIT || used > LIMIT {
+    if commits >= COMMIT_LIMIT || used > VERSION_LIMIT {
         return true;
     }
-    if versions.most_parts() <= LIMIT - used {
+    if versions.most_parts() <= VERSION_LIMIT - used {
         return false;
     }
     let more = versions.count_parts(schema, change);
@@ -109,26 +110,26 @@ fn all_fit(schema: &Schema, rows: &[Draft]) -> bool
 }
 
 /// No commit may follow, or the versions would be too many.
-pub fn is_full(commits: usize, versions: usize, more: usize) -> bool
-    ensures { result ≡ (nat_le 1000000 commits || nat_lt 1000000 (versions + more)) }
+fn is_full(commits: usize, versions: usize, more: usize) -> bool
+    ensures { result ≡ (nat_le commit_limit commits || nat_lt version_limit (versions + more)) }
 {
-    commits >= LIMIT || versions > LIMIT || more > LIMIT - versions
+    commits >= COMMIT_LIMIT || versions > VERSION_LIMIT || more > VERSION_LIMIT - versions
 }
 
 /// Makes the tables after one more commit, and answers how many versions it made and closed. Only the
 /// test of keys and want of memory are left to refuse it.
-pub fn enact(
+pub(crate) fn change_tables(
     alloc: Global,
     tables: &mut Vec<Table>,
     commits: u64,
     change: &Change,
-) -> Result<Counts, ChangeFailure>
-    requires few { commits < 1000000 }
+) -> Result<VersionCounts, ChangeFailure>
+    requires few { commits < commit_limit }
     requires room { HasRoom commits change.now tables.old.items }
     requires well { IfSome (kept_table (table_named change.now) tables.old.items)
         (IsWellKept commits) }
     requires unbroken { IfSome (kept_table (table_named change.now) tables.old.items) IsUnbroken }
-    ensures ok { OnOk result (tables.new.items ≡ kept_after commits tables.old.items change.now) }
+    ensures ok { OnOk result (tables.new.items ≡ kept_tables_after commits tables.old.items change.now) }
     ensures added { IfOk result (λ counts. counts.added
         ≡ added_in commits change.now (kept_table (table_named change.now) tables.old.items)) }
     ensures closed { IfOk result (λ counts. counts.closed
@@ -141,20 +142,20 @@ pub fn enact(
     ensures err { OnErr result (tables.new.items ≡ tables.old.items) }
 {
     match change {
-        Change::Make { table, schema } => Ok(make_table(alloc, tables, *table, schema)?),
-        Change::Load { table, .. } => renew(alloc, tables, commits, *table, change),
-        Change::Update { table, .. } => renew(alloc, tables, commits, *table, change),
-        Change::Delete { table, .. } => renew(alloc, tables, commits, *table, change),
+        Change::Make { table, schema } => Ok(add_table(alloc, tables, *table, schema)?),
+        Change::Load { table, .. } => change_table(alloc, tables, commits, *table, change),
+        Change::Update { table, .. } => change_table(alloc, tables, commits, *table, change),
+        Change::Delete { table, .. } => change_table(alloc, tables, commits, *table, change),
     }
 }
 
 /// Adds a table without rows.
-fn make_table(
+fn add_table(
     alloc: Global,
     tables: &mut Vec<Table>,
     name: Name,
     schema: &Schema,
-) -> Result<Counts, NoMemory>
+) -> Result<VersionCounts, NoMemory>
     ensures ok { OnOk result (tables.new.items
         ≡ tables.old.items ++ record { name = name; schema = schema.now; versions = [] } ∷ []) }
     ensures counts { IfOk result (λ counts. (counts.added ≡ 0) × (counts.closed ≡ 0)) }
@@ -166,27 +167,27 @@ fn make_table(
         schema,
         versions: Versions::new(alloc),
     })?;
-    Ok(Counts {
+    Ok(VersionCounts {
         added: 0,
         closed: 0,
     })
 }
 
 /// Changes the rows of the table of that name.
-fn renew(
+fn change_table(
     alloc: Global,
     tables: &mut Vec<Table>,
     commits: u64,
     name: Name,
     change: &Change,
-) -> Result<Counts, ChangeFailure>
-    requires few { commits < 1000000 }
+) -> Result<VersionCounts, ChangeFailure>
+    requires few { commits < commit_limit }
     requires room { IfSome (kept_table name tables.old.items)
-        (λ t. (changed change.now (table_at commits t)).used ≤ 1000000) }
+        (λ t. (changed change.now (table_at commits t)).used ≤ version_limit) }
     requires well { IfSome (kept_table name tables.old.items) (IsWellKept commits) }
     requires unbroken { IfSome (kept_table name tables.old.items) IsUnbroken }
     ensures ok { OnOk result (tables.new.items
-        ≡ at_kept name (kept_changed commits change.now) tables.old.items) }
+        ≡ at_kept name (kept_table_after commits change.now) tables.old.items) }
     ensures added { IfOk result (λ counts. counts.added
         ≡ added_in commits change.now (kept_table name tables.old.items)) }
     ensures closed { IfOk result (λ counts. counts.closed
@@ -198,7 +199,7 @@ fn renew(
     ensures err { OnErr result (tables.new.items ≡ tables.old.items) }
 {
     let Some(at) = place_of(tables, name) else {
-        return Ok(Counts {
+        return Ok(VersionCounts {
             added: 0,
             closed: 0,
         });
@@ -206,5 +207,5 @@ fn renew(
     let table = &mut tables[at];
     table
         .versions
-        .renew(alloc, &table.schema, commits + 1, change)
+        .apply(alloc, &table.schema, commits + 1, change)
 }

@@ -3,118 +3,25 @@
 ghost use Rattle.std.specs.Prelude.{◌≡◌, ◌+◌, ◌≤◌, ℕ, List, [], ◌∷◌, ◌++◌, length, map, take, All, IfOk, IsTrue, IfSome, IfNone, OnOk, OnErr, IsOkUnless, nat_lt, nat_le};
 ghost use Rattle.row_core.specs.Rows.{IdsRise};
 ghost use Rattle.row_core.specs.Schema.{fits};
-ghost use Rattle.book_core.specs.State.{KeyHolds, first_refusal, refusal_of, table_of};
-ghost use Rattle.book_core.specs.Kept.{IsTableOf};
-ghost use Rattle.book_core.specs.Keys.{IsRefusedAs};
+ghost use Rattle.version_core.specs.Limits.{version_limit};
 ghost use Rattle.book_core.specs.History.{History, IsLegal, state_after, rows_at, rows_refusal, versions_refusal, schema_in};
+ghost use Rattle.book_core.specs.Limits.{commit_limit};
+ghost use Rattle.book_core.specs.State.{KeyHolds, first_refusal, refusal_of, table_of, IsRefusedAs};
+ghost use Rattle.book_core.specs.StoredTables.{IsTableOf};
 ghost use Rattle.book_core.specs.Versions.{AreBetween, AreFromTo, log_of};
 
-use crate::apply::{LIMIT, enact, refusal_in};
-use crate::change::{Change, Commit, copy_history};
-use crate::keys::ChangeFailure;
+use crate::apply::{COMMIT_LIMIT, change_tables, refusal_in};
+use crate::commit::{Commit, copy_history};
 use crate::log::{Entry, Log, entry_of};
+use crate::refusal::{BookRefused, NoTable, RowsRefused, VersionsRefused};
 use crate::table::{Table, copy_tables, find_table};
-use crate::version::{VersionList, rows_shown, versions_seen};
 use row_core::{Name, NoMemory, RowList, Schema};
 use std::alloc::Global;
 use std::marker::Model;
+use version_core::{Change, VersionList, rows_shown, versions_seen};
 
 /// The most tables of a book.
-const MAX_TABLES: usize = 64;
-
-/// Why a change is not made, in the order of the tests; of pairs, each is tested for both of its names
-/// before the next one.
-#[derive(Clone, Copy, Debug, PartialEq, Eq)]
-pub enum BookRefused {
-    /// A table of that name is there.
-    TableExists,
-    /// 64 tables are there.
-    TooMany,
-    /// No table of that name is there.
-    NoTable,
-    /// The table has no column of that name.
-    NoColumn,
-    /// A value is not of its column's kind, or a row does not fit the table's columns.
-    WrongKind,
-    /// 1,000,000 commits are there, or the table would have more than 1,000,000 versions.
-    Full,
-    /// The table has a key, and two of its rows would be equal in each column of it and share an instant.
-    KeyOverlap,
-    NoMemory,
-}
-
-impl From<ChangeFailure> for BookRefused {
-    ghost use Rattle.std.specs.Prelude.{◌≡◌};
-    ghost use Rattle.book_core.specs.Keys.{refusal_by};
-
-    ghost from_gives = { λ failure refused. refused ≡ refusal_by failure };
-
-    fn from(failure: ChangeFailure) -> BookRefused {
-        match failure {
-            ChangeFailure::KeyOverlap => BookRefused::KeyOverlap,
-            ChangeFailure::NoMemory => BookRefused::NoMemory,
-        }
-    }
-}
-
-impl From<NoMemory> for BookRefused {
-    ghost use Rattle.std.specs.Prelude.{◌≡◌};
-    ghost use Rattle.book_core.specs.declared.book.BookRefused.TheVariants as refused;
-
-    ghost from_gives = { λ _ e. e ≡ refused.NoMemory };
-
-    fn from(_error: NoMemory) -> BookRefused {
-        BookRefused::NoMemory
-    }
-}
-
-/// Why the rows of a table are not given, in the order of the tests.
-#[derive(Clone, Copy, Debug, PartialEq, Eq)]
-pub enum RowsRefused {
-    /// There are fewer commits.
-    Future,
-    /// No table of that name is there.
-    NoTable,
-    NoMemory,
-}
-
-impl From<NoMemory> for RowsRefused {
-    ghost use Rattle.std.specs.Prelude.{◌≡◌};
-    ghost use Rattle.book_core.specs.declared.book.RowsRefused.TheVariants as refused;
-
-    ghost from_gives = { λ _ e. e ≡ refused.NoMemory };
-
-    fn from(_error: NoMemory) -> RowsRefused {
-        RowsRefused::NoMemory
-    }
-}
-
-/// Why the versions of a table are not given, in the order of the tests.
-#[derive(Clone, Copy, Debug, PartialEq, Eq)]
-pub enum VersionsRefused {
-    /// There are fewer commits.
-    Future,
-    /// The two commits are not in order.
-    BadPeriod,
-    /// No table of that name is there.
-    NoTable,
-    NoMemory,
-}
-
-impl From<NoMemory> for VersionsRefused {
-    ghost use Rattle.std.specs.Prelude.{◌≡◌};
-    ghost use Rattle.book_core.specs.declared.book.VersionsRefused.TheVariants as refused;
-
-    ghost from_gives = { λ _ e. e ≡ refused.NoMemory };
-
-    fn from(_error: NoMemory) -> VersionsRefused {
-        VersionsRefused::NoMemory
-    }
-}
-
-/// No table has that name.
-#[derive(Clone, Copy, Debug, PartialEq, Eq)]
-pub struct NoTable;
+const TABLE_LIMIT: usize = 64;
 
 /// A book. Contracts see its history: the changes that it accepted, oldest first.
 #[derive(Debug, Drop)]
@@ -127,7 +34,7 @@ pub struct Book {
 
 impl Model for Book {
     ghost use Rattle.book_core.specs.History.{History};
-    ghost use Rattle.book_core.specs.Kept.{IsBook};
+    ghost use Rattle.book_core.specs.StoredTables.{IsBook};
 
     ghost Value = { History };
 
@@ -164,7 +71,7 @@ impl Book {
     /// How many changes were accepted.
     pub fn commits(&self) -> u64
         ensures count { result ≡ length self.now }
-        ensures few { result ≤ 1000000 }
+        ensures few { result ≤ commit_limit }
 
         // Each of them was accepted in its place.
         ensures legal { IsLegal self.now }
@@ -199,7 +106,7 @@ impl Book {
         self.history.reserve(1)?;
         self.log.reserve(1)?;
         let commits = self.history.len() as u64;
-        let counts = enact(self.alloc, &mut self.tables, commits, &change)?;
+        let counts = change_tables(self.alloc, &mut self.tables, commits, &change)?;
         let entry = entry_of(commits, by, &change, counts);
         match self.log.push(entry) {
             Ok(()) => match self.history.push(Commit { by, change }) {
@@ -219,9 +126,9 @@ impl Book {
             Change::Make { table, .. } => {
                 if self.table(*table).is_some() {
                     Some(BookRefused::TableExists)
-                } else if self.tables.len() >= MAX_TABLES {
+                } else if self.tables.len() >= TABLE_LIMIT {
                     Some(BookRefused::TooMany)
-                } else if commits >= LIMIT {
+                } else if commits >= COMMIT_LIMIT {
                     Some(BookRefused::Full)
                 } else {
                     None
@@ -269,7 +176,7 @@ impl Book {
         ensures rows { IfOk result (λ rows. rows ≡ rows_at self.now n name) }
 
         // They are at most 1,000,000, and each fits the table's columns.
-        ensures few { IfOk result (λ rows. length rows ≤ 1000000) }
+        ensures few { IfOk result (λ rows. length rows ≤ version_limit) }
         ensures rise { IfOk result IdsRise }
         ensures fit { IfOk result (λ rows. IfSome (schema_in self.now name)
             (λ columns. All (λ row. IsTrue (fits columns row.values)) rows)) }

@@ -2,9 +2,9 @@
 
 ghost use Rattle.std.specs.Prelude.{◌≡◌, ℕ, List, None, nat_le, nat_lt};
 ghost use Rattle.row_core.specs.Rows.{IdsRise};
+ghost use Rattle.version_core.specs.declared.version.Version.{Version};
 ghost use Rattle.book_core.specs.History.{History, IsLegal, rows_at, versions_refusal};
 ghost use Rattle.book_core.specs.Versions.{AreBetween, AreFromTo};
-ghost use Rattle.book_core.specs.declared.version.Version.{Version};
 
 /// What is asked of a table's versions is one list at most, and where they may be read, in a legal history, exactly one.
 pub fn history_has_one_list_of_versions()

@@ -4,22 +4,16 @@
 
 mod apply;
 mod book;
-mod change;
-mod index;
-mod keys;
+mod commit;
 mod laws;
 mod log;
-mod making;
-mod places;
-mod portion;
+mod pairs;
+mod refusal;
 mod table;
-mod version;
-mod versions;
 
-pub use book::{
-    Book, BookRefused, NoTable, RowsRefused, VersionsRefused, keys_stay_apart, past_stays,
-};
-pub use change::{Change, Commit, Pairs};
+pub use book::{Book, keys_stay_apart, past_stays};
+pub use commit::Commit;
 pub use laws::{history_has_one_list_of_versions, rows_rise};
 pub use log::{ChangeKind, Entry, Log};
-pub use version::{Version, VersionList};
+pub use refusal::{BookRefused, NoTable, RowsRefused, VersionsRefused};
+pub use version_core::{Change, Pairs, Version, VersionList};

@@ -2,14 +2,14 @@
 
 ghost use Rattle.std.specs.Prelude.{◌≡◌, ◌+◌, ◌<◌, ◌==◌, length, slice_get, IfOk};
 ghost use Rattle.std.specs.Option.{option_copied};
+ghost use Rattle.book_core.specs.Limits.{commit_limit};
 ghost use Rattle.book_core.specs.State.{table_named};
 ghost use Rattle.book_core.specs.Versions.{kind_of};
 
-use crate::change::Change;
-use crate::versions::Counts;
 use row_core::{Name, NoMemory};
 use std::alloc::Global;
 use std::marker::Model;
+use version_core::{Change, VersionCounts};
 
 /// The kinds of change.
 #[derive(Clone, Copy, Debug, PartialEq, Eq)]
@@ -86,8 +86,8 @@ impl Log {
 }
 
 /// What the log has of one more commit.
-pub fn entry_of(commits: u64, by: u32, change: &Change, counts: Counts) -> Entry
-    requires { commits < 1000000 }
+pub(crate) fn entry_of(commits: u64, by: u32, change: &Change, counts: VersionCounts) -> Entry
+    requires { commits < commit_limit }
     ensures { result ≡ record {
       number = commits + 1;
       by = by;

@@ -3,38 +3,38 @@
 ghost use Rattle.std.specs.Prelude.{◌≡◌, IfOk, position};
 ghost use Rattle.std.specs.Option.{option_copied};
 ghost use Rattle.row_core.specs.Name.{same_name};
-ghost use Rattle.book_core.specs.Kept.{kept_table};
+ghost use Rattle.book_core.specs.StoredTables.{kept_table};
 
-use crate::versions::Versions;
 use row_core::{Name, NoMemory, Schema};
 use std::alloc::Global;
 use std::marker::Model;
+use version_core::Versions;
 
 /// A table with all versions of its rows.
 #[derive(Debug, Drop)]
-pub struct Table {
+pub(crate) struct Table {
     pub name: Name,
     pub schema: Schema,
     pub versions: Versions,
 }
 
 impl Model for Table {
-    ghost use Rattle.book_core.specs.Kept.{Kept};
+    ghost use Rattle.book_core.specs.StoredTables.{StoredTable};
 
-    ghost Value = { Kept };
+    ghost Value = { StoredTable };
 
     ghost view = { λ t. record { name = t.name; schema = t.schema; versions = t.versions } };
 }
 
 /// The table of that name.
-pub fn find_table(tables: &[Table], name: Name) -> Option<&Table>
+pub(crate) fn find_table(tables: &[Table], name: Name) -> Option<&Table>
     ensures { option_copied result ≡ kept_table name tables.now }
 {
     tables.iter().find(|table| is_named(table, name))
 }
 
 /// The place of the table of that name.
-pub fn place_of(tables: &[Table], name: Name) -> Option<usize>
+pub(crate) fn place_of(tables: &[Table], name: Name) -> Option<usize>
     ensures { result ≡ position (λ t. same_name t.name name) tables.now }
 {
     tables.iter().position(|table| is_named(table, name))
@@ -49,7 +49,7 @@ fn is_named(table: &Table, name: Name) -> bool
 
 impl Table {
     /// A table equal to this one.
-    pub fn copy(&self, alloc: Global) -> Result<Table, NoMemory>
+    fn copy(&self, alloc: Global) -> Result<Table, NoMemory>
         ensures { IfOk result (λ table. table ≡ self.now) }
     {
         Ok(Table {
@@ -61,7 +61,7 @@ impl Table {
 }
 
 /// Copies tables.
-pub fn copy_tables(alloc: Global, tables: &[Table]) -> Result<Vec<Table>, NoMemory>
+pub(crate) fn copy_tables(alloc: Global, tables: &[Table]) -> Result<Vec<Table>, NoMemory>
     ensures { IfOk result (λ copy. copy.items ≡ tables.now) }
 {
     let mut copy = Vec::new(alloc);

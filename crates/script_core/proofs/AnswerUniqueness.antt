@@ -6,7 +6,7 @@ use Rattle.row_core.specs.Rows.{IdsRise}
 use Rattle.row_core.specs.declared.row.Row.{Row}
 use Rattle.book_core.specs.History.{History, rows_at}
 use Rattle.book_core.specs.Versions.{AreBetween, AreFromTo}
-use Rattle.book_core.specs.declared.version.Version.{Version}
+use Rattle.version_core.specs.declared.version.Version.{Version}
 use Rattle.book_core.proofs.VersionsUniqueness.{one_list}
 use Rattle.book_core.proofs.RiseLemmas.{IdsRise-rows_at}
 use Rattle.dip_core.specs.Division.{IsInstantOf}

@@ -1,7 +1,7 @@
 -- How commands are answered.
 use Rattle.std.proofs.Common.{◌≡◌, ℕ, List, [], ◌∷◌, Result, Ok, Err, length, refl, sym, subst}
 use Rattle.book_core.specs.History.{History}
-use Rattle.book_core.specs.declared.version.Version.{Version}
+use Rattle.version_core.specs.declared.version.Version.{Version}
 use Rattle.cert_core.specs.declared.verdict.Certificate.{Certificate}
 use Rattle.dip_core.specs.declared.item.Item.{Item}
 use Rattle.command_core.specs.Meaning.{Meaning}

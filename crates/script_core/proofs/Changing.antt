@@ -3,9 +3,9 @@ use Rattle.std.proofs.Common.{◌≡◌, ℕ, Option, Some, None, Result, Ok, Er
 use Rattle.std.specs.Prelude.{IfNone, IfSome, IsOkUnless, option_map}
 use Rattle.row_core.specs.Refusals.{refused_or}
 use Rattle.book_core.specs.History.{History}
-use Rattle.book_core.specs.Keys.{IsRefusedAs}
-use Rattle.book_core.specs.declared.book.BookRefused.{BookRefused}
-use Rattle.book_core.specs.declared.book.BookRefused.TheVariants as book
+use Rattle.book_core.specs.State.{IsRefusedAs}
+use Rattle.book_core.specs.declared.refusal.BookRefused.{BookRefused}
+use Rattle.book_core.specs.declared.refusal.BookRefused.TheVariants as book
 use Rattle.command_core.specs.Refusal.{fault}
 use Rattle.command_core.specs.declared.refusal.Fault.{Fault}
 use Rattle.script_core.specs.Failure.{IsFailureOf, book_failure}

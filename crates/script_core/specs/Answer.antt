@@ -2,7 +2,7 @@
 use Rattle.std.specs.Prelude.{ℕ, ◌+◌, ◌≡◌, ℤ, List, [], ◌∷◌, Option, Result, Ok, Err, length, nat_le, nat_lt}
 use Rattle.book_core.specs.History.{History}
 use Rattle.book_core.specs.Versions.{AreBetween, AreFromTo, log_of}
-use Rattle.book_core.specs.declared.version.Version.{Version}
+use Rattle.version_core.specs.declared.version.Version.{Version}
 use Rattle.cert_core.specs.Verdict.{IsVerdict}
 use Rattle.cert_core.specs.declared.verdict.Certificate.{Certificate}
 use Rattle.cert_core.specs.declared.verdict.Verdict.{Verdict}

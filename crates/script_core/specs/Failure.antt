@@ -4,12 +4,12 @@ use Rattle.row_core.specs.declared.reading.RowRefused.{RowRefused}
 use Rattle.row_core.specs.declared.reading.RowRefused.TheVariants as row
 use Rattle.row_core.specs.declared.value.ValueRefused.{ValueRefused}
 use Rattle.row_core.specs.declared.value.ValueRefused.TheVariants as value
-use Rattle.book_core.specs.declared.book.BookRefused.{BookRefused}
-use Rattle.book_core.specs.declared.book.BookRefused.TheVariants as book
-use Rattle.book_core.specs.declared.book.RowsRefused.{RowsRefused}
-use Rattle.book_core.specs.declared.book.RowsRefused.TheVariants as rows
-use Rattle.book_core.specs.declared.book.VersionsRefused.{VersionsRefused}
-use Rattle.book_core.specs.declared.book.VersionsRefused.TheVariants as versions
+use Rattle.book_core.specs.declared.refusal.BookRefused.{BookRefused}
+use Rattle.book_core.specs.declared.refusal.BookRefused.TheVariants as book
+use Rattle.book_core.specs.declared.refusal.RowsRefused.{RowsRefused}
+use Rattle.book_core.specs.declared.refusal.RowsRefused.TheVariants as rows
+use Rattle.book_core.specs.declared.refusal.VersionsRefused.{VersionsRefused}
+use Rattle.book_core.specs.declared.refusal.VersionsRefused.TheVariants as versions
 use Rattle.script_core.specs.Refusal.{book_refusal, row_refusal, rows_refusal, value_refusal, versions_refusal}
 use Rattle.script_core.specs.declared.failure.Failure.{Failure}
 use Rattle.script_core.specs.declared.failure.Failure.TheVariants.{Refused, NoMemory}

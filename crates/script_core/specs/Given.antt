@@ -6,7 +6,7 @@ use Rattle.answer_core.specs.declared.answer.Answer.TheVariants as answer
 use Rattle.answer_core.specs.Draft.{Adds, Draft}
 use Rattle.answer_core.specs.Records.{errors_in}
 use Rattle.book_core.specs.History.{History}
-use Rattle.book_core.specs.declared.version.Version.{Version}
+use Rattle.version_core.specs.declared.version.Version.{Version}
 use Rattle.cert_core.specs.Verdict.{IsVerdict}
 use Rattle.cert_core.specs.declared.verdict.Certificate.{Certificate}
 use Rattle.cert_core.specs.declared.verdict.Verdict.{Verdict}

@@ -4,12 +4,12 @@ use Rattle.row_core.specs.declared.reading.RowRefused.{RowRefused}
 use Rattle.row_core.specs.declared.reading.RowRefused.TheVariants as row
 use Rattle.row_core.specs.declared.value.ValueRefused.{ValueRefused}
 use Rattle.row_core.specs.declared.value.ValueRefused.TheVariants as value
-use Rattle.book_core.specs.declared.book.BookRefused.{BookRefused}
-use Rattle.book_core.specs.declared.book.BookRefused.TheVariants as book
-use Rattle.book_core.specs.declared.book.RowsRefused.{RowsRefused}
-use Rattle.book_core.specs.declared.book.RowsRefused.TheVariants as rows
-use Rattle.book_core.specs.declared.book.VersionsRefused.{VersionsRefused}
-use Rattle.book_core.specs.declared.book.VersionsRefused.TheVariants as versions
+use Rattle.book_core.specs.declared.refusal.BookRefused.{BookRefused}
+use Rattle.book_core.specs.declared.refusal.BookRefused.TheVariants as book
+use Rattle.book_core.specs.declared.refusal.RowsRefused.{RowsRefused}
+use Rattle.book_core.specs.declared.refusal.RowsRefused.TheVariants as rows
+use Rattle.book_core.specs.declared.refusal.VersionsRefused.{VersionsRefused}
+use Rattle.book_core.specs.declared.refusal.VersionsRefused.TheVariants as versions
 use Rattle.command_core.specs.declared.refusal.Refusal.{Refusal}
 use Rattle.command_core.specs.declared.refusal.Refusal.TheVariants.{BadNumber, BadPeriod, BadPoint, BadUtf8, Full, Future, KeyOverlap, NoColumn, NoTable, TableExists, TooLong, TooMany, WrongKind, WrongWidth}
 

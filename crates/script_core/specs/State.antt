@@ -14,9 +14,10 @@ use Rattle.row_core.specs.declared.schema.Column.{Column}
 use Rattle.row_core.specs.declared.value.Kind.{Kind}
 use Rattle.book_core.specs.History.{History, rows_at, schema_in, state_after}
 use Rattle.book_core.specs.History as history
-use Rattle.book_core.specs.State.{Pair, kind_in, refusal_of}
-use Rattle.book_core.specs.declared.change.Change.{Change}
-use Rattle.book_core.specs.declared.change.Change.TheVariants as change
+use Rattle.version_core.specs.Rows.{Pair}
+use Rattle.book_core.specs.State.{kind_in, refusal_of}
+use Rattle.version_core.specs.declared.change.Change.{Change}
+use Rattle.version_core.specs.declared.change.Change.TheVariants as change
 use Rattle.command_core.specs.Fields.{both, natural_in}
 use Rattle.command_core.specs.Pairs.{TextPair}
 use Rattle.command_core.specs.Records.{Record}

@@ -1,10 +1,14 @@
 use Rattle.std.proofs.Common.{◌≡◌, sym, ◌∙◌, ap, ◌+◌, ◌||◌, ltb, leb, length, arith, ◌++◌}
 use Rattle.std.specs.List.{list_all}
-use Rattle.row_core.specs.Schema.{fits}
-use Rattle.book_core.specs.Kept.{Kept, table_at, shown}
 use Rattle.std.specs.Prelude.{flat_map}
-use Rattle.book_core.specs.State.{pair_tests, full_tests, parts_in}
+use Rattle.row_core.specs.Schema.{fits}
 use Rattle.row_core.specs.Refusals.{first_of}
+use Rattle.version_core.specs.Limits.{version_limit}
+use Rattle.book_core.specs.Limits.{commit_limit}
+use Rattle.version_core.specs.Shown.{shown}
+use Rattle.version_core.specs.Rows.{parts_in}
+use Rattle.book_core.specs.StoredTables.{StoredTable, table_at}
+use Rattle.book_core.specs.State.{pair_tests, full_tests}
 use Rattle.book_core.proofs.Refusals.{load_wrong, load_full, load_taken}
 use Rattle.book_core.proofs.Portions.{update_refused, update_then}
 use Rattle.book_core.proofs.apply.refusal_in.Goals as goal
@@ -15,19 +19,19 @@ returns-then-not-all_fit c = rw c.in-Load.is (load_wrong c.args.commits c.in-Loa
 
 pub returns-then-is_full : goal.returns-then-is_full
 returns-then-is_full c =
-    let versions = ap (λ (t : Kept). length t.versions) c.table.view_is in
+    let versions = ap (λ (t : StoredTable). length t.versions) c.table.view_is in
     let many : length c.args.table.now.versions + length c.in-Load.rows ≡ c.len.result + c.len-else-not-all_fit.result = omega (arith, versions) in
     rw c.in-Load.is (load_full c.args.commits c.in-Load.table c.in-Load.rows (table_at c.args.commits c.args.table.now)
     (sym (ap (λ t. list_all (λ d. fits t.schema d.values) c.in-Load.rows) c.table.view_is) ∙ ap (list_all (λ d. fits c.table.inside.schema d.values)) (sym c.as_slice.ensures) ∙ sym c.all_fit.ensures ∙ c.if-not-all_fit.false)
-    (ap (λ n. leb 1000000 c.args.commits || ltb 1000000 n) many ∙ sym c.is_full.ensures ∙ c.if-is_full.true))
+    (ap (λ n. leb commit_limit c.args.commits || ltb version_limit n) many ∙ sym c.is_full.ensures ∙ c.if-is_full.true))
 
 pub returns-else-is_full : goal.returns-else-is_full
 returns-else-is_full c =
-    let versions = ap (λ (t : Kept). length t.versions) c.table.view_is in
+    let versions = ap (λ (t : StoredTable). length t.versions) c.table.view_is in
     let many : length c.args.table.now.versions + length c.in-Load.rows ≡ c.len.result + c.len-else-not-all_fit.result = omega (arith, versions) in
     rw c.in-Load.is (load_taken c.args.commits c.in-Load.table c.in-Load.rows (table_at c.args.commits c.args.table.now)
     (sym (ap (λ t. list_all (λ d. fits t.schema d.values) c.in-Load.rows) c.table.view_is) ∙ ap (list_all (λ d. fits c.table.inside.schema d.values)) (sym c.as_slice.ensures) ∙ sym c.all_fit.ensures ∙ c.if-not-all_fit.false)
-    (ap (λ n. leb 1000000 c.args.commits || ltb 1000000 n) many ∙ sym c.is_full.ensures ∙ c.if-is_full.false))
+    (ap (λ n. leb commit_limit c.args.commits || ltb version_limit n) many ∙ sym c.is_full.ensures ∙ c.if-is_full.false))
 
 pub returns-in-Some : goal.returns-in-Some
 returns-in-Some c = rw c.in-Update.is (update_refused c.args.commits c.in-Update.table c.in-Update.portion c.in-Update.sets c.in-Update.conds (table_at c.args.commits c.args.table.now) c.pairs_refusal.result c.in-Some.refused

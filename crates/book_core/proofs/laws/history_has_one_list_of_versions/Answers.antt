@@ -1,5 +1,5 @@
-use Rattle.book_core.specs.Versions.{IsAfter}
 use Rattle.std.specs.Prelude.{◌≤◌, ◌<◌}
+use Rattle.book_core.specs.Versions.{IsAfter}
 use Rattle.book_core.proofs.VersionsExistence.{some_between, some_from_to}
 use Rattle.book_core.proofs.VersionsUniqueness.{one_list}
 use Rattle.book_core.proofs.laws.history_has_one_list_of_versions.Goals as goal

@@ -2,7 +2,7 @@ use Rattle.std.proofs.Common.{◌≡◌, ◌+◌, ◌++◌, ◌∷◌, ◌∙◌
 use Rattle.std.specs.List.{slice_get}
 use Rattle.std.specs.Result.{result_map_both}
 use Rattle.std.proofs.lemmas.Result.{err_from_is_err_and}
-use Rattle.book_core.specs.State.{Pair}
+use Rattle.version_core.specs.Rows.{Pair}
 use Rattle.command_core.specs.Pairs.{TextPair}
 use Rattle.command_core.specs.PairsIn.{pairs_in}
 use Rattle.command_core.specs.Refusal.{fault}

@@ -2,8 +2,8 @@ use Rattle.std.proofs.Common.{◌≡◌, ◌∷◌, ◌++◌, [], sym, ◌∙◌
 use Rattle.std.proofs.lemmas.Result.{err_from_is_err_and}
 use Rattle.book_core.specs.State.{first_refusal, refusal_of, table_named}
 use Rattle.book_core.specs.History.{state_after}
-use Rattle.book_core.specs.Kept.{kept_after}
-use Rattle.book_core.specs.declared.change.Commit.{Commit}
+use Rattle.book_core.specs.StoredTables.{kept_tables_after}
+use Rattle.book_core.specs.declared.commit.Commit.{Commit}
 use Rattle.book_core.proofs.Accepted.{IsFailed, accepted-both, failed}
 use Rattle.book_core.proofs.Applying.{few, room, AreKept-push, newest_of}
 use Rattle.book_core.proofs.Tables.{well_named}
@@ -11,19 +11,19 @@ use Rattle.book_core.proofs.Logging.{entry_same, log-push, new_entry}
 use Rattle.book_core.proofs.KeyFound.{overlap-named, unbroken-named}
 use Rattle.book_core.proofs.book.Book.apply.Goals as goal
 
-pub enact-requires-clause-few : goal.enact-requires-clause-few
-enact-requires-clause-few c =
+pub change_tables-requires-clause-few : goal.change_tables-requires-clause-few
+change_tables-requires-clause-few c =
     let accepted : first_refusal (length c.args.self.now) (state_after c.args.self.now) c.args.change ≡ None = sym c.refusal.ensures ∙ c.in_default.is in
     omega (arith, few (length c.args.self.now) (state_after c.args.self.now) c.args.change accepted, c.self.inside.history.ok.0, ap length c.self.view_is)
 
-pub enact-requires-clause-room : goal.enact-requires-clause-room
-enact-requires-clause-room c =
+pub change_tables-requires-clause-room : goal.change_tables-requires-clause-room
+change_tables-requires-clause-room c =
     let accepted : first_refusal (length c.args.self.now) (state_after c.args.self.now) c.args.change ≡ None = sym c.refusal.ensures ∙ c.in_default.is in
     let commits : length c.args.self.now ≡ c.len-commits.result = omega (arith, c.self.inside.history.ok.0, ap length c.self.view_is) in
     rw (← commits) (room (length c.args.self.now) (state_after c.args.self.now) c.self.inside.tables.items c.args.change (newest_of c.self.inside.history.items c.args.self.now c.self.inside.tables.items c.self.invariant.kept c.self.view_is) accepted)
 
-pub enact-requires-clause-well : goal.enact-requires-clause-well
-enact-requires-clause-well c =
+pub change_tables-requires-clause-well : goal.change_tables-requires-clause-well
+change_tables-requires-clause-well c =
     let commits : length c.self.inside.history.items ≡ c.len-commits.result = omega (arith, c.self.inside.history.ok.0) in
     rw (← commits) (well_named c.self.inside.history.items c.self.inside.tables.items (table_named c.args.change) c.self.invariant.kept)
 
@@ -32,8 +32,8 @@ entry_of-entry-requires c =
     let accepted : first_refusal (length c.args.self.now) (state_after c.args.self.now) c.args.change ≡ None = sym c.refusal.ensures ∙ c.in_default.is in
     omega (arith, few (length c.args.self.now) (state_after c.args.self.now) c.args.change accepted, c.self.inside.history.ok.0, ap length c.self.view_is)
 
-pub enact-requires-clause-unbroken : goal.enact-requires-clause-unbroken
-enact-requires-clause-unbroken c = unbroken-named c.self.inside.history.items c.args.self.now c.self.inside.tables.items (table_named c.args.change) c.self.invariant.kept c.self.view_is
+pub change_tables-requires-clause-unbroken : goal.change_tables-requires-clause-unbroken
+change_tables-requires-clause-unbroken c = unbroken-named c.self.inside.history.items c.args.self.now c.self.inside.tables.items (table_named c.args.change) c.self.invariant.kept c.self.view_is
 
 -- a failure is told as it is
 failure : (c : goal.Joined-change-4) → IsFailed (refusal_of (length c.args.self.now) (state_after c.args.self.now) c.args.change) c.from_residual-in_err-counts.result
@@ -68,8 +68,8 @@ invariant_of-self-in-Ok c =
     let entry : c.entry_of-entry.result ≡ new_entry (length c.self.inside.history.items) c.args.by c.args.change c.self.inside.tables.items =
     entry_same c.len-commits.result (length c.self.inside.history.items) c.args.by c.in_ok-counts.counts.added c.in_ok-counts.counts.closed c.args.change c.self.inside.tables.items c.entry_of-entry.result commits c.in_ok-counts.ensures.added c.in_ok-counts.ensures.closed c.entry_of-entry.ensures in
     record {
-      kept = AreKept-push c.self.inside.history.items c.args.self.now c.push-in-Ok.new.self.items c.self.inside.tables.items c.enact.new.tables.items commit c.self.invariant.kept c.self.view_is (accepted c)
-          (c.in_ok-counts.ensures.ok ∙ ap (λ m. kept_after m c.self.inside.tables.items c.args.change) commits)
+      kept = AreKept-push c.self.inside.history.items c.args.self.now c.push-in-Ok.new.self.items c.self.inside.tables.items c.change_tables.new.tables.items commit c.self.invariant.kept c.self.view_is (accepted c)
+          (c.in_ok-counts.ensures.ok ∙ ap (λ m. kept_tables_after m c.self.inside.tables.items c.args.change) commits)
           grown;
       logged = log-push c.self.inside.history.items c.args.self.now c.push-in-Ok.new.self.items c.self.inside.tables.items c.self.inside.log.items c.push.new.self.items commit c.self.invariant c.self.view_is (accepted c) grown
           (c.in-Ok.ensures.items ∙ ap (λ l. l ++ c.entry_of-entry.result ∷ []) c.reserve-2.ensures.items ∙ ap (λ e. c.self.inside.log.items ++ e ∷ []) entry);

@@ -1,6 +1,6 @@
 use Rattle.std.proofs.Common.{◌≤◌, ◌∙◌, ap, length, arith}
+use Rattle.version_core.specs.Shown.{seen}
 use Rattle.book_core.specs.Versions.{IsAfter}
-use Rattle.book_core.specs.Kept.{seen}
 use Rattle.book_core.proofs.Past.{seen_are, rows_at_once}
 use Rattle.book_core.proofs.book.Book.between.Goals as goal
 

@@ -1,5 +1,5 @@
 use Rattle.std.proofs.Common.{◌∙◌, ap}
-use Rattle.book_core.specs.Kept.{shown}
+use Rattle.version_core.specs.Shown.{shown}
 use Rattle.book_core.proofs.Sound.{rows-few, rows-fit, rows-rise}
 use Rattle.book_core.proofs.book.Book.rows_at.Goals as goal
 

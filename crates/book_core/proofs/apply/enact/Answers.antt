@@ -1,6 +1,0 @@
-use Rattle.std.proofs.Common.{◌∙◌, sym}
-use Rattle.book_core.proofs.EnactLemmas.{closed_in-make}
-use Rattle.book_core.proofs.apply.enact.Goals as goal
-
-pub returns-in_ok-make_table-in-Make-clause-closed : goal.returns-in_ok-make_table-in-Make-clause-closed
-returns-in_ok-make_table-in-Make-clause-closed c = rw c.in-Make.is (c.in_ok-make_table-in-Make.ensures.counts.1 ∙ sym (closed_in-make c.args.commits c.in-Make.table c.in-Make.schema _))

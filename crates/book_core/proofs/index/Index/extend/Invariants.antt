@@ -1,7 +1,0 @@
-use Rattle.std.proofs.Common.{take}
-use Rattle.book_core.specs.Finding.{IsIndex}
-use Rattle.book_core.proofs.index.Index.extend.Given as goal
-
--- the versions so far are in the index
-abbrev pub invariant-loop-place : goal.invariant-loop-place
-invariant-loop-place l = IsIndex (take l.place l.versions) l.self

@@ -1,6 +1,0 @@
-use Rattle.book_core.specs.Finding.{IsIndex}
-use Rattle.book_core.proofs.index.Index.sweep.Given as goal
-
--- it stays an index of the versions
-abbrev pub invariant-loop-bucket : goal.invariant-loop-bucket
-invariant-loop-bucket l = IsIndex l.versions l.self

@@ -1,7 +1,0 @@
-use Rattle.std.specs.Prelude.{All}
-use Rattle.book_core.specs.Finding.{IsIndex}
-use Rattle.book_core.proofs.index.make_indexes.Given as goal
-
--- all are indexes of the versions
-abbrev pub invariant-loop-pair : goal.invariant-loop-pair
-invariant-loop-pair l = All (IsIndex l.versions) l.indexes.items

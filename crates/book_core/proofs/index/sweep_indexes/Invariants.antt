@@ -1,7 +1,0 @@
-use Rattle.std.specs.Prelude.{All}
-use Rattle.book_core.specs.Finding.{IsIndex}
-use Rattle.book_core.proofs.index.sweep_indexes.Given as goal
-
--- all stay indexes of the versions
-abbrev pub invariant-loop-i : goal.invariant-loop-i
-invariant-loop-i l = All (IsIndex l.versions) l.indexes.items

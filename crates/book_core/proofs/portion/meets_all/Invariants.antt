@@ -1,8 +1,0 @@
-use Rattle.std.proofs.Common.{◌≡◌, drop}
-use Rattle.std.specs.List.{list_all}
-use Rattle.book_core.specs.State.{is_equal_at}
-use Rattle.book_core.proofs.portion.meets_all.Given as goal
-
--- it turns on the conditions that are left
-abbrev pub invariant-loop-i : goal.invariant-loop-i
-invariant-loop-i l = list_all (is_equal_at l.schema l.values) (drop l.i l.conds) ≡ list_all (is_equal_at l.schema l.values) l.conds

@@ -1,7 +1,0 @@
-use Rattle.std.proofs.Common.{◌≡◌, take}
-use Rattle.book_core.specs.Kept.{shown}
-use Rattle.book_core.proofs.version.rows_shown.Given as goal
-
--- the rows so far
-abbrev pub invariant-loop-version : goal.invariant-loop-version
-invariant-loop-version l = l.rows ≡ shown l.n (take l.version-index l.versions)

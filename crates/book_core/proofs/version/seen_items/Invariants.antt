@@ -1,7 +1,0 @@
-use Rattle.std.proofs.Common.{◌≡◌, take}
-use Rattle.book_core.specs.Kept.{seen}
-use Rattle.book_core.proofs.version.seen_items.Given as goal
-
--- the versions so far
-abbrev pub invariant-loop-version : goal.invariant-loop-version
-invariant-loop-version l = l.items.items ≡ seen l.at l.m l.last (take l.version-index l.versions)

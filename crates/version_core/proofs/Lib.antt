@@ -1,0 +1,9 @@
+pub mod FindingLemmas
+pub mod IndexLemmas
+pub mod KeyLemmas
+pub mod ListLemmas
+pub mod MakingLemmas
+pub mod OpenLemmas
+pub mod Seen
+pub mod SoughtLemmas
+pub mod Unbroken

@@ -1,0 +1,15 @@
+use Rattle.std.proofs.Common.{◌≡◌, ◌<◌, true}
+use Rattle.std.specs.Prelude.{IfSome}
+use Rattle.std.specs.List.{list_all}
+use Rattle.row_core.specs.declared.row.Row.{Row}
+use Rattle.version_core.specs.Finding.{falls_into}
+use Rattle.version_core.specs.Rows.{is_equal_at}
+use Rattle.version_core.specs.Limits.{bucket_count}
+use Rattle.version_core.proofs.index.best_lookup.Given as goal
+
+-- the best so far is a lookup of all conditions
+abbrev pub invariant-loop-pair : goal.invariant-loop-pair
+invariant-loop-pair l = record {
+  few : IfSome l.best (λ lookup. lookup.bucket < bucket_count);
+  lookup : IfSome l.best (λ lookup. (row : Row) → list_all (is_equal_at l.schema row.values) l.conds ≡ true → falls_into lookup.column lookup.bucket row ≡ true);
+}

@@ -1,0 +1,7 @@
+use Rattle.std.specs.Prelude.{All}
+use Rattle.version_core.specs.Finding.{IsIndex}
+use Rattle.version_core.proofs.index.make_indexes.Given as goal
+
+-- all are indexes of the versions
+abbrev pub invariant-loop-pair : goal.invariant-loop-pair
+invariant-loop-pair l = All (IsIndex l.versions) l.indexes.items

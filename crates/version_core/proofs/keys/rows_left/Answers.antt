@@ -1,0 +1,35 @@
+use Rattle.std.proofs.Common.{◌<◌, sym, ◌∙◌, ap, map, get_or, length}
+use Rattle.std.specs.Prelude.{filter}
+use Rattle.std.proofs.lemmas.List.{take_all}
+use Rattle.key_core.specs.Order.{row_in}
+use Rattle.version_core.specs.Finding.{passes}
+use Rattle.version_core.specs.Keys.{is_left}
+use Rattle.version_core.proofs.KeyLemmas.{drafts_at, left-listed, left-no, left-yes}
+use Rattle.version_core.proofs.keys.rows_left.Goals as goal
+use Rattle.version_core.proofs.keys.rows_left.Goals.{then-is_left+in_default, else-is_left}
+
+pub bounds-versions-place : goal.bounds-versions-place
+bounds-versions-place c = c.requires.inside c.loop-place.place-index 0 c.loop-place-test.true
+
+pub loop-place-preserved : goal.loop-place-preserved
+loop-place-preserved c =
+    let vs = c.args.versions.now in
+    let places = c.args.open_at.now in
+    let i = c.loop-place.place-index in
+    let version = c.index-versions-place.result in
+    let left = is_left c.args.change.now c.args.schema.now in
+    let inside : get_or places i 0 < length vs = c.requires.inside i 0 c.loop-place-test.true in
+    elim c.if-is_left.branch [
+      | then-is_left+in_default w ↦
+          ap (λ rows. map row_in rows.items) w.rows-is ∙ ap (map row_in) w.in_default.ensures.items
+          ∙ left-yes vs left places i version c.loop-place.rows.items w.keyed.result c.loop-place-test.true inside c.index-versions-place.is (sym c.is_left.ensures ∙ w.if-is_left.true) w.keyed.ensures c.loop-place.invariant
+      | else-is_left w ↦
+          ap (λ rows. map row_in rows.items) w.rows-is
+          ∙ left-no vs left places i version c.loop-place.rows.items c.loop-place-test.true inside c.index-versions-place.is (sym c.is_left.ensures ∙ w.if-is_left.false) c.loop-place.invariant
+    ]
+
+pub returns : goal.returns
+returns c =
+    c.loop-place.invariant
+    ∙ ap (λ places. drafts_at c.args.versions.now (filter (passes c.args.versions.now (is_left c.args.change.now c.args.schema.now)) places)) (take_all c.loop-place.place-index c.args.open_at.now c.loop-place-test.false)
+    ∙ left-listed c.args.change.now c.args.schema.now c.args.versions.now c.args.open_at.now c.requires

@@ -1,0 +1,13 @@
+use Rattle.std.proofs.Common.{◌≡◌, ◌≤◌, ◌*◌, take, length}
+use Rattle.std.specs.Prelude.{filter}
+use Rattle.version_core.specs.Finding.{passes}
+use Rattle.version_core.specs.Open.{is_taken}
+use Rattle.version_core.proofs.OpenLemmas.{parts_at}
+use Rattle.version_core.proofs.versions.count_parts.Given as goal
+
+-- the parts of the rows that are taken at the places so far, at most three of a row
+abbrev pub invariant-loop-place : goal.invariant-loop-place
+invariant-loop-place l = record {
+  counted : l.count ≡ length (parts_at l.change l.schema l.versions (filter (passes l.versions (is_taken l.change l.schema)) (take l.place-index l.places)));
+  few : l.count ≤ 3 * l.place-index;
+}

@@ -1,0 +1,70 @@
+-- Lists of places, by which a change finds the versions that it closes.
+use Rattle.std.specs.Prelude.{◌≡◌, ℕ, ◌+◌, ◌<◌, List, [], length, filter, Bool, ◌&&◌, if◌then◌else◌, option_map, slice_get, unwrap_or, Option, ◌*◌, ◌%◌, ◌≤◌, get_or, fold, All, true, false, None, ◌==◌, unsigned_abs}
+use Rattle.row_core.specs.Schema.{column_of}
+use Rattle.row_core.specs.declared.row.Row.{Row}
+use Rattle.row_core.specs.declared.schema.Column.{Column}
+use Rattle.row_core.specs.declared.value.Value.{Value}
+use Rattle.row_core.specs.declared.value.Value.TheVariants.{Int, Text}
+use Rattle.version_core.specs.Limits.{bucket_count, sought_limit}
+use Rattle.version_core.specs.Rows.{Pair, removes}
+use Rattle.version_core.specs.Open.{is_open, places_from, is_taken}
+use Rattle.version_core.specs.declared.change.Change.{Change}
+use Rattle.version_core.specs.declared.version.Version.{Version}
+use Rattle.version_core.specs.declared.index.Index.{Index}
+use Rattle.version_core.specs.declared.index.Lookup.{Lookup}
+
+-- the version at the place passes the test
+abbrev pub passes : List Version → (Version → Bool) → ℕ → Bool
+passes vs test place = unwrap_or (option_map test (slice_get vs place)) false
+
+-- the open versions at the places are those whose rows pass the test, in their order; there may be
+-- places of closed ones between them
+pub record ListsOpen (vs : List Version) (test : Row → Bool) (places : List ℕ) : Type 0 where
+  pub inside : All (λ place. place < length vs) places
+  pub few : length places ≤ length vs
+  pub exact : filter (passes vs is_open) places ≡ places_from (λ v. is_open v && test v.row) 0 vs
+
+-- any row
+abbrev pub any_row : Row → Bool
+any_row row = true
+
+-- the places of the columns that the first conditions name, as many as are looked up at once
+abbrev pub AreSought : List Column → List Pair → List (Option ℕ) → Type 0
+AreSought schema conds columns = (i : ℕ) → i < sought_limit → i < length conds → slice_get columns i ≡ option_map (λ (pair : Pair). column_of schema pair.0) (slice_get conds i)
+
+-- the bucket of a text's bytes
+unfoldable pub bucket_of_bytes : List ℕ → ℕ
+bucket_of_bytes bytes = fold (λ bucket byte. (bucket * 31 + byte) % bucket_count) 0 bytes
+
+-- the bucket of a value
+unfoldable pub bucket_of : Value → ℕ
+bucket_of (Int number) = unsigned_abs number % bucket_count
+bucket_of (Text bytes) = bucket_of_bytes bytes
+
+-- the row's value in the column falls into the bucket
+abbrev pub falls_into : ℕ → ℕ → Row → Bool
+falls_into column bucket row = unwrap_or (option_map (λ value. bucket_of value == bucket) (slice_get row.values column)) false
+
+-- the bucket of a version's value in the column, where it is open and has one
+abbrev pub bucket_in : ℕ → Version → Option ℕ
+bucket_in column v = if is_open v then option_map bucket_of (slice_get v.row.values column) else None
+
+-- each bucket lists the open versions whose value in the column falls into it
+pub record IsIndex (vs : List Version) (index : Index) : Type 0 where
+  pub whole : length index.buckets.items ≡ bucket_count
+  pub each : (bucket : ℕ) → bucket < bucket_count → ListsOpen vs (falls_into index.column bucket) (get_or index.buckets.items bucket [])
+
+-- what finds the open versions: all of them, and by the values of some columns
+pub record AreFound (vs : List Version) (places : List ℕ) (indexes : List Index) : Type 0 where
+  pub all : ListsOpen vs any_row places
+  pub by_value : All (IsIndex vs) indexes
+
+-- the values of all rows that the change takes out fall into the bucket
+abbrev pub IsLookupOf : Change → List Column → Lookup → Type 0
+IsLookupOf c schema lookup = (row : Row) → removes c schema row ≡ true → falls_into lookup.column lookup.bucket row ≡ true
+
+-- among the places are those of all versions that the change closes, in their order
+pub record AreCandidates (c : Change) (schema : List Column) (vs : List Version) (places : List ℕ) : Type 0 where
+  pub inside : All (λ place. place < length vs) places
+  pub few : length places ≤ length vs
+  pub taken : filter (passes vs (is_taken c schema)) places ≡ places_from (is_taken c schema) 0 vs

@@ -1,0 +1,7 @@
+pub mod Finding
+pub mod Keys
+pub mod Limits
+pub mod Made
+pub mod Open
+pub mod Rows
+pub mod Shown

@@ -1,0 +1,76 @@
+-- Which rows a change of a table takes out, and what it puts in their place.
+use Rattle.std.specs.Prelude.{ℕ, ◌+◌, List, [], ◌∷◌, ◌++◌, filter, fold, Bool, false, ◌&&◌, Option, Some, None, is_some, option_map, option_and_then, slice_get, slice_set, flat_map, unwrap_or}
+use Rattle.std.specs.List.{list_all}
+use Rattle.period_core.specs.Period.{before, meet, after as later}
+use Rattle.period_core.specs.declared.period.Period.{Period}
+use Rattle.row_core.specs.Schema.{column_of}
+use Rattle.row_core.specs.declared.draft.Draft.{Draft}
+use Rattle.row_core.specs.declared.row.Row.{Row}
+use Rattle.row_core.specs.declared.schema.Column.{Column}
+use Rattle.row_core.specs.declared.value.Value.{Value}
+use Rattle.key_core.specs.Keys.{same_value}
+use Rattle.version_core.specs.declared.change.Change.{Change}
+use Rattle.version_core.specs.declared.change.Change.TheVariants.{Make, Load, Update, Delete}
+
+-- a pair of a column's name and a value
+abbrev pub Pair : Type 0
+Pair = List ℕ × Value
+
+-- a row's value in the column of that name is the pair's
+abbrev pub is_equal_at : List Column → List Value → Pair → Bool
+is_equal_at schema values pair = unwrap_or (option_map (same_value pair.1) (option_and_then (slice_get values) (column_of schema pair.0))) false
+
+-- the values with the pair's in the column of that name
+abbrev pub set_at : List Column → List Value → Pair → List Value
+set_at schema values pair = unwrap_or (option_map (λ i. slice_set values i pair.1) (column_of schema pair.0)) values
+
+-- the row meets all conditions and shares an instant with the portion
+abbrev pub is_touched : List Column → Period → List Pair → Row → Bool
+is_touched schema portion conds row = list_all (is_equal_at schema row.values) conds && is_some (meet row.period portion)
+
+-- the period, if there is one, with the values
+abbrev pub part : Option Period → List Value → List Draft
+part None values = []
+part (Some period) values = record { period = period; values = values } ∷ []
+
+-- the row that a change takes out
+abbrev pub removes : Change → List Column → Row → Bool
+removes (Update table portion sets conds) columns row = is_touched columns portion conds row
+removes (Delete table portion conds) columns row = is_touched columns portion conds row
+removes c columns row = false
+
+-- what comes in the place of one that is taken out: its parts before, inside and after the portion
+abbrev pub parts_of : Change → List Column → Row → List Draft
+parts_of (Update table portion sets conds) columns row =
+    part (before row.period portion) row.values
+    ++ (part (meet row.period portion) (fold (set_at columns) row.values sets)
+    ++ part (later row.period portion) row.values)
+parts_of (Delete table portion conds) columns row =
+    part (before row.period portion) row.values ++ part (later row.period portion) row.values
+parts_of c columns row = []
+
+-- what comes in the place of all rows that a change takes out
+abbrev pub parts_in : Change → List Column → List Row → List Draft
+parts_in c columns rows = flat_map (parts_of c columns) (filter (removes c columns) rows)
+
+-- all new rows of a change
+abbrev pub drafts_of : Change → List Column → List Row → List Draft
+drafts_of (Make table schema) columns rows = []
+drafts_of (Load table drafts) columns rows = drafts
+drafts_of c columns rows = parts_in c columns rows
+
+-- drafts as rows, with the ids that follow the used ones
+abbrev pub numbered : ℕ → List Draft → List Row
+numbered used [] = []
+numbered used (d ∷ ds) = record { id = used + 1; period = d.period; values = d.values } ∷ numbered (used + 1) ds
+
+-- a row without its id
+abbrev pub unnumbered : Row → Draft
+unnumbered row = record { period = row.period; values = row.values }
+
+-- the conditions of a change
+abbrev pub conds_of : Change → List Pair
+conds_of (Make table schema) = []
+conds_of (Load table rows) = []
+conds_of (Update table portion sets conds) = conds
+conds_of (Delete table portion conds) = conds

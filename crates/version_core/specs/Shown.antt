@@ -1,0 +1,36 @@
+-- What a commit shows of versions, and the first commits of those of a range.
+use Rattle.std.specs.Prelude.{ℕ, List, Bool, true, ◌&&◌, if◌then◌else◌, Option, Some, None, nat_le, nat_lt}
+use Rattle.std.specs.List.{filter_map}
+use Rattle.row_core.specs.declared.row.Row.{Row}
+use Rattle.version_core.specs.declared.version.Version.{Version}
+
+-- the end of a system period lies behind n
+abbrev pub is_behind : Option ℕ → ℕ → Bool
+is_behind None n = true
+is_behind (Some to) n = nat_lt n to
+
+-- commit n shows the version
+abbrev pub shows : ℕ → Version → Bool
+shows n v = nat_le v.sysfrom n && is_behind v.systo n
+
+-- its row, where commit n shows the version
+abbrev pub row_shown : ℕ → Version → Option Row
+row_shown n v = if shows n v then Some v.row else None
+
+-- the rows that commit n shows
+abbrev pub shown : ℕ → List Version → List Row
+shown n versions = filter_map (row_shown n) versions
+
+-- an end that the first commits show, and none where it is past them
+abbrev pub end_at : ℕ → Option ℕ → Option ℕ
+end_at at None = None
+end_at at (Some to) = if nat_le to at then Some to else None
+
+-- the version as the first commits show it, where it begins up to `last` and is not over by m
+abbrev pub version_seen : ℕ → ℕ → ℕ → Version → Option Version
+version_seen at m last v = let end = end_at at v.systo in
+    if nat_le v.sysfrom at && (nat_le v.sysfrom last && is_behind end m) then Some (record { row = v.row; sysfrom = v.sysfrom; systo = end }) else None
+
+-- the versions that the first commits show, of those
+abbrev pub seen : ℕ → ℕ → ℕ → List Version → List Version
+seen at m last versions = filter_map (version_seen at m last) versions

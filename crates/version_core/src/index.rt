@@ -1,0 +1,404 @@
+//! Indexes of open versions by the values of a column, and what a change of a portion looks at.
+
+ghost use Rattle.std.specs.Prelude.{◌≡◌, ◌==◌, ◌+◌, ◌<◌, ◌≤◌, ℕ, List, [], true, length, position, slice_get, take, All, IfOk, IfSome, OnOk, ◌⊎◌};
+ghost use Rattle.std.specs.List.{list_all};
+ghost use Rattle.row_core.specs.declared.row.Row.{Row};
+ghost use Rattle.row_core.specs.declared.schema.Column.{Column};
+ghost use Rattle.version_core.specs.Finding.{AreCandidates, AreFound, IsIndex, IsLookupOf, ListsOpen, any_row, bucket_in, bucket_of, bucket_of_bytes, falls_into};
+ghost use Rattle.version_core.specs.Keys.{AreNear, is_column_of};
+ghost use Rattle.version_core.specs.Limits.{bucket_count, version_limit};
+ghost use Rattle.version_core.specs.Made.{draft_of};
+ghost use Rattle.version_core.specs.Rows.{conds_of, is_equal_at};
+ghost use Rattle.version_core.specs.declared.change.Change.{Change};
+ghost use Rattle.version_core.specs.declared.version.Version.{Version};
+
+use crate::change::Change;
+use crate::keys::is_column_of;
+use crate::places::Places;
+use crate::version::Version;
+use row_core::{Name, NoMemory, Schema, Value};
+use std::alloc::Global;
+
+/// How many buckets an index has. It is prime, so that numbers in equal steps spread over them.
+const BUCKET_COUNT: usize = 8_191;
+
+/// Below so many versions no index is made: it would take more memory than they do.
+const FEW: usize = 256;
+
+/// The open versions by the value of a column: a bucket has the places of those whose value falls
+/// into it. Places of versions that were closed stay until the bucket is next used.
+#[derive(Debug, Drop)]
+pub(crate) struct Index {
+    pub column: u32,
+    pub buckets: Vec<Places>,
+}
+
+/// Where the rows are that a change takes out: in a bucket of a column's index.
+#[derive(Clone, Copy, Debug)]
+pub(crate) struct Lookup {
+    pub column: u32,
+    pub bucket: usize,
+}
+
+impl Index {
+    /// The index of versions by that column.
+    pub(crate) fn of(alloc: Global, versions: &[Version], column: u32) -> Result<Index, NoMemory>
+        requires { length versions.now ≤ version_limit }
+        ensures { IfOk result (IsIndex versions.now) }
+    {
+        let mut index = Index {
+            column,
+            buckets: empty_buckets(alloc)?,
+        };
+        index.extend(versions, 0)?;
+        Ok(index)
+    }
+
+    /// Adds the versions from that place on.
+    fn extend(&mut self, versions: &[Version], from: usize) -> Result<(), NoMemory>
+        requires few { length versions.now ≤ version_limit }
+        requires inside { from ≤ length versions.now }
+        requires before { IsIndex (take from versions.now) self.old }
+        ensures { OnOk result (IsIndex versions.now self.new) }
+    {
+        for place in from..versions.len() {
+            self.add(versions, place)?;
+        }
+        Ok(())
+    }
+
+    /// Adds the version at that place.
+    fn add(&mut self, versions: &[Version], place: usize) -> Result<(), NoMemory>
+        requires few { length versions.now ≤ version_limit }
+        requires inside { place < length versions.now }
+        requires before { IsIndex (take place versions.now) self.old }
+        ensures { OnOk result (IsIndex (take (place + 1) versions.now) self.new) }
+    {
+        if let Some(bucket) = bucket_in(self.column, &versions[place]) {
+            self.buckets[bucket].push(place)?;
+        }
+        Ok(())
+    }
+
+    /// The places of the open versions that have the row's value in the column: those of its bucket, or
+    /// all where it has none.
+    pub(crate) fn places_near<'a>(&'a self, open_at: &'a [usize], version: &Version) -> &'a [usize]
+        requires { length self.now.buckets.items ≡ bucket_count }
+        ensures { (vs : List Version) (key : List ℕ)
+            → IsIndex vs self.now → ListsOpen vs any_row open_at.now
+            → is_column_of key self.now.column ≡ true
+            → AreNear key (draft_of version.now) vs result.now }
+    {
+        match version.row.values.get(self.column as usize) {
+            Some(value) => self.buckets[bucket_of(value)].as_slice(),
+            None => open_at,
+        }
+    }
+
+    /// To how many places the rows lead, one after another.
+    fn count_near(&self, open: usize, versions: &[Version]) -> usize
+        requires { length self.now.buckets.items ≡ bucket_count }
+    {
+        let mut count: usize = 0;
+        for version in versions {
+            count = count.saturating_add(match version.row.values.get(self.column as usize) {
+                Some(value) => self.buckets[bucket_of(value)].len(),
+                None => open,
+            });
+        }
+        count
+    }
+
+    /// Leaves the places of open versions in that bucket.
+    fn drop_closed(&mut self, versions: &[Version], bucket: usize)
+        requires index { IsIndex versions.now self.old }
+        requires few { bucket < bucket_count }
+        ensures { IsIndex versions.now self.new }
+    {
+        self.buckets[bucket].drop_closed(versions);
+    }
+
+    /// Leaves the places of open versions in all buckets.
+    fn sweep(&mut self, versions: &[Version])
+        requires { IsIndex versions.now self.old }
+        ensures { IsIndex versions.now self.new }
+    {
+        for bucket in 0..BUCKET_COUNT {
+            self.drop_closed(versions, bucket);
+        }
+    }
+}
+
+/// The buckets of an index of no versions.
+fn empty_buckets(alloc: Global) -> Result<Vec<Places>, NoMemory>
+    ensures whole { IfOk result (λ buckets. length buckets.items ≡ bucket_count) }
+    ensures empty { IfOk result (λ buckets. All (λ places. places ≡ []) buckets.items) }
+{
+    let mut buckets = Vec::with_capacity(alloc, BUCKET_COUNT)?;
+    for _ in 0..BUCKET_COUNT {
+        buckets.push(Places::new(alloc))?;
+    }
+    Ok(buckets)
+}
+
+/// The bucket of a version's value in the column, where it is open and has one.
+fn bucket_in(column: u32, version: &Version) -> Option<usize>
+    ensures bucket { result ≡ bucket_in column version.now }
+    ensures few { IfSome result (λ bucket. bucket < bucket_count) }
+{
+    if version.systo.is_some() {
+        return None;
+    }
+    match version.row.values.get(column as usize) {
+        Some(value) => Some(bucket_of(value)),
+        None => None,
+    }
+}
+
+/// The bucket of a value: equal values have one.
+fn bucket_of(value: &Value) -> usize
+    ensures bucket { result ≡ bucket_of value.now }
+    ensures few { result < bucket_count }
+{
+    match value {
+        Value::Int(number) => (number.unsigned_abs() % BUCKET_COUNT as u64) as usize,
+        Value::Text(text) => bucket_of_bytes(text.as_bytes()),
+    }
+}
+
+/// The bucket of a text's bytes.
+fn bucket_of_bytes(bytes: &[u8]) -> usize
+    ensures bucket { result ≡ bucket_of_bytes bytes.now }
+    ensures few { result < bucket_count }
+{
+    let mut bucket = 0;
+    for byte in bytes {
+        bucket = (bucket * 31 + *byte as usize) % BUCKET_COUNT;
+    }
+    bucket
+}
+
+/// Where the rows are that the change takes out: the condition with the shortest bucket says so.
+pub(crate) fn lookup_of(indexes: &[Index], schema: &Schema, change: &Change) -> Option<Lookup>
+    requires { All (λ index. length index.buckets.items ≡ bucket_count) indexes.now }
+    ensures few { IfSome result (λ lookup. lookup.bucket < bucket_count) }
+    ensures lookup { IfSome result (IsLookupOf change.now schema.now) }
+{
+    best_lookup(indexes, schema, conds_of(change))
+}
+
+/// The conditions of a change.
+fn conds_of(change: &Change) -> &[(Name, Value)]
+    ensures { result.now ≡ conds_of change.now }
+{
+    match change {
+        Change::Make { .. } => &[],
+        Change::Load { .. } => &[],
+        Change::Update { conds, .. } => conds.as_slice(),
+        Change::Delete { conds, .. } => conds.as_slice(),
+    }
+}
+
+/// Where the rows are that meet all conditions.
+fn best_lookup(indexes: &[Index], schema: &Schema, conds: &[(Name, Value)]) -> Option<Lookup>
+    requires { All (λ index. length index.buckets.items ≡ bucket_count) indexes.now }
+    ensures few { IfSome result (λ lookup. lookup.bucket < bucket_count) }
+    ensures lookup { IfSome result (λ lookup. (row : Row)
+        → list_all (is_equal_at schema.now row.values) conds.now ≡ true
+        → falls_into lookup.column lookup.bucket row ≡ true) }
+{
+    let mut best = None;
+    for pair in conds {
+        best = better_lookup(indexes, best, lookup_of_pair(schema, pair));
+    }
+    best
+}
+
+/// The lookup that leads to fewer places.
+fn better_lookup(indexes: &[Index], one: Option<Lookup>, other: Option<Lookup>) -> Option<Lookup>
+    requires buckets { All (λ index. length index.buckets.items ≡ bucket_count) indexes.now }
+    requires one { IfSome one (λ lookup. lookup.bucket < bucket_count) }
+    requires other { IfSome other (λ lookup. lookup.bucket < bucket_count) }
+    ensures { (result ≡ one) ⊎ (result ≡ other) }
+{
+    if places_at(indexes, other) < places_at(indexes, one) {
+        other
+    } else {
+        one
+    }
+}
+
+/// To how many places the lookup leads: without an index, to more than there are.
+fn places_at(indexes: &[Index], lookup: Option<Lookup>) -> usize
+    requires buckets { All (λ index. length index.buckets.items ≡ bucket_count) indexes.now }
+    requires lookup { IfSome lookup (λ lookup. lookup.bucket < bucket_count) }
+{
+    let Some(lookup) = lookup else {
+        return usize::MAX;
+    };
+    match place_of_index(indexes, lookup.column) {
+        Some(i) => indexes[i].buckets[lookup.bucket].len(),
+        None => usize::MAX,
+    }
+}
+
+/// Where the rows are that meet a condition.
+fn lookup_of_pair(schema: &Schema, pair: &(Name, Value)) -> Option<Lookup>
+    ensures few { IfSome result (λ lookup. lookup.bucket < bucket_count) }
+    ensures lookup { IfSome result (λ lookup. (row : Row)
+        → is_equal_at schema.now row.values pair.now ≡ true
+        → falls_into lookup.column lookup.bucket row ≡ true) }
+{
+    let column = schema.column(pair.0)?;
+    Some(Lookup {
+        column,
+        bucket: bucket_of(&pair.1),
+    })
+}
+
+/// The place of the column's index.
+fn place_of_index(indexes: &[Index], column: u32) -> Option<usize>
+    ensures { result ≡ position (λ index. index.column == column) indexes.now }
+{
+    indexes.iter().position(|index| index.column == column)
+}
+
+/// The places that a change with that lookup looks at: a bucket, or all where no index is there.
+pub(crate) fn candidates<'a>(
+    open_at: &'a [usize],
+    indexes: &'a [Index],
+    lookup: Option<Lookup>,
+) -> &'a [usize]
+    requires buckets { All (λ index. length index.buckets.items ≡ bucket_count) indexes.now }
+    requires lookup { IfSome lookup (λ lookup. lookup.bucket < bucket_count) }
+    ensures { (vs : List Version) (change : Change) (columns : List Column)
+        → AreFound vs open_at.now indexes.now → IfSome lookup (IsLookupOf change columns)
+        → AreCandidates change columns vs result.now }
+{
+    let Some(lookup) = lookup else {
+        return open_at;
+    };
+    match place_of_index(indexes, lookup.column) {
+        Some(i) => indexes[i].buckets[lookup.bucket].as_slice(),
+        None => open_at,
+    }
+}
+
+/// The place of the index that leads from new rows to the fewest others of their key, unless it is
+/// cheaper to put all open ones in order.
+pub(crate) fn index_near(
+    indexes: &[Index],
+    key: &[u32],
+    open: usize,
+    new: &[Version],
+) -> Option<usize>
+    requires { All (λ index. length index.buckets.items ≡ bucket_count) indexes.now }
+    ensures inside { IfSome result (λ i. i < length indexes.now) }
+    ensures column { IfSome result (λ i. IfSome (slice_get indexes.now i)
+        (λ index. is_column_of key.now index.column ≡ true)) }
+{
+    let mut best = None;
+    let mut least = open.saturating_add(new.len());
+    for i in 0..indexes.len() {
+        if is_column_of(key, indexes[i].column) {
+            let count = indexes[i].count_near(open, new);
+            if count < least {
+                least = count;
+                best = Some(i);
+            }
+        }
+    }
+    best
+}
+
+/// Makes an index of each column that the change's conditions name, where memory is there.
+pub(crate) fn make_indexes(
+    alloc: Global,
+    indexes: &mut Vec<Index>,
+    versions: &[Version],
+    schema: &Schema,
+    change: &Change,
+)
+    requires few { length versions.now ≤ version_limit }
+    requires before { All (IsIndex versions.now) indexes.old.items }
+    ensures { All (IsIndex versions.now) indexes.new.items }
+{
+    if versions.len() < FEW {
+        return;
+    }
+    for pair in conds_of(change) {
+        if let Some(column) = schema.column(pair.0) {
+            make_index(alloc, indexes, versions, column);
+        }
+    }
+}
+
+/// Makes an index of each column of the key, where memory is there.
+pub(crate) fn make_key_indexes(
+    alloc: Global,
+    indexes: &mut Vec<Index>,
+    versions: &[Version],
+    key: &[u32],
+)
+    requires few { length versions.now ≤ version_limit }
+    requires before { All (IsIndex versions.now) indexes.old.items }
+    ensures { All (IsIndex versions.now) indexes.new.items }
+{
+    if versions.len() < FEW {
+        return;
+    }
+    for column in key {
+        make_index(alloc, indexes, versions, *column);
+    }
+}
+
+/// Makes the index of the column, unless it is there or memory is refused.
+fn make_index(alloc: Global, indexes: &mut Vec<Index>, versions: &[Version], column: u32)
+    requires few { length versions.now ≤ version_limit }
+    requires before { All (IsIndex versions.now) indexes.old.items }
+    ensures { All (IsIndex versions.now) indexes.new.items }
+{
+    if place_of_index(indexes, column).is_some() {
+        return;
+    }
+    if let Ok(index) = Index::of(alloc, versions, column) {
+        let _ = indexes.push(index);
+    }
+}
+
+/// Leaves the places of open versions where the lookup leads.
+pub(crate) fn drop_closed_at(indexes: &mut [Index], versions: &[Version], lookup: Lookup)
+    requires lookup { lookup.bucket < bucket_count }
+    requires before { All (IsIndex versions.now) indexes.old }
+    ensures { All (IsIndex versions.now) indexes.new }
+{
+    if let Some(i) = place_of_index(indexes, lookup.column) {
+        indexes[i].drop_closed(versions, lookup.bucket);
+    }
+}
+
+/// Leaves the places of open versions in all indexes.
+pub(crate) fn sweep_indexes(indexes: &mut Vec<Index>, versions: &[Version])
+    requires { All (IsIndex versions.now) indexes.old.items }
+    ensures { All (IsIndex versions.now) indexes.new.items }
+{
+    for i in 0..indexes.len() {
+        indexes[i].sweep(versions);
+    }
+}
+
+/// Adds the versions from that place on to all indexes. Where memory is refused none is left, and
+/// changes make them anew.
+pub(crate) fn extend_indexes(indexes: &mut Vec<Index>, versions: &[Version], from: usize)
+    requires few { length versions.now ≤ version_limit }
+    requires inside { from ≤ length versions.now }
+    requires before { All (IsIndex (take from versions.now)) indexes.old.items }
+    ensures { All (IsIndex versions.now) indexes.new.items }
+{
+    for i in 0..indexes.len() {
+        if let Err(_) = indexes[i].extend(versions, from) {
+            indexes.clear();
+            return;
+        }
+    }
+}

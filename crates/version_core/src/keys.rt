@@ -1,0 +1,216 @@
+//! Keys of tables: which changes their test is for, and the rows that it looks at.
+
+ghost use Rattle.std.specs.Prelude.{◌≡◌, ◌≢◌, ◌++◌, List, [], true, false, map, IfOk, OnOk};
+ghost use Rattle.std.specs.List.{list_any};
+ghost use Rattle.key_core.specs.Keys.{collide, have_collision};
+ghost use Rattle.key_core.specs.Order.{row_in};
+ghost use Rattle.row_core.specs.Schema.{key_of};
+ghost use Rattle.version_core.specs.Finding.{ListsOpen, any_row, AreSought};
+ghost use Rattle.version_core.specs.Keys.{AreNear, collides_left, is_column_of, is_left, overlap_after, rows_left, sets_key, break_key};
+ghost use Rattle.version_core.specs.Made.{draft_of};
+ghost use Rattle.version_core.specs.Open.{current};
+ghost use Rattle.version_core.specs.Rows.{conds_of, unnumbered};
+ghost use Rattle.version_core.specs.declared.version.Version.{Version};
+
+use crate::change::Change;
+use crate::portion::{SOUGHT_LIMIT, columns_sought, is_removed};
+use crate::version::Version;
+use key_core::{KeyedRow, collide, have_collision};
+use row_core::{Name, NoMemory, Schema, Value};
+use std::alloc::{AllocError, Global};
+
+/// Why a change is not made that nothing else refuses.
+#[derive(Clone, Copy, Debug, PartialEq, Eq)]
+pub enum ChangeFailure {
+    /// Two rows of one key would share an instant.
+    KeyOverlap,
+    NoMemory,
+}
+
+impl From<NoMemory> for ChangeFailure {
+    ghost use Rattle.std.specs.Prelude.{◌≡◌};
+    ghost use Rattle.version_core.specs.declared.keys.ChangeFailure.TheVariants as failure;
+
+    ghost from_gives = { λ _ e. e ≡ failure.NoMemory };
+
+    fn from(_error: NoMemory) -> ChangeFailure {
+        ChangeFailure::NoMemory
+    }
+}
+
+/// Whether the change can leave rows of one key that share an instant, where none do before it. A load
+/// can; an update only where it sets a column of the key, since what it leaves of a row holds where the
+/// row did.
+pub(crate) fn may_overlap(schema: &Schema, change: &Change, key: &[u32]) -> bool
+    requires { key.now ≡ key_of schema.now }
+    ensures keyed { result ≡ true → key_of schema.now ≢ [] }
+    ensures never { result ≡ false → (versions : List Version)
+        → break_key (key_of schema.now) (map unnumbered (current versions)) ≡ false
+        → overlap_after change.now schema.now versions ≡ false }
+{
+    if key.is_empty() {
+        return false;
+    }
+    match change {
+        Change::Make { .. } => false,
+        Change::Load { .. } => true,
+        Change::Update { sets, .. } => any_sets_key(schema, key, sets.as_slice()),
+        Change::Delete { .. } => false,
+    }
+}
+
+/// Whether a setting is one of a column of the key.
+fn any_sets_key(schema: &Schema, key: &[u32], sets: &[(Name, Value)]) -> bool
+    ensures { result ≡ list_any (sets_key schema.now key.now) sets.now }
+{
+    sets.iter().any(|pair| sets_key(schema, key, pair))
+}
+
+/// Whether the setting is one of a column of the key.
+fn sets_key(schema: &Schema, key: &[u32], pair: &(Name, Value)) -> bool
+    ensures { result ≡ sets_key schema.now key.now pair.now }
+{
+    match schema.column(pair.0) {
+        Some(column) => is_column_of(key, column),
+        None => false,
+    }
+}
+
+/// Whether the column is one of the key.
+pub(crate) fn is_column_of(key: &[u32], column: u32) -> bool
+    ensures { result ≡ is_column_of key.now column }
+{
+    key.iter().any(|other| *other == column)
+}
+
+/// Whether two of the rows that a change leaves and makes collide, where all open ones are gone through.
+pub(crate) fn collide_among_all(
+    alloc: Global,
+    schema: &Schema,
+    change: &Change,
+    key: &[u32],
+    versions: &[Version],
+    open_at: &[usize],
+    new: &[Version],
+) -> Result<bool, NoMemory>
+    requires { ListsOpen versions.now any_row open_at.now }
+    ensures { IfOk result (λ overlap. overlap ≡ have_collision key.now
+        (rows_left change.now schema.now (current versions.now) ++ map draft_of new.now)) }
+{
+    let mut rows = rows_left(alloc, schema, change, versions, open_at)?;
+    push_rows(&mut rows, new)?;
+    Ok(have_collision(key, &mut rows))
+}
+
+/// Whether two of the versions' rows collide.
+pub(crate) fn collide_among(
+    alloc: Global,
+    key: &[u32],
+    versions: &[Version],
+) -> Result<bool, NoMemory>
+    ensures { IfOk result (λ overlap. overlap
+        ≡ have_collision key.now (map draft_of versions.now)) }
+{
+    let mut rows = Vec::new(alloc);
+    push_rows(&mut rows, versions)?;
+    Ok(have_collision(key, &mut rows))
+}
+
+/// The rows of open versions that the change leaves.
+fn rows_left<'a>(
+    alloc: Global,
+    schema: &Schema,
+    change: &Change,
+    versions: &'a [Version],
+    open_at: &[usize],
+) -> Result<Vec<KeyedRow<'a>>, NoMemory>
+    requires { ListsOpen versions.now any_row open_at.now }
+    ensures { IfOk result (λ rows. map row_in rows.items
+        ≡ rows_left change.now schema.now (current versions.now)) }
+{
+    let mut rows = Vec::new(alloc);
+    let columns = columns_sought(schema, change);
+    for place in open_at {
+        let version = &versions[*place];
+        if is_left(schema, change, &columns, version) {
+            if let Err(_) = rows.push(keyed(version)) {
+                return Err(AllocError);
+            }
+        }
+    }
+    Ok(rows)
+}
+
+/// Whether the version is open, and the change leaves its row.
+fn is_left(
+    schema: &Schema,
+    change: &Change,
+    columns: &[Option<u32>; SOUGHT_LIMIT],
+    version: &Version,
+) -> bool
+    requires { AreSought schema.now (conds_of change.now) columns.now }
+    ensures { result ≡ is_left change.now schema.now version.now }
+{
+    version.systo.is_none() && !is_removed(schema, change, columns, &version.row)
+}
+
+/// The version's row, as its key is tested.
+fn keyed(version: &Version) -> KeyedRow<'_>
+    ensures { row_in result ≡ draft_of version.now }
+{
+    KeyedRow {
+        values: version.row.values.as_slice(),
+        period: version.row.period,
+    }
+}
+
+/// Adds the versions' rows.
+fn push_rows<'a>(rows: &mut Vec<KeyedRow<'a>>, versions: &'a [Version]) -> Result<(), NoMemory>
+    ensures { OnOk result (map row_in rows.new.items
+        ≡ map row_in rows.old.items ++ map draft_of versions.now) }
+{
+    for version in versions {
+        if let Err(_) = rows.push(keyed(version)) {
+            return Err(AllocError);
+        }
+    }
+    Ok(())
+}
+
+/// Whether a row that the change leaves collides with the new one. The places are those of all that
+/// could.
+pub(crate) fn any_collides(
+    schema: &Schema,
+    change: &Change,
+    key: &[u32],
+    versions: &[Version],
+    places: &[usize],
+    new: &Version,
+) -> bool
+    requires { AreNear key.now (draft_of new.now) versions.now places.now }
+    ensures { result ≡ list_any (λ left. collide key.now left (draft_of new.now))
+        (rows_left change.now schema.now (current versions.now)) }
+{
+    let columns = columns_sought(schema, change);
+    for place in places {
+        if collides_at(schema, change, &columns, key, &versions[*place], new) {
+            return true;
+        }
+    }
+    false
+}
+
+/// Whether the version is open, the change leaves its row, and that collides with the new one.
+fn collides_at(
+    schema: &Schema,
+    change: &Change,
+    columns: &[Option<u32>; SOUGHT_LIMIT],
+    key: &[u32],
+    version: &Version,
+    new: &Version,
+) -> bool
+    requires { AreSought schema.now (conds_of change.now) columns.now }
+    ensures { result ≡ collides_left change.now schema.now key.now (draft_of new.now) version.now }
+{
+    is_left(schema, change, columns, version) && collide(key, &keyed(version), &keyed(new))
+}

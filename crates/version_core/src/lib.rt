@@ -1,0 +1,17 @@
+#![tactic(auto)]
+
+//! The versions of a table's rows: what a change takes out and puts in, and what a commit shows of them.
+
+mod change;
+mod index;
+mod keys;
+mod making;
+mod places;
+mod portion;
+mod version;
+mod versions;
+
+pub use change::{Change, Pairs};
+pub use keys::ChangeFailure;
+pub use version::{Version, VersionList, rows_shown, versions_seen};
+pub use versions::{VERSION_LIMIT, VersionCounts, Versions};

@@ -1,0 +1,437 @@
+//! All versions of a table, with the places of the open ones.
+
+ghost use Rattle.std.specs.Prelude.{◌≡◌, ◌+◌, ◌≤◌, ◌<◌, ◌++◌, List, [], true, false, length, map, fold, count_by, All, IfOk, IfErr, IfSome, OnErr, OnOk};
+ghost use Rattle.std.specs.List.{list_any, range_with_len};
+ghost use Rattle.key_core.specs.Keys.{collide, have_collision};
+ghost use Rattle.row_core.specs.Schema.{key_of};
+ghost use Rattle.row_core.specs.declared.schema.Column.{Column};
+ghost use Rattle.version_core.specs.Finding.{AreCandidates, IsIndex, IsLookupOf, AreSought};
+ghost use Rattle.version_core.specs.Keys.{is_column_of, overlap_after, rows_left, break_key};
+ghost use Rattle.version_core.specs.Limits.{bucket_count, version_limit};
+ghost use Rattle.version_core.specs.Made.{made, draft_of};
+ghost use Rattle.version_core.specs.Open.{closed_at, current, is_taken, places_from, versions_after};
+ghost use Rattle.version_core.specs.Rows.{conds_of, drafts_of, numbered, parts_in, removes, unnumbered};
+ghost use Rattle.version_core.specs.declared.change.Change.{Change};
+
+use crate::change::Change;
+use crate::index::{
+    Index, Lookup, candidates, drop_closed_at, extend_indexes, index_near, lookup_of, make_indexes,
+    make_key_indexes, sweep_indexes,
+};
+use crate::keys::{ChangeFailure, any_collides, collide_among, collide_among_all, may_overlap};
+use crate::making::{NewVersions, versions_of};
+use crate::places::Places;
+use crate::portion::{SOUGHT_LIMIT, columns_sought, count_of, is_removed, push_parts};
+use crate::version::{Version, copy_versions};
+use row_core::{NoMemory, Schema};
+use std::alloc::Global;
+use std::marker::Model;
+
+/// The most versions of a table.
+pub const VERSION_LIMIT: usize = 1_000_000;
+
+/// How many versions a commit makes and closes.
+#[derive(Clone, Copy, Debug)]
+pub struct VersionCounts {
+    pub added: u64,
+    pub closed: u64,
+}
+
+/// All versions of a table's rows: the one at place i has the id i + 1. Contracts see the list.
+#[derive(Debug, Drop)]
+pub struct Versions {
+    items: Vec<Version>,
+    /// The places of the open ones, and of closed ones that a change has not come across.
+    open_at: Places,
+    /// How many were closed since those places were only of open ones.
+    closed: usize,
+    /// What finds open ones by their values. Without them a change goes over all open ones.
+    indexes: Vec<Index>,
+}
+
+impl Model for Versions {
+    ghost use Rattle.std.specs.Prelude.{List};
+    ghost use Rattle.version_core.specs.declared.version.Version.{Version};
+    ghost use Rattle.version_core.specs.Finding.{AreFound};
+
+    ghost Value = { List Version };
+
+    ghost view = { λ v. v.items.items };
+
+    ghost invariant = { λ v. AreFound v.items.items v.open_at v.indexes.items };
+}
+
+impl Versions {
+    /// The empty list.
+    pub fn new(alloc: Global) -> Self
+        ensures { result ≡ [] }
+    {
+        Versions {
+            items: Vec::new(alloc),
+            open_at: Places::new(alloc),
+            closed: 0,
+            indexes: Vec::new(alloc),
+        }
+    }
+
+    /// How many there are.
+    pub fn len(&self) -> usize
+        ensures { result ≡ length self.now }
+    {
+        self.items.len()
+    }
+
+    /// All versions, by rising id.
+    pub fn as_slice(&self) -> &[Version]
+        ensures { result.now ≡ self.now }
+    {
+        &self.items
+    }
+
+    /// Versions equal to these.
+    pub fn copy(&self, alloc: Global) -> Result<Versions, NoMemory>
+        ensures { IfOk result (λ versions. versions ≡ self.now) }
+    {
+        Ok(Versions {
+            items: copy_versions(alloc, &self.items)?,
+            open_at: self.open_at.copy(alloc)?,
+            closed: self.closed,
+            indexes: Vec::new(alloc),
+        })
+    }
+
+    /// How many rows a change can put in the place of those that it takes out: three of each.
+    pub fn most_parts(&self) -> usize
+        requires { length self.now ≤ version_limit }
+        ensures { (change : Change) (columns : List Column)
+            → length (parts_in change columns (current self.now)) ≤ result }
+    {
+        3 * self.open_at.len()
+    }
+
+    /// How many rows come in the place of those that the change takes out.
+    pub fn count_parts(&self, schema: &Schema, change: &Change) -> usize
+        requires { length self.now ≤ version_limit }
+        ensures { result ≡ length (parts_in change.now schema.now (current self.now)) }
+    {
+        let lookup = lookup_of(&self.indexes, schema, change);
+        let places = candidates(self.open_at.as_slice(), &self.indexes, lookup);
+        count_parts(schema, &self.items, places, change)
+    }
+
+    /// Closes the versions whose rows the change takes out, and adds those that it makes, unless rows of
+    /// one key would share an instant. After a refusal they are as before.
+    pub fn apply(
+        &mut self,
+        alloc: Global,
+        schema: &Schema,
+        commit: u64,
+        change: &Change,
+    ) -> Result<VersionCounts, ChangeFailure>
+        requires room { length self.old
+            + length (drafts_of change.now schema.now (current self.old)) ≤ version_limit }
+        requires unbroken { break_key (key_of schema.now) (map unnumbered (current self.old)) ≡ false }
+        ensures ok { OnOk result (self.new ≡ versions_after commit change.now schema.now self.old) }
+        ensures counts { IfOk result (λ counts.
+            (counts.added ≡ length (drafts_of change.now schema.now (current self.old)))
+            × (counts.closed ≡ count_by (removes change.now schema.now) (current self.old))) }
+        ensures apart { OnOk result (overlap_after change.now schema.now self.old ≡ false) }
+        ensures overlap { IfErr result (λ failure. failure ≡ ChangeFailure.KeyOverlap
+            → overlap_after change.now schema.now self.old ≡ true) }
+        ensures err { OnErr result (self.new ≡ self.old) }
+    {
+        let columns = schema.key_places(alloc)?;
+        self.make_indexes(alloc, schema, change, &columns);
+        let lookup = lookup_of(&self.indexes, schema, change);
+        self.drop_closed(lookup);
+        self.carry_out(alloc, schema, &columns, commit, change, lookup)
+    }
+
+    /// Makes the indexes that help the change, and the test of the key with those columns.
+    fn make_indexes(&mut self, alloc: Global, schema: &Schema, change: &Change, columns: &[u32])
+        requires few { length self.old ≤ version_limit }
+        requires columns { columns.now ≡ key_of schema.now }
+        ensures { self.new ≡ self.old }
+    {
+        make_indexes(alloc, &mut self.indexes, &self.items, schema, change);
+        if may_overlap(schema, change, columns) {
+            make_key_indexes(alloc, &mut self.indexes, &self.items, columns);
+        }
+    }
+
+    /// Drops places of closed versions where a change with that lookup looks: in its bucket, or, where many
+    /// are closed, in the list of all and in the indexes.
+    fn drop_closed(&mut self, lookup: Option<Lookup>)
+        requires { IfSome lookup (λ lookup. lookup.bucket < bucket_count) }
+        ensures { self.new ≡ self.old }
+    {
+        match lookup {
+            Some(lookup) => drop_closed_at(&mut self.indexes, &self.items, lookup),
+            None => {
+                if self.closed > self.open_at.len() / 2 {
+                    self.open_at.drop_closed(&self.items);
+                    sweep_indexes(&mut self.indexes, &self.items);
+                    self.closed = 0;
+                }
+            }
+        }
+    }
+
+    /// What `apply` does, by the places where the lookup finds rows.
+    fn carry_out(
+        &mut self,
+        alloc: Global,
+        schema: &Schema,
+        columns: &[u32],
+        commit: u64,
+        change: &Change,
+        lookup: Option<Lookup>,
+    ) -> Result<VersionCounts, ChangeFailure>
+        requires columns { columns.now ≡ key_of schema.now }
+        requires room { length self.old
+            + length (drafts_of change.now schema.now (current self.old)) ≤ version_limit }
+        requires unbroken { break_key (key_of schema.now) (map unnumbered (current self.old)) ≡ false }
+        requires bucket { IfSome lookup (λ lookup. lookup.bucket < bucket_count) }
+        requires lookup { IfSome lookup (IsLookupOf change.now schema.now) }
+        ensures ok { OnOk result (self.new ≡ versions_after commit change.now schema.now self.old) }
+        ensures counts { IfOk result (λ counts.
+            (counts.added ≡ length (drafts_of change.now schema.now (current self.old)))
+            × (counts.closed ≡ count_by (removes change.now schema.now) (current self.old))) }
+        ensures apart { OnOk result (overlap_after change.now schema.now self.old ≡ false) }
+        ensures overlap { IfErr result (λ failure. failure ≡ ChangeFailure.KeyOverlap
+            → overlap_after change.now schema.now self.old ≡ true) }
+        ensures err { OnErr result (self.new ≡ self.old) }
+    {
+        let before = self.items.len();
+        let places = candidates(self.open_at.as_slice(), &self.indexes, lookup);
+        let plan = plan_change(alloc, schema, &self.items, places, commit, change)?;
+        if self.leaves_overlap(alloc, schema, columns, change, &plan.new)? {
+            return Err(ChangeFailure::KeyOverlap);
+        }
+        let Plan { new, taken } = plan;
+        let counts = VersionCounts {
+            added: new.len() as u64,
+            closed: taken.len() as u64,
+        };
+        add_versions(&mut self.items, &mut self.open_at, new)?;
+        close_all(&mut self.items, &taken, commit);
+        self.closed = self.closed.saturating_add(taken.len());
+        extend_indexes(&mut self.indexes, &self.items, before);
+        Ok(counts)
+    }
+
+    /// Whether of the rows that the change leaves and the new ones two of one key share an instant.
+    fn leaves_overlap(
+        &self,
+        alloc: Global,
+        schema: &Schema,
+        columns: &[u32],
+        change: &Change,
+        new: &[Version],
+    ) -> Result<bool, NoMemory>
+        requires columns { columns.now ≡ key_of schema.now }
+        requires unbroken { break_key (key_of schema.now) (map unnumbered (current self.now)) ≡ false }
+        requires new { map draft_of new.now ≡ drafts_of change.now schema.now (current self.now) }
+        ensures { IfOk result (λ overlap. overlap ≡ overlap_after change.now schema.now self.now) }
+    {
+        if may_overlap(schema, change, columns) {
+            self.find_overlap(alloc, schema, columns, change, new)
+        } else {
+            Ok(false)
+        }
+    }
+
+    /// Whether one of the new rows collides with another, or with a row that the change leaves. Of
+    /// these only the rows are looked at that an index of a column of the key leads to, if that is
+    /// cheaper.
+    fn find_overlap(
+        &self,
+        alloc: Global,
+        schema: &Schema,
+        columns: &[u32],
+        change: &Change,
+        new: &[Version],
+    ) -> Result<bool, NoMemory>
+        requires unbroken { have_collision columns.now (map unnumbered (current self.now)) ≡ false }
+        ensures { IfOk result (λ overlap. overlap ≡ have_collision columns.now
+            (rows_left change.now schema.now (current self.now) ++ map draft_of new.now)) }
+    {
+        match index_near(&self.indexes, columns, self.open_at.len(), new) {
+            Some(i) => {
+                let among_new = collide_among(alloc, columns, new)?;
+                Ok(among_new || self.any_meets(schema, columns, change, &self.indexes[i], new))
+            }
+            None => {
+                let open_at = self.open_at.as_slice();
+                collide_among_all(alloc, schema, change, columns, &self.items, open_at, new)
+            }
+        }
+    }
+
+    /// Whether a new row collides with one that the change leaves.
+    fn any_meets(
+        &self,
+        schema: &Schema,
+        columns: &[u32],
+        change: &Change,
+        index: &Index,
+        new: &[Version],
+    ) -> bool
+        requires index { IsIndex self.now index.now }
+        requires column { is_column_of columns.now index.now.column ≡ true }
+        ensures { result ≡ list_any (λ other. list_any (λ left. collide columns.now left other)
+            (rows_left change.now schema.now (current self.now))) (map draft_of new.now) }
+    {
+        for version in new {
+            let places = index.places_near(self.open_at.as_slice(), version);
+            if any_collides(schema, change, columns, &self.items, places, version) {
+                return true;
+            }
+        }
+        false
+    }
+}
+
+/// What a change does to versions: those that it makes, and the places of the open
+/// ones that it takes out.
+#[derive(Drop)]
+struct Plan {
+    new: Vec<Version>,
+    taken: Vec<usize>,
+}
+
+/// Works out a change without making it, so that a refusal leaves all as it was.
+fn plan_change(
+    alloc: Global,
+    schema: &Schema,
+    versions: &[Version],
+    places: &[usize],
+    commit: u64,
+    change: &Change,
+) -> Result<Plan, NoMemory>
+    requires few { length versions.now ≤ version_limit }
+    requires places { AreCandidates change.now schema.now versions.now places.now }
+    ensures new { IfOk result (λ plan. plan.new.items ≡ made commit
+        (numbered (length versions.now) (drafts_of change.now schema.now (current versions.now)))) }
+    ensures taken { IfOk result (λ plan. plan.taken.items
+        ≡ places_from (is_taken change.now schema.now) 0 versions.now) }
+{
+    match change {
+        Change::Make { .. } => Ok(Plan::of(alloc, Vec::new(alloc))),
+        Change::Load { rows, .. } => {
+            let new = versions_of(alloc, versions.len(), commit, rows.as_slice())?;
+            Ok(Plan::of(alloc, new))
+        }
+        Change::Update { .. } => plan_portion(alloc, schema, versions, places, commit, change),
+        Change::Delete { .. } => plan_portion(alloc, schema, versions, places, commit, change),
+    }
+}
+
+impl Plan {
+    /// The plan that makes these versions and takes out none.
+    fn of(alloc: Global, new: Vec<Version>) -> Self
+        ensures new { result.new ≡ new }
+        ensures taken { result.taken.items ≡ [] }
+    {
+        Plan {
+            new,
+            taken: Vec::new(alloc),
+        }
+    }
+}
+
+/// Works out a change of a portion.
+fn plan_portion(
+    alloc: Global,
+    schema: &Schema,
+    versions: &[Version],
+    places: &[usize],
+    commit: u64,
+    change: &Change,
+) -> Result<Plan, NoMemory>
+    requires few { length versions.now ≤ version_limit }
+    requires places { AreCandidates change.now schema.now versions.now places.now }
+    ensures new { IfOk result (λ plan. plan.new.items ≡ made commit
+        (numbered (length versions.now) (parts_in change.now schema.now (current versions.now)))) }
+    ensures taken { IfOk result (λ plan. plan.taken.items
+        ≡ places_from (is_taken change.now schema.now) 0 versions.now) }
+{
+    let mut new = NewVersions::new(alloc, versions.len(), commit);
+    let mut taken = Vec::new(alloc);
+    let columns = columns_sought(schema, change);
+    for place in places {
+        let version = &versions[*place];
+        if is_taken(schema, change, &columns, version) {
+            push_parts(alloc, &mut new, schema, change, &version.row)?;
+            taken.push(*place)?;
+        }
+    }
+    Ok(Plan {
+        new: new.into_items(),
+        taken,
+    })
+}
+
+/// How many rows come in the place of those that the change takes out.
+fn count_parts(schema: &Schema, versions: &[Version], places: &[usize], change: &Change) -> usize
+    requires few { length versions.now ≤ version_limit }
+    requires places { AreCandidates change.now schema.now versions.now places.now }
+    ensures { result ≡ length (parts_in change.now schema.now (current versions.now)) }
+{
+    let mut count = 0;
+    let columns = columns_sought(schema, change);
+    for place in places {
+        let version = &versions[*place];
+        if is_taken(schema, change, &columns, version) {
+            count += count_of(change, &version.row);
+        }
+    }
+    count
+}
+
+/// Whether the version is open, and the change takes out its row.
+#[inline(always)]
+fn is_taken(
+    schema: &Schema,
+    change: &Change,
+    columns: &[Option<u32>; SOUGHT_LIMIT],
+    version: &Version,
+) -> bool
+    requires { AreSought schema.now (conds_of change.now) columns.now }
+    ensures { result ≡ is_taken change.now schema.now version.now }
+{
+    version.systo.is_none() && is_removed(schema, change, columns, &version.row)
+}
+
+/// Adds versions and their places. On refusal there are none more.
+fn add_versions(
+    versions: &mut Vec<Version>,
+    places: &mut Places,
+    new: Vec<Version>,
+) -> Result<(), NoMemory>
+    requires { length versions.old.items ≤ version_limit }
+    ensures ok { OnOk result (versions.new.items ≡ versions.old.items ++ new.items) }
+    ensures places { OnOk result (places.new
+        ≡ places.old ++ range_with_len (length versions.old.items) (length new.items)) }
+    ensures err { OnErr result (versions.new.items ≡ versions.old.items) }
+    ensures err_places { OnErr result (places.new ≡ places.old) }
+{
+    let mut new = new;
+    let open = places.len();
+    places.push_range(versions.len(), new.len())?;
+    if let Err(error) = versions.append(&mut new) {
+        places.truncate(open);
+        return Err(error.into());
+    }
+    Ok(())
+}
+
+/// Ends the versions at those places with the commit.
+fn close_all(versions: &mut [Version], places: &[usize], commit: u64)
+    requires { All (λ place. place < length versions.old) places.now }
+    ensures { versions.new ≡ fold (closed_at commit) versions.old places.now }
+{
+    for place in places {
+        versions[*place].systo = Some(commit);
+    }
+}
