@@ -14,6 +14,7 @@ ghost use Rattle.book_core.specs.StoredTables.{IsUnbroken, overlap_in, kept_tabl
 use crate::pairs::pairs_refusal;
 use crate::refusal::BookRefused;
 use crate::table::{Table, place_of};
+use list_core::DeepCopy;
 use row_core::{Draft, Name, NoMemory, Schema, Value};
 use std::alloc::Global;
 use version_core::{Change, ChangeFailure, VERSION_LIMIT, VersionCounts, Versions};

@@ -11,10 +11,11 @@ ghost use Rattle.book_core.specs.StoredTables.{IsTableOf};
 ghost use Rattle.book_core.specs.Versions.{AreBetween, AreFromTo, log_of};
 
 use crate::apply::{COMMIT_LIMIT, change_tables, refusal_in};
-use crate::commit::{Commit, copy_history};
+use crate::commit::Commit;
 use crate::log::{Entry, Log, entry_of};
 use crate::refusal::{BookRefused, NoTable, RowsRefused, VersionsRefused};
-use crate::table::{Table, copy_tables, find_table};
+use crate::table::{Table, find_table};
+use list_core::copy_each;
 use row_core::{Name, NoMemory, RowList, Schema};
 use std::alloc::Global;
 use std::marker::Model;
@@ -62,8 +63,8 @@ impl Book {
     {
         Ok(Book {
             alloc,
-            history: copy_history(alloc, &self.history)?,
-            tables: copy_tables(alloc, &self.tables)?,
+            history: copy_each(alloc, &self.history)?,
+            tables: copy_each(alloc, &self.tables)?,
             log: Vec::from_slice(alloc, &self.log)?,
         })
     }
@@ -262,7 +263,7 @@ impl Book {
     pub fn log(&self) -> Result<Log, NoMemory>
         ensures { IfOk result (λ log. log ≡ log_of self.now) }
     {
-        Log::of(self.alloc, &self.log)
+        Ok(Log::from(Vec::from_slice(self.alloc, &self.log)?))
     }
 }
 

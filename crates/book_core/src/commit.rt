@@ -1,7 +1,6 @@
 //! Commits: changes that were accepted.
 
-ghost use Rattle.std.specs.Prelude.{◌≡◌, IfOk};
-
+use list_core::DeepCopy;
 use row_core::NoMemory;
 use std::alloc::Global;
 use version_core::Change;
@@ -13,25 +12,11 @@ pub struct Commit {
     pub change: Change,
 }
 
-impl Commit {
-    /// A commit equal to this one.
-    pub fn copy(&self, alloc: Global) -> Result<Commit, NoMemory>
-        ensures { IfOk result (λ commit. commit ≡ self.now) }
-    {
+impl DeepCopy for Commit {
+    fn copy(&self, alloc: Global) -> Result<Commit, NoMemory> {
         Ok(Commit {
             by: self.by,
             change: self.change.copy(alloc)?,
         })
     }
-}
-
-/// Copies a history.
-pub(crate) fn copy_history(alloc: Global, history: &[Commit]) -> Result<Vec<Commit>, NoMemory>
-    ensures { IfOk result (λ copy. copy.items ≡ history.now) }
-{
-    let mut copy = Vec::new(alloc);
-    for commit in history {
-        copy.push(commit.copy(alloc)?)?;
-    }
-    Ok(copy)
 }

@@ -1,10 +1,11 @@
 //! A table as the book keeps it, and the look-up of one by its name.
 
-ghost use Rattle.std.specs.Prelude.{◌≡◌, IfOk, position};
+ghost use Rattle.std.specs.Prelude.{◌≡◌, position};
 ghost use Rattle.std.specs.Option.{option_copied};
 ghost use Rattle.row_core.specs.Name.{same_name};
 ghost use Rattle.book_core.specs.StoredTables.{kept_table};
 
+use list_core::DeepCopy;
 use row_core::{Name, NoMemory, Schema};
 use std::alloc::Global;
 use std::marker::Model;
@@ -47,26 +48,12 @@ fn is_named(table: &Table, name: Name) -> bool
     table.name == name
 }
 
-impl Table {
-    /// A table equal to this one.
-    fn copy(&self, alloc: Global) -> Result<Table, NoMemory>
-        ensures { IfOk result (λ table. table ≡ self.now) }
-    {
+impl DeepCopy for Table {
+    fn copy(&self, alloc: Global) -> Result<Table, NoMemory> {
         Ok(Table {
             name: self.name,
             schema: self.schema.copy(alloc)?,
             versions: self.versions.copy(alloc)?,
         })
     }
-}
-
-/// Copies tables.
-pub(crate) fn copy_tables(alloc: Global, tables: &[Table]) -> Result<Vec<Table>, NoMemory>
-    ensures { IfOk result (λ copy. copy.items ≡ tables.now) }
-{
-    let mut copy = Vec::new(alloc);
-    for table in tables {
-        copy.push(table.copy(alloc)?)?;
-    }
-    Ok(copy)
 }

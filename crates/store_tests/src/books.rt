@@ -1,6 +1,7 @@
 //! Books: what each commit shows, their copies, and their limits.
 
 use book_core::{Book, BookRefused, Change, RowsRefused};
+use list_core::DeepCopy;
 use period_core::{Period, Point};
 use row_core::{Draft, Drafts, Kind, Name, Row, Schema, Value, Values};
 use std::alloc::Global;

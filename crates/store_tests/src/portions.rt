@@ -1,6 +1,7 @@
 //! Changes of a portion of time: what commits show of them, their versions, the log, and copies.
 
 use book_core::{Book, BookRefused, Change, ChangeKind, Entry, Pairs, Version, VersionsRefused};
+use list_core::DeepCopy;
 use period_core::{Period, Point};
 use row_core::{Draft, Drafts, Kind, Name, Row, Schema, Text, Value, Values};
 use std::alloc::Global;

@@ -1,5 +1,6 @@
 //! Names, columns, values and rows, and their copies.
 
+use list_core::DeepCopy;
 use period_core::{Period, Point};
 use row_core::{
     BadName, Draft, Drafts, Field, KeyRefused, Kind, Name, Row, RowList, RowRefused, Schema,

@@ -8,6 +8,7 @@ ghost use Rattle.version_core.specs.Made.{made, made_of};
 ghost use Rattle.version_core.specs.Rows.{numbered};
 
 use crate::version::Version;
+use list_core::DeepCopy;
 use period_core::Period;
 use row_core::{Draft, NoMemory, Row, Values};
 use std::alloc::Global;

@@ -13,8 +13,9 @@ ghost use Rattle.version_core.specs.Rows.{conds_of, is_touched, is_equal_at, rem
 
 use crate::change::Change;
 use crate::making::NewVersions;
+use list_core::{DeepCopy, copy_each};
 use period_core::Period;
-use row_core::{Name, NoMemory, Row, Schema, Text, Value, Values, copy_values};
+use row_core::{Name, NoMemory, Row, Schema, Text, Value, Values};
 use std::alloc::Global;
 
 /// How many conditions' columns are looked up before the rows are gone through. There may be more
@@ -150,7 +151,7 @@ fn values_set(
 ) -> Result<Values, NoMemory>
     ensures { IfOk result (λ now. now ≡ fold (set_at schema.now) values.now sets.now) }
 {
-    let mut now = copy_values(alloc, values.as_slice())?;
+    let mut now = copy_each(alloc, values.as_slice())?;
     for pair in sets {
         let value = pair.1.copy(alloc)?;
         if let Some(i) = schema.column(pair.0) {

@@ -22,7 +22,8 @@ use crate::keys::{ChangeFailure, any_collides, collide_among, collide_among_all,
 use crate::making::{NewVersions, versions_of};
 use crate::places::Places;
 use crate::portion::{SOUGHT_LIMIT, columns_sought, count_of, is_removed, push_parts};
-use crate::version::{Version, copy_versions};
+use crate::version::Version;
+use list_core::{DeepCopy, copy_each};
 use row_core::{NoMemory, Schema};
 use std::alloc::Global;
 use std::marker::Model;
@@ -61,6 +62,18 @@ impl Model for Versions {
     ghost invariant = { λ v. AreFound v.items.items v.open_at v.indexes.items };
 }
 
+impl DeepCopy for Versions {
+    /// Without the indexes, which the copy makes anew where it needs them.
+    fn copy(&self, alloc: Global) -> Result<Versions, NoMemory> {
+        Ok(Versions {
+            items: copy_each(alloc, &self.items)?,
+            open_at: self.open_at.copy(alloc)?,
+            closed: self.closed,
+            indexes: Vec::new(alloc),
+        })
+    }
+}
+
 impl Versions {
     /// The empty list.
     pub fn new(alloc: Global) -> Self
@@ -86,18 +99,6 @@ impl Versions {
         ensures { result.now ≡ self.now }
     {
         &self.items
-    }
-
-    /// Versions equal to these.
-    pub fn copy(&self, alloc: Global) -> Result<Versions, NoMemory>
-        ensures { IfOk result (λ versions. versions ≡ self.now) }
-    {
-        Ok(Versions {
-            items: copy_versions(alloc, &self.items)?,
-            open_at: self.open_at.copy(alloc)?,
-            closed: self.closed,
-            indexes: Vec::new(alloc),
-        })
     }
 
     /// How many rows a change can put in the place of those that it takes out: three of each.
