@@ -1,6 +1,6 @@
 -- Answers, printed record by record.
 use Rattle.std.proofs.Common.{◌≡◌, ℕ, suc, ◌+◌, ◌<◌, ℤ, subst, take, length-take, List, [], ◌∷◌, ◌++◌, Option, false, length, refl, sym, ap, ◌∙◌, arith, append_assoc, cond, map}
-use Rattle.std.specs.Prelude.{codes, decimal}
+use Rattle.std.specs.Prelude.{codes}
 use Rattle.std.proofs.lemmas.List.Concat.{flat_map-append}
 use Rattle.std.proofs.lemmas.List.Sums.{sum_by-cons}
 use Rattle.std.proofs.Math.Seq.{take-suc}
@@ -13,75 +13,99 @@ use Rattle.cert_core.specs.declared.verdict.Verdict.TheVariants.{WrongCount, Emp
 use Rattle.dip_core.specs.Division.{part_at}
 use Rattle.dip_core.specs.declared.item.Item.{Item}
 use Rattle.command_core.specs.declared.refusal.Fault.{Fault}
-use Rattle.answer_core.specs.Answer.{IsPrintedAs}
-use Rattle.answer_core.specs.Draft.{Adds, Draft}
+use Rattle.answer_core.specs.PrintedRecords.{IsPrintedAs, commit_record, commit_records, dip_record, end_record, errors_in, part_record, part_records, row_record, row_records, verdict_record, version_record, version_records}
+use Rattle.answer_core.specs.Unwritten.{Adds, Unwritten}
 use Rattle.answer_core.specs.declared.answer.Answer.{Answer}
 use Rattle.answer_core.specs.declared.answer.Answer.TheVariants as answer
-use Rattle.answer_core.specs.PrintedRecords.{commit_record, commit_records, end_record, instant_text, part_record, part_records, row_record, row_records, verdict_record, version_record, version_records}
 use Rattle.command_core.specs.Records.{Record}
-use Rattle.answer_core.specs.Records.{answer_writer, bytes_of, errors_in}
+use Rattle.answer_core.specs.RecordBytes.{answer_writer, bytes_of}
 use Rattle.command_core.specs.Words.{begins}
 
-abbrev pub heading_record : ℕ → List (List Item) → Option ℤ → Record
-heading_record rows classes instant = codes "dip" ∷ decimal rows ∷ decimal (length classes) ∷ instant_text instant ∷ []
-
-with_text : List ℕ → Draft
+with_text : List ℕ → Unwritten
 with_text text = record { text = text; fields = [] }
 
 -- some records, and then some more
-pub Adds-trans : (a b c : Draft) (xs ys : List Record) → Adds a b xs → Adds b c ys → Adds a c (xs ++ ys)
+Adds-trans : (a b c : Unwritten) (xs ys : List Record) → Adds a b xs → Adds b c ys → Adds a c (xs ++ ys)
 unfolding with_text
 Adds-trans a b c xs ys first second =
-    let text : b.text ≡ a.text ++ bytes_of xs = ap (λ (d : Draft). d.text) first in
+    let text : b.text ≡ a.text ++ bytes_of xs = ap (λ (d : Unwritten). d.text) first in
     let all : bytes_of (xs ++ ys) ≡ bytes_of xs ++ bytes_of ys = flat_map-append (row_text answer_writer) xs ys in
-    second ∙ ap with_text (ap (λ t. t ++ bytes_of ys) text ∙ (append_assoc a.text (bytes_of xs) (bytes_of ys) ∙ ap (λ t. a.text ++ t) (sym all)))
+    second ∙ ap with_text
+    (ap (λ t. t ++ bytes_of ys) text
+    ∙ (append_assoc a.text (bytes_of xs) (bytes_of ys) ∙ ap (λ t. a.text ++ t) (sym all)))
 
 -- one more part behind others
-pub part_records-more : (k : ℕ) (classes : List (List Item)) (class : List Item) → part_records k (classes ++ class ∷ []) ≡ part_records k classes ++ part_record (k + length classes) class ∷ []
+part_records-more : (k : ℕ) (classes : List (List Item)) (class : List Item)
+    → part_records k (classes ++ class ∷ []) ≡ part_records k classes ++ part_record (k + length classes) class ∷ []
 part_records-more k [] class = let same : k ≡ k + 0 = omega arith in ap (λ n. part_record n class ∷ []) same
 part_records-more k (c ∷ cs) class =
     let same : k + 1 + length cs ≡ k + suc (length cs) = omega arith in
-    ap (λ l. part_record k c ∷ l) (part_records-more (k + 1) cs class ∙ ap (λ n. part_records (k + 1) cs ++ part_record n class ∷ []) same)
+    ap (λ l. part_record k c ∷ l)
+    (part_records-more (k + 1) cs class ∙ ap (λ n. part_records (k + 1) cs ++ part_record n class ∷ []) same)
 
 -- parts tell of no refusal
-pub errors_in-part_records : (k : ℕ) (classes : List (List Item)) → errors_in (part_records k classes) ≡ 0
+errors_in-part_records : (k : ℕ) (classes : List (List Item)) → errors_in (part_records k classes) ≡ 0
 errors_in-part_records k [] = refl
 errors_in-part_records k (c ∷ cs) =
-    omega (arith, sum_by-cons (λ (line : Record). cond (begins (codes "error") line) 1 0) (part_record k c) (part_records (k + 1) cs), errors_in-part_records (k + 1) cs)
+    omega (
+      arith,
+      sum_by-cons (λ (line : Record). cond (begins (codes "error") line) 1 0) (part_record k c)
+          (part_records (k + 1) cs),
+      errors_in-part_records (k + 1) cs,
+    )
 
-pub errors_in-division : (rows : ℕ) (classes : List (List Item)) (instant : Option ℤ) → errors_in (heading_record rows classes instant ∷ part_records 0 classes) ≡ 0
+errors_in-division : (rows : ℕ) (classes : List (List Item)) (instant : Option ℤ)
+    → errors_in (dip_record rows (length classes) instant ∷ part_records 0 classes) ≡ 0
 errors_in-division rows classes instant =
-    omega (arith, sum_by-cons (λ (line : Record). cond (begins (codes "error") line) 1 0) (heading_record rows classes instant) (part_records 0 classes), errors_in-part_records 0 classes)
+    omega (
+      arith,
+      sum_by-cons (λ (line : Record). cond (begins (codes "error") line) 1 0)
+          (dip_record rows (length classes) instant) (part_records 0 classes),
+      errors_in-part_records 0 classes,
+    )
 
 -- one more part is printed
-pub Adds-part : (a b c : Draft) (heading : Record) (classes : List (List Item)) (k : ℕ) (items : List Item) → k < length classes → items ≡ part_at classes k
-    → Adds a b (heading ∷ part_records 0 (take k classes)) → Adds b c (part_record k items ∷ []) → Adds a c (heading ∷ part_records 0 (take (k + 1) classes))
+pub Adds-part : (a b c : Unwritten) (heading : Record) (classes : List (List Item)) (k : ℕ) (items : List Item)
+    → k < length classes → items ≡ part_at classes k
+    → Adds a b (heading ∷ part_records 0 (take k classes)) → Adds b c (part_record k items ∷ [])
+    → Adds a c (heading ∷ part_records 0 (take (k + 1) classes))
 Adds-part a b c heading classes k items lt is first second =
     let next : k + 1 ≡ suc k = omega arith in
     let size : 0 + length (take k classes) ≡ k = omega (arith, length-take k classes) in
-    let front : take (k + 1) classes ≡ take k classes ++ items ∷ [] = ap (λ n. take n classes) next ∙ (take-suc classes k [] lt ∙ ap (λ l. take k classes ++ l ∷ []) (sym is)) in
+    let front : take (k + 1) classes ≡ take k classes ++ items ∷ [] =
+    ap (λ n. take n classes) next ∙ (take-suc classes k [] lt ∙ ap (λ l. take k classes ++ l ∷ []) (sym is)) in
     let parts : part_records 0 (take (k + 1) classes) ≡ part_records 0 (take k classes) ++ part_record k items ∷ [] =
-    ap (part_records 0) front ∙ (part_records-more 0 (take k classes) items ∙ ap (λ n. part_records 0 (take k classes) ++ part_record n items ∷ []) size) in
-    subst (Adds a c) (sym (ap (λ l. heading ∷ l) parts)) (Adds-trans a b c (heading ∷ part_records 0 (take k classes)) (part_record k items ∷ []) first second)
+    ap (part_records 0) front
+    ∙ (part_records-more 0 (take k classes) items
+    ∙ ap (λ n. part_records 0 (take k classes) ++ part_record n items ∷ []) size) in
+    subst (Adds a c) (sym (ap (λ l. heading ∷ l) parts))
+    (Adds-trans a b c (heading ∷ part_records 0 (take k classes)) (part_record k items ∷ []) first second)
 
 -- a list of records of which none tells of a refusal, and its end
-errors_in-list : {T : Type 0} (record_of : T → Record) → ((x : T) → begins (codes "error") (record_of x) ≡ false) → (xs : List T) (count : ℕ)
+errors_in-list : {T : Type 0} (record_of : T → Record) → ((x : T) → begins (codes "error") (record_of x) ≡ false)
+    → (xs : List T) (count : ℕ)
     → errors_in (map record_of xs ++ end_record count ∷ []) ≡ 0
 errors_in-list record_of quiet [] count = refl
 errors_in-list record_of quiet (x ∷ xs) count =
-    omega (arith, sum_by-cons (λ (line : Record). cond (begins (codes "error") line) 1 0) (record_of x) (map record_of xs ++ end_record count ∷ []), ap {B = ℕ} (λ b. cond b 1 0) (quiet x), errors_in-list record_of quiet xs count)
+    omega (
+      arith,
+      sum_by-cons (λ (line : Record). cond (begins (codes "error") line) 1 0) (record_of x)
+          (map record_of xs ++ end_record count ∷ []),
+      ap {B = ℕ} (λ b. cond b 1 0) (quiet x),
+      errors_in-list record_of quiet xs count,
+    )
 
-pub errors_in-row_records : (rows : List Row) → errors_in (row_records rows) ≡ 0
+errors_in-row_records : (rows : List Row) → errors_in (row_records rows) ≡ 0
 errors_in-row_records rows = errors_in-list row_record (λ row. refl) rows (length rows)
 
-pub errors_in-version_records : (versions : List Version) → errors_in (version_records versions) ≡ 0
+errors_in-version_records : (versions : List Version) → errors_in (version_records versions) ≡ 0
 errors_in-version_records versions = errors_in-list version_record (λ v. refl) versions (length versions)
 
-pub errors_in-commit_records : (entries : List Entry) → errors_in (commit_records entries) ≡ 0
+errors_in-commit_records : (entries : List Entry) → errors_in (commit_records entries) ≡ 0
 errors_in-commit_records entries = errors_in-list commit_record (λ e. refl) entries (length entries)
 
 -- a verdict tells of no refusal, whichever it is
-pub errors_in-verdict : (v : Verdict) → errors_in (verdict_record v ∷ []) ≡ 0
+errors_in-verdict : (v : Verdict) → errors_in (verdict_record v ∷ []) ≡ 0
 errors_in-verdict (WrongCount n) = refl
 errors_in-verdict (EmptyPart k) = refl
 errors_in-verdict (Unknown id) = refl
@@ -92,11 +116,13 @@ errors_in-verdict (NotCrowded n) = refl
 errors_in-verdict Yes = refl
 
 -- so does no answer but a refusal
-pub errors_in-printed : (given : Answer) → ((fault : Fault) → given ≡ answer.Refused fault → ⊥) → (records : List Record) → IsPrintedAs given records → errors_in records ≡ 0
+pub errors_in-printed : (given : Answer) → ((fault : Fault) → given ≡ answer.Refused fault → ⊥)
+    → (records : List Record) → IsPrintedAs given records → errors_in records ≡ 0
 errors_in-printed (answer.Refused fault) other records is = absurd (other fault refl)
 errors_in-printed (answer.Committed commit) other records is = ap errors_in is
 errors_in-printed (answer.Rows rows) other records is = ap errors_in is ∙ errors_in-row_records rows
 errors_in-printed (answer.Versions versions) other records is = ap errors_in is ∙ errors_in-version_records versions
-errors_in-printed (answer.Division rows classes) other records (instant, of, is) = ap errors_in is ∙ errors_in-division rows classes instant
+errors_in-printed (answer.Division rows classes) other records (instant, of, is) =
+    ap errors_in is ∙ errors_in-division rows classes instant
 errors_in-printed (answer.Verdict verdict) other records is = ap errors_in is ∙ errors_in-verdict verdict
 errors_in-printed (answer.Log entries) other records is = ap errors_in is ∙ errors_in-commit_records entries

@@ -2,18 +2,19 @@
 use Rattle.std.specs.Prelude.{ℕ, ◌≡◌, ◌≤◌, List, [], ◌++◌, false, drop, length}
 use Rattle.csv.specs.Records.{fields_of, partial_of}
 use Rattle.csv.specs.Writing.{fields_written, has_written, writer_pending, writer_setup, writer_under}
-use Rattle.answer_core.specs.Draft.{Draft}
-use Rattle.answer_core.specs.Records.{answer_writer}
+use Rattle.answer_core.specs.Unwritten.{Unwritten}
+use Rattle.answer_core.specs.RecordBytes.{answer_writer}
 use Rattle.answer_core.specs.declared.writer.AnswerWriter.TheInside.{Inside}
 
--- all bytes that the writer of `csv` was given the records of
+-- the bytes of all records that the writer of `csv` was given
 abbrev pub whole_text : Inside → List ℕ
 whole_text a = (writer_under a.writer).items ++ writer_pending a.writer
 
-abbrev pub draft_of : Inside → Draft
-draft_of a = record { text = drop a.written (whole_text a); fields = fields_of a.row }
+-- what it has made and not yet written
+abbrev pub unwritten_of : Inside → Unwritten
+unwritten_of a = record { text = drop a.written (whole_text a); fields = fields_of a.row }
 
--- between two records
+-- what it keeps, between two of its calls: the writer of `csv` stands between two records
 pub record IsAnswerWriter (a : Inside) : Type 0 where
   pub setup : writer_setup a.writer ≡ answer_writer
   pub fresh : fields_written a.writer ≡ 0

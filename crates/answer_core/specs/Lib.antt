@@ -1,5 +1,4 @@
-pub mod Answer
 pub mod AnswerWriter
-pub mod Draft
 pub mod PrintedRecords
-pub mod Records
+pub mod RecordBytes
+pub mod Unwritten

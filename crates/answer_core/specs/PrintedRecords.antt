@@ -1,5 +1,5 @@
 -- The records that answers are printed as.
-use Rattle.std.specs.Prelude.{ℕ, ◌+◌, ℤ, List, [], ◌∷◌, ◌++◌, Option, Some, None, codes, decimal, length, map}
+use Rattle.std.specs.Prelude.{◌≡◌, ℕ, ◌+◌, ℤ, List, [], ◌∷◌, ◌++◌, Option, Some, None, codes, count_by, decimal, length, map}
 use Rattle.std.specs.Fmt.{signed_decimal}
 use Rattle.period_core.specs.Point.{point_text}
 use Rattle.row_core.specs.declared.row.Row.{Row}
@@ -11,17 +11,24 @@ use Rattle.book_core.specs.declared.log.Entry.{Entry}
 use Rattle.version_core.specs.declared.version.Version.{Version}
 use Rattle.cert_core.specs.declared.verdict.Verdict.{Verdict}
 use Rattle.cert_core.specs.declared.verdict.Verdict.TheVariants.{WrongCount, EmptyPart, Unknown, Twice, Missing, Overlap, NotCrowded, Yes}
+use Rattle.dip_core.specs.Division.{IsInstantOf}
 use Rattle.dip_core.specs.declared.item.Item.{Item}
 use Rattle.command_core.specs.Records.{Record}
 use Rattle.command_core.specs.Refusal.{refusal_text}
+use Rattle.command_core.specs.Words.{begins}
 use Rattle.command_core.specs.declared.refusal.Fault.{Fault}
+use Rattle.answer_core.specs.declared.answer.Answer.{Answer}
+use Rattle.answer_core.specs.declared.answer.Answer.TheVariants as answer
 
+-- a refusal: the number of the record that is refused, and the refusal's name
 abbrev pub error_record : Fault → Record
 error_record wrong = codes "error" ∷ decimal wrong.number ∷ refusal_text wrong.refusal ∷ []
 
+-- the commit of an accepted change
 abbrev pub ok_record : ℕ → Record
 ok_record commit = codes "ok" ∷ decimal commit ∷ []
 
+-- the end of a list of so many
 abbrev pub end_record : ℕ → Record
 end_record count = codes "end" ∷ decimal count ∷ []
 
@@ -32,8 +39,10 @@ abbrev pub value_text : Value → List ℕ
 value_text (Int number) = signed_decimal number
 value_text (Text bytes) = bytes
 
+-- a row: its id, its period and its values
 abbrev pub row_record : Row → Record
-row_record row = codes "row" ∷ decimal row.id ∷ point_text row.period.from ∷ point_text row.period.to ∷ map value_text row.values
+row_record row =
+    codes "row" ∷ decimal row.id ∷ point_text row.period.from ∷ point_text row.period.to ∷ map value_text row.values
 
 -- one record for each row, and how many there are
 abbrev pub row_records : List Row → List Record
@@ -44,6 +53,7 @@ abbrev pub end_text : Option ℕ → List ℕ
 end_text None = codes "-"
 end_text (Some commit) = decimal commit
 
+-- a version: its row's id and period, the commits from which on and before which it is shown, and the values
 abbrev pub version_record : Version → Record
 version_record v =
     codes "version" ∷ decimal v.row.id ∷ point_text v.row.period.from ∷ point_text v.row.period.to
@@ -62,9 +72,11 @@ kind_text Load = codes "load"
 kind_text Update = codes "update"
 kind_text Delete = codes "delete"
 
+-- a commit: its number, who made it, what kind of change it is, its table, and how many versions it added and closed
 abbrev pub commit_record : Entry → Record
 commit_record e =
-    codes "commit" ∷ decimal e.number ∷ decimal e.by ∷ kind_text e.kind ∷ e.table ∷ decimal e.added ∷ decimal e.closed ∷ []
+    codes "commit" ∷ decimal e.number ∷ decimal e.by ∷ kind_text e.kind ∷ e.table ∷ decimal e.added
+    ∷ decimal e.closed ∷ []
 
 -- one record for each commit, and how many there are
 abbrev pub commit_records : List Entry → List Record
@@ -77,6 +89,11 @@ abbrev pub instant_text : Option ℤ → List ℕ
 instant_text None = codes "-"
 instant_text (Some instant) = point_text instant
 
+-- the size of a division: how many rows and parts it has, and its instant
+abbrev pub dip_record : ℕ → ℕ → Option ℤ → Record
+dip_record rows parts instant = codes "dip" ∷ decimal rows ∷ decimal parts ∷ instant_text instant ∷ []
+
+-- a part: its number, and the ids of its items
 abbrev pub part_record : ℕ → List Item → Record
 part_record k class = codes "part" ∷ decimal k ∷ map (λ item. decimal item.id) class
 
@@ -85,9 +102,9 @@ abbrev pub part_records : ℕ → List (List Item) → List Record
 part_records k [] = []
 part_records k (class ∷ classes) = part_record k class ∷ part_records (k + 1) classes
 
+-- the size of a division of so many rows, and its parts
 abbrev pub division_records : ℕ → List (List Item) → Option ℤ → List Record
-division_records rows classes instant =
-    (codes "dip" ∷ decimal rows ∷ decimal (length classes) ∷ instant_text instant ∷ []) ∷ part_records 0 classes
+division_records rows classes instant = dip_record rows (length classes) instant ∷ part_records 0 classes
 
 -- a verdict as it is printed: `yes`, or `no`, its name and its numbers
 abbrev pub verdict_record : Verdict → Record
@@ -99,3 +116,20 @@ verdict_record (Missing id) = codes "no" ∷ codes "Missing" ∷ decimal id ∷ 
 verdict_record (Overlap a b) = codes "no" ∷ codes "Overlap" ∷ decimal a ∷ decimal b ∷ []
 verdict_record (NotCrowded n) = codes "no" ∷ codes "NotCrowded" ∷ decimal n ∷ []
 verdict_record Yes = codes "yes" ∷ []
+
+-- ---- answers
+
+-- the records of an answer; a division's tell its instant too
+abbrev pub IsPrintedAs : Answer → List Record → Type 0
+IsPrintedAs (answer.Refused fault) records = records ≡ error_record fault ∷ []
+IsPrintedAs (answer.Committed commit) records = records ≡ ok_record commit ∷ []
+IsPrintedAs (answer.Rows rows) records = records ≡ row_records rows
+IsPrintedAs (answer.Versions versions) records = records ≡ version_records versions
+IsPrintedAs (answer.Division rows classes) records =
+    (instant : Option ℤ) × IsInstantOf classes instant × (records ≡ division_records rows classes instant)
+IsPrintedAs (answer.Verdict verdict) records = records ≡ verdict_record verdict ∷ []
+IsPrintedAs (answer.Log entries) records = records ≡ commit_records entries
+
+-- how many of some records tell of a refusal
+abbrev pub errors_in : List Record → ℕ
+errors_in records = count_by (begins (codes "error")) records

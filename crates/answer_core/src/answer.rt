@@ -1,8 +1,7 @@
 //! What a command is answered.
 ghost use Rattle.std.specs.Prelude.{◌≡◌, ◌≤◌, List};
 ghost use Rattle.command_core.specs.Records.{Record};
-ghost use Rattle.answer_core.specs.Answer.{IsPrintedAs};
-ghost use Rattle.answer_core.specs.Records.{errors_in};
+ghost use Rattle.answer_core.specs.PrintedRecords.{IsPrintedAs, errors_in};
 
 use book_core::{Log, VersionList};
 use cert_core::Verdict;

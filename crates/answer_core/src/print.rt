@@ -1,9 +1,8 @@
 //! Prints answers: refusals, accepted changes, rows and versions here.
 ghost use Rattle.std.specs.Prelude.{◌≡◌, [], ◌∷◌, ◌++◌, List, OnErr, OnOk, map};
-ghost use Rattle.answer_core.specs.Answer.{IsPrintedAs};
-ghost use Rattle.answer_core.specs.Draft.{Adds, nothing};
+ghost use Rattle.answer_core.specs.PrintedRecords.{IsPrintedAs, end_record, end_text, error_record, ok_record, row_record, row_records, value_text, version_record, version_records};
+ghost use Rattle.answer_core.specs.Unwritten.{Adds, nothing};
 ghost use Rattle.command_core.specs.Records.{Record};
-ghost use Rattle.answer_core.specs.PrintedRecords.{end_record, end_text, error_record, ok_record, row_record, row_records, value_text, version_record, version_records};
 
 use crate::answer::Answer;
 use crate::writer::AnswerWriter;
@@ -20,7 +19,8 @@ impl AnswerWriter {
     /// `NoMemory` where a growth is refused: then what was printed and is not yet written is lost.
     pub fn print(&mut self, answer: &Answer) -> Result<(), NoMemory>
         requires { self.old.fields ≡ [] }
-        ensures ok { OnOk result ((records : List Record) × IsPrintedAs answer.now records × Adds self.old self.new records) }
+        ensures ok { OnOk result
+            ((records : List Record) × IsPrintedAs answer.now records × Adds self.old self.new records) }
         ensures err { OnErr result (self.new ≡ nothing) }
     {
         let printed = self.print_records(answer);
@@ -32,7 +32,8 @@ impl AnswerWriter {
 
     fn print_records(&mut self, answer: &Answer) -> Result<(), NoMemory>
         requires { self.old.fields ≡ [] }
-        ensures { OnOk result ((records : List Record) × IsPrintedAs answer.now records × Adds self.old self.new records) }
+        ensures { OnOk result
+            ((records : List Record) × IsPrintedAs answer.now records × Adds self.old self.new records) }
     {
         match answer {
             Answer::Refused(fault) => self.refuse(*fault),

@@ -1,7 +1,7 @@
 //! Prints divisions, and the verdicts on claimed ones.
 ghost use Rattle.std.specs.Prelude.{◌≡◌, [], ◌∷◌, ℤ, OnOk, Option, codes, decimal, map};
-ghost use Rattle.answer_core.specs.Draft.{Adds};
-ghost use Rattle.answer_core.specs.PrintedRecords.{division_records, instant_text, part_record, verdict_record};
+ghost use Rattle.answer_core.specs.Unwritten.{Adds};
+ghost use Rattle.answer_core.specs.PrintedRecords.{dip_record, division_records, part_record, verdict_record};
 ghost use Rattle.dip_core.specs.Division.{IsInstantOf};
 
 use crate::writer::AnswerWriter;
@@ -13,7 +13,9 @@ impl AnswerWriter {
     /// A division of so many rows, and its instant.
     pub(crate) fn division(&mut self, rows: usize, division: &Division) -> Result<(), NoMemory>
         requires { self.old.fields ≡ [] }
-        ensures { OnOk result ((instant : Option ℤ) × IsInstantOf division.now instant × Adds self.old self.new (division_records rows division.now instant)) }
+        ensures { OnOk result
+            ((instant : Option ℤ) × IsInstantOf division.now instant
+            × Adds self.old self.new (division_records rows division.now instant)) }
     {
         self.division_with(rows, division, division.instant())
     }
@@ -36,7 +38,7 @@ impl AnswerWriter {
 
     fn heading(&mut self, rows: usize, parts: u32, instant: Option<Point>) -> Result<(), NoMemory>
         requires { self.old.fields ≡ [] }
-        ensures { OnOk result (Adds self.old self.new ((codes "dip" ∷ decimal rows ∷ decimal parts ∷ instant_text instant ∷ []) ∷ [])) }
+        ensures { OnOk result (Adds self.old self.new (dip_record rows parts instant ∷ [])) }
     {
         self.field(b"dip")?;
         self.number(rows as u64)?;

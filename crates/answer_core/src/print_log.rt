@@ -1,6 +1,6 @@
 //! Prints the log of commits.
 ghost use Rattle.std.specs.Prelude.{◌≡◌, [], ◌∷◌, ◌++◌, OnOk, map};
-ghost use Rattle.answer_core.specs.Draft.{Adds};
+ghost use Rattle.answer_core.specs.Unwritten.{Adds};
 ghost use Rattle.answer_core.specs.PrintedRecords.{commit_record, commit_records, kind_text};
 
 use crate::writer::AnswerWriter;

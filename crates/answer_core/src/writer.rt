@@ -5,10 +5,10 @@ ghost use Rattle.std.specs.Io.KnownBytes.{Appends, Keeps};
 ghost use Rattle.csv.specs.Records.{fields_of, partial_of};
 ghost use Rattle.csv.specs.Writing.{fields_written, has_written, row_text, writer_pending, writer_setup, writer_under};
 ghost use Rattle.period_core.specs.Point.{point_text};
-ghost use Rattle.stream_core.specs.Counted.{failures_of, inner_of};
-ghost use Rattle.answer_core.specs.Draft.{Draft, left_by, nothing};
+ghost use Rattle.stream_core.specs.Counted.{failures_of, inner_of, sink_of};
+ghost use Rattle.answer_core.specs.Unwritten.{Unwritten, left_by, nothing};
 ghost use Rattle.stream_core.specs.Faults.{ExplainsWriting, last_failures};
-ghost use Rattle.answer_core.specs.Records.{answer_writer};
+ghost use Rattle.answer_core.specs.RecordBytes.{answer_writer};
 
 use csv::{ByteRecord, Writer, WriterBuilder};
 use itoa::Buffer;
@@ -33,12 +33,12 @@ pub struct AnswerWriter {
 }
 
 impl Model for AnswerWriter {
-    ghost use Rattle.answer_core.specs.Draft.{Draft};
-    ghost use Rattle.answer_core.specs.AnswerWriter.{draft_of, IsAnswerWriter};
+    ghost use Rattle.answer_core.specs.Unwritten.{Unwritten};
+    ghost use Rattle.answer_core.specs.AnswerWriter.{IsAnswerWriter, unwritten_of};
 
-    ghost Value = { Draft };
+    ghost Value = { Unwritten };
 
-    ghost view = { draft_of };
+    ghost view = { unwritten_of };
 
     ghost invariant = { IsAnswerWriter };
 }
@@ -111,7 +111,8 @@ impl AnswerWriter {
 
     /// Ends the record at hand.
     pub(crate) fn end_record(&mut self) -> Result<(), NoMemory>
-        ensures { OnOk result (self.new ≡ record { text = self.old.text ++ row_text answer_writer self.old.fields; fields = [] }) }
+        ensures { OnOk result
+            (self.new ≡ record { text = self.old.text ++ row_text answer_writer self.old.fields; fields = [] }) }
     {
         if self.writer.write_byte_record(&self.row).is_err() {
             *self = AnswerWriter::new(self.alloc);
@@ -132,12 +133,15 @@ impl AnswerWriter {
         writer: &mut Counted<W>,
         patience: &mut Patience,
     ) -> Result<(), RunFault>
-        ensures ok { OnOk result (Appends (W.contents (inner_of writer.old)) (W.contents (inner_of writer.new)) self.old.text) }
+        ensures ok { OnOk result
+            (Appends (W.contents (inner_of writer.old)) (W.contents (inner_of writer.new)) self.old.text) }
         ensures begins { OnOk result (self.new ≡ nothing) }
-        ensures fault { IfErr result (ExplainsWriting (W.contents (inner_of writer.old)) (W.contents (inner_of writer.new)) (failures_of writer.old) (failures_of writer.new) self.old.text) }
+        ensures fault { IfErr result
+            (ExplainsWriting self.old.text (sink_of W.contents writer.old) (sink_of W.contents writer.new)) }
         ensures after { IfErr result (λ why. self.new ≡ left_by why self.old) }
         ensures counts { failures_of writer.old ≤ failures_of writer.new }
-        ensures tries { failures_of writer.new + patience.new.left ≤ failures_of writer.old + patience.old.left + last_failures result }
+        ensures tries { failures_of writer.new + patience.new.left
+            ≤ failures_of writer.old + patience.old.left + last_failures result }
     {
         if self.writer.flush().is_err() {
             *self = AnswerWriter::new(self.alloc);

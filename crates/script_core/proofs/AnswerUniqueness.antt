@@ -1,6 +1,6 @@
 -- A command has one answer.
-use Rattle.std.proofs.Common.{◌≡◌, ℕ, ◌+◌, List, [], ◌∷◌, Option, Some, None, Result, Ok, Err, length, refl, sym, ap, ◌∙◌, subst}
-use Rattle.std.specs.Prelude.{nat_le, nat_lt, unwrap_or}
+use Rattle.std.proofs.Common.{◌≡◌, ℕ, ◌+◌, List, Option, Some, None, Result, Ok, Err, length, refl, sym, ap, ◌∙◌, subst}
+use Rattle.std.specs.Prelude.{⊤, nat_le, nat_lt, unwrap_or}
 use Rattle.row_core.specs.Refusals.{refused_or}
 use Rattle.row_core.specs.Rows.{IdsRise}
 use Rattle.row_core.specs.declared.row.Row.{Row}
@@ -9,7 +9,7 @@ use Rattle.book_core.specs.Versions.{AreBetween, AreFromTo}
 use Rattle.version_core.specs.declared.version.Version.{Version}
 use Rattle.book_core.proofs.VersionsUniqueness.{one_list}
 use Rattle.book_core.proofs.RiseLemmas.{IdsRise-rows_at}
-use Rattle.dip_core.specs.Division.{IsInstantOf}
+use Rattle.dip_core.specs.Division.{IsDivision}
 use Rattle.dip_core.specs.declared.item.Item.{Item}
 use Rattle.dip_core.proofs.DipUniqueness.{one_dip, one_instant_of}
 use Rattle.cert_core.specs.declared.verdict.Certificate.{Certificate}
@@ -21,29 +21,29 @@ use Rattle.command_core.specs.Fields.{both}
 use Rattle.command_core.specs.Meaning.{Meaning, Refuse, Make, Load, Update, Delete, Rows, At, Between, FromTo, Dip, Check, Log}
 use Rattle.command_core.specs.Records.{Record}
 use Rattle.command_core.specs.declared.refusal.Fault.{Fault}
-use Rattle.answer_core.specs.PrintedRecords.{division_records, row_records, verdict_record, version_records}
-use Rattle.script_core.specs.Answer.{Answers, AnswersChange, AnswersQuery, PrintsDivision, PrintsVerdict, PrintsVersions, Refuses}
+use Rattle.answer_core.specs.PrintedRecords.{IsPrintedAs, division_records}
+use Rattle.answer_core.specs.declared.answer.Answer.{Answer}
+use Rattle.answer_core.specs.declared.answer.Answer.TheVariants as answer
+use Rattle.script_core.specs.Answer.{Answers, AnswersChange, AnswersQuery, IsAnswer, IsDipOf, IsVerdictOn, IsVersions, Refuses}
 use Rattle.script_core.specs.State.{claim_of, delete_in, load_in, make_in, rows_on, rows_told, update_in, versions_told}
 
--- ---- what queries tell
+-- ---- what queries are answered
 
-one_division : (items : List Item) (one other : List Record) → PrintsDivision items one → PrintsDivision items other → one ≡ other
-one_division items one other p q =
-    let classes : p.classes ≡ q.classes = one_dip items p.classes q.classes p.dip q.dip in
-    let instant : p.instant ≡ q.instant =
-    one_instant_of items q.classes p.instant q.instant q.dip.divided.division
-    (subst (λ cs. IsInstantOf cs p.instant) classes p.at) q.at in
-    p.printed
-    ∙ (ap (λ cs. division_records (length items) cs p.instant) classes
-    ∙ (ap (division_records (length items) q.classes) instant ∙ sym q.printed))
+one_dip_of : (items : List Item) (one other : Answer) → IsDipOf items one → IsDipOf items other → one ≡ other
+one_dip_of items one other p q =
+    p.is ∙ (ap (answer.Division (length items)) (one_dip items p.classes q.classes p.dip q.dip) ∙ sym q.is)
 
-one_versions : (Are : List Version → Type 0) → ((vs ws : List Version) → Are vs → Are ws → vs ≡ ws) → (one other : List Record) → PrintsVersions Are one → PrintsVersions Are other → one ≡ other
-one_versions Are unique one other p q = p.printed ∙ (ap version_records (unique p.versions q.versions p.asked q.asked) ∙ sym q.printed)
+one_versions : (Are : List Version → Type 0) → ((vs ws : List Version) → Are vs → Are ws → vs ≡ ws)
+    → (one other : Answer) → IsVersions Are one → IsVersions Are other → one ≡ other
+one_versions Are unique one other p q =
+    p.is ∙ (ap answer.Versions (unique p.versions q.versions p.asked q.asked) ∙ sym q.is)
 
-one_printed_verdict : (items : List Item) (claim : List (List ℕ)) (certificate : Certificate) (one other : List Record) → item.IdsRise items
-    → PrintsVerdict items claim certificate one → PrintsVerdict items claim certificate other → one ≡ other
-one_printed_verdict items claim certificate one other rise p q =
-    p.printed ∙ (ap (λ v. verdict_record v ∷ []) (one_verdict items claim certificate p.verdict q.verdict rise p.applies q.applies) ∙ sym q.printed)
+one_verdict_on : (items : List Item) (claim : List (List ℕ)) (certificate : Certificate) (one other : Answer)
+    → item.IdsRise items → IsVerdictOn items claim certificate one → IsVerdictOn items claim certificate other
+    → one ≡ other
+one_verdict_on items claim certificate one other rise p q =
+    p.is ∙ (ap answer.Verdict (one_verdict items claim certificate p.verdict q.verdict rise p.applies q.applies)
+    ∙ sym q.is)
 
 -- ---- the rows that are read rise
 
@@ -62,46 +62,145 @@ both-first (Err why) q x y e = absurd (not_Ok (x, y) why e)
 both-first (Ok v) (Err why) x y e = absurd (not_Ok (x, y) why e)
 both-first {S} {T} {E} (Ok v) (Ok w) x y e = ap (λ (p : S × T). Ok p.0) (same_Ok {T = S × T} {E = E} (v, w) (x, y) e)
 
-pub rise-told : (number : ℕ) (h : History) (asof : Option ℕ) (name : List ℕ) (rows : List Row) → rows_told number h asof name ≡ Ok rows → IdsRise rows
-rise-told number h asof name rows e = subst IdsRise (refused_or-ok _ (rows_at h (unwrap_or asof (length h)) name) rows e) (IdsRise-rows_at h (unwrap_or asof (length h)) name)
+pub rise-told : (number : ℕ) (h : History) (asof : Option ℕ) (name : List ℕ) (rows : List Row)
+    → rows_told number h asof name ≡ Ok rows → IdsRise rows
+rise-told number h asof name rows e =
+    subst IdsRise (refused_or-ok _ (rows_at h (unwrap_or asof (length h)) name) rows e)
+    (IdsRise-rows_at h (unwrap_or asof (length h)) name)
 
 -- ---- answers
 
-one_refusal : (before : History) (wrong : Fault) (a b : List Record) (f g : History) → Refuses before wrong a f → Refuses before wrong b g → (a ≡ b) × (f ≡ g)
-one_refusal before wrong a b f g p q = (p.0 ∙ sym q.0, p.1 ∙ sym q.1)
+-- two pairs of answer and history are the same
+abbrev Same : Answer → Answer → History → History → Type 0
+Same one other f g = (one ≡ other) × (f ≡ g)
 
-one_change : (before : History) (made : Result History Fault) (a b : List Record) (f g : History) → AnswersChange before made a f → AnswersChange before made b g → (a ≡ b) × (f ≡ g)
-one_change before (Ok next) a b f g p q = (p.0 ∙ sym q.0, p.1 ∙ sym q.1)
-one_change before (Err wrong) a b f g p q = one_refusal before wrong a b f g p q
+one_refusal : (before : History) (wrong : Fault) (one other : Answer) (f g : History)
+    → Refuses before wrong one f → Refuses before wrong other g → Same one other f g
+one_refusal before wrong one other f g p q = (p.0 ∙ sym q.0, p.1 ∙ sym q.1)
 
-one_query : {S : Type 0} (before : History) (read : Result S Fault) (Tells : S → List Record → Type 0) → ((s : S) → read ≡ Ok s → (a b : List Record) → Tells s a → Tells s b → a ≡ b)
-    → (a b : List Record) (f g : History) → AnswersQuery before read Tells a f → AnswersQuery before read Tells b g → (a ≡ b) × (f ≡ g)
-one_query before (Ok s) Tells one a b f g p q = (one s refl a b p.0 q.0, p.1 ∙ sym q.1)
-one_query before (Err wrong) Tells one a b f g p q = one_refusal before wrong a b f g p q
+one_change : (before : History) (made : Result History Fault) (one other : Answer) (f g : History)
+    → AnswersChange before made one f → AnswersChange before made other g → Same one other f g
+one_change before (Ok next) one other f g p q = (p.0 ∙ sym q.0, p.1 ∙ sym q.1)
+one_change before (Err wrong) one other f g p q = one_refusal before wrong one other f g p q
 
-pub one_answer : (before : History) (number : ℕ) (meaning : Meaning) (a b : List Record) (f g : History) → Answers before number meaning a f → Answers before number meaning b g → (a ≡ b) × (f ≡ g)
-one_answer before number (Refuse wrong) a b f g p q = one_refusal before wrong a b f g p q
-one_answer before number (Make name columns) a b f g p q = one_change before (make_in number before name columns) a b f g p q
-one_answer before number (Load name body) a b f g p q = one_change before (load_in number before name body) a b f g p q
-one_answer before number (Update name portion sets conds) a b f g p q = one_change before (update_in number before name portion sets conds) a b f g p q
-one_answer before number (Delete name portion conds) a b f g p q = one_change before (delete_in number before name portion conds) a b f g p q
-one_answer before number (Rows name asof) a b f g p q =
-    one_query before (rows_told number before asof name) (λ rows printed. printed ≡ row_records rows) (λ rows read a b p q. p ∙ sym q) a b f g p q
-one_answer before number (At name point asof) a b f g p q =
-    one_query before (rows_told number before asof name) (λ rows printed. printed ≡ row_records (rows_on point rows)) (λ rows read a b p q. p ∙ sym q) a b f g p q
-one_answer before number (Between name first last) a b f g p q =
-    one_query before (versions_told number before (nat_lt last first) name) (λ _ printed. PrintsVersions (AreBetween before (length before) first last name) printed)
-    (λ _ read. one_versions (AreBetween before (length before) first last name) (one_list before (length before) name _)) a b f g p q
-one_answer before number (FromTo name first end) a b f g p q =
-    one_query before (versions_told number before (nat_le end first) name) (λ _ printed. PrintsVersions (AreFromTo before (length before) first end name) printed)
-    (λ _ read. one_versions (AreFromTo before (length before) first end name) (one_list before (length before) name _)) a b f g p q
-one_answer before number (Dip name asof) a b f g p q =
-    one_query before (rows_told number before asof name) (λ rows printed. PrintsDivision (items_of rows) printed) (λ rows read. one_division (items_of rows)) a b f g p q
-one_answer before number (Check name parts instant asof body) a b f g p q =
-    one_query before (both (rows_told number before asof name) (claim_of (number + 1) body))
-    (λ read printed. PrintsVerdict (items_of read.0) read.1 (record { parts = parts; instant = instant }) printed)
-    (λ read e a b.
-    one_printed_verdict (items_of read.0) read.1 (record { parts = parts; instant = instant }) a b
-    (IdsRise-items_of read.0 (rise-told number before asof name read.0 (both-first (rows_told number before asof name) (claim_of (number + 1) body) read.0 read.1 e))))
-    a b f g p q
-one_answer before number Log a b f g p q = (p.0 ∙ sym q.0, p.1 ∙ sym q.1)
+one_query : {S : Type 0} (before : History) (read : Result S Fault) (Is : S → Answer → Type 0)
+    → ((s : S) → read ≡ Ok s → (one other : Answer) → Is s one → Is s other → one ≡ other)
+    → (one other : Answer) (f g : History)
+    → AnswersQuery before read Is one f → AnswersQuery before read Is other g → Same one other f g
+one_query before (Ok s) Is unique one other f g p q = (unique s refl one other p.0 q.0, p.1 ∙ sym q.1)
+one_query before (Err wrong) Is unique one other f g p q = one_refusal before wrong one other f g p q
+
+one_given : (before : History) (number : ℕ) (meaning : Meaning) (one other : Answer) (f g : History)
+    → IsAnswer before number meaning one f → IsAnswer before number meaning other g → Same one other f g
+one_given before number (Refuse wrong) one other f g p q = one_refusal before wrong one other f g p q
+one_given before number (Make name columns) one other f g p q =
+    one_change before (make_in number before name columns) one other f g p q
+one_given before number (Load name body) one other f g p q =
+    one_change before (load_in number before name body) one other f g p q
+one_given before number (Update name portion sets conds) one other f g p q =
+    one_change before (update_in number before name portion sets conds) one other f g p q
+one_given before number (Delete name portion conds) one other f g p q =
+    one_change before (delete_in number before name portion conds) one other f g p q
+one_given before number (Rows name asof) one other f g p q =
+    one_query before (rows_told number before asof name) (λ rows given. given ≡ answer.Rows rows)
+    (λ rows read one other p q. p ∙ sym q) one other f g p q
+one_given before number (At name point asof) one other f g p q =
+    one_query before (rows_told number before asof name) (λ rows given. given ≡ answer.Rows (rows_on point rows))
+    (λ rows read one other p q. p ∙ sym q) one other f g p q
+one_given before number (Between name first last) one other f g p q =
+    let Are = AreBetween before (length before) first last name in
+    one_query before (versions_told number before (nat_lt last first) name) (λ _. IsVersions Are)
+    (λ _ read. one_versions Are (one_list before (length before) name _)) one other f g p q
+one_given before number (FromTo name first end) one other f g p q =
+    let Are = AreFromTo before (length before) first end name in
+    one_query before (versions_told number before (nat_le end first) name) (λ _. IsVersions Are)
+    (λ _ read. one_versions Are (one_list before (length before) name _)) one other f g p q
+one_given before number (Dip name asof) one other f g p q =
+    one_query before (rows_told number before asof name) (λ rows. IsDipOf (items_of rows))
+    (λ rows read. one_dip_of (items_of rows)) one other f g p q
+one_given before number (Check name parts instant asof body) one other f g p q =
+    let told = rows_told number before asof name in
+    let claimed = claim_of (number + 1) body in
+    let certificate : Certificate = record { parts = parts; instant = instant } in
+    one_query before (both told claimed) (λ read. IsVerdictOn (items_of read.0) read.1 certificate)
+    (λ read e one other. one_verdict_on (items_of read.0) read.1 certificate one other
+    (IdsRise-items_of read.0 (rise-told number before asof name read.0 (both-first told claimed read.0 read.1 e))))
+    one other f g p q
+one_given before number Log one other f g p q = (p.0 ∙ sym q.0, p.1 ∙ sym q.1)
+
+-- ---- their records
+
+-- what an answer tells as a division divides some items
+abbrev Divides : Answer → Type 0
+Divides (answer.Division rows classes) = (items : List Item) × IsDivision items classes
+Divides given = ⊤
+
+one_print : (given : Answer) (one other : List Record) → Divides given → IsPrintedAs given one → IsPrintedAs given other
+    → one ≡ other
+one_print (answer.Refused fault) one other divides p q = p ∙ sym q
+one_print (answer.Committed commit) one other divides p q = p ∙ sym q
+one_print (answer.Rows rows) one other divides p q = p ∙ sym q
+one_print (answer.Versions versions) one other divides p q = p ∙ sym q
+one_print (answer.Division rows classes) one other (items, division) (s, at, is) (t, at', is') =
+    is ∙ (ap (division_records rows classes) (one_instant_of items classes s t division at at') ∙ sym is')
+one_print (answer.Verdict verdict) one other divides p q = p ∙ sym q
+one_print (answer.Log entries) one other divides p q = p ∙ sym q
+
+-- an answer that is one which tells no division
+plain : (given told : Answer) → Divides told → given ≡ told → Divides given
+plain given told divides e = subst Divides (sym e) divides
+
+change-divides : (before : History) (made : Result History Fault) (given : Answer) (after : History)
+    → AnswersChange before made given after → Divides given
+change-divides before (Ok next) given after p = plain given (answer.Committed (length next)) tt p.0
+change-divides before (Err wrong) given after p = plain given (answer.Refused wrong) tt p.0
+
+query-divides : {S : Type 0} (before : History) (read : Result S Fault) (Is : S → Answer → Type 0)
+    → ((s : S) (given : Answer) → Is s given → Divides given) → (given : Answer) (after : History)
+    → AnswersQuery before read Is given after → Divides given
+query-divides before (Ok s) Is each given after p = each s given p.0
+query-divides before (Err wrong) Is each given after p = plain given (answer.Refused wrong) tt p.0
+
+divides : (before : History) (number : ℕ) (meaning : Meaning) (given : Answer) (after : History)
+    → IsAnswer before number meaning given after → Divides given
+divides before number (Refuse wrong) given after p = plain given (answer.Refused wrong) tt p.0
+divides before number (Make name columns) given after p =
+    change-divides before (make_in number before name columns) given after p
+divides before number (Load name body) given after p =
+    change-divides before (load_in number before name body) given after p
+divides before number (Update name portion sets conds) given after p =
+    change-divides before (update_in number before name portion sets conds) given after p
+divides before number (Delete name portion conds) given after p =
+    change-divides before (delete_in number before name portion conds) given after p
+divides before number (Rows name asof) given after p =
+    query-divides before (rows_told number before asof name) (λ rows given. given ≡ answer.Rows rows)
+    (λ rows given. plain given (answer.Rows rows) tt) given after p
+divides before number (At name point asof) given after p =
+    query-divides before (rows_told number before asof name) (λ rows given. given ≡ answer.Rows (rows_on point rows))
+    (λ rows given. plain given (answer.Rows (rows_on point rows)) tt) given after p
+divides before number (Between name first last) given after p =
+    query-divides before (versions_told number before (nat_lt last first) name)
+    (λ _. IsVersions (AreBetween before (length before) first last name))
+    (λ _ given is. plain given (answer.Versions is.versions) tt is.is) given after p
+divides before number (FromTo name first end) given after p =
+    query-divides before (versions_told number before (nat_le end first) name)
+    (λ _. IsVersions (AreFromTo before (length before) first end name))
+    (λ _ given is. plain given (answer.Versions is.versions) tt is.is) given after p
+divides before number (Dip name asof) given after p =
+    query-divides before (rows_told number before asof name) (λ rows. IsDipOf (items_of rows))
+    (λ rows given is. plain given (answer.Division (length (items_of rows)) is.classes)
+    (items_of rows, is.dip.divided.division) is.is) given after p
+divides before number (Check name parts instant asof body) given after p =
+    query-divides before (both (rows_told number before asof name) (claim_of (number + 1) body))
+    (λ read. IsVerdictOn (items_of read.0) read.1 (record { parts = parts; instant = instant }))
+    (λ read given is. plain given (answer.Verdict is.verdict) tt is.is) given after p
+divides before number Log given after p = plain given (answer.Log _) tt p.0
+
+pub one_answer : (before : History) (number : ℕ) (meaning : Meaning) (a b : List Record) (f g : History)
+    → Answers before number meaning a f → Answers before number meaning b g → (a ≡ b) × (f ≡ g)
+one_answer before number meaning a b f g (one, is, printed) (other, is', printed') =
+    let same = one_given before number meaning one other f g is is' in (
+      one_print other a b (divides before number meaning other g is')
+          (subst (λ given. IsPrintedAs given a) same.0 printed) printed',
+      same.1,
+    )

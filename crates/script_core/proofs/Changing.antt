@@ -26,11 +26,13 @@ unnamed number meant why e = subst (λ w. IsFailureOf meant (book_failure number
 pub failure-of : (number : ℕ) (next : History) (refusal : Option BookRefused) (why : BookRefused)
     → IfSome refusal (IsRefusedAs {T = ℕ} (Err why))
     → IfNone refusal (IsOkUnless {T = ℕ} (Err why) book.NoMemory)
-    → IsFailureOf (refused_or (option_map (λ refused. fault number (book_refusal refused)) refusal) next) (book_failure number why)
+    → IsFailureOf (refused_or (option_map (λ refused. fault number (book_refusal refused)) refusal) next)
+    (book_failure number why)
 failure-of number next None why refused accepted = unnamed number (Ok next) why accepted
 failure-of number next (Some name) why (inl e) accepted =
     let same : name ≡ why = cc in
-    subst (λ w. IsFailureOf {T = History} (Err (fault number (book_refusal w))) (book_failure number why)) (sym same) (named number why)
+    subst (λ w. IsFailureOf {T = History} (Err (fault number (book_refusal w))) (book_failure number why))
+    (sym same) (named number why)
 failure-of number next (Some name) why (inr (overlap, e)) accepted =
     let none : why ≡ book.NoMemory = cc in
     unnamed number (Err (fault number (book_refusal name))) why none

@@ -1,8 +1,11 @@
 -- The commands that were done when a run stops are the first of all commands of its script.
-use Rattle.std.proofs.Common.{◌≡◌, ℕ, ◌<◌, List, [], ◌∷◌, ◌++◌, Option, length, refl, sym, ap, ◌∙◌, subst, arith}
-use Rattle.command_core.specs.Records.{AreScriptRecords, Record}
-use Rattle.script_core.specs.Script.{Done, Finished, Place, ReadsScript, Step, Steps, StopsAt, StopsBefore, StopsWithin, output_of, start_of}
-use Rattle.script_core.specs.Writing.{WritesBegun, WritesPart}
+use Rattle.std.proofs.Common.{◌≡◌, ℕ, ◌<◌, List, [], ◌∷◌, ◌++◌, length, take, refl, sym, ap, ◌∙◌, subst, arith}
+use Rattle.std.specs.Io.KnownBytes.{Appends}
+use Rattle.command_core.specs.Records.{Record}
+use Rattle.answer_core.specs.RecordBytes.{bytes_of}
+use Rattle.stream_core.specs.Counted.{Sink}
+use Rattle.script_core.specs.Script.{Done, Place, Step, Steps, WritesBefore, WritesWithin, output_of, start_of}
+use Rattle.script_core.specs.Writing.{Answering}
 use Rattle.script_core.proofs.OutputExistence.{all_done}
 use Rattle.script_core.proofs.OutputUniqueness.{no_step, one_step}
 
@@ -10,9 +13,11 @@ use Rattle.script_core.proofs.OutputUniqueness.{no_step, one_step}
 abbrev Follow : List Done → List Done → Place → Place → List Done → Type 0
 Follow all first mid last rest = (all ≡ first ++ rest) × Steps mid rest last
 
-first_follow : (old mid last : Place) (first all : List Done) → Steps old first mid → Steps old all last → last.left ≡ [] → (rest : List Done) × Follow all first mid last rest
+first_follow : (old mid last : Place) (first all : List Done) → Steps old first mid → Steps old all last
+    → last.left ≡ [] → (rest : List Done) × Follow all first mid last rest
 first_follow old mid last [] all same steps over = (all, (refl, subst (λ z. Steps z all last) same steps))
-first_follow old mid last (c ∷ cs) [] (next, step, more) same over = absurd (no_step old c next (ap (λ (z : Place). z.left) same ∙ over) step)
+first_follow old mid last (c ∷ cs) [] (next, step, more) same over =
+    absurd (no_step old c next (ap (λ (z : Place). z.left) same ∙ over) step)
 first_follow old mid last (c ∷ cs) (d ∷ ds) (next, step, more) (next', step', more') over =
     let first = one_step old c d next next' step step' in
     let (rest, (is, steps)) = first_follow next' mid last cs ds (subst (λ z. Steps z cs mid) first.1 more) more' over in
@@ -29,52 +34,48 @@ some_next place last (d ∷ ds) more steps over = (d, ds, refl)
 -- the command that is done at a place is the next one
 next_is_first : (place last after : Place) (next : Done) (rest : List Done) → Step place next after
     → Steps place rest last → last.left ≡ [] → (later : List Done) × (rest ≡ next ∷ later)
-next_is_first place last after next [] step same over = absurd (no_step place next after (ap (λ (z : Place). z.left) same ∙ over) step)
-next_is_first place last after next (d ∷ ds) step (mid, step', more) over = (ds, ap (λ l. l ∷ ds) (sym (one_step place next d after mid step step').0))
+next_is_first place last after next [] step same over =
+    absurd (no_step place next after (ap (λ (z : Place). z.left) same ∙ over) step)
+next_is_first place last after next (d ∷ ds) step (mid, step', more) over =
+    (ds, ap (λ l. l ∷ ds) (sym (one_step place next d after mid step step').0))
 
-stops_at : (unread left : Option (List ℕ)) (script : List ℕ) (records : List Record)
-    (first later dones : List Done) (next : Done)
-    → ReadsScript unread left script → AreScriptRecords script records → Finished records dones
-    → dones ≡ first ++ next ∷ later → StopsAt unread left first next
-stops_at unread left script records first later dones next reads parsed finished commands = record {
-  script = script;
-  output = output_of dones;
-  reads = reads;
-  is_output = record { records = records; parsed = parsed; dones = dones; finished = finished; is = refl };
-  later = later;
-  commands = commands;
-}
-
-pub stops_before : (unread left old new : Option (List ℕ)) (script : List ℕ) (records : List Record)
-    → ReadsScript unread left script → AreScriptRecords script records → WritesBegun records old new
-    → StopsBefore unread left old new
-stops_before unread left old new script records reads parsed w =
+-- the answers to some first commands were written, and there are more
+pub writes_before : (records : List Record) (before after : Sink) (first : List Done) (place : Place)
+    → Steps (start_of records) first place → 0 < length place.left
+    → Appends before.written after.written (output_of first) → Answering WritesBefore records before after
+writes_before records before after first place steps more written =
     let (dones, f) = all_done records in
-    let (rest, (is, steps)) = first_follow (start_of records) w.place f.place w.dones dones w.steps f.steps f.over in
-    let (next, later, first) = some_next w.place f.place rest w.more steps f.over in
-    record {
-      first = w.dones;
-      next = next;
-      stops =
-          stops_at unread left script records w.dones later dones next reads parsed f
-          (is ∙ ap (λ l. w.dones ++ l) first);
-      written = w.written;
-    }
+    let (rest, (is, onward)) = first_follow (start_of records) place f.place first dones steps f.steps f.over in
+    let (next, later, starts) = some_next place f.place rest more onward f.over in (
+      dones,
+      f,
+      record {
+        first = first;
+        next = next;
+        later = later;
+        commands = is ∙ ap (λ l. first ++ l) starts;
+        written = written;
+      },
+    )
 
-pub stops_within : (unread left old new : Option (List ℕ)) (script : List ℕ) (records : List Record)
-    → ReadsScript unread left script → AreScriptRecords script records → WritesPart records old new
-    → StopsWithin unread left old new
-stops_within unread left old new script records reads parsed w =
+-- those were written, and a front of the next command's answer
+pub writes_within : (records : List Record) (before after : Sink) (first : List Done) (next : Done) (place last : Place)
+    (size : ℕ) → Steps (start_of records) first place → Step place next last → size < length (bytes_of next.answer)
+    → Appends before.written after.written (output_of first ++ take size (bytes_of next.answer))
+    → Answering WritesWithin records before after
+writes_within records before after first next place last size steps step short written =
     let (dones, f) = all_done records in
-    let (rest, (is, steps)) = first_follow (start_of records) w.place f.place w.dones dones w.steps f.steps f.over in
-    let (later, first) = next_is_first w.place f.place w.after w.next rest w.step steps f.over in
-    record {
-      first = w.dones;
-      next = w.next;
-      stops =
-          stops_at unread left script records w.dones later dones w.next reads parsed f
-          (is ∙ ap (λ l. w.dones ++ l) first);
-      size = w.size;
-      short = w.short;
-      written = w.written;
-    }
+    let (rest, (is, onward)) = first_follow (start_of records) place f.place first dones steps f.steps f.over in
+    let (later, starts) = next_is_first place f.place last next rest step onward f.over in (
+      dones,
+      f,
+      record {
+        first = first;
+        next = next;
+        later = later;
+        commands = is ∙ ap (λ l. first ++ l) starts;
+        size = size;
+        short = short;
+        written = written;
+      },
+    )

@@ -23,40 +23,54 @@ abbrev then_others : {T E : Type 0} → Result T E → Result (List T) E → Res
 then_others first others = result_and_then (λ x. result_map_both (λ more. x ∷ more) (λ e. e) others) first
 
 -- one more was read
-pub behind-next : {T E : Type 0} (had : List T) (first : Result T E) (x : T) (others : Result (List T) E) → first ≡ Ok x → behind had (then_others first others) ≡ behind (had ++ x ∷ []) others
-behind-next had first x (Ok more) good = ap (λ r. behind had (then_others r (Ok more))) good ∙ ap Ok (sym (append_assoc had (x ∷ []) more))
+pub behind-next : {T E : Type 0} (had : List T) (first : Result T E) (x : T) (others : Result (List T) E)
+    → first ≡ Ok x → behind had (then_others first others) ≡ behind (had ++ x ∷ []) others
+behind-next had first x (Ok more) good =
+    ap (λ r. behind had (then_others r (Ok more))) good ∙ ap Ok (sym (append_assoc had (x ∷ []) more))
 behind-next had first x (Err wrong) good = ap (λ r. behind had (then_others r (Err wrong))) good
 
 -- the next is refused
-pub behind-refused : {T E : Type 0} (had : List T) (first : Result T E) (wrong : E) (others : Result (List T) E) → first ≡ Err wrong → behind had (then_others first others) ≡ Err wrong
+pub behind-refused : {T E : Type 0} (had : List T) (first : Result T E) (wrong : E) (others : Result (List T) E)
+    → first ≡ Err wrong → behind had (then_others first others) ≡ Err wrong
 behind-refused had first wrong others bad = ap (λ r. behind had (then_others r others)) bad
 
 -- what one record gives, or its fault
 abbrev told_of : {T : Type 0} → ℕ → Result T Refusal → Result T Fault
 told_of number read = result_map_both (λ value. value) (fault number) read
 
-next_record : {T : Type 0} (read : Record → Result T Refusal) (number place : ℕ) (lines : List Record) (line : Record) → slice_get lines place ≡ Some line
-    → told_by read (number + place) (drop place lines) ≡ then_others (told_of (number + place) (read line)) (told_by read (number + (place + 1)) (drop (place + 1) lines))
+next_record : {T : Type 0} (read : Record → Result T Refusal) (number place : ℕ) (lines : List Record)
+    (line : Record) → slice_get lines place ≡ Some line
+    → told_by read (number + place) (drop place lines) ≡ then_others (told_of (number + place) (read line))
+    (told_by read (number + (place + 1)) (drop (place + 1) lines))
 next_record read number place lines line e =
     let next : number + place + 1 ≡ number + (place + 1) = omega arith in
-    ap (told_by read (number + place)) (drop-slice_get lines place line e) ∙ ap (λ n. then_others (told_of (number + place) (read line)) (told_by read n (drop (place + 1) lines))) next
+    ap (told_by read (number + place)) (drop-slice_get lines place line e)
+    ∙ ap (λ n. then_others (told_of (number + place) (read line)) (told_by read n (drop (place + 1) lines))) next
 
 -- one more record was read
-pub behind-more : {T : Type 0} (read : Record → Result T Refusal) (number place : ℕ) (lines : List Record) (line : Record) (had : List T) (first : T) → slice_get lines place ≡ Some line → read line ≡ Ok first
-    → behind had (told_by read (number + place) (drop place lines)) ≡ behind (had ++ first ∷ []) (told_by read (number + (place + 1)) (drop (place + 1) lines))
+pub behind-more : {T : Type 0} (read : Record → Result T Refusal) (number place : ℕ) (lines : List Record)
+    (line : Record) (had : List T) (first : T) → slice_get lines place ≡ Some line → read line ≡ Ok first
+    → behind had (told_by read (number + place) (drop place lines)) ≡ behind (had ++ first ∷ [])
+    (told_by read (number + (place + 1)) (drop (place + 1) lines))
 behind-more read number place lines line had first e good =
     ap (behind had) (next_record read number place lines line e)
-    ∙ behind-next had (told_of (number + place) (read line)) first (told_by read (number + (place + 1)) (drop (place + 1) lines)) (ap (told_of (number + place)) good)
+    ∙ behind-next had (told_of (number + place) (read line)) first
+    (told_by read (number + (place + 1)) (drop (place + 1) lines)) (ap (told_of (number + place)) good)
 
-behind-wrong : {T : Type 0} (read : Record → Result T Refusal) (number place : ℕ) (lines : List Record) (line : Record) (had : List T) (refusal : Refusal) → slice_get lines place ≡ Some line → read line ≡ Err refusal
+behind-wrong : {T : Type 0} (read : Record → Result T Refusal) (number place : ℕ) (lines : List Record)
+    (line : Record) (had : List T) (refusal : Refusal) → slice_get lines place ≡ Some line → read line ≡ Err refusal
     → behind had (told_by read (number + place) (drop place lines)) ≡ Err (fault (number + place) refusal)
 behind-wrong read number place lines line had refusal e bad =
     ap (behind had) (next_record read number place lines line e)
-    ∙ behind-refused had (told_of (number + place) (read line)) (fault (number + place) refusal) (told_by read (number + (place + 1)) (drop (place + 1) lines)) (ap (told_of (number + place)) bad)
+    ∙ behind-refused had (told_of (number + place) (read line)) (fault (number + place) refusal)
+    (told_by read (number + (place + 1)) (drop (place + 1) lines)) (ap (told_of (number + place)) bad)
 
 -- a record is refused
-pub behind-failed : {T : Type 0} (read : Record → Result T Refusal) (number place : ℕ) (lines : List Record) (line : Record) (had : List T) (meant : Result (List T) Fault) (failure : Failure) → slice_get lines place ≡ Some line
-    → meant ≡ behind had (told_by read (number + place) (drop place lines)) → IsRecordFailure (number + place) (read line) failure → IsFailureOf meant failure
+pub behind-failed : {T : Type 0} (read : Record → Result T Refusal) (number place : ℕ) (lines : List Record)
+    (line : Record) (had : List T) (meant : Result (List T) Fault) (failure : Failure)
+    → slice_get lines place ≡ Some line
+    → meant ≡ behind had (told_by read (number + place) (drop place lines))
+    → IsRecordFailure (number + place) (read line) failure → IsFailureOf meant failure
 behind-failed read number place lines line had meant (Refused wrong) e is (refusal, bad, same) =
     is ∙ (behind-wrong read number place lines line had refusal e bad ∙ ap Err (sym same))
 behind-failed read number place lines line had meant NoMemory e is h = tt

@@ -6,13 +6,18 @@ use Rattle.std.proofs.lemmas.List.{nil_from_length}
 use Rattle.row_core.specs.Refusals.{refused_or, result_and_then}
 use Rattle.book_core.specs.History.{History, IsLegal, state_after}
 use Rattle.book_core.specs.History as history
+use Rattle.version_core.specs.Rows.{Pair}
 use Rattle.book_core.specs.State.{refusal_of}
 use Rattle.book_core.specs.Versions.{AreBetween, AreFromTo, log_of}
 use Rattle.book_core.specs.declared.refusal.BookRefused.{BookRefused}
 use Rattle.version_core.specs.declared.change.Change.{Change}
+use Rattle.version_core.specs.declared.version.Version.{Version}
 use Rattle.version_core.specs.declared.change.Change.TheVariants as change
 use Rattle.book_core.proofs.Applying.{IsLegal-push}
 use Rattle.book_core.proofs.VersionsExistence.{some_between, some_from_to}
+use Rattle.row_core.specs.declared.draft.Draft.{Draft}
+use Rattle.row_core.specs.declared.row.Row.{Row}
+use Rattle.row_core.specs.declared.schema.Column.{Column}
 use Rattle.dip_core.specs.declared.item.Item.{Item}
 use Rattle.dip_core.specs.Item as item
 use Rattle.dip_core.proofs.DipExistence.{some_dip, some_instant}
@@ -28,10 +33,12 @@ use Rattle.command_core.specs.Refusal.{fault}
 use Rattle.command_core.specs.declared.refusal.Fault.{Fault}
 use Rattle.command_core.proofs.MeaningExistence.{some_meaning}
 use Rattle.command_core.proofs.RecordsExistence.{some_records}
-use Rattle.answer_core.specs.PrintedRecords.{commit_records, division_records, error_record, ok_record, row_records, verdict_record, version_records}
-use Rattle.script_core.specs.Answer.{Answers, AnswersChange, AnswersQuery, PrintsDivision, PrintsVerdict, PrintsVersions}
+use Rattle.answer_core.specs.PrintedRecords.{IsPrintedAs, commit_records, division_records, error_record, ok_record, row_records, verdict_record, version_records}
+use Rattle.answer_core.specs.declared.answer.Answer.{Answer}
+use Rattle.answer_core.specs.declared.answer.Answer.TheVariants as answer
+use Rattle.script_core.specs.Answer.{Answers, AnswersChange, AnswersQuery, IsAnswer, IsDipOf, IsVerdictOn, IsVersions, Refuses}
 use Rattle.script_core.specs.Refusal.{book_refusal}
-use Rattle.script_core.specs.Script.{Done, Finished, IsOutput, Place, Steps, output_of, start_of}
+use Rattle.script_core.specs.Script.{AreCommandsOf, Done, Finished, IsOutput, Place, Steps, output_of, start_of}
 use Rattle.script_core.specs.State.{change_in, claim_of, columns_told, delete_in, load_in, make_in, pairs_told, rows_of, rows_on, rows_told, update_in, versions_told}
 use Rattle.script_core.proofs.AnswerUniqueness.{both-first, not_Ok, rise-told}
 use Rattle.script_core.proofs.OutputUniqueness.{takes_one}
@@ -41,45 +48,94 @@ use Rattle.script_core.proofs.OutputUniqueness.{takes_one}
 legal-one : (number : ℕ) (h : History) (c : Change) → IsLegal h → IfOk (change_in number h c) IsLegal
 legal-one number h c legal = by_refusal (refusal_of (length h) (state_after h) c) refl where
   by_refusal : (refusal : Option BookRefused) → refusal_of (length h) (state_after h) c ≡ refusal
-      → IfOk (refused_or (option_map (λ refused. fault number (book_refusal refused)) refusal) (h ++ record { by = 1; change = c } ∷ [])) IsLegal
+      → IfOk (refused_or (option_map (λ refused. fault number (book_refusal refused)) refusal)
+      (h ++ record { by = 1; change = c } ∷ [])) IsLegal
   by_refusal None accepted = IsLegal-push h (record { by = 1; change = c }) legal accepted
   by_refusal (Some why) refused = tt
 
 -- what follows is legal, whatever it follows from
-legal-then : {T : Type 0} (follow : T → Result History Fault) (r : Result T Fault) → ((x : T) → IfOk (follow x) IsLegal) → IfOk (result_and_then follow r) IsLegal
+legal-then : {T : Type 0} (follow : T → Result History Fault) (r : Result T Fault)
+    → ((x : T) → IfOk (follow x) IsLegal) → IfOk (result_and_then follow r) IsLegal
 legal-then follow (Ok x) each = each x
 legal-then follow (Err wrong) each = tt
 
 -- ---- answers
 
--- a command's answer, and the legal history after it
-record Reply (Answers : List Record → History → Type 0) : Type 0 where
-  answer : List Record
+-- an answer, and its records
+record Told (Is : Answer → Type 0) : Type 0 where
+  given : Answer
+  is : Is given
+  records : List Record
+  printed : IsPrintedAs given records
+
+-- a command's answer and its records, and the legal history after it
+record Reply (Is : Answer → History → Type 0) : Type 0 where
   after : History
-  answers : Answers answer after
+  told : Told (λ given. Is given after)
   legal : IsLegal after
 
-some_change : (before : History) (made : Result History Fault) → IsLegal before → IfOk made IsLegal → Reply (AnswersChange before made)
-some_change before (Ok next) legal then = record { answer = ok_record (length next) ∷ []; after = next; answers = (refl, refl); legal = then }
-some_change before (Err wrong) legal then = record { answer = error_record wrong ∷ []; after = before; answers = (refl, refl); legal = legal }
+refusal_told : (before : History) (wrong : Fault) → Told (λ given. Refuses before wrong given before)
+refusal_told before wrong =
+    record { given = answer.Refused wrong; is = (refl, refl); records = error_record wrong ∷ []; printed = refl }
 
-some_query : {S : Type 0} (before : History) (read : Result S Fault) (Tells : S → List Record → Type 0) → IsLegal before → ((s : S) → read ≡ Ok s → (answer : List Record) × Tells s answer)
-    → Reply (AnswersQuery before read Tells)
-some_query before (Ok s) Tells legal told = let (answer, tells) = told s refl in record { answer = answer; after = before; answers = (tells, refl); legal = legal }
-some_query before (Err wrong) Tells legal told = record { answer = error_record wrong ∷ []; after = before; answers = (refl, refl); legal = legal }
+some_change : (before : History) (made : Result History Fault) → IsLegal before → IfOk made IsLegal
+    → Reply (AnswersChange before made)
+some_change before (Ok next) legal then = record {
+  after = next;
+  told = record {
+    given = answer.Committed (length next);
+    is = (refl, refl);
+    records = ok_record (length next) ∷ [];
+    printed = refl;
+  };
+  legal = then;
+}
+some_change before (Err wrong) legal then = record { after = before; told = refusal_told before wrong; legal = legal }
 
-some_division : (items : List Item) → item.IdsRise items → (answer : List Record) × PrintsDivision items answer
-some_division items rise =
+some_query : {S : Type 0} (before : History) (read : Result S Fault) (Is : S → Answer → Type 0) → IsLegal before
+    → ((s : S) → read ≡ Ok s → Told (Is s)) → Reply (AnswersQuery before read Is)
+some_query before (Ok s) Is legal each =
+    let told = each s refl in
+    record {
+      after = before;
+      told = record { given = told.given; is = (told.is, refl); records = told.records; printed = told.printed };
+      legal = legal;
+    }
+some_query before (Err wrong) Is legal each =
+    record { after = before; told = refusal_told before wrong; legal = legal }
+
+rows_answer : (rows : List Row) → Told (λ given. given ≡ answer.Rows rows)
+rows_answer rows = record { given = answer.Rows rows; is = refl; records = row_records rows; printed = refl }
+
+versions_answer : (Are : List Version → Type 0) → (versions : List Version) × Are versions → Told (IsVersions Are)
+versions_answer Are (versions, are) = record {
+  given = answer.Versions versions;
+  is = record { versions = versions; asked = are; is = refl };
+  records = version_records versions;
+  printed = refl;
+}
+
+some_dip_answer : (items : List Item) → item.IdsRise items → Told (IsDipOf items)
+some_dip_answer items rise =
     let (classes, dip) = some_dip items (HasDistinctIds-from_rising items rise) in
-    let (instant, at) = some_instant items classes dip.divided in (
-      division_records (length items) classes instant,
-      record { classes = classes; instant = instant; dip = dip; at = at; printed = refl },
-    )
+    let (instant, at) = some_instant items classes dip.divided in
+    record {
+      given = answer.Division (length items) classes;
+      is = record { classes = classes; dip = dip; is = refl };
+      records = division_records (length items) classes instant;
+      printed = (instant, at, refl);
+    }
 
-some_checked : (items : List Item) (claim : List (List ℕ)) (certificate : Certificate) → item.IdsRise items → (answer : List Record) × PrintsVerdict items claim certificate answer
-some_checked items claim certificate rise =
+some_verdict_answer : (items : List Item) (claim : List (List ℕ)) (certificate : Certificate) → item.IdsRise items
+    → Told (IsVerdictOn items claim certificate)
+some_verdict_answer items claim certificate rise =
     let (verdict, applies) = some_verdict items claim certificate rise in
-    (verdict_record verdict ∷ [], record { verdict = verdict; applies = applies; printed = refl })
+    record {
+      given = answer.Verdict verdict;
+      is = record { verdict = verdict; applies = applies; is = refl };
+      records = verdict_record verdict ∷ [];
+      printed = refl;
+    }
 
 -- where there is no refusal, none applied
 not_refused : {T E : Type 0} (refusal : Option E) (x y : T) → refused_or refusal x ≡ Ok y → refusal ≡ None
@@ -90,51 +146,86 @@ none_mapped : {E F : Type 0} (f : E → F) (refusal : Option E) → option_map f
 none_mapped f None e = refl
 none_mapped f (Some why) e = cc e
 
-some_reply : (before : History) (number : ℕ) (meaning : Meaning) → IsLegal before → Reply (Answers before number meaning)
-some_reply before number (Refuse wrong) legal = record { answer = error_record wrong ∷ []; after = before; answers = (refl, refl); legal = legal }
-some_reply before number (Make name columns) legal = some_change before (make_in number before name columns) legal (legal-one number before (change.Make name columns) legal)
+some_reply : (before : History) (number : ℕ) (meaning : Meaning) → IsLegal before
+    → Reply (IsAnswer before number meaning)
+some_reply before number (Refuse wrong) legal =
+    record { after = before; told = refusal_told before wrong; legal = legal }
+some_reply before number (Make name columns) legal =
+    some_change before (make_in number before name columns) legal
+    (legal-one number before (change.Make name columns) legal)
 some_reply before number (Load name body) legal =
+    let loaded : List Draft → Result History Fault = λ rows. change_in number before (change.Load name rows) in
     some_change before (load_in number before name body) legal
-    (legal-then (λ columns. result_and_then (λ rows. change_in number before (change.Load name rows)) (rows_of columns (number + 1) body)) (columns_told number before name)
-    (λ columns. legal-then (λ rows. change_in number before (change.Load name rows)) (rows_of columns (number + 1) body) (λ rows. legal-one number before (change.Load name rows) legal)))
+    (legal-then (λ columns. result_and_then loaded (rows_of columns (number + 1) body))
+    (columns_told number before name)
+    (λ columns. legal-then loaded (rows_of columns (number + 1) body)
+    (λ rows. legal-one number before (change.Load name rows) legal)))
 some_reply before number (Update name portion sets conds) legal =
+    let updated : List Pair × List Pair → Result History Fault =
+    λ pairs. change_in number before (change.Update name portion pairs.0 pairs.1) in
+    let told : List Column → Result (List Pair × List Pair) Fault =
+    λ columns. both (pairs_told number columns sets) (pairs_told number columns conds) in
     some_change before (update_in number before name portion sets conds) legal
-    (legal-then (λ columns. result_and_then (λ pairs. change_in number before (change.Update name portion pairs.0 pairs.1)) (both (pairs_told number columns sets) (pairs_told number columns conds))) (columns_told number before name)
-    (λ columns. legal-then (λ pairs. change_in number before (change.Update name portion pairs.0 pairs.1)) (both (pairs_told number columns sets) (pairs_told number columns conds))
+    (legal-then (λ columns. result_and_then updated (told columns)) (columns_told number before name)
+    (λ columns. legal-then updated (told columns)
     (λ pairs. legal-one number before (change.Update name portion pairs.0 pairs.1) legal)))
 some_reply before number (Delete name portion conds) legal =
+    let deleted : List Pair → Result History Fault =
+    λ pairs. change_in number before (change.Delete name portion pairs) in
     some_change before (delete_in number before name portion conds) legal
-    (legal-then (λ columns. result_and_then (λ pairs. change_in number before (change.Delete name portion pairs)) (pairs_told number columns conds)) (columns_told number before name)
-    (λ columns. legal-then (λ pairs. change_in number before (change.Delete name portion pairs)) (pairs_told number columns conds) (λ pairs. legal-one number before (change.Delete name portion pairs) legal)))
+    (legal-then (λ columns. result_and_then deleted (pairs_told number columns conds))
+    (columns_told number before name)
+    (λ columns. legal-then deleted (pairs_told number columns conds)
+    (λ pairs. legal-one number before (change.Delete name portion pairs) legal)))
 some_reply before number (Rows name asof) legal =
-    some_query before (rows_told number before asof name) (λ rows printed. printed ≡ row_records rows) legal (λ rows read. (row_records rows, refl))
+    some_query before (rows_told number before asof name) (λ rows given. given ≡ answer.Rows rows) legal
+    (λ rows read. rows_answer rows)
 some_reply before number (At name point asof) legal =
-    some_query before (rows_told number before asof name) (λ rows printed. printed ≡ row_records (rows_on point rows)) legal (λ rows read. (row_records (rows_on point rows), refl))
+    some_query before (rows_told number before asof name) (λ rows given. given ≡ answer.Rows (rows_on point rows)) legal
+    (λ rows read. rows_answer (rows_on point rows))
 some_reply before number (Between name first last) legal =
-    some_query before (versions_told number before (nat_lt last first) name) (λ _ printed. PrintsVersions (AreBetween before (length before) first last name) printed) legal
-    (λ s read.
-    let (versions, are) = some_between before (length before) first last name legal (none_mapped _ (history.versions_refusal before (length before) (nat_lt last first) name) (not_refused _ tt s read)) in
-    (version_records versions, record { versions = versions; asked = are; printed = refl }))
+    let Are = AreBetween before (length before) first last name in
+    let refusal = history.versions_refusal before (length before) (nat_lt last first) name in
+    some_query before (versions_told number before (nat_lt last first) name) (λ _. IsVersions Are) legal
+    (λ s read. versions_answer Are
+    (some_between before (length before) first last name legal (none_mapped _ refusal (not_refused _ tt s read))))
 some_reply before number (FromTo name first end) legal =
-    some_query before (versions_told number before (nat_le end first) name) (λ _ printed. PrintsVersions (AreFromTo before (length before) first end name) printed) legal
-    (λ s read.
-    let (versions, are) = some_from_to before (length before) first end name legal (none_mapped _ (history.versions_refusal before (length before) (nat_le end first) name) (not_refused _ tt s read)) in
-    (version_records versions, record { versions = versions; asked = are; printed = refl }))
+    let Are = AreFromTo before (length before) first end name in
+    let refusal = history.versions_refusal before (length before) (nat_le end first) name in
+    some_query before (versions_told number before (nat_le end first) name) (λ _. IsVersions Are) legal
+    (λ s read. versions_answer Are
+    (some_from_to before (length before) first end name legal (none_mapped _ refusal (not_refused _ tt s read))))
 some_reply before number (Dip name asof) legal =
-    some_query before (rows_told number before asof name) (λ rows printed. PrintsDivision (items_of rows) printed) legal
-    (λ rows read. some_division (items_of rows) (IdsRise-items_of rows (rise-told number before asof name rows read)))
+    some_query before (rows_told number before asof name) (λ rows. IsDipOf (items_of rows)) legal
+    (λ rows read. some_dip_answer (items_of rows)
+    (IdsRise-items_of rows (rise-told number before asof name rows read)))
 some_reply before number (Check name parts instant asof body) legal =
-    some_query before (both (rows_told number before asof name) (claim_of (number + 1) body))
-    (λ read printed. PrintsVerdict (items_of read.0) read.1 (record { parts = parts; instant = instant }) printed) legal
-    (λ read e.
-    some_checked (items_of read.0) read.1 (record { parts = parts; instant = instant })
-    (IdsRise-items_of read.0 (rise-told number before asof name read.0 (both-first (rows_told number before asof name) (claim_of (number + 1) body) read.0 read.1 e))))
-some_reply before number Log legal = record { answer = commit_records (log_of before); after = before; answers = (refl, refl); legal = legal }
+    let told = rows_told number before asof name in
+    let claimed = claim_of (number + 1) body in
+    let certificate : Certificate = record { parts = parts; instant = instant } in
+    some_query before (both told claimed) (λ read. IsVerdictOn (items_of read.0) read.1 certificate) legal
+    (λ read e. some_verdict_answer (items_of read.0) read.1 certificate
+    (IdsRise-items_of read.0 (rise-told number before asof name read.0 (both-first told claimed read.0 read.1 e))))
+some_reply before number Log legal = record {
+  after = before;
+  told = record {
+    given = answer.Log (log_of before);
+    is = (refl, refl);
+    records = commit_records (log_of before);
+    printed = refl;
+  };
+  legal = legal;
+}
+
+answers_by : (before : History) (number : ℕ) (meaning : Meaning) (reply : Reply (IsAnswer before number meaning))
+    → Answers before number meaning reply.told.records reply.after
+answers_by before number meaning reply = (reply.told.given, reply.told.is, reply.told.printed)
 
 pub some_answer : (before : History) (number : ℕ) (meaning : Meaning) → IsLegal before
     → (answer : List Record) × (after : History) × Answers before number meaning answer after
 some_answer before number meaning legal =
-    let reply = some_reply before number meaning legal in (reply.answer, reply.after, reply.answers)
+    let reply = some_reply before number meaning legal in
+    (reply.told.records, reply.after, answers_by before number meaning reply)
 
 -- ---- all commands
 
@@ -145,7 +236,8 @@ record Rest (place : Place) : Type 0 where
   steps : Steps place dones last
   over : last.left ≡ []
 
-fewer : (number : ℕ) (own later records : List Record) (meaning : Meaning) → Means number own later meaning → records ≡ own ++ later → length later < length records
+fewer : (number : ℕ) (own later records : List Record) (meaning : Meaning) → Means number own later meaning
+    → records ≡ own ++ later → length later < length records
 fewer number own later records meaning means is =
     let (first, rest, starts) = takes_one number own later meaning means in
     let size : length records ≡ length own + length later = ap length is ∙ length-append own later in
@@ -153,19 +245,33 @@ fewer number own later records meaning means is =
     omega arith
 
 some_rest : (n : ℕ) (place : Place) → IsLegal place.history → length place.left ≤ n → Rest place
-some_rest zero place legal few = record { dones = []; last = place; steps = refl; over = nil_from_length place.left (omega arith) }
+some_rest zero place legal few =
+    record { dones = []; last = place; steps = refl; over = nil_from_length place.left (omega arith) }
 some_rest (suc n) place legal few = elim (cases_lt 0 (length place.left)) [
   | inr none ↦ record { dones = []; last = place; steps = refl; over = nil_from_length place.left (omega arith) }
   | inl some ↦
       let first : FirstCommand place.number place.left = some_meaning place.number place.left some in
-      let reply : Reply (Answers place.history place.number first.meaning) = some_reply place.history place.number first.meaning legal in
-      let next : Place = record { history = reply.after; number = place.number + length first.own; left = first.later } in
-      let less : length first.later < length place.left = fewer place.number first.own first.later place.left first.meaning first.means first.taken in
+      let reply : Reply (IsAnswer place.history place.number first.meaning) =
+      some_reply place.history place.number first.meaning legal in
+      let next : Place =
+      record { history = reply.after; number = place.number + length first.own; left = first.later } in
+      let less : length first.later < length place.left =
+      fewer place.number first.own first.later place.left first.meaning first.means first.taken in
       let rest : Rest next = some_rest n next reply.legal (omega arith) in
       record {
-        dones = record { meaning = first.meaning; answer = reply.answer } ∷ rest.dones;
+        dones = record { meaning = first.meaning; answer = reply.told.records } ∷ rest.dones;
         last = rest.last;
-        steps = (next, record { own = first.own; taken = first.taken; number = refl; means = first.means; answers = reply.answers }, rest.steps);
+        steps = (
+          next,
+          record {
+            own = first.own;
+            taken = first.taken;
+            number = refl;
+            means = first.means;
+            answers = answers_by place.history place.number first.meaning reply;
+          },
+          rest.steps,
+        );
         over = rest.over;
       }
 ]
@@ -182,4 +288,5 @@ pub some_output : (script : List ℕ) → (output : List ℕ) × IsOutput script
 some_output script =
     let (records, parsed) = some_records script in
     let (dones, finished) = all_done records in
-    (output_of dones, record { records = records; parsed = parsed; dones = dones; finished = finished; is = refl })
+    let commands : AreCommandsOf script dones = record { records = records; parsed = parsed; finished = finished } in
+    (output_of dones, record { dones = dones; commands = commands; is = refl })

@@ -6,7 +6,7 @@ use Rattle.command_core.proofs.MeaningUniqueness.{one_meaning}
 use Rattle.command_core.proofs.RecordsUniqueness.{one_records}
 use Rattle.book_core.specs.History.{History}
 use Rattle.script_core.specs.Answer.{Answers}
-use Rattle.script_core.specs.Script.{Done, Finished, IsOutput, Place, Step, Steps, Tells, output_of, start_of}
+use Rattle.script_core.specs.Script.{AreCommandsOf, Done, Finished, IsOutput, Place, Step, Steps, Tells, output_of, start_of}
 use Rattle.script_core.specs.declared.outcome.Outcome.{Outcome}
 use Rattle.script_core.proofs.AnswerUniqueness.{one_answer}
 
@@ -18,18 +18,22 @@ done_of meaning answer = record { meaning = meaning; answer = answer }
 abbrev place_of : History → ℕ → List Record → Place
 place_of history number left = record { history = history; number = number; left = left }
 
-pub one_step : (old : Place) (one other : Done) (p q : Place) → Step old one p → Step old other q → (one ≡ other) × (p ≡ q)
+pub one_step : (old : Place) (one other : Done) (p q : Place) → Step old one p → Step old other q
+    → (one ≡ other) × (p ≡ q)
 one_step old one other p q s t =
-    let meant = one_meaning old.number s.own p.left t.own q.left one.meaning other.meaning (sym s.taken ∙ t.taken) s.means t.means in
+    let meant = one_meaning old.number s.own p.left t.own q.left one.meaning other.meaning
+    (sym s.taken ∙ t.taken) s.means t.means in
     let answered = one_answer old.history old.number other.meaning one.answer other.answer p.history q.history
     (subst (λ meaning. Answers old.history old.number meaning one.answer p.history) meant.2 s.answers) t.answers in
     let number : p.number ≡ q.number = s.number ∙ (ap (λ l. old.number + length l) meant.0 ∙ sym t.number) in (
       ap (λ m. done_of m one.answer) meant.2 ∙ ap (λ a. done_of other.meaning a) answered.0,
-      ap (λ h. place_of h p.number p.left) answered.1 ∙ (ap (λ n. place_of q.history n p.left) number ∙ ap (λ l. place_of q.history q.number l) meant.1),
+      ap (λ h. place_of h p.number p.left) answered.1
+          ∙ (ap (λ n. place_of q.history n p.left) number ∙ ap (λ l. place_of q.history q.number l) meant.1),
     )
 
 -- a command takes a record
-pub takes_one : (number : ℕ) (own later : List Record) (meaning : Meaning) → Means number own later meaning → (first : Record) × (rest : List Record) × (own ≡ first ∷ rest)
+pub takes_one : (number : ℕ) (own later : List Record) (meaning : Meaning) → Means number own later meaning
+    → (first : Record) × (rest : List Record) × (own ≡ first ∷ rest)
 takes_one number own later meaning (inl r) = (r.opening, [], r.alone)
 takes_one number own later meaning (inr (inl b)) = (b.opening, b.body ++ b.last ∷ [], b.whole)
 takes_one number own later meaning (inr (inr u)) = (u.opening, u.body, u.whole)
@@ -45,35 +49,40 @@ no_step old done new over s =
 
 -- ---- all steps
 
-one_way : (old : Place) (one other : List Done) (p q : Place) → Steps old one p → Steps old other q → p.left ≡ [] → q.left ≡ [] → one ≡ other
+one_way : (old : Place) (one other : List Done) (p q : Place) → Steps old one p → Steps old other q → p.left ≡ []
+    → q.left ≡ [] → one ≡ other
 one_way old [] [] p q steps steps' over over' = refl
-one_way old [] (d ∷ ds) p q steps (mid, step, rest) over over' = absurd (no_step old d mid (ap (λ (z : Place). z.left) steps ∙ over) step)
-one_way old (c ∷ cs) [] p q (mid, step, rest) steps' over over' = absurd (no_step old c mid (ap (λ (z : Place). z.left) steps' ∙ over') step)
+one_way old [] (d ∷ ds) p q steps (mid, step, rest) over over' =
+    absurd (no_step old d mid (ap (λ (z : Place). z.left) steps ∙ over) step)
+one_way old (c ∷ cs) [] p q (mid, step, rest) steps' over over' =
+    absurd (no_step old c mid (ap (λ (z : Place). z.left) steps' ∙ over') step)
 one_way old (c ∷ cs) (d ∷ ds) p q (mid, step, rest) (mid', step', rest') over over' =
     let first = one_step old c d mid mid' step step' in
-    ap (λ l. l ∷ cs) first.0 ∙ ap (λ l. d ∷ l) (one_way mid' cs ds p q (subst (λ z. Steps z cs p) first.1 rest) rest' over over')
+    ap (λ l. l ∷ cs) first.0
+    ∙ ap (λ l. d ∷ l) (one_way mid' cs ds p q (subst (λ z. Steps z cs p) first.1 rest) rest' over over')
 
-pub one_run : (records : List Record) (one other : List Done) → Finished records one → Finished records other → one ≡ other
+one_run : (records : List Record) (one other : List Done) → Finished records one → Finished records other
+    → one ≡ other
 one_run records one other f g = one_way (start_of records) one other f.place g.place f.steps g.steps f.over g.over
 
 -- ---- the output
 
 -- a script has one list of commands and answers
-pub one_list_of_dones : (script read one other : List ℕ) → script ≡ read
-    → (p : IsOutput script one) (q : IsOutput read other) → p.dones ≡ q.dones
+pub one_list_of_dones : (script read : List ℕ) (one other : List Done) → script ≡ read
+    → AreCommandsOf script one → AreCommandsOf read other → one ≡ other
 one_list_of_dones script read one other same p q =
     let records : p.records ≡ q.records =
     one_records read p.records q.records (subst (λ bytes. AreScriptRecords bytes p.records) same p.parsed) q.parsed in
-    one_run q.records p.dones q.dones (subst (λ rs. Finished rs p.dones) records p.finished) q.finished
+    one_run q.records one other (subst (λ rs. Finished rs one) records p.finished) q.finished
 
-pub one_output : (script read one other : List ℕ) → script ≡ read → IsOutput script one → IsOutput read other
-    → one ≡ other
-one_output script read one other same p q =
-    p.is ∙ (ap output_of (one_list_of_dones script read one other same p q) ∙ sym q.is)
+pub one_output : (script one other : List ℕ) → IsOutput script one → IsOutput script other → one ≡ other
+one_output script one other p q =
+    p.is ∙ (ap output_of (one_list_of_dones script script p.dones q.dones refl p.commands q.commands) ∙ sym q.is)
 
 abbrev outcome_of : ℕ → ℕ → Outcome
 outcome_of commands errors = record { commands = commands; errors = errors }
 
 pub one_outcome : (dones : List Done) (one other : Outcome) → Tells one dones → Tells other dones → one ≡ other
 one_outcome dones one other p q =
-    ap (λ n. outcome_of n one.errors) (p.commands ∙ sym q.commands) ∙ ap (λ n. outcome_of other.commands n) (p.errors ∙ sym q.errors)
+    ap (λ n. outcome_of n one.errors) (p.commands ∙ sym q.commands)
+    ∙ ap (λ n. outcome_of other.commands n) (p.errors ∙ sym q.errors)

@@ -8,39 +8,49 @@ use Rattle.std.proofs.lemmas.List.{take-append-drop, append-nil, length-append, 
 use Rattle.script_core.specs.Answer.{Answers}
 use Rattle.command_core.specs.Meaning.{Meaning, Means}
 use Rattle.command_core.specs.Records.{Record}
-use Rattle.answer_core.specs.Records.{bytes_of}
-use Rattle.script_core.specs.Script.{Done, Place, Step, Steps, start_of, output_of, Tells}
-use Rattle.script_core.specs.Writing.{ExplainsAnswering, WritesBegun, WritesPart}
+use Rattle.answer_core.specs.RecordBytes.{bytes_of}
+use Rattle.script_core.specs.Script.{Done, Place, Step, Steps, Tells, WritesBefore, output_of, start_of}
+use Rattle.script_core.specs.Writing.{Answering, ExplainsAnswering}
+use Rattle.script_core.proofs.FrontLemmas.{writes_before, writes_within}
 use Rattle.book_core.specs.History.{History}
-use Rattle.answer_core.specs.Records.{errors_in}
+use Rattle.answer_core.specs.PrintedRecords.{errors_in}
+use Rattle.stream_core.specs.Counted.{Sink}
 use Rattle.stream_core.specs.Faults.{ExplainsWriting}
 use Rattle.stream_core.specs.declared.fault.RunFault.{RunFault}
 use Rattle.stream_core.specs.declared.fault.RunFault.TheVariants.{ReadFault, TooLong, NoMemory, WriteFault}
 use Rattle.script_core.specs.declared.outcome.Outcome.{Outcome}
 
 -- the place before the record of this index
-abbrev pub place_at : List Record → History → ℕ → Place
+abbrev place_at : List Record → History → ℕ → Place
 place_at records history at = record { history = history; number = at + 1; left = drop at records }
 
 -- the commands before the record of this index are done, their answers written, and this is told of them
-pub record Progress (records : List Record) (old now : Option (List ℕ)) (history : History) (at : ℕ) (outcome : Outcome) : Type 0 where
+pub record Progress (records : List Record) (old now : Option (List ℕ)) (history : History) (at : ℕ)
+    (outcome : Outcome) : Type 0 where
   pub dones : List Done
   pub steps : Steps (start_of records) dones (place_at records history at)
   pub written : Appends old now (output_of dones)
   pub tells : Tells outcome dones
 
 -- one more step at the end
-pub steps-more : (p q r : Place) (dones : List Done) (next : Done) → Steps p dones q → Step q next r → Steps p (dones ++ next ∷ []) r
+steps-more : (p q r : Place) (dones : List Done) (next : Done) → Steps p dones q → Step q next r
+    → Steps p (dones ++ next ∷ []) r
 steps-more p q r [] next e step = (r, subst (λ z. Step z next r) (sym e) step, refl)
 steps-more p q r (d ∷ ds) next (mid, first, rest) step = (mid, first, steps-more mid q r ds next rest step)
 
-pub output-more : (dones : List Done) (next : Done) → output_of (dones ++ next ∷ []) ≡ output_of dones ++ bytes_of next.answer
-output-more dones next = flat_map-append (λ (done : Done). bytes_of done.answer) dones (next ∷ []) ∙ ap (λ bytes. output_of dones ++ bytes) (append-nil (bytes_of next.answer))
+output-more : (dones : List Done) (next : Done)
+    → output_of (dones ++ next ∷ []) ≡ output_of dones ++ bytes_of next.answer
+output-more dones next =
+    flat_map-append (λ (done : Done). bytes_of done.answer) dones (next ∷ [])
+    ∙ ap (λ bytes. output_of dones ++ bytes) (append-nil (bytes_of next.answer))
 
 -- the command at a place, by what it takes and how it is answered
-pub step-at : (records : List Record) (before after : History) (at taken : ℕ) (meaning : Meaning) (answer : List Record) → taken ≤ length (drop at records)
-    → Means (at + 1) (take taken (drop at records)) (drop taken (drop at records)) meaning → Answers before (at + 1) meaning answer after
-    → Step (place_at records before at) (record { meaning = meaning; answer = answer }) (place_at records after (at + taken))
+step-at : (records : List Record) (before after : History) (at taken : ℕ) (meaning : Meaning)
+    (answer : List Record) → taken ≤ length (drop at records)
+    → Means (at + 1) (take taken (drop at records)) (drop taken (drop at records)) meaning
+    → Answers before (at + 1) meaning answer after
+    → Step (place_at records before at) (record { meaning = meaning; answer = answer })
+    (place_at records after (at + taken))
 step-at records before after at taken meaning answer within means answers =
     let rest : drop taken (drop at records) ≡ drop (at + taken) records = drop-drop taken at records in
     record {
@@ -52,61 +62,58 @@ step-at records before after at taken meaning answer within means answers =
     }
 
 -- one more command is done
-pub progress-more : (records : List Record) (old mid new : Option (List ℕ)) (before after : History) (at taken : ℕ) (sofar outcome : Outcome) (meaning : Meaning) (answer : List Record)
-    → Progress records old mid before at sofar → taken ≤ length (drop at records) → Means (at + 1) (take taken (drop at records)) (drop taken (drop at records)) meaning
+pub progress-more : (records : List Record) (old mid new : Option (List ℕ)) (before after : History) (at taken : ℕ)
+    (sofar outcome : Outcome) (meaning : Meaning) (answer : List Record)
+    → Progress records old mid before at sofar → taken ≤ length (drop at records)
+    → Means (at + 1) (take taken (drop at records)) (drop taken (drop at records)) meaning
     → Answers before (at + 1) meaning answer after → Appends mid new (bytes_of answer)
-    → outcome.commands ≡ sofar.commands + 1 → outcome.errors ≡ sofar.errors + errors_in answer → Progress records old new after (at + taken) outcome
-progress-more records old mid new before after at taken sofar outcome meaning answer p within means answers writes commands errors =
+    → outcome.commands ≡ sofar.commands + 1 → outcome.errors ≡ sofar.errors + errors_in answer
+    → Progress records old new after (at + taken) outcome
+progress-more records old mid new before after at taken sofar outcome meaning answer p within means answers writes
+    commands errors =
     let next : Done = record { meaning = meaning; answer = answer } in
     let dones = p.dones in
     record {
       dones = dones ++ next ∷ [];
-      steps = steps-more (start_of records) (place_at records before at) (place_at records after (at + taken)) dones next p.steps (step-at records before after at taken meaning answer within means answers);
+      steps = steps-more (start_of records) (place_at records before at)
+          (place_at records after (at + taken)) dones next p.steps
+          (step-at records before after at taken meaning answer within means answers);
       written = subst (Appends old new) (sym (output-more dones next)) (Appends-trans old mid new _ _ p.written writes);
       tells = record {
         commands = omega (arith, length-append dones (next ∷ []), p.tells.commands, commands);
-        errors = omega (arith, sum_by-append (λ (done : Done). errors_in done.answer) dones (next ∷ []), p.tells.errors, errors);
+        errors = omega
+            (arith, sum_by-append (λ (done : Done). errors_in done.answer) dones (next ∷ []), p.tells.errors, errors);
       };
     }
 
 -- the answers to the commands before this index were written, and there are more
-pub progress-begun : (records : List Record) (old now : Option (List ℕ)) (history : History) (at : ℕ) (outcome : Outcome) → at < length records → Progress records old now history at outcome → WritesBegun records old now
-progress-begun records old now history at outcome below p = record {
-  dones = p.dones;
-  place = place_at records history at;
-  steps = p.steps;
-  more = omega (arith, length-drop at records);
-  written = p.written;
-}
-
--- a front of the next command's answer was written
-pub progress-part : (records : List Record) (old mid new : Option (List ℕ)) (before after : History) (at taken : ℕ) (sofar : Outcome) (meaning : Meaning) (answer : List Record) (size : ℕ)
-    → Progress records old mid before at sofar → taken ≤ length (drop at records) → Means (at + 1) (take taken (drop at records)) (drop taken (drop at records)) meaning
-    → Answers before (at + 1) meaning answer after → size < length (bytes_of answer) → Appends mid new (take size (bytes_of answer)) → WritesPart records old new
-progress-part records old mid new before after at taken sofar meaning answer size p within means answers short writes = record {
-  dones = p.dones;
-  place = place_at records before at;
-  steps = p.steps;
-  next = record { meaning = meaning; answer = answer };
-  after = place_at records after (at + taken);
-  step = step-at records before after at taken meaning answer within means answers;
-  size = size;
-  short = short;
-  written = Appends-trans old mid new _ _ p.written writes;
-}
+pub progress-begun : (records : List Record) (before now : Sink) (history : History) (at : ℕ) (outcome : Outcome)
+    → at < length records → Progress records before.written now.written history at outcome
+    → Answering WritesBefore records before now
+progress-begun records before now history at outcome below p =
+    writes_before records before now p.dones (place_at records history at) p.steps
+    (omega (arith, length-drop at records)) p.written
 
 -- why the writing of a command's answer stopped
-pub progress-stopped : (records : List Record) (old mid new : Option (List ℕ)) (before after : History) (at taken : ℕ) (sofar : Outcome) (meaning : Meaning) (answer : List Record) (first second third : ℕ) (fault : RunFault)
-    → Progress records old mid before at sofar → taken ≤ length (drop at records) → Means (at + 1) (take taken (drop at records)) (drop taken (drop at records)) meaning
-    → Answers before (at + 1) meaning answer after → 0 < length (drop at records) → first ≤ second → ExplainsWriting mid new second third (bytes_of answer) fault → ExplainsAnswering records old new first third fault
-progress-stopped records old mid new before after at taken sofar meaning answer first second third ReadFault p within means answers more le why = why
-progress-stopped records old mid new before after at taken sofar meaning answer first second third TooLong p within means answers more le why = why
-progress-stopped records old mid new before after at taken sofar meaning answer first second third NoMemory p within means answers more le why = record {
-  dones = p.dones;
-  place = place_at records before at;
-  steps = p.steps;
-  more = more;
-  written = Appends-kept old mid new (output_of p.dones) p.written why;
-}
-progress-stopped records old mid new before after at taken sofar meaning answer first second third WriteFault p within means answers more le (grown, size, short, writes) =
-    (progress-part records old mid new before after at taken sofar meaning answer size p within means answers short writes, omega (arith, grown))
+pub progress-stopped : (records : List Record) (old mid new : Sink) (before after : History) (at taken : ℕ)
+    (sofar : Outcome) (meaning : Meaning) (answer : List Record) (fault : RunFault)
+    → Progress records old.written mid.written before at sofar → taken ≤ length (drop at records)
+    → Means (at + 1) (take taken (drop at records)) (drop taken (drop at records)) meaning
+    → Answers before (at + 1) meaning answer after → 0 < length (drop at records) → old.failures ≤ mid.failures
+    → ExplainsWriting (bytes_of answer) mid new fault → ExplainsAnswering records old new fault
+progress-stopped records old mid new before after at taken sofar meaning answer ReadFault p within means answers
+    more le why = why
+progress-stopped records old mid new before after at taken sofar meaning answer TooLong p within means answers
+    more le why = why
+progress-stopped records old mid new before after at taken sofar meaning answer NoMemory p within means answers
+    more le why =
+    writes_before records old new p.dones (place_at records before at) p.steps more
+    (Appends-kept old.written mid.written new.written (output_of p.dones) p.written why)
+progress-stopped records old mid new before after at taken sofar meaning answer WriteFault p within means answers
+    more le (grown, (size, short, writes)) = (
+      omega (arith, grown, le),
+      writes_within records old new p.dones (record { meaning = meaning; answer = answer }) (place_at records before at)
+          (place_at records after (at + taken)) size p.steps
+          (step-at records before after at taken meaning answer within means answers) short
+          (Appends-trans old.written mid.written new.written _ _ p.written writes),
+    )

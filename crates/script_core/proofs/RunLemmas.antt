@@ -1,93 +1,91 @@
 -- What a run writes of its script's output.
-use Rattle.std.proofs.Common.{◌≡◌, ℕ, ◌<◌, List, [], ◌∷◌, ◌++◌, Option, Some, None, Result, Ok, Err, length, take, drop, refl, sym, ap, ◌∙◌, subst, inl, inr, append_assoc, arith}
+use Rattle.std.proofs.Common.{◌≡◌, ℕ, ◌<◌, List, [], ◌∷◌, ◌++◌, Option, Some, None, Result, length, take, drop, refl, sym, ap, ◌∙◌, subst, inl, inr, append_assoc, arith}
 use Rattle.std.specs.Prelude.{IfErr, IfOk}
 use Rattle.std.specs.Io.KnownBytes.{Appends, Consumes, Keeps}
 use Rattle.std.proofs.KnownBytes.{Appends-kept, Appends-nil, Consumes-whole}
 use Rattle.std.proofs.Math.Seq.{take-append_seam}
+use Rattle.std.proofs.lemmas.Result.{IfErr-weaker, IfOk-weaker}
 use Rattle.std.proofs.lemmas.List.{take-append-drop}
 use Rattle.std.proofs.lemmas.List.Concat.{flat_map-append}
 use Rattle.command_core.specs.Records.{AreScriptRecords, Record}
-use Rattle.answer_core.specs.Records.{bytes_of}
-use Rattle.stream_core.specs.Count.{last_count}
-use Rattle.stream_core.specs.Faults.{HasGrown}
+use Rattle.answer_core.specs.RecordBytes.{bytes_of}
+use Rattle.stream_core.specs.Counted.{Sink, Source}
+use Rattle.stream_core.specs.FailureCount.{greatest_count}
 use Rattle.stream_core.specs.declared.fault.RunFault.{RunFault}
 use Rattle.stream_core.specs.declared.fault.RunFault.TheVariants.{ReadFault, TooLong, NoMemory, WriteFault}
-use Rattle.script_core.specs.Script.{AppendsFront, Done, ExplainsRun, IsOutput, ReadsScript, RunsAll, StopsAt, StopsBefore, StopsWithin, Tells, output_of}
-use Rattle.script_core.specs.Writing.{ExplainsAnswering, WritesAll}
+use Rattle.script_core.specs.Script.{AppendsFront, AreCommandsOf, Done, ExplainsRun, IsOutput, ReadsAnd, ReadsCommands, ReadsScript, RunsAll, Streams, Tells, WritesAll, WritesBefore, WritesWithin, output_of}
+use Rattle.script_core.specs.Writing.{Answering, AnswersAll, ExplainsAnswering}
 use Rattle.script_core.specs.declared.outcome.Outcome.{Outcome}
-use Rattle.script_core.proofs.FrontLemmas.{stops_before, stops_within}
-use Rattle.script_core.proofs.OutputUniqueness.{one_list_of_dones, one_outcome, one_output}
+use Rattle.script_core.proofs.OutputUniqueness.{one_list_of_dones, one_outcome}
 
 -- ---- the answers to the records that were read
 
-runs_all : (unread left old new : Option (List ℕ)) (script : List ℕ) (records : List Record) (outcome : Outcome)
-    → ReadsScript unread left script → AreScriptRecords script records → WritesAll records old new outcome
-    → RunsAll unread left old new outcome
-runs_all unread left old new script records outcome reads parsed w = record {
-  script = script;
-  output = output_of w.dones;
-  reads = reads;
-  is_output = record { records = records; parsed = parsed; dones = w.dones; finished = w.finished; is = refl };
-  written = w.written;
-  tells = w.tells;
-}
+-- the commands of the records are those of the script
+reads_and : (Writes : List Done → Sink → Sink → Type 0) (before after : Streams) (script : List ℕ)
+    (records : List Record) → ReadsScript before.reader after.reader script → AreScriptRecords script records
+    → Answering Writes records before.writer after.writer → ReadsAnd Writes before after
+reads_and Writes before after script records reads parsed (dones, finished, writes) =
+    let commands : AreCommandsOf script dones = record { records = records; parsed = parsed; finished = finished } in
+    (dones, record { script = script; reads = reads; commands = commands }, writes)
 
-grown : (before after : ℕ) → before < last_count → HasGrown before after → before < after
-grown before after room has = omega (arith, has)
+explains_run : (before after : Streams) (script : List ℕ) (records : List Record) (fault : RunFault)
+    → ReadsScript before.reader after.reader script → AreScriptRecords script records
+    → before.writer.failures < greatest_count → ExplainsAnswering records before.writer after.writer fault
+    → ExplainsRun before after fault
+explains_run before after script records ReadFault reads parsed room why = absurd why
+explains_run before after script records TooLong reads parsed room why = absurd why
+explains_run before after script records NoMemory reads parsed room why =
+    inr (reads_and WritesBefore before after script records reads parsed why)
+explains_run before after script records WriteFault reads parsed room why = (
+  omega (arith, room, why.0),
+  reads_and WritesWithin before after script records reads parsed why.1,
+)
 
-explains_run : (unread left old new : Option (List ℕ)) (script : List ℕ) (records : List Record) (a b c d : ℕ)
-    (fault : RunFault)
-    → ReadsScript unread left script → AreScriptRecords script records → c < last_count
-    → ExplainsAnswering records old new c d fault
-    → ExplainsRun unread left old new a b c d fault
-explains_run unread left old new script records a b c d ReadFault reads parsed room why = absurd why
-explains_run unread left old new script records a b c d TooLong reads parsed room why = absurd why
-explains_run unread left old new script records a b c d NoMemory reads parsed room why =
-    inr (stops_before unread left old new script records reads parsed why)
-explains_run unread left old new script records a b c d WriteFault reads parsed room why =
-    (grown c d room why.1, stops_within unread left old new script records reads parsed why.0)
+pub ok-run : (before after : Streams) (script : List ℕ) (records : List Record) (result : Result Outcome RunFault)
+    → ReadsScript before.reader after.reader script → AreScriptRecords script records
+    → IfOk result (AnswersAll records before.writer after.writer) → IfOk result (RunsAll before after)
+ok-run before after script records result reads parsed =
+    IfOk-weaker result (AnswersAll records before.writer after.writer) (RunsAll before after)
+    (λ outcome. reads_and (WritesAll outcome) before after script records reads parsed)
 
-pub ok-run : (unread left old new : Option (List ℕ)) (script : List ℕ) (records : List Record)
-    (result : Result Outcome RunFault)
-    → ReadsScript unread left script → AreScriptRecords script records → IfOk result (WritesAll records old new)
-    → IfOk result (RunsAll unread left old new)
-ok-run unread left old new script records (Ok outcome) reads parsed writes =
-    runs_all unread left old new script records outcome reads parsed writes
-ok-run unread left old new script records (Err fault) reads parsed writes = tt
-
-pub fault-run : (unread left old new : Option (List ℕ)) (script : List ℕ) (records : List Record) (a b c d : ℕ)
-    (result : Result Outcome RunFault)
-    → ReadsScript unread left script → AreScriptRecords script records → c < last_count
-    → IfErr result (ExplainsAnswering records old new c d)
-    → IfErr result (ExplainsRun unread left old new a b c d)
-fault-run unread left old new script records a b c d (Ok outcome) reads parsed room why = tt
-fault-run unread left old new script records a b c d (Err fault) reads parsed room why =
-    explains_run unread left old new script records a b c d fault reads parsed room why
+pub fault-run : (before after : Streams) (script : List ℕ) (records : List Record) (result : Result Outcome RunFault)
+    → ReadsScript before.reader after.reader script → AreScriptRecords script records
+    → before.writer.failures < greatest_count → IfErr result (ExplainsAnswering records before.writer after.writer)
+    → IfErr result (ExplainsRun before after)
+fault-run before after script records result reads parsed room =
+    IfErr-weaker result (ExplainsAnswering records before.writer after.writer) (ExplainsRun before after)
+    (λ fault. explains_run before after script records fault reads parsed room)
 
 -- ---- a script that the reader has
 
 -- what was read is what the reader had
-whole_script : (script : List ℕ) (unread left : Option (List ℕ)) (read : List ℕ) → unread ≡ Some script
-    → ReadsScript unread left read → read ≡ script
-whole_script script unread left read known reads =
-    let consumed : Consumes (Some script) left read = subst (λ bytes. Consumes bytes left read) known reads.read in
-    sym (Consumes-whole (Some script) left read (λ bytes. bytes ≡ read) consumed reads.end refl)
+whole_script : (script : List ℕ) (before after : Source) (read : List ℕ) → before.unread ≡ Some script
+    → ReadsScript before after read → read ≡ script
+whole_script script before after read known reads =
+    let consumed : Consumes (Some script) after.unread read =
+    subst (λ bytes. Consumes bytes after.unread read) known reads.read in
+    sym (Consumes-whole (Some script) after.unread read (λ bytes. bytes ≡ read) consumed reads.end refl)
 
-all-written : (unread left old new : Option (List ℕ)) (outcome : Outcome) (script output : List ℕ)
-    → RunsAll unread left old new outcome
-    → unread ≡ Some script → IsOutput script output → Appends old new output
-all-written unread left old new outcome script output r known o =
-    subst (Appends old new)
-    (one_output r.script script r.output output (whole_script script unread left r.script known r.reads) r.is_output o)
-    r.written
+-- its output is what the commands that were read answer
+output_is : (script output : List ℕ) (before after : Source) (dones : List Done) → before.unread ≡ Some script
+    → IsOutput script output → ReadsCommands before after dones → output ≡ output_of dones
+output_is script output before after dones known o r =
+    let same : r.script ≡ script = whole_script script before after r.script known r.reads in
+    o.is ∙ ap output_of (one_list_of_dones script r.script o.dones dones (sym same) o.commands r.commands)
 
-pub ok-written : (unread left old new : Option (List ℕ)) (result : Result Outcome RunFault)
-    → IfOk result (RunsAll unread left old new)
-    → (script output : List ℕ) → unread ≡ Some script → IsOutput script output
-    → IfOk result (λ _. Appends old new output)
-ok-written unread left old new (Ok outcome) runs script output known o =
-    all-written unread left old new outcome script output runs known o
-ok-written unread left old new (Err fault) runs script output known o = tt
+all-written : (before after : Streams) (outcome : Outcome) (script output : List ℕ) → RunsAll before after outcome
+    → before.reader.unread ≡ Some script → IsOutput script output
+    → Appends before.writer.written after.writer.written output
+all-written before after outcome script output (dones, r, w) known o =
+    subst (Appends before.writer.written after.writer.written)
+    (sym (output_is script output before.reader after.reader dones known o r)) w.written
+
+pub ok-written : (before after : Streams) (result : Result Outcome RunFault) → IfOk result (RunsAll before after)
+    → (script output : List ℕ) → before.reader.unread ≡ Some script → IsOutput script output
+    → IfOk result (λ _. Appends before.writer.written after.writer.written output)
+ok-written before after result runs script output known o =
+    IfOk-weaker result (RunsAll before after) (λ _. Appends before.writer.written after.writer.written output)
+    (λ outcome all. all-written before after outcome script output all known o) runs
 
 -- ---- fronts of it
 
@@ -99,16 +97,11 @@ front_at old new front rest bytes is written =
 kept-front : (old new : Option (List ℕ)) (bytes : List ℕ) → Keeps old new → AppendsFront old new bytes
 kept-front old new bytes kept = (0, Appends-kept old old new [] (Appends-nil old) kept)
 
--- the output of a script in which a run stopped, about the command where it did
-output_about : (unread left : Option (List ℕ)) (first : List Done) (next : Done) (script output : List ℕ)
-    (s : StopsAt unread left first next)
-    → unread ≡ Some script → IsOutput script output
-    → output ≡ output_of first ++ (bytes_of next.answer ++ output_of s.later)
-output_about unread left first next script output s known o =
-    let same : s.script ≡ script = whole_script script unread left s.script known s.reads in
-    sym (one_output s.script script s.output output same s.is_output o)
-    ∙ (s.is_output.is
-    ∙ (ap output_of s.commands ∙ flat_map-append (λ (done : Done). bytes_of done.answer) first (next ∷ s.later)))
+-- answers about one of them
+output_about : (dones first later : List Done) (next : Done) → dones ≡ first ++ next ∷ later
+    → output_of dones ≡ output_of first ++ (bytes_of next.answer ++ output_of later)
+output_about dones first later next commands =
+    ap output_of commands ∙ flat_map-append (λ (done : Done). bytes_of done.answer) first (next ∷ later)
 
 split_at : (front bytes rest : List ℕ) (size : ℕ)
     → front ++ (bytes ++ rest) ≡ (front ++ take size bytes) ++ (drop size bytes ++ rest)
@@ -117,39 +110,47 @@ split_at front bytes rest size =
     ∙ (ap (λ l. front ++ l) (append_assoc (take size bytes) (drop size bytes) rest)
     ∙ sym (append_assoc front (take size bytes) (drop size bytes ++ rest)))
 
-before-front : (unread left old new : Option (List ℕ)) (script output : List ℕ) → StopsBefore unread left old new
-    → unread ≡ Some script → IsOutput script output → AppendsFront old new output
-before-front unread left old new script output r known o =
-    front_at old new (output_of r.first) (bytes_of r.next.answer ++ output_of r.stops.later) output
-    (output_about unread left r.first r.next script output r.stops known o) r.written
+before-front : (before after : Streams) (script output : List ℕ) → ReadsAnd WritesBefore before after
+    → before.reader.unread ≡ Some script → IsOutput script output
+    → AppendsFront before.writer.written after.writer.written output
+before-front before after script output (dones, r, w) known o =
+    front_at before.writer.written after.writer.written (output_of w.first)
+    (bytes_of w.next.answer ++ output_of w.later) output
+    (output_is script output before.reader after.reader dones known o r
+    ∙ output_about dones w.first w.later w.next w.commands)
+    w.written
 
-within-front : (unread left old new : Option (List ℕ)) (script output : List ℕ) → StopsWithin unread left old new
-    → unread ≡ Some script → IsOutput script output → AppendsFront old new output
-within-front unread left old new script output r known o =
-    front_at old new (output_of r.first ++ take r.size (bytes_of r.next.answer))
-    (drop r.size (bytes_of r.next.answer) ++ output_of r.stops.later) output
-    (output_about unread left r.first r.next script output r.stops known o
-    ∙ split_at (output_of r.first) (bytes_of r.next.answer) (output_of r.stops.later) r.size)
-    r.written
+within-front : (before after : Streams) (script output : List ℕ) → ReadsAnd WritesWithin before after
+    → before.reader.unread ≡ Some script → IsOutput script output
+    → AppendsFront before.writer.written after.writer.written output
+within-front before after script output (dones, r, w) known o =
+    front_at before.writer.written after.writer.written (output_of w.first ++ take w.size (bytes_of w.next.answer))
+    (drop w.size (bytes_of w.next.answer) ++ output_of w.later) output
+    (output_is script output before.reader after.reader dones known o r
+    ∙ (output_about dones w.first w.later w.next w.commands
+    ∙ split_at (output_of w.first) (bytes_of w.next.answer) (output_of w.later) w.size))
+    w.written
 
-stopped-front : (unread left old new : Option (List ℕ)) (a b c d : ℕ) (fault : RunFault) (script output : List ℕ)
-    → ExplainsRun unread left old new a b c d fault
-    → unread ≡ Some script → IsOutput script output → AppendsFront old new output
-stopped-front unread left old new a b c d ReadFault script output why known o = kept-front old new output why.2
-stopped-front unread left old new a b c d TooLong script output why known o = kept-front old new output why.2
-stopped-front unread left old new a b c d NoMemory script output (inl kept) known o = kept-front old new output kept
-stopped-front unread left old new a b c d NoMemory script output (inr stops) known o =
-    before-front unread left old new script output stops known o
-stopped-front unread left old new a b c d WriteFault script output why known o =
-    within-front unread left old new script output why.1 known o
+stopped-front : (before after : Streams) (fault : RunFault) (script output : List ℕ) → ExplainsRun before after fault
+    → before.reader.unread ≡ Some script → IsOutput script output
+    → AppendsFront before.writer.written after.writer.written output
+stopped-front before after ReadFault script output why known o =
+    kept-front before.writer.written after.writer.written output why.1.1
+stopped-front before after TooLong script output why known o =
+    kept-front before.writer.written after.writer.written output why.1.1
+stopped-front before after NoMemory script output (inl kept) known o =
+    kept-front before.writer.written after.writer.written output kept
+stopped-front before after NoMemory script output (inr stops) known o =
+    before-front before after script output stops known o
+stopped-front before after WriteFault script output why known o =
+    within-front before after script output why.1 known o
 
-pub fault-front : (unread left old new : Option (List ℕ)) (a b c d : ℕ) (result : Result Outcome RunFault)
-    → IfErr result (ExplainsRun unread left old new a b c d)
-    → (script output : List ℕ) → unread ≡ Some script → IsOutput script output
-    → IfErr result (λ _. AppendsFront old new output)
-fault-front unread left old new a b c d (Ok outcome) why script output known o = tt
-fault-front unread left old new a b c d (Err fault) why script output known o =
-    stopped-front unread left old new a b c d fault script output why known o
+pub fault-front : (before after : Streams) (result : Result Outcome RunFault) → IfErr result (ExplainsRun before after)
+    → (script output : List ℕ) → before.reader.unread ≡ Some script → IsOutput script output
+    → IfErr result (λ _. AppendsFront before.writer.written after.writer.written output)
+fault-front before after result why script output known o =
+    IfErr-weaker result (ExplainsRun before after) (λ _. AppendsFront before.writer.written after.writer.written output)
+    (λ fault explained. stopped-front before after fault script output explained known o) why
 
 -- ---- two runs
 
@@ -159,16 +160,21 @@ one_written text bytes None other p q = absurd p
 one_written text bytes (Some x) None p q = absurd q
 one_written text bytes (Some x) (Some y) p q = ap Some (p ∙ sym q)
 
-pub one_run_of : (script text : List ℕ) (left rest one other : Option (List ℕ)) (outcome told : Outcome)
-    → RunsAll (Some script) left (Some text) one outcome → RunsAll (Some script) rest (Some text) other told
-    → (one ≡ other) × (outcome ≡ told)
-one_run_of script text left rest one other outcome told p q =
-    let same : p.script ≡ q.script =
-    whole_script script (Some script) left p.script refl p.reads ∙ sym
-    (whole_script script (Some script) rest q.script refl q.reads) in
-    let dones : p.is_output.dones ≡ q.is_output.dones =
-    one_list_of_dones p.script q.script p.output q.output same p.is_output q.is_output in
-    let output : p.output ≡ q.output = one_output p.script q.script p.output q.output same p.is_output q.is_output in (
-      one_written text q.output one other (subst (Appends (Some text) one) output p.written) q.written,
-      one_outcome q.is_output.dones outcome told (subst (Tells outcome) dones p.tells) q.tells,
+pub one_run_of : (script text : List ℕ) (one one_after other other_after : Streams) (outcome told : Outcome)
+    → one.reader.unread ≡ Some script → one.writer.written ≡ Some text
+    → other.reader.unread ≡ Some script → other.writer.written ≡ Some text
+    → RunsAll one one_after outcome → RunsAll other other_after told
+    → (one_after.writer.written ≡ other_after.writer.written) × (outcome ≡ told)
+one_run_of script text one one_after other other_after outcome told had given had' given' (ds, r, w) (es, s, v) =
+    let same : r.script ≡ s.script =
+    whole_script script one.reader one_after.reader r.script had r.reads
+    ∙ sym (whole_script script other.reader other_after.reader s.script had' s.reads) in
+    let dones : ds ≡ es = one_list_of_dones r.script s.script ds es same r.commands s.commands in
+    let first : Appends (Some text) one_after.writer.written (output_of es) =
+    subst (λ old. Appends old one_after.writer.written (output_of es)) given
+    (subst (λ cs. Appends one.writer.written one_after.writer.written (output_of cs)) dones w.written) in
+    let second : Appends (Some text) other_after.writer.written (output_of es) =
+    subst (λ old. Appends old other_after.writer.written (output_of es)) given' v.written in (
+      one_written text (output_of es) one_after.writer.written other_after.writer.written first second,
+      one_outcome es outcome told (subst (Tells outcome) dones w.tells) v.tells,
     )

@@ -1,6 +1,6 @@
 pub mod Answer
 pub mod Failure
-pub mod Given
+pub mod Performing
 pub mod Refusal
 pub mod Script
 pub mod State

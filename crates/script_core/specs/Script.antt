@@ -1,15 +1,17 @@
 -- The output of a script: what its commands answer, one after another.
 use Rattle.std.specs.Prelude.{ℕ, ◌+◌, ◌≡◌, ◌≤◌, ◌<◌, ◌⊎◌, List, [], ◌∷◌, ◌++◌, Option, length, take, flat_map, sum_by}
 use Rattle.std.specs.Io.KnownBytes.{Appends, Consumes, IsAtEnd, Keeps}
-use Rattle.command_core.specs.Records.{Record, AreScriptRecords}
-use Rattle.answer_core.specs.Records.{bytes_of}
-use Rattle.answer_core.specs.Records.{errors_in}
-use Rattle.command_core.specs.Meaning.{Meaning, Means}
-use Rattle.script_core.specs.Answer.{Answers}
 use Rattle.book_core.specs.History.{History}
+use Rattle.command_core.specs.Meaning.{Meaning, Means}
+use Rattle.command_core.specs.Records.{AreScriptRecords, Record}
+use Rattle.stream_core.specs.Counted.{Sink, Source, sink_of, source_of}
 use Rattle.stream_core.specs.Faults.{HasReadTooMuch, script_limit}
+use Rattle.stream_core.specs.declared.counted.Counted.{Counted}
 use Rattle.stream_core.specs.declared.fault.RunFault.{RunFault}
 use Rattle.stream_core.specs.declared.fault.RunFault.TheVariants.{ReadFault, TooLong, NoMemory, WriteFault}
+use Rattle.answer_core.specs.PrintedRecords.{errors_in}
+use Rattle.answer_core.specs.RecordBytes.{bytes_of}
+use Rattle.script_core.specs.Answer.{Answers}
 use Rattle.script_core.specs.declared.outcome.Outcome.{Outcome}
 
 -- where a script stands: the book's history, the number of its next record, and the records that are left
@@ -18,6 +20,7 @@ pub record Place : Type 0 where
   pub number : ℕ
   pub left : List Record
 
+-- before the first command: no change was made, and all records are left
 abbrev pub start_of : List Record → Place
 start_of records = record { history = []; number = 1; left = records }
 
@@ -49,12 +52,16 @@ pub record Finished (records : List Record) (dones : List Done) : Type 0 where
   pub steps : Steps (start_of records) dones place
   pub over : place.left ≡ []
 
--- these bytes are the output of a script: the answers to all its commands, one after another
-pub record IsOutput (script output : List ℕ) : Type 0 where
+-- these are the commands of a script, one after another, and their answers
+pub record AreCommandsOf (script : List ℕ) (dones : List Done) : Type 0 where
   pub records : List Record
   pub parsed : AreScriptRecords script records
-  pub dones : List Done
   pub finished : Finished records dones
+
+-- these bytes are the output of a script: the answers to all its commands, one after another
+pub record IsOutput (script output : List ℕ) : Type 0 where
+  pub dones : List Done
+  pub commands : AreCommandsOf script dones
   pub is : output ≡ output_of dones
 
 -- the numbers that a run tells
@@ -66,54 +73,73 @@ pub record Tells (outcome : Outcome) (dones : List Done) : Type 0 where
 abbrev pub AppendsFront : Option (List ℕ) → Option (List ℕ) → List ℕ → Type 0
 AppendsFront old new bytes = (size : ℕ) × Appends old new (take size bytes)
 
+-- ---- runs
+
+-- the reader and the writer of a run at one moment
+pub record Streams : Type 0 where
+  pub reader : Source
+  pub writer : Sink
+
+-- a counted reader and writer at this moment
+abbrev pub streams_of : {R W : Type 0}
+    → (R → Option (List ℕ)) → Counted R → (W → Option (List ℕ)) → Counted W → Streams
+streams_of remaining reader contents writer =
+    record { reader = source_of remaining reader; writer = sink_of contents writer }
+
 -- a reader gave these bytes, to its end and within the limit
-pub record ReadsScript (unread left : Option (List ℕ)) (script : List ℕ) : Type 0 where
-  pub read : Consumes unread left script
-  pub end : IsAtEnd left
+pub record ReadsScript (before after : Source) (script : List ℕ) : Type 0 where
+  pub read : Consumes before.unread after.unread script
+  pub end : IsAtEnd after.unread
   pub within : length script ≤ script_limit
 
--- a script was read, and its output written, whole and nothing else; the numbers told are those of its
--- commands
-pub record RunsAll (unread left old new : Option (List ℕ)) (outcome : Outcome) : Type 0 where
+-- a reader gave a script, and these are its commands
+pub record ReadsCommands (before after : Source) (dones : List Done) : Type 0 where
   pub script : List ℕ
-  pub output : List ℕ
-  pub reads : ReadsScript unread left script
-  pub is_output : IsOutput script output
-  pub written : Appends old new output
-  pub tells : Tells outcome is_output.dones
+  pub reads : ReadsScript before after script
+  pub commands : AreCommandsOf script dones
 
--- a script was read, and this is one of its commands, behind these first ones
-pub record StopsAt (unread left : Option (List ℕ)) (first : List Done) (next : Done) : Type 0 where
-  pub script : List ℕ
-  pub output : List ℕ
-  pub reads : ReadsScript unread left script
-  pub is_output : IsOutput script output
-  pub later : List Done
-  pub commands : is_output.dones ≡ first ++ next ∷ later
+-- a writer was given the answers to these commands, and nothing else; the numbers told are theirs
+pub record WritesAll (outcome : Outcome) (dones : List Done) (before after : Sink) : Type 0 where
+  pub written : Appends before.written after.written (output_of dones)
+  pub tells : Tells outcome dones
 
--- the answers to all commands before one were written
-pub record StopsBefore (unread left old new : Option (List ℕ)) : Type 0 where
+-- a writer was given the answers to all commands before one of these
+pub record WritesBefore (dones : List Done) (before after : Sink) : Type 0 where
   pub first : List Done
   pub next : Done
-  pub stops : StopsAt unread left first next
-  pub written : Appends old new (output_of first)
+  pub later : List Done
+  pub commands : dones ≡ first ++ next ∷ later
+  pub written : Appends before.written after.written (output_of first)
 
 -- those, and a front of that command's own answer, never all of it
-pub record StopsWithin (unread left old new : Option (List ℕ)) : Type 0 where
+pub record WritesWithin (dones : List Done) (before after : Sink) : Type 0 where
   pub first : List Done
   pub next : Done
-  pub stops : StopsAt unread left first next
+  pub later : List Done
+  pub commands : dones ≡ first ++ next ∷ later
   pub size : ℕ
   pub short : size < length (bytes_of next.answer)
-  pub written : Appends old new (output_of first ++ take size (bytes_of next.answer))
+  pub written : Appends before.written after.written (output_of first ++ take size (bytes_of next.answer))
+
+-- a script was read, and this of what its commands answer was written
+abbrev pub ReadsAnd : (List Done → Sink → Sink → Type 0) → Streams → Streams → Type 0
+ReadsAnd Writes before after =
+    (dones : List Done) × ReadsCommands before.reader after.reader dones × Writes dones before.writer after.writer
+
+-- a script was read, and its output written; the numbers told are those of its commands
+abbrev pub RunsAll : Streams → Streams → Outcome → Type 0
+RunsAll before after outcome = ReadsAnd (WritesAll outcome) before after
+
+-- nothing was written, and no write failed
+abbrev pub IsUntouched : Sink → Sink → Type 0
+IsUntouched before after = (after.failures ≡ before.failures) × Keeps before.written after.written
 
 -- why a run stopped, and what it wrote; memory may be refused before the script is read
-abbrev pub ExplainsRun : Option (List ℕ) → Option (List ℕ) → Option (List ℕ) → Option (List ℕ) → ℕ → ℕ → ℕ → ℕ → RunFault → Type 0
-ExplainsRun unread left old new reads_before reads_after writes_before writes_after ReadFault =
-    (reads_before < reads_after) × (writes_after ≡ writes_before) × Keeps old new
-ExplainsRun unread left old new reads_before reads_after writes_before writes_after TooLong =
-    HasReadTooMuch unread left × (writes_after ≡ writes_before) × Keeps old new
-ExplainsRun unread left old new reads_before reads_after writes_before writes_after NoMemory =
-    Keeps old new ⊎ StopsBefore unread left old new
-ExplainsRun unread left old new reads_before reads_after writes_before writes_after WriteFault =
-    (writes_before < writes_after) × StopsWithin unread left old new
+abbrev pub ExplainsRun : Streams → Streams → RunFault → Type 0
+ExplainsRun before after ReadFault =
+    (before.reader.failures < after.reader.failures) × IsUntouched before.writer after.writer
+ExplainsRun before after TooLong = HasReadTooMuch before.reader after.reader × IsUntouched before.writer after.writer
+ExplainsRun before after NoMemory =
+    Keeps before.writer.written after.writer.written ⊎ ReadsAnd WritesBefore before after
+ExplainsRun before after WriteFault =
+    (before.writer.failures < after.writer.failures) × ReadsAnd WritesWithin before after

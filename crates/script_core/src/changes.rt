@@ -1,6 +1,6 @@
 //! The changes that commands ask for.
 ghost use Rattle.std.specs.Prelude.{◌≡◌, ◌+◌, ◌<◌, ◌^◌, length};
-ghost use Rattle.script_core.specs.Given.{Changes};
+ghost use Rattle.script_core.specs.Performing.{Changes};
 ghost use Rattle.command_core.specs.Lines.{lines_in};
 ghost use Rattle.command_core.specs.PairsIn.{pairs_in};
 ghost use Rattle.script_core.specs.State.{change_in, delete_in, load_in, make_in, update_in};
@@ -68,7 +68,9 @@ pub(crate) fn update(
     sets: TextPairs<'_>,
     conds: TextPairs<'_>,
 ) -> Result<Answer, Failure>
-    ensures { Changes (update_in number book.old table portion (pairs_in sets.entry) (pairs_in conds.entry)) book.old book.new result }
+    ensures { Changes
+        (update_in number book.old table portion (pairs_in sets.entry) (pairs_in conds.entry))
+        book.old book.new result }
 {
     let Ok(schema) = book.schema(table) else {
         return Err(refused(number, Refusal::NoTable));

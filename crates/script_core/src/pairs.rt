@@ -11,7 +11,7 @@ use row_core::{Name, Schema, Value};
 use std::alloc::Global;
 
 /// The value that a text is in the column of that name.
-fn read_value(
+fn value_named(
     alloc: Global,
     schema: &Schema,
     number: u64,
@@ -45,7 +45,7 @@ pub(crate) fn read_pairs(
     let mut pairs = Pairs::new(alloc);
     for place in 0..texts.len() {
         if let Some(pair) = texts.get(place) {
-            let value = read_value(alloc, schema, number, pair.0, pair.1)?;
+            let value = value_named(alloc, schema, number, pair.0, pair.1)?;
             pairs.push((pair.0, value))?;
         }
     }

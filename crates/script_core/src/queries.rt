@@ -6,7 +6,8 @@ ghost use Rattle.command_core.specs.Lines.{lines_in};
 ghost use Rattle.query_core.specs.Query.{items_of};
 ghost use Rattle.row_core.specs.Rows.{IdsRise};
 ghost use Rattle.row_core.specs.Schema.{fits};
-ghost use Rattle.script_core.specs.Given.{Gives, IsDivided, IsVerdictOn, IsVersions};
+ghost use Rattle.script_core.specs.Answer.{IsDipOf, IsVerdictOn, IsVersions};
+ghost use Rattle.script_core.specs.Performing.{Gives};
 ghost use Rattle.script_core.specs.declared.failure.Failure.TheVariants.{NoMemory};
 ghost use Rattle.script_core.specs.State.{claim_of, rows_on, rows_told, versions_told};
 ghost use Rattle.answer_core.specs.declared.answer.Answer.TheVariants.{Log, Rows};
@@ -24,7 +25,7 @@ use std::alloc::Global;
 
 /// A table's columns, and its rows that a commit shows, the newest where none is told, which the command
 /// of this number asks for.
-fn read_table<'a>(
+fn shown_table<'a>(
     book: &'a Book,
     number: u64,
     table: Name,
@@ -54,7 +55,7 @@ pub(crate) fn rows(
 ) -> Result<Answer, Failure>
     ensures { Gives (rows_told number book.now asof table) (λ rows answer. answer ≡ Rows rows) result }
 {
-    let (_, rows) = read_table(book, number, table, asof)?;
+    let (_, rows) = shown_table(book, number, table, asof)?;
     Ok(Answer::Rows(rows))
 }
 
@@ -69,7 +70,7 @@ pub(crate) fn rows_on(
 ) -> Result<Answer, Failure>
     ensures { Gives (rows_told number book.now asof table) (λ rows answer. answer ≡ Rows (rows_on point rows)) result }
 {
-    let (schema, rows) = read_table(book, number, table, asof)?;
+    let (schema, rows) = shown_table(book, number, table, asof)?;
     let side = Side {
         schema,
         rows: &rows,
@@ -85,9 +86,9 @@ pub(crate) fn divide(
     table: Name,
     asof: Option<u64>,
 ) -> Result<Answer, Failure>
-    ensures { Gives (rows_told number book.now asof table) (λ rows answer. IsDivided (items_of rows) answer) result }
+    ensures { Gives (rows_told number book.now asof table) (λ rows answer. IsDipOf (items_of rows) answer) result }
 {
-    let (schema, rows) = read_table(book, number, table, asof)?;
+    let (schema, rows) = shown_table(book, number, table, asof)?;
     let side = Side {
         schema,
         rows: &rows,
@@ -113,7 +114,7 @@ pub(crate) fn check(
     ensures { Gives (both (rows_told number book.now asof table) (claim_of (number + 1) (lines_in body.entry)))
         (λ read answer. IsVerdictOn (items_of read.0) read.1 certificate answer) result }
 {
-    let (_, rows) = read_table(book, number, table, asof)?;
+    let (_, rows) = shown_table(book, number, table, asof)?;
     let claim = read_claim(alloc, body, number + 1)?;
     let items = items(alloc, &rows)?;
     Ok(Answer::Verdict(check_division(alloc, &items, &claim, &certificate)?))

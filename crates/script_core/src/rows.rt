@@ -24,7 +24,9 @@ fn fields_behind<'a>(alloc: Global, line: Line<'a>) -> Result<Vec<&'a [u8]>, All
 
 /// The row that a record of a load gives, whose number is this one.
 fn row_of(alloc: Global, schema: &Schema, line: Line<'_>, number: u64) -> Result<Draft, Failure>
-    ensures { MatchResult result (λ row. row_of schema.now (fields_in line.entry) ≡ Ok row) (IsRecordFailure number (row_of schema.now (fields_in line.entry))) }
+    ensures { MatchResult result
+        (λ row. row_of schema.now (fields_in line.entry) ≡ Ok row)
+        (IsRecordFailure number (row_of schema.now (fields_in line.entry))) }
 {
     if !begins(line, b"row") {
         return Err(refused(number, Refusal::BadCommand));
@@ -43,7 +45,9 @@ pub(crate) fn rows_of(
     number: u64,
 ) -> Result<Drafts, Failure>
     requires { number + length (lines_in lines) < 2 ^ 64 }
-    ensures { MatchResult result (λ rows. rows_of schema.now number (lines_in lines.entry) ≡ Ok rows) (IsFailureOf (rows_of schema.now number (lines_in lines.entry))) }
+    ensures { MatchResult result
+        (λ rows. rows_of schema.now number (lines_in lines.entry) ≡ Ok rows)
+        (IsFailureOf (rows_of schema.now number (lines_in lines.entry))) }
 {
     let mut rows = Drafts::new(alloc);
     for place in 0..lines.len() {

@@ -2,13 +2,14 @@
 ghost use Rattle.std.specs.Prelude.{◌≡◌, ℕ, ◌+◌, ◌≤◌, ◌<◌, ◌^◌, List, [], IfErr, IfOk, Some};
 ghost use Rattle.std.specs.Io.KnownBytes.{Appends};
 ghost use Rattle.command_core.specs.Command.{meaning_of};
-ghost use Rattle.stream_core.specs.Count.{last_count};
-ghost use Rattle.stream_core.specs.Counted.{failures_of, inner_of};
+ghost use Rattle.stream_core.specs.Counted.{failures_of, inner_of, sink_of};
+ghost use Rattle.stream_core.specs.FailureCount.{greatest_count};
 ghost use Rattle.stream_core.specs.Faults.{last_failures};
 ghost use Rattle.command_core.specs.Meaning.{behind_length};
-ghost use Rattle.script_core.specs.Given.{Answered, IsAnswer, Printed};
-ghost use Rattle.script_core.specs.Script.{AppendsFront, ExplainsRun, IsOutput, RunsAll};
-ghost use Rattle.script_core.specs.Writing.{ExplainsAnswering, WritesAll};
+ghost use Rattle.script_core.specs.Answer.{Answers, IsAnswer};
+ghost use Rattle.script_core.specs.Performing.{Performs, Prints};
+ghost use Rattle.script_core.specs.Script.{AppendsFront, ExplainsRun, IsOutput, RunsAll, streams_of};
+ghost use Rattle.script_core.specs.Writing.{AnswersAll, ExplainsAnswering};
 
 use crate::changes::{delete, load, make, update};
 use crate::failure::Failure;
@@ -31,7 +32,7 @@ fn perform(
     command: Command<'_>,
 ) -> Result<Answer, Failure>
     requires { number + behind_length (meaning_of command) < 2 ^ 64 }
-    ensures { Answered book.old number (meaning_of command.entry) result book.new }
+    ensures { Performs book.old number (meaning_of command.entry) result book.new }
 {
     match command {
         Command::Refused(fault) => Ok(Answer::Refused(fault)),
@@ -95,7 +96,9 @@ fn answer_command(
 ) -> Result<u64, NoMemory>
     requires numbers { number + behind_length (meaning_of command) < 2 ^ 64 }
     requires begins { printer.old.fields ≡ [] }
-    ensures printed { IfOk result (Printed book.old number (meaning_of command.entry) book.new printer.old printer.new) }
+    ensures printed { IfOk result
+        (Prints (λ records. Answers book.old number (meaning_of command.entry) records book.new)
+        printer.old printer.new) }
     ensures few { IfOk result (λ errors. errors ≤ 1) }
 {
     let answer = answer(alloc, book, number, command)?;
@@ -110,10 +113,12 @@ fn answer_all<W: Write>(
     writer: &mut Counted<W>,
     patience: &mut Patience,
 ) -> Result<Outcome, RunFault>
-    ensures ok { IfOk result (WritesAll records.now (W.contents (inner_of writer.old)) (W.contents (inner_of writer.new))) }
-    ensures fault { IfErr result (ExplainsAnswering records.now (W.contents (inner_of writer.old)) (W.contents (inner_of writer.new)) (failures_of writer.old) (failures_of writer.new)) }
+    ensures ok { IfOk result (AnswersAll records.now (sink_of W.contents writer.old) (sink_of W.contents writer.new)) }
+    ensures fault { IfErr result
+        (ExplainsAnswering records.now (sink_of W.contents writer.old) (sink_of W.contents writer.new)) }
     ensures counts { failures_of writer.old ≤ failures_of writer.new }
-    ensures tries { failures_of writer.new + patience.new.left ≤ failures_of writer.old + patience.old.left + last_failures result }
+    ensures tries { failures_of writer.new + patience.new.left
+        ≤ failures_of writer.old + patience.old.left + last_failures result }
 {
     let lines = Lines::all(records);
     let mut book = Book::new(alloc);
@@ -155,8 +160,8 @@ pub fn run<R: Read, W: Write>(
 ) -> Result<Outcome, RunFault>
     requires some_workers { 0 < workers }
     requires few_workers { workers ≤ 64 }
-    requires reads { failures_of reader.old < last_count }
-    requires writes { failures_of writer.old < last_count }
+    requires reads { failures_of reader.old < greatest_count }
+    requires writes { failures_of writer.old < greatest_count }
 
     // Of the script that the reader has, Ok wrote the output, whole and nothing else, and a fault left a front of it.
     ensures written { (script output : List ℕ)
@@ -164,22 +169,22 @@ pub fn run<R: Read, W: Write>(
         → IfOk result (λ _. Appends (W.contents (inner_of writer.old)) (W.contents (inner_of writer.new)) output) }
     ensures front { (script output : List ℕ)
         → R.remaining (inner_of reader.old) ≡ Some script → IsOutput script output
-        → IfErr result (λ _. AppendsFront (W.contents (inner_of writer.old)) (W.contents (inner_of writer.new)) output) }
+        → IfErr result (λ _.
+        AppendsFront (W.contents (inner_of writer.old)) (W.contents (inner_of writer.new)) output) }
 
     // Ok read a script to its end, wrote its output, and tells how many commands and errors there are in it.
     ensures ok { IfOk result (RunsAll
-        (R.remaining (inner_of reader.old)) (R.remaining (inner_of reader.new))
-        (W.contents (inner_of writer.old)) (W.contents (inner_of writer.new))) }
+        (streams_of R.remaining reader.old W.contents writer.old)
+        (streams_of R.remaining reader.new W.contents writer.new)) }
 
     // What each fault says of its cause, and what it leaves: nothing, whole answers, or those and a front of the next.
     ensures fault { IfErr result (ExplainsRun
-        (R.remaining (inner_of reader.old)) (R.remaining (inner_of reader.new))
-        (W.contents (inner_of writer.old)) (W.contents (inner_of writer.new))
-        (failures_of reader.old) (failures_of reader.new)
-        (failures_of writer.old) (failures_of writer.new)) }
+        (streams_of R.remaining reader.old W.contents writer.old)
+        (streams_of R.remaining reader.new W.contents writer.new)) }
 
     // Neither count falls.
-    ensures counts { (failures_of reader.old ≤ failures_of reader.new) × (failures_of writer.old ≤ failures_of writer.new) }
+    ensures counts { (failures_of reader.old ≤ failures_of reader.new)
+        × (failures_of writer.old ≤ failures_of writer.new) }
 
     // A failed call is tried again at most 1,000 times in a run, and only the one that ends it isn't.
     ensures tries { failures_of reader.new + failures_of writer.new

@@ -1,7 +1,8 @@
--- What each fault of a run says of its reader and its writer.
-use Rattle.std.specs.Prelude.{ℕ, ◌<◌, ◌≤◌, true, List, Option, Result, Ok, Err, length, take, ⊤}
+-- What each fault of a run says of its reader and its writer, before and after.
+use Rattle.std.specs.Prelude.{ℕ, ◌<◌, List, Result, Ok, Err, length, take, ⊤}
 use Rattle.std.specs.Io.KnownBytes.{Appends, Consumes, Keeps}
-use Rattle.stream_core.specs.Count.{count_after}
+use Rattle.stream_core.specs.Counted.{Sink, Source}
+use Rattle.stream_core.specs.FailureCount.{HasGrown}
 use Rattle.stream_core.specs.declared.fault.RunFault.{RunFault}
 use Rattle.stream_core.specs.declared.fault.RunFault.TheVariants.{ReadFault, TooLong, NoMemory, WriteFault}
 
@@ -10,12 +11,14 @@ abbrev pub script_limit : ℕ
 script_limit = 67_108_864
 
 -- more bytes than a script may have were read
-abbrev pub HasReadTooMuch : Option (List ℕ) → Option (List ℕ) → Type 0
-HasReadTooMuch old new = (bytes : List ℕ) × Consumes old new bytes × (script_limit < length bytes)
+abbrev pub HasReadTooMuch : Source → Source → Type 0
+HasReadTooMuch before after =
+    (bytes : List ℕ) × Consumes before.unread after.unread bytes × (script_limit < length bytes)
 
--- the count has grown by one at least, unless it is at its end
-abbrev pub HasGrown : ℕ → ℕ → Type 0
-HasGrown old new = count_after old true ≤ new
+-- some of these bytes were written, from the first on, but never all
+abbrev pub WritesPartOf : List ℕ → Sink → Sink → Type 0
+WritesPartOf bytes before after =
+    (taken : ℕ) × (taken < length bytes) × Appends before.written after.written (take taken bytes)
 
 -- how many failed calls end a run, beside those that were tried again
 abbrev pub last_failures : {T : Type 0} → Result T RunFault → ℕ
@@ -26,15 +29,16 @@ last_failures (Err NoMemory) = 0
 last_failures (Err WriteFault) = 1
 
 -- why the reading of a script stopped
-abbrev pub ExplainsReading : Option (List ℕ) → Option (List ℕ) → ℕ → ℕ → RunFault → Type 0
-ExplainsReading old new before after ReadFault = HasGrown before after
-ExplainsReading old new before after TooLong = HasReadTooMuch old new
-ExplainsReading old new before after NoMemory = ⊤
-ExplainsReading old new before after WriteFault = ⊥
+abbrev pub ExplainsReading : Source → Source → RunFault → Type 0
+ExplainsReading before after ReadFault = HasGrown before.failures after.failures
+ExplainsReading before after TooLong = HasReadTooMuch before after
+ExplainsReading before after NoMemory = ⊤
+ExplainsReading before after WriteFault = ⊥
 
 -- why the writing of some bytes stopped: memory, before any of them, or a write, before the last of them
-abbrev pub ExplainsWriting : Option (List ℕ) → Option (List ℕ) → ℕ → ℕ → List ℕ → RunFault → Type 0
-ExplainsWriting old new before after bytes ReadFault = ⊥
-ExplainsWriting old new before after bytes TooLong = ⊥
-ExplainsWriting old new before after bytes NoMemory = Keeps old new
-ExplainsWriting old new before after bytes WriteFault = HasGrown before after × (taken : ℕ) × (taken < length bytes) × Appends old new (take taken bytes)
+abbrev pub ExplainsWriting : List ℕ → Sink → Sink → RunFault → Type 0
+ExplainsWriting bytes before after ReadFault = ⊥
+ExplainsWriting bytes before after TooLong = ⊥
+ExplainsWriting bytes before after NoMemory = Keeps before.written after.written
+ExplainsWriting bytes before after WriteFault =
+    HasGrown before.failures after.failures × WritesPartOf bytes before after

@@ -1,3 +1,3 @@
-pub mod Count
 pub mod Counted
+pub mod FailureCount
 pub mod Faults

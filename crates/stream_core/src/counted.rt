@@ -3,7 +3,7 @@ ghost use Rattle.std.specs.Prelude.{◌≡◌, ◌≤◌};
 ghost use Rattle.std.specs.Result.{is_err};
 ghost use Rattle.std.specs.Io.{ReadsAtMost, WritesAtMost};
 ghost use Rattle.std.specs.Io.KnownBytes.{ReadConsumes, WriteAppends};
-ghost use Rattle.stream_core.specs.Count.{count_after, is_failed_write};
+ghost use Rattle.stream_core.specs.FailureCount.{count_after, is_failed_write};
 
 use std::io::{self, Read, Write};
 
@@ -58,7 +58,8 @@ impl<R: Read> Counted<R> {
     /// interruption too.
     pub fn read(&mut self, buf: &mut [u8]) -> io::Result<usize>
         ensures bound { ReadsAtMost result buf.new }
-        ensures bytes { ReadConsumes (R.remaining (inner_of self.old)) (R.remaining (inner_of self.new)) result buf.new }
+        ensures bytes { ReadConsumes
+            (R.remaining (inner_of self.old)) (R.remaining (inner_of self.new)) result buf.new }
         ensures count { failures_of self.new ≡ count_after (failures_of self.old) (is_err result) }
         ensures grows { failures_of self.old ≤ failures_of self.new }
     {

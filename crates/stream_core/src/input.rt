@@ -1,8 +1,9 @@
 //! Reads a script whole.
 ghost use Rattle.std.specs.Prelude.{◌≡◌, ◌+◌, ◌≤◌, ◌<◌, IfOk, IfErr, OnOk, OnErr, take, length};
 ghost use Rattle.std.specs.Io.KnownBytes.{Consumes, IsAtEnd, Keeps};
-ghost use Rattle.stream_core.specs.Counted.{inner_of, failures_of};
-ghost use Rattle.stream_core.specs.Faults.{HasGrown, ExplainsReading, last_failures, script_limit};
+ghost use Rattle.stream_core.specs.Counted.{failures_of, inner_of, source_of};
+ghost use Rattle.stream_core.specs.FailureCount.{HasGrown};
+ghost use Rattle.stream_core.specs.Faults.{ExplainsReading, last_failures, script_limit};
 
 use crate::counted::Counted;
 use crate::fault::RunFault;
@@ -22,12 +23,15 @@ fn read_some<R: Read>(
     chunk: &mut [u8],
 ) -> Result<usize, RunFault>
     ensures bound { IfOk result (λ n. n ≤ length chunk.new) }
-    ensures bytes { IfOk result (λ n. Consumes (R.remaining (inner_of reader.old)) (R.remaining (inner_of reader.new)) (take n chunk.new)) }
+    ensures bytes { IfOk result
+        (λ n. Consumes (R.remaining (inner_of reader.old)) (R.remaining (inner_of reader.new)) (take n chunk.new)) }
     ensures end { IfOk result (λ n. n ≡ 0 → 0 < length chunk.new → IsAtEnd (R.remaining (inner_of reader.new))) }
     ensures err { OnErr result (Keeps (R.remaining (inner_of reader.old)) (R.remaining (inner_of reader.new))) }
-    ensures fault { IfErr result (λ e. (e ≡ RunFault.ReadFault) × HasGrown (failures_of reader.old) (failures_of reader.new)) }
+    ensures fault { IfErr result
+        (λ e. (e ≡ RunFault.ReadFault) × HasGrown (failures_of reader.old) (failures_of reader.new)) }
     ensures counts { failures_of reader.old ≤ failures_of reader.new }
-    ensures tries { failures_of reader.new + patience.new.left ≤ failures_of reader.old + patience.old.left + last_failures result }
+    ensures tries { failures_of reader.new + patience.new.left
+        ≤ failures_of reader.old + patience.old.left + last_failures result }
 {
     loop {
         match reader.read(chunk) {
@@ -52,11 +56,15 @@ pub fn read_script<R: Read>(
     reader: &mut Counted<R>,
     patience: &mut Patience,
 ) -> Result<Vec<u8>, RunFault>
-    ensures whole { IfOk result (λ script. Consumes (R.remaining (inner_of reader.old)) (R.remaining (inner_of reader.new)) script.items × (length script.items ≤ script_limit)) }
+    ensures whole { IfOk result
+        (λ script. Consumes (R.remaining (inner_of reader.old)) (R.remaining (inner_of reader.new)) script.items
+        × (length script.items ≤ script_limit)) }
     ensures end { OnOk result (IsAtEnd (R.remaining (inner_of reader.new))) }
-    ensures fault { IfErr result (ExplainsReading (R.remaining (inner_of reader.old)) (R.remaining (inner_of reader.new)) (failures_of reader.old) (failures_of reader.new)) }
+    ensures fault { IfErr result
+        (ExplainsReading (source_of R.remaining reader.old) (source_of R.remaining reader.new)) }
     ensures counts { failures_of reader.old ≤ failures_of reader.new }
-    ensures tries { failures_of reader.new + patience.new.left ≤ failures_of reader.old + patience.old.left + last_failures result }
+    ensures tries { failures_of reader.new + patience.new.left
+        ≤ failures_of reader.old + patience.old.left + last_failures result }
 {
     let mut script = Vec::new(alloc);
     let mut chunk = [0; CHUNK];

@@ -1,8 +1,9 @@
 //! Writes an answer.
-ghost use Rattle.std.specs.Prelude.{◌≡◌, ℕ, ◌+◌, ◌≤◌, ◌<◌, IfOk, IfErr, OnOk, OnErr, take, length};
+ghost use Rattle.std.specs.Prelude.{◌≡◌, ◌+◌, ◌≤◌, ◌<◌, IfOk, IfErr, OnOk, OnErr, take, length};
 ghost use Rattle.std.specs.Io.KnownBytes.{Appends, Keeps};
-ghost use Rattle.stream_core.specs.Counted.{inner_of, failures_of};
-ghost use Rattle.stream_core.specs.Faults.{HasGrown, last_failures};
+ghost use Rattle.stream_core.specs.Counted.{failures_of, inner_of, sink_of};
+ghost use Rattle.stream_core.specs.FailureCount.{HasGrown};
+ghost use Rattle.stream_core.specs.Faults.{WritesPartOf, last_failures};
 
 use crate::counted::Counted;
 use crate::fault::RunFault;
@@ -17,11 +18,14 @@ fn write_some<W: Write>(
 ) -> Result<usize, RunFault>
     requires { 0 < length bytes.now }
     ensures bound { IfOk result (λ n. (0 < n) × (n ≤ length bytes.now)) }
-    ensures ok { IfOk result (λ n. Appends (W.contents (inner_of writer.old)) (W.contents (inner_of writer.new)) (take n bytes.now)) }
+    ensures ok { IfOk result
+        (λ n. Appends (W.contents (inner_of writer.old)) (W.contents (inner_of writer.new)) (take n bytes.now)) }
     ensures err { OnErr result (Keeps (W.contents (inner_of writer.old)) (W.contents (inner_of writer.new))) }
-    ensures fault { IfErr result (λ e. (e ≡ RunFault.WriteFault) × HasGrown (failures_of writer.old) (failures_of writer.new)) }
+    ensures fault { IfErr result
+        (λ e. (e ≡ RunFault.WriteFault) × HasGrown (failures_of writer.old) (failures_of writer.new)) }
     ensures counts { failures_of writer.old ≤ failures_of writer.new }
-    ensures tries { failures_of writer.new + patience.new.left ≤ failures_of writer.old + patience.old.left + last_failures result }
+    ensures tries { failures_of writer.new + patience.new.left
+        ≤ failures_of writer.old + patience.old.left + last_failures result }
 {
     loop {
         match writer.write(bytes) {
@@ -48,10 +52,13 @@ pub fn write_all<W: Write>(
     bytes: &[u8],
 ) -> Result<(), RunFault>
     ensures ok { OnOk result (Appends (W.contents (inner_of writer.old)) (W.contents (inner_of writer.new)) bytes.now) }
-    ensures prefix { OnErr result ((taken : ℕ) × (taken < length bytes.now) × Appends (W.contents (inner_of writer.old)) (W.contents (inner_of writer.new)) (take taken bytes.now)) }
-    ensures fault { IfErr result (λ e. (e ≡ RunFault.WriteFault) × HasGrown (failures_of writer.old) (failures_of writer.new)) }
+    ensures prefix { OnErr result
+        (WritesPartOf bytes.now (sink_of W.contents writer.old) (sink_of W.contents writer.new)) }
+    ensures fault { IfErr result
+        (λ e. (e ≡ RunFault.WriteFault) × HasGrown (failures_of writer.old) (failures_of writer.new)) }
     ensures counts { failures_of writer.old ≤ failures_of writer.new }
-    ensures tries { failures_of writer.new + patience.new.left ≤ failures_of writer.old + patience.old.left + last_failures result }
+    ensures tries { failures_of writer.new + patience.new.left
+        ≤ failures_of writer.old + patience.old.left + last_failures result }
 {
     let mut taken = 0;
     while taken < bytes.len() {

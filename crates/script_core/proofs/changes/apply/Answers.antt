@@ -11,7 +11,9 @@ returns-in-Err c =
     let h = c.args.book.now in
     let next = h ++ record { by = 1; change = c.args.change } ∷ [] in
     let refusal = refusal_of (length h) (state_after h) c.args.change in
-    let told = failure-of c.args.number next refusal c.in-Err.why c.in-Err.ensures.refused c.in-Err.ensures.accepted in (
-      subst (λ failure. IsFailureOf (change_in c.args.number h c.args.change) failure) (sym c.book_failure.ensures) told,
+    let told = failure-of c.args.number next refusal c.in-Err.why c.in-Err.ensures.refused
+    c.in-Err.ensures.accepted in (
+      subst (λ failure. IsFailureOf (change_in c.args.number h c.args.change) failure)
+          (sym c.book_failure.ensures) told,
       c.in-Err.ensures.err,
     )

@@ -18,23 +18,29 @@ begun : (line : Record) → begins (codes "part") line ≡ true → part_of line
 begun line e = ap (λ b. if b then naturals_in (drop 1 line) else Err BadCommand) e
 
 -- one more id was read
-next_id : (fields : Record) (place : ℕ) (text : List ℕ) (ids : List ℕ) (id : ℕ) → slice_get fields place ≡ Some text → natural_in text ≡ Ok id
+next_id : (fields : Record) (place : ℕ) (text : List ℕ) (ids : List ℕ) (id : ℕ) → slice_get fields place ≡ Some text
+    → natural_in text ≡ Ok id
     → behind ids (naturals_in (drop place fields)) ≡ behind (ids ++ id ∷ []) (naturals_in (drop (place + 1) fields))
 next_id fields place text ids id e good =
-    ap (λ l. behind ids (naturals_in l)) (drop-slice_get fields place text e) ∙ behind-next ids (natural_in text) id (naturals_in (drop (place + 1) fields)) good
+    ap (λ l. behind ids (naturals_in l)) (drop-slice_get fields place text e)
+    ∙ behind-next ids (natural_in text) id (naturals_in (drop (place + 1) fields)) good
 
 -- a field is refused
-no_id : (fields : Record) (place : ℕ) (text : List ℕ) (ids : List ℕ) (refusal : Refusal) → slice_get fields place ≡ Some text → natural_in text ≡ Err refusal
+no_id : (fields : Record) (place : ℕ) (text : List ℕ) (ids : List ℕ) (refusal : Refusal)
+    → slice_get fields place ≡ Some text → natural_in text ≡ Err refusal
     → behind ids (naturals_in (drop place fields)) ≡ Err refusal
 no_id fields place text ids refusal e bad =
-    ap (λ l. behind ids (naturals_in l)) (drop-slice_get fields place text e) ∙ behind-refused ids (natural_in text) refusal (naturals_in (drop (place + 1) fields)) bad
+    ap (λ l. behind ids (naturals_in l)) (drop-slice_get fields place text e)
+    ∙ behind-refused ids (natural_in text) refusal (naturals_in (drop (place + 1) fields)) bad
 
 pub returns-in-Err : goal.returns-in-Err
 returns-in-Err c =
     let fields = fields_in c.args.line in
     let h = c.loop-place.invariant in
-    let bad = no_id fields c.loop-place.place c.in-Some.text.now h.0 c.in-Err.refusal (sym c.in-Some.ensures) (sym c.in-Err.ensures) in
-    rw c.refused-in-Err.ensures (c.in-Err.refusal, begun fields (sym c.begins.ensures ∙ c.if-not-begins.false) ∙ (h.2 ∙ bad), refl)
+    let bad = no_id fields c.loop-place.place c.in-Some.text.now h.0 c.in-Err.refusal (sym c.in-Some.ensures)
+    (sym c.in-Err.ensures) in
+    rw c.refused-in-Err.ensures
+    (c.in-Err.refusal, begun fields (sym c.begins.ensures ∙ c.if-not-begins.false) ∙ (h.2 ∙ bad), refl)
 
 pub loop-place-preserved : goal.loop-place-preserved
 loop-place-preserved c =
@@ -43,7 +49,10 @@ loop-place-preserved c =
     let h = c.loop-place.invariant in
     elim c.match-get.branch [
       | in-Some+in-Ok+in_ok-push-in-Ok w ↦ (
-          let more = next_id fields place w.in-Some.text.now h.0 w.in-Ok.id (sym w.in-Some.ensures) (sym w.in-Ok.ensures) in
+          let more = next_id fields place w.in-Some.text.now h.0 w.in-Ok.id (sym w.in-Some.ensures)
+          (sym w.in-Ok.ensures) in
           (h.0 ++ w.in-Ok.id ∷ [], w.claim-is ∙ w.in_ok-push-in-Ok.ensures.ok c.args.claim.now h.0 h.1, h.2 ∙ more))
-      | in_default w ↦ absurd (slice_get-there fields place (omega (arith, c.loop-place-test.true, c.len-place-end.ensures)) (sym w.in_default.ensures))
+      | in_default w ↦ absurd
+          (slice_get-there fields place (omega (arith, c.loop-place-test.true, c.len-place-end.ensures))
+          (sym w.in_default.ensures))
     ]

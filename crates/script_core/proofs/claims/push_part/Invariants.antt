@@ -7,4 +7,5 @@ use Rattle.script_core.proofs.claims.push_part.Given as goal
 
 abbrev pub invariant-loop-place : goal.invariant-loop-place
 invariant-loop-place l =
-    (ids : List ℕ) × (l.claim ≡ l.fn.claim ++ ids ∷ []) × (naturals_in (drop 1 (fields_in l.line)) ≡ behind ids (naturals_in (drop l.place (fields_in l.line))))
+    (ids : List ℕ) × (l.claim ≡ l.fn.claim ++ ids ∷ [])
+    × (naturals_in (drop 1 (fields_in l.line)) ≡ behind ids (naturals_in (drop l.place (fields_in l.line))))

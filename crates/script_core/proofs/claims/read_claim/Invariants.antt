@@ -7,4 +7,5 @@ use Rattle.script_core.proofs.claims.read_claim.Given as goal
 
 abbrev pub invariant-loop-place : goal.invariant-loop-place
 invariant-loop-place l =
-    claim_of l.number (lines_in l.lines) ≡ behind l.claim (claim_of (l.number + l.place) (drop l.place (lines_in l.lines)))
+    claim_of l.number (lines_in l.lines) ≡ behind l.claim
+    (claim_of (l.number + l.place) (drop l.place (lines_in l.lines)))

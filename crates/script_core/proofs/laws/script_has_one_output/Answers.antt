@@ -7,7 +7,7 @@ pub returns-clause-exists : goal.returns-clause-exists
 returns-clause-exists c = some_output
 
 pub returns-clause-one : goal.returns-clause-one
-returns-clause-one c = λ script one other. one_output script script one other refl
+returns-clause-one c = one_output
 
 pub returns-clause-answers : goal.returns-clause-answers
 returns-clause-answers c = λ script one other. one_list_of_dones script script one other refl

@@ -9,21 +9,27 @@ use Rattle.command_core.specs.Lines.{lines_in}
 use Rattle.script_core.specs.State.{claim_of, rows_told}
 use Rattle.script_core.proofs.queries.check.Goals as goal
 
-both-Ok : {S T E : Type 0} (one : Result S E) (other : Result T E) (x : S) (y : T) → one ≡ Ok x → other ≡ Ok y → both one other ≡ Ok (x, y)
+both-Ok : {S T E : Type 0} (one : Result S E) (other : Result T E) (x : S) (y : T) → one ≡ Ok x → other ≡ Ok y
+    → both one other ≡ Ok (x, y)
 both-Ok one other x y e f = ap (λ r. both r other) e ∙ ap (λ r. both (Ok x) r) f
 
 pub check_division-requires : goal.check_division-requires
 check_division-requires c =
-    subst IdsRise (sym (c.deref.ensures.value ∙ c.in_ok-items.ensures)) (IdsRise-items_of c.in_ok-rows.rows c.in_ok-rows.ensures.rise)
+    subst IdsRise (sym (c.deref.ensures.value ∙ c.in_ok-items.ensures))
+    (IdsRise-items_of c.in_ok-rows.rows c.in_ok-rows.ensures.rise)
 
 pub returns : goal.returns
 returns c =
     let told = rows_told c.args.number c.args.book.now c.args.asof c.args.table in
     let claimed = claim_of (c.args.number + 1) (lines_in c.args.body) in
     let claim = c.in_ok-claim.claim in
+    let verdict = c.in_ok-check_division.field-0 in
     let h = c.in_ok-rows.ensures.gives in
-    let same = c.deref.ensures.value ∙ (c.in_ok-items.ensures ∙ ap items_of h.2) in (
+    let same = c.deref.ensures.value ∙ (c.in_ok-items.ensures ∙ ap items_of h.2) in
+    let applies =
+    subst (λ (items : List Item). IsVerdict items claim c.args.certificate verdict) same
+    c.in_ok-check_division.ensures.verdict in (
       (h.0, claim),
       both-Ok told claimed h.0 claim h.1 c.in_ok-claim.ensures,
-      (c.in_ok-check_division.field-0, subst (λ (items : List Item). IsVerdict items claim c.args.certificate c.in_ok-check_division.field-0) same c.in_ok-check_division.ensures.verdict, refl),
+      record { verdict = verdict; applies = applies; is = refl },
     )

@@ -7,4 +7,5 @@ use Rattle.script_core.proofs.rows.rows_of.Given as goal
 
 abbrev pub invariant-loop-place : goal.invariant-loop-place
 invariant-loop-place l =
-    rows_of l.schema l.number (lines_in l.lines) ≡ behind l.rows (rows_of l.schema (l.number + l.place) (drop l.place (lines_in l.lines)))
+    rows_of l.schema l.number (lines_in l.lines) ≡ behind l.rows
+    (rows_of l.schema (l.number + l.place) (drop l.place (lines_in l.lines)))

@@ -12,7 +12,8 @@ invariant-loop-at g l = record {
   counts : failures_of l.fn.writer ≤ failures_of l.writer;
   tries : failures_of l.writer + l.patience.left ≤ failures_of l.fn.writer + l.fn.patience.left;
   begins : l.printer ≡ record { text = []; fields = [] };
-  progress : Progress l.records (g.W.Write.contents (inner_of l.fn.writer)) (g.W.Write.contents (inner_of l.writer)) l.book l.at l.outcome;
+  progress : Progress l.records (g.W.Write.contents (inner_of l.fn.writer))
+      (g.W.Write.contents (inner_of l.writer)) l.book l.at l.outcome;
 }
 
 abbrev pub decreases-loop-at : goal.decreases-loop-at

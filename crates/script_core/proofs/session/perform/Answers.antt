@@ -1,7 +1,5 @@
-use Rattle.std.proofs.Common.{◌≡◌, ◌+◌, length, subst}
+use Rattle.std.proofs.Common.{◌≡◌, ◌+◌, length}
 use Rattle.std.specs.Prelude.{nat_le, nat_lt}
-use Rattle.answer_core.specs.Answer.{IsPrintedAs}
-use Rattle.answer_core.specs.PrintedRecords.{row_records}
 use Rattle.book_core.specs.Versions.{AreBetween, AreFromTo}
 use Rattle.cert_core.specs.declared.verdict.Certificate.{Certificate}
 use Rattle.query_core.specs.Query.{items_of}
@@ -10,10 +8,9 @@ use Rattle.command_core.specs.Lines.{lines_in}
 use Rattle.command_core.specs.Meaning.{At, Between, Check, Delete, Dip, FromTo, Load, Make, Rows, Update}
 use Rattle.command_core.specs.PairsIn.{pairs_in}
 use Rattle.answer_core.specs.declared.answer.Answer.TheVariants as answer
-use Rattle.script_core.specs.Answer.{PrintsDivision, PrintsVerdict, PrintsVersions}
-use Rattle.script_core.specs.Given.{IsDivided, IsVerdictOn, IsVersions}
+use Rattle.script_core.specs.Answer.{IsDipOf, IsVerdictOn, IsVersions}
 use Rattle.script_core.specs.State.{claim_of, delete_in, load_in, make_in, rows_on, rows_told, update_in, versions_told}
-use Rattle.script_core.proofs.Answering.{change-answered, division-told, query-answered, verdict-told, versions-told}
+use Rattle.script_core.proofs.Answering.{change-answered, query-answered}
 use Rattle.script_core.proofs.session.perform.Goals as goal
 
 pub returns-in-Make : goal.returns-in-Make
@@ -22,7 +19,9 @@ returns-in-Make c =
     let before = c.args.book.now in
     let table = c.in-Make.table in
     let schema = c.in-Make.schema in
-    rw c.in-Make.is (change-answered number (Make table schema) (make_in number before table schema) before c.make.new.book c.make.result (λ records it. it) c.make.ensures)
+    rw c.in-Make.is
+    (change-answered number (Make table schema)
+    (make_in number before table schema) before c.make.new.book c.make.result (λ given it. it) c.make.ensures)
 
 pub returns-in-Load : goal.returns-in-Load
 returns-in-Load c =
@@ -30,7 +29,9 @@ returns-in-Load c =
     let before = c.args.book.now in
     let table = c.in-Load.table in
     let body = lines_in c.in-Load.body in
-    rw c.in-Load.is (change-answered number (Load table body) (load_in number before table body) before c.load.new.book c.load.result (λ records it. it) c.load.ensures)
+    rw c.in-Load.is
+    (change-answered number (Load table body)
+    (load_in number before table body) before c.load.new.book c.load.result (λ given it. it) c.load.ensures)
 
 pub returns-in-Update : goal.returns-in-Update
 returns-in-Update c =
@@ -40,7 +41,10 @@ returns-in-Update c =
     let portion = c.in-Update.portion in
     let sets = pairs_in c.in-Update.sets in
     let conds = pairs_in c.in-Update.conds in
-    rw c.in-Update.is (change-answered number (Update table portion sets conds) (update_in number before table portion sets conds) before c.update.new.book c.update.result (λ records it. it) c.update.ensures)
+    rw c.in-Update.is
+    (change-answered number (Update table portion sets conds)
+    (update_in number before table portion sets conds) before c.update.new.book c.update.result
+    (λ given it. it) c.update.ensures)
 
 pub returns-in-Delete : goal.returns-in-Delete
 returns-in-Delete c =
@@ -49,7 +53,10 @@ returns-in-Delete c =
     let table = c.in-Delete.table in
     let portion = c.in-Delete.portion in
     let conds = pairs_in c.in-Delete.conds in
-    rw c.in-Delete.is (change-answered number (Delete table portion conds) (delete_in number before table portion conds) before c.delete.new.book c.delete.result (λ records it. it) c.delete.ensures)
+    rw c.in-Delete.is
+    (change-answered number (Delete table portion conds)
+    (delete_in number before table portion conds) before c.delete.new.book c.delete.result
+    (λ given it. it) c.delete.ensures)
 
 pub returns-in-Rows : goal.returns-in-Rows
 returns-in-Rows c =
@@ -58,9 +65,7 @@ returns-in-Rows c =
     let table = c.in-Rows.table in
     let asof = c.in-Rows.asof in
     rw c.in-Rows.is (query-answered number (Rows table asof) before (rows_told number before asof table)
-    (λ rows given. given ≡ answer.Rows rows)
-    (λ rows printed. printed ≡ row_records rows) c.rows.result
-    (λ records it. it) (λ rows given is records printed. subst (λ a. IsPrintedAs a records) is printed) c.rows.ensures)
+    (λ rows given. given ≡ answer.Rows rows) c.rows.result (λ given it. it) c.rows.ensures)
 
 pub returns-in-At : goal.returns-in-At
 returns-in-At c =
@@ -70,9 +75,7 @@ returns-in-At c =
     let point = c.in-At.point in
     let asof = c.in-At.asof in
     rw c.in-At.is (query-answered number (At table point asof) before (rows_told number before asof table)
-    (λ rows given. given ≡ answer.Rows (rows_on point rows))
-    (λ rows printed. printed ≡ row_records (rows_on point rows)) c.rows_on.result
-    (λ records it. it) (λ rows given is records printed. subst (λ a. IsPrintedAs a records) is printed) c.rows_on.ensures)
+    (λ rows given. given ≡ answer.Rows (rows_on point rows)) c.rows_on.result (λ given it. it) c.rows_on.ensures)
 
 pub returns-in-Between : goal.returns-in-Between
 returns-in-Between c =
@@ -81,10 +84,10 @@ returns-in-Between c =
     let table = c.in-Between.table in
     let first = c.in-Between.first in
     let last = c.in-Between.last in
-    rw c.in-Between.is (query-answered number (Between table first last) before (versions_told number before (nat_lt last first) table)
-    (λ _ given. IsVersions (AreBetween before (length before) first last table) given)
-    (λ _ printed. PrintsVersions (AreBetween before (length before) first last table) printed) c.between.result
-    (λ records it. it) (λ _ given is records printed. versions-told (AreBetween before (length before) first last table) given is records printed) c.between.ensures)
+    rw c.in-Between.is
+    (query-answered number (Between table first last) before (versions_told number before (nat_lt last first) table)
+    (λ _. IsVersions (AreBetween before (length before) first last table)) c.between.result
+    (λ given it. it) c.between.ensures)
 
 pub returns-in-FromTo : goal.returns-in-FromTo
 returns-in-FromTo c =
@@ -93,10 +96,10 @@ returns-in-FromTo c =
     let table = c.in-FromTo.table in
     let first = c.in-FromTo.first in
     let end = c.in-FromTo.end in
-    rw c.in-FromTo.is (query-answered number (FromTo table first end) before (versions_told number before (nat_le end first) table)
-    (λ _ given. IsVersions (AreFromTo before (length before) first end table) given)
-    (λ _ printed. PrintsVersions (AreFromTo before (length before) first end table) printed) c.from_to.result
-    (λ records it. it) (λ _ given is records printed. versions-told (AreFromTo before (length before) first end table) given is records printed) c.from_to.ensures)
+    rw c.in-FromTo.is
+    (query-answered number (FromTo table first end) before (versions_told number before (nat_le end first) table)
+    (λ _. IsVersions (AreFromTo before (length before) first end table)) c.from_to.result
+    (λ given it. it) c.from_to.ensures)
 
 pub returns-in-Dip : goal.returns-in-Dip
 returns-in-Dip c =
@@ -105,9 +108,7 @@ returns-in-Dip c =
     let table = c.in-Dip.table in
     let asof = c.in-Dip.asof in
     rw c.in-Dip.is (query-answered number (Dip table asof) before (rows_told number before asof table)
-    (λ rows given. IsDivided (items_of rows) given)
-    (λ rows printed. PrintsDivision (items_of rows) printed) c.divide.result
-    (λ records it. it) (λ rows given is records printed. division-told (items_of rows) given is records printed) c.divide.ensures)
+    (λ rows. IsDipOf (items_of rows)) c.divide.result (λ given it. it) c.divide.ensures)
 
 pub returns-in-Check : goal.returns-in-Check
 returns-in-Check c =
@@ -119,7 +120,7 @@ returns-in-Check c =
     let asof = c.in-Check.asof in
     let body = lines_in c.in-Check.body in
     let certificate : Certificate = record { parts = parts; instant = instant } in
-    rw c.in-Check.is (query-answered number (Check table parts instant asof body) before (both (rows_told number before asof table) (claim_of (number + 1) body))
-    (λ read given. IsVerdictOn (items_of read.0) read.1 certificate given)
-    (λ read printed. PrintsVerdict (items_of read.0) read.1 certificate printed) c.check.result
-    (λ records it. it) (λ read given is records printed. verdict-told (items_of read.0) read.1 certificate given is records printed) c.check.ensures)
+    rw c.in-Check.is
+    (query-answered number (Check table parts instant asof body) before
+    (both (rows_told number before asof table) (claim_of (number + 1) body))
+    (λ read. IsVerdictOn (items_of read.0) read.1 certificate) c.check.result (λ given it. it) c.check.ensures)

@@ -8,7 +8,7 @@ returns-clause-ok g c =
     let whole = c.in_ok-script.ensures.whole in
     let parsed =
     subst (λ bytes. AreScriptRecords bytes c.in_ok-records.records) c.as_slice.ensures.value c.in_ok-records.ensures in
-    ok-run _ _ _ _ c.in_ok-script.script.items c.in_ok-records.records c.answer_all.result
+    ok-run _ _ c.in_ok-script.script.items c.in_ok-records.records c.answer_all.result
     (record { read = whole.0; end = c.in_ok-script.ensures.end; within = whole.1 }) parsed c.answer_all.ensures.ok
 
 pub returns-clause-fault : goal.returns-clause-fault
@@ -16,12 +16,12 @@ returns-clause-fault g c =
     let whole = c.in_ok-script.ensures.whole in
     let parsed =
     subst (λ bytes. AreScriptRecords bytes c.in_ok-records.records) c.as_slice.ensures.value c.in_ok-records.ensures in
-    fault-run _ _ _ _ c.in_ok-script.script.items c.in_ok-records.records _ _ _ _ c.answer_all.result
+    fault-run _ _ c.in_ok-script.script.items c.in_ok-records.records c.answer_all.result
     (record { read = whole.0; end = c.in_ok-script.ensures.end; within = whole.1 }) parsed c.requires.writes
     c.answer_all.ensures.fault
 
 pub returns-clause-written : goal.returns-clause-written
-returns-clause-written g c = ok-written _ _ _ _ c.answer_all.result (returns-clause-ok g c)
+returns-clause-written g c = ok-written _ _ c.answer_all.result (returns-clause-ok g c)
 
 pub returns-clause-front : goal.returns-clause-front
-returns-clause-front g c = fault-front _ _ _ _ _ _ _ _ c.answer_all.result (returns-clause-fault g c)
+returns-clause-front g c = fault-front _ _ c.answer_all.result (returns-clause-fault g c)

@@ -10,5 +10,11 @@ loop-n-preserved g c =
     record {
       kept = Keeps-trans _ _ _ c.loop-n.invariant.kept c.in-Err.ensures.bytes;
       counts = omega arith;
-      tries = omega (arith, spent, c.in-Err.ensures.count, count_after-most (failures_of c.loop-n.reader) true, c.loop-n.invariant.tries);
+      tries = omega (
+        arith,
+        spent,
+        c.in-Err.ensures.count,
+        count_after-most (failures_of c.loop-n.reader) true,
+        c.loop-n.invariant.tries,
+      );
     }

@@ -13,7 +13,8 @@ loop-taken-preserved g c =
     let more = rw (take_rest bytes done) at c.in_ok-taken.ensures in
     record {
       within = omega (arith, more.bound, length-drop done bytes);
-      written = subst (Appends _ _) (sym (take-add done n bytes)) (Appends-trans _ _ _ _ _ c.loop-taken.invariant.written more.ok);
+      written = subst (Appends _ _) (sym (take-add done n bytes))
+          (Appends-trans _ _ _ _ _ c.loop-taken.invariant.written more.ok);
       counts = omega arith;
       tries = omega arith;
     }

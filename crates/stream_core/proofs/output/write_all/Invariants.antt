@@ -7,7 +7,8 @@ use Rattle.stream_core.proofs.output.write_all.Given as goal
 abbrev pub invariant-loop-taken : goal.invariant-loop-taken
 invariant-loop-taken g l = record {
   within : l.taken ≤ length l.bytes;
-  written : Appends (g.W.Write.contents (inner_of l.fn.writer)) (g.W.Write.contents (inner_of l.writer)) (take l.taken l.bytes);
+  written : Appends (g.W.Write.contents (inner_of l.fn.writer)) (g.W.Write.contents (inner_of l.writer))
+      (take l.taken l.bytes);
   counts : failures_of l.fn.writer ≤ failures_of l.writer;
   tries : failures_of l.writer + l.patience.left ≤ failures_of l.fn.writer + l.fn.patience.left;
 }

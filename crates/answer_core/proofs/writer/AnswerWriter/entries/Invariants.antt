@@ -1,6 +1,6 @@
 -- The commits so far are printed.
 use Rattle.std.proofs.Common.{map, take}
-use Rattle.answer_core.specs.Draft.{Adds}
+use Rattle.answer_core.specs.Unwritten.{Adds}
 use Rattle.answer_core.specs.PrintedRecords.{commit_record}
 use Rattle.answer_core.proofs.writer.AnswerWriter.entries.Given as goal
 

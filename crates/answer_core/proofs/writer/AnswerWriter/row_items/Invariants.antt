@@ -1,7 +1,7 @@
 -- The rows so far are printed.
 use Rattle.std.proofs.Common.{map, take}
 use Rattle.answer_core.specs.PrintedRecords.{row_record}
-use Rattle.answer_core.specs.Draft.{Adds}
+use Rattle.answer_core.specs.Unwritten.{Adds}
 use Rattle.answer_core.proofs.writer.AnswerWriter.row_items.Given as goal
 
 abbrev pub invariant-loop-row : goal.invariant-loop-row

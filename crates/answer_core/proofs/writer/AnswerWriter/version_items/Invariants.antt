@@ -1,6 +1,6 @@
 -- The versions so far are printed.
 use Rattle.std.proofs.Common.{map, take}
-use Rattle.answer_core.specs.Draft.{Adds}
+use Rattle.answer_core.specs.Unwritten.{Adds}
 use Rattle.answer_core.specs.PrintedRecords.{version_record}
 use Rattle.answer_core.proofs.writer.AnswerWriter.version_items.Given as goal
 

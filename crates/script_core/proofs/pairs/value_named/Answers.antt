@@ -17,46 +17,60 @@ use Rattle.command_core.proofs.Cutting.{slice_get-there}
 use Rattle.script_core.specs.Failure.{IsRecordFailure, value_failure}
 use Rattle.script_core.specs.Refusal.{value_refusal}
 use Rattle.script_core.specs.State.{pair_read, value_in}
-use Rattle.script_core.proofs.pairs.read_value.Goals as goal
+use Rattle.script_core.proofs.pairs.value_named.Goals as goal
 
 -- a value that was read, or why it was not, is what a column's kind makes of the text
 abbrev IsRead : ℕ → List ℕ → Result Pair Refusal → Result Value ValueRefused → Type 0
-IsRead number name meant result = MatchResult result (λ value. meant ≡ Ok (name, value)) (λ why. IsRecordFailure number meant (value_failure number why))
+IsRead number name meant result =
+    MatchResult result (λ value. meant ≡ Ok (name, value))
+    (λ why. IsRecordFailure number meant (value_failure number why))
 
-refused-read : (number : ℕ) (name : List ℕ) (why : ValueRefused) → IsRead number name (Err (value_refusal why)) (Err why)
+refused-read : (number : ℕ) (name : List ℕ) (why : ValueRefused)
+    → IsRead number name (Err (value_refusal why)) (Err why)
 refused-read number name refused.BadNumber = (value_refusal refused.BadNumber, refl, refl)
 refused-read number name refused.TooLong = (value_refusal refused.TooLong, refl, refl)
 refused-read number name refused.BadUtf8 = (value_refusal refused.BadUtf8, refl, refl)
 refused-read number name refused.NoMemory = tt
 
-value-read : (number : ℕ) (name : List ℕ) (meant result : Result Value ValueRefused) → IsAnswerUnless result refused.NoMemory meant
+value-read : (number : ℕ) (name : List ℕ) (meant result : Result Value ValueRefused)
+    → IsAnswerUnless result refused.NoMemory meant
     → IsRead number name (result_map_both (λ value. (name, value)) value_refusal meant) result
 value-read number name (Ok value) (Ok given) same = ap (λ (v : Value). Ok (name, v)) (sym same)
 value-read number name (Ok value) (Err why) same = rw same tt
 value-read number name (Err why) result same = rw same (refused-read number name why)
 
-column_of-within : (columns : List Column) (name : List ℕ) (place : ℕ) → column_of columns name ≡ Some place → place < length columns
+column_of-within : (columns : List Column) (name : List ℕ) (place : ℕ) → column_of columns name ≡ Some place
+    → place < length columns
 column_of-within columns name place e = grind (arith, common_steps)
 
 -- what the column's kind makes of the text is what was read, where there is a column
 abbrev IsAnswerAt : Option Column → List ℕ → Result Value ValueRefused → Type 0
-IsAnswerAt found text result = IfSome found (λ column. IsAnswerUnless result refused.NoMemory (value_of column.kind text))
+IsAnswerAt found text result =
+    IfSome found (λ column. IsAnswerUnless result refused.NoMemory (value_of column.kind text))
 
-pair-read : (number : ℕ) (columns : List Column) (name text : List ℕ) (place : ℕ) (result : Result Value ValueRefused) → column_of columns name ≡ Some place
+pair-read : (number : ℕ) (columns : List Column) (name text : List ℕ) (place : ℕ)
+    (result : Result Value ValueRefused) → column_of columns name ≡ Some place
     → IsAnswerAt (slice_get columns place) text result → IsRead number name (pair_read columns (name, text)) result
 pair-read number columns name text place result e h =
-    subst (λ (o : Option ℕ). IsRead number name (value_in name text (option_map (λ (column : Column). column.kind) (option_and_then (slice_get columns) o))) result) (sym e) (by_column (slice_get columns place) refl h)
+    subst (λ (o : Option ℕ).
+    IsRead number name
+    (value_in name text
+    (option_map (λ (column : Column). column.kind) (option_and_then (slice_get columns) o))) result) (sym e)
+    (by_column (slice_get columns place) refl h)
   where
-    by_column : (found : Option Column) → slice_get columns place ≡ found → IsAnswerAt found text result → IsRead number name (value_in name text (option_map (λ (column : Column). column.kind) found)) result
+    by_column : (found : Option Column) → slice_get columns place ≡ found → IsAnswerAt found text result
+        → IsRead number name (value_in name text (option_map (λ (column : Column). column.kind) found)) result
     by_column None none k = absurd (slice_get-there columns place (column_of-within columns name place e) none)
     by_column (Some column) there k = value-read number name (value_of column.kind text) result k
 
 pub returns-in-Ok : goal.returns-in-Ok
 returns-in-Ok c =
-    let read = pair-read c.args.number c.args.schema.now c.args.name c.args.text.now c.in-Some.place c.read_value.result (sym c.in-Some.ensures) c.read_value.ensures in
+    let read = pair-read c.args.number c.args.schema.now c.args.name c.args.text.now c.in-Some.place
+    c.read_value.result (sym c.in-Some.ensures) c.read_value.ensures in
     rw c.in-Ok.is at read
 
 pub returns-in-Err : goal.returns-in-Err
 returns-in-Err c =
-    let read = pair-read c.args.number c.args.schema.now c.args.name c.args.text.now c.in-Some.place c.read_value.result (sym c.in-Some.ensures) c.read_value.ensures in
+    let read = pair-read c.args.number c.args.schema.now c.args.name c.args.text.now c.in-Some.place
+    c.read_value.result (sym c.in-Some.ensures) c.read_value.ensures in
     rw c.value_failure.ensures (rw c.in-Err.is at read)
