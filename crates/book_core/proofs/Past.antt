@@ -238,7 +238,7 @@ seen_above at m last k (v ∷ vs) s =
 -- what is seen of the table of that name is what is asked for
 pub seen_are : (h : History) (name : List ℕ) (t : StoredTable) (at m last : ℕ) (Selected : Version → Type 0) (vs : List Version) → IsTableOf h name t → at ≤ length h → ((v : Version) → Selected v → (v.sysfrom ≤ last) × IsAfter v.systo m) → ((v : Version) → (v.sysfrom ≤ last) × IsAfter v.systo m → Selected v) → vs ≡ seen at m last t.versions → AreVersions h at name Selected vs
 seen_are h name t at m last Selected vs table k to from e = rw e (record {
-  rising = (seen_above at m last 0 t.versions table.well.ids).1;
+  ordered = (seen_above at m last 0 t.versions table.well.ids).1;
   exactly = λ v. ((λ c. let l = listed_is h name t table at m last v k c in (l.0, from v l.1)), (λ p. let q = to v p.1 in is_listed h name t table at m last v k p.0 q.0 q.1));
 })
 

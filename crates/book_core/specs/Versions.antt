@@ -1,6 +1,7 @@
 -- Versions and the log, read from a history alone.
-use Rattle.std.specs.Prelude.{ℕ, ◌+◌, ◌≤◌, ◌<◌, List, [], ◌∷◌, map, Option, MatchOption, Contains, count_by, not, ◌↔◌, nat_eq, AllPairs}
+use Rattle.std.specs.Prelude.{ℕ, ◌+◌, ◌≤◌, ◌<◌, List, [], ◌∷◌, map, Option, MatchOption, Contains, count_by, not, nat_eq}
 use Rattle.std.specs.List.{list_any}
+use Rattle.list_core.specs.Wanted.{IsListOf}
 use Rattle.row_core.specs.declared.row.Row.{Row}
 use Rattle.version_core.specs.declared.change.Change.{Change}
 use Rattle.version_core.specs.declared.change.Change.TheVariants.{Make, Load, Update, Delete}
@@ -31,9 +32,8 @@ abbrev pub IsAfter : Option ℕ → ℕ → Type 0
 IsAfter systo m = MatchOption systo (Unit {0}) (λ to. m < to)
 
 -- the versions of the first `at` commits that are selected, each once, by rising id
-pub record AreVersions (h : History) (at : ℕ) (name : List ℕ) (Selected : Version → Type 0) (vs : List Version) : Type 0 where
-  pub rising : AllPairs (λ v w. v.row.id < w.row.id) vs
-  pub exactly : (v : Version) → Contains vs v ↔ (IsVersion h at name v × Selected v)
+abbrev pub AreVersions : History → ℕ → List ℕ → (Version → Type 0) → List Version → Type 0
+AreVersions h at name Selected vs = IsListOf (λ v w. v.row.id < w.row.id) (λ v. IsVersion h at name v × Selected v) vs
 
 -- those that some commit from m to n shows
 abbrev pub AreBetween : History → ℕ → ℕ → ℕ → List ℕ → List Version → Type 0
