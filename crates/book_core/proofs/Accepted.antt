@@ -21,16 +21,21 @@ none-of_overlap (Some refused) overlap h = cc
 pub first-none : (n : ℕ) (s : State) (c : Change) → refusal_of n s c ≡ None → first_refusal n s c ≡ None
 first-none n s c h = first-of_none (first_refusal n s c) (leaves_overlap c (table_of s (table_named c))) h
 
-pub overlap-none : (n : ℕ) (s : State) (c : Change) → refusal_of n s c ≡ None → leaves_overlap c (table_of s (table_named c)) ≡ false
+pub overlap-none : (n : ℕ) (s : State) (c : Change) → refusal_of n s c ≡ None
+    → leaves_overlap c (table_of s (table_named c)) ≡ false
 overlap-none n s c h = none-of_overlap (first_refusal n s c) (leaves_overlap c (table_of s (table_named c))) h
 
 -- what neither refuses is accepted
-pub accepted-both : (n : ℕ) (s : State) (c : Change) → first_refusal n s c ≡ None → leaves_overlap c (table_of s (table_named c)) ≡ false → refusal_of n s c ≡ None
-accepted-both n s c h k = ap (λ o. or_overlap o (leaves_overlap c (table_of s (table_named c)))) h ∙ ap (or_overlap None) k
+pub accepted-both : (n : ℕ) (s : State) (c : Change) → first_refusal n s c ≡ None
+    → leaves_overlap c (table_of s (table_named c)) ≡ false → refusal_of n s c ≡ None
+accepted-both n s c h k =
+    ap (λ o. or_overlap o (leaves_overlap c (table_of s (table_named c)))) h ∙ ap (or_overlap None) k
 
 -- rows of one key overlap
-pub overlap-refused : (n : ℕ) (s : State) (c : Change) → first_refusal n s c ≡ None → leaves_overlap c (table_of s (table_named c)) ≡ true → refusal_of n s c ≡ Some KeyOverlap
-overlap-refused n s c h k = ap (λ o. or_overlap o (leaves_overlap c (table_of s (table_named c)))) h ∙ ap (or_overlap None) k
+pub overlap-refused : (n : ℕ) (s : State) (c : Change) → first_refusal n s c ≡ None
+    → leaves_overlap c (table_of s (table_named c)) ≡ true → refusal_of n s c ≡ Some KeyOverlap
+overlap-refused n s c h k =
+    ap (λ o. or_overlap o (leaves_overlap c (table_of s (table_named c)))) h ∙ ap (or_overlap None) k
 
 -- ---- a change that is not made after those tests
 
@@ -38,10 +43,14 @@ pub record IsFailed (refusal : Option BookRefused) (result : Result ℕ BookRefu
   pub refused : IfSome refusal (IsRefusedAs result)
   pub accepted : IfNone refusal (IsOkUnless result NoMemory)
 
-pub failed : (n : ℕ) (s : State) (c : Change) (failure : ChangeFailure) (result : Result ℕ BookRefused) → first_refusal n s c ≡ None → result ≡ Err (refusal_by failure)
-    → (failure ≡ why.KeyOverlap → leaves_overlap c (table_of s (table_named c)) ≡ true) → IsFailed (refusal_of n s c) result
-failed n s c why.KeyOverlap result h e overlap = rw (overlap-refused n s c h (overlap refl), e) (record { refused = inl refl; accepted = tt })
+pub failed : (n : ℕ) (s : State) (c : Change) (failure : ChangeFailure) (result : Result ℕ BookRefused)
+    → first_refusal n s c ≡ None → result ≡ Err (refusal_by failure)
+    → (failure ≡ why.KeyOverlap → leaves_overlap c (table_of s (table_named c)) ≡ true)
+    → IsFailed (refusal_of n s c) result
+failed n s c why.KeyOverlap result h e overlap =
+    rw (overlap-refused n s c h (overlap refl), e) (record { refused = inl refl; accepted = tt })
 failed n s c why.NoMemory result h e overlap = by_overlap (leaves_overlap c (table_of s (table_named c))) refl where
-  by_overlap : (overlap : Bool) → leaves_overlap c (table_of s (table_named c)) ≡ overlap → IsFailed (refusal_of n s c) result
+  by_overlap : (overlap : Bool) → leaves_overlap c (table_of s (table_named c)) ≡ overlap
+      → IsFailed (refusal_of n s c) result
   by_overlap true k = rw (overlap-refused n s c h k, e) (record { refused = inr (refl, refl); accepted = tt })
   by_overlap false k = rw (accepted-both n s c h k, e) (record { refused = tt; accepted = refl })

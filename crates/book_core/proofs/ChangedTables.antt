@@ -19,38 +19,50 @@ use Rattle.book_core.specs.StoredTables.{kept_table, IsWellKept, StoredTable, ad
 use Rattle.book_core.proofs.Applying.{absent_from, place}
 use Rattle.book_core.proofs.Shown.{shown-current}
 
-find-absent_from : (name : List ℕ) (ts : List StoredTable) (i : ℕ) → position_from (λ t. same_name t.name name) i ts ≡ None → kept_table name ts ≡ None
+find-absent_from : (name : List ℕ) (ts : List StoredTable) (i : ℕ)
+    → position_from (λ t. same_name t.name name) i ts ≡ None → kept_table name ts ≡ None
 find-absent_from name [] i = λ h. refl
-find-absent_from name (t ∷ ts) i = elim (same_name t.name name) as (λ b. cond b (Some i) (position_from (λ t. same_name t.name name) (i + 1) ts) ≡ None → cond b (Some t) (kept_table name ts) ≡ None) [
-  | true ↦ λ h. absurd (cc)
-  | false ↦ λ h. find-absent_from name ts (i + 1) h
-]
+find-absent_from name (t ∷ ts) i =
+    elim (same_name t.name name) as
+    (λ b. cond b (Some i) (position_from (λ t. same_name t.name name) (i + 1) ts) ≡ None
+    → cond b (Some t) (kept_table name ts) ≡ None) [
+      | true ↦ λ h. absurd (cc)
+      | false ↦ λ h. find-absent_from name ts (i + 1) h
+    ]
 
 -- without a place there is no table
-pub find-absent : (name : List ℕ) (ts : List StoredTable) → position (λ t. same_name t.name name) ts ≡ None → kept_table name ts ≡ None
+pub find-absent : (name : List ℕ) (ts : List StoredTable) → position (λ t. same_name t.name name) ts ≡ None
+    → kept_table name ts ≡ None
 find-absent name ts e = find-absent_from name ts 0 (sym (position_from-zero (λ t. same_name t.name name) ts) ∙ e)
 
 -- and nothing changes
-pub at_kept-absent : (name : List ℕ) (f : StoredTable → StoredTable) (ts : List StoredTable) → position (λ t. same_name t.name name) ts ≡ None → ts ≡ at_kept name f ts
-at_kept-absent name f ts e = sym (absent_from name f ts 0 (sym (position_from-zero (λ t. same_name t.name name) ts) ∙ e))
+pub at_kept-absent : (name : List ℕ) (f : StoredTable → StoredTable) (ts : List StoredTable)
+    → position (λ t. same_name t.name name) ts ≡ None → ts ≡ at_kept name f ts
+at_kept-absent name f ts e =
+    sym (absent_from name f ts 0 (sym (position_from-zero (λ t. same_name t.name name) ts) ∙ e))
 
 -- the table at the place is the one that is found
-pub find-place : (name : List ℕ) (ts : List StoredTable) (at : ℕ) (t : StoredTable) → position (λ t. same_name t.name name) ts ≡ Some at → t ≡ get_or ts at t → kept_table name ts ≡ Some t
+pub find-place : (name : List ℕ) (ts : List StoredTable) (at : ℕ) (t : StoredTable)
+    → position (λ t. same_name t.name name) ts ≡ Some at → t ≡ get_or ts at t → kept_table name ts ≡ Some t
 find-place name ts at t e g = (place name ts at e).found t ∙ ap Some (sym g)
 
 -- what holds of the table of that name
-pub holds-place : (P : StoredTable → Type 0) (name : List ℕ) (ts : List StoredTable) (at : ℕ) (t : StoredTable) → position (λ t. same_name t.name name) ts ≡ Some at → t ≡ get_or ts at t → IfSome (kept_table name ts) P → P t
+pub holds-place : (P : StoredTable → Type 0) (name : List ℕ) (ts : List StoredTable) (at : ℕ) (t : StoredTable)
+    → position (λ t. same_name t.name name) ts ≡ Some at → t ≡ get_or ts at t → IfSome (kept_table name ts) P → P t
 holds-place P name ts at t e g h = at_some P (kept_table name ts) t (find-place name ts at t e g) h
 
 -- a table that is written in its place
-pub at_kept-place : (name : List ℕ) (f : StoredTable → StoredTable) (ts : List StoredTable) (at : ℕ) (t new : StoredTable) → position (λ t. same_name t.name name) ts ≡ Some at → t ≡ get_or ts at t → new ≡ f t → set ts at new ≡ at_kept name f ts
+pub at_kept-place : (name : List ℕ) (f : StoredTable → StoredTable) (ts : List StoredTable) (at : ℕ)
+    (t new : StoredTable) → position (λ t. same_name t.name name) ts ≡ Some at → t ≡ get_or ts at t → new ≡ f t
+    → set ts at new ≡ at_kept name f ts
 at_kept-place name f ts at t new e g h = ap (set ts at) (h ∙ ap f g) ∙ sym ((place name ts at e).changes f t)
 
 none_counted : (rows : List Row) → count_by (λ row. false) rows ≡ 0
 none_counted [] = refl
 none_counted (row ∷ rows) = count-cons (λ row. false) row rows ∙ omega (arith, none_counted rows)
 
-pub closed_in-make : (n : ℕ) (name : List ℕ) (schema : List Column) (o : Option StoredTable) → closed_in n (Make name schema) o ≡ 0
+pub closed_in-make : (n : ℕ) (name : List ℕ) (schema : List Column) (o : Option StoredTable)
+    → closed_in n (Make name schema) o ≡ 0
 closed_in-make n name schema None = refl
 closed_in-make n name schema (Some t) = none_counted (shown n t.versions)
 
@@ -58,16 +70,26 @@ closed_in-make n name schema (Some t) = none_counted (shown n t.versions)
 pub versions_after-kept : (n : ℕ) (c : Change) (t : StoredTable) → IsWellKept n t
     → record t { versions = versions_after (n + 1) c t.schema t.versions } ≡ kept_table_after n c t
 versions_after-kept n c t well =
-    ap (λ rows. record t { versions = map (closed (n + 1) (removes c t.schema)) t.versions ++ made (n + 1) (numbered (length t.versions) (drafts_of c t.schema rows)) })
+    ap (λ rows. record t {
+      versions = map (closed (n + 1) (removes c t.schema)) t.versions ++ made (n + 1)
+          (numbered (length t.versions) (drafts_of c t.schema rows));
+    })
     (sym (shown-current n t.versions well.times))
 
 -- how many they are that a change adds and closes
-pub added-current : (n : ℕ) (c : Change) (t : StoredTable) (o : Option StoredTable) → IsWellKept n t → o ≡ Some t → length (drafts_of c t.schema (current t.versions)) ≡ added_in n c o
-added-current n c t o well e = ap (λ rows. length (drafts_of c t.schema rows)) (sym (shown-current n t.versions well.times)) ∙ ap (added_in n c) (sym e)
+pub added-current : (n : ℕ) (c : Change) (t : StoredTable) (o : Option StoredTable) → IsWellKept n t → o ≡ Some t
+    → length (drafts_of c t.schema (current t.versions)) ≡ added_in n c o
+added-current n c t o well e =
+    ap (λ rows. length (drafts_of c t.schema rows)) (sym (shown-current n t.versions well.times))
+    ∙ ap (added_in n c) (sym e)
 
-pub taken-current : (n : ℕ) (c : Change) (t : StoredTable) (o : Option StoredTable) → IsWellKept n t → o ≡ Some t → count_by (removes c t.schema) (current t.versions) ≡ closed_in n c o
-taken-current n c t o well e = ap (count_by (removes c t.schema)) (sym (shown-current n t.versions well.times)) ∙ ap (closed_in n c) (sym e)
+pub taken-current : (n : ℕ) (c : Change) (t : StoredTable) (o : Option StoredTable) → IsWellKept n t → o ≡ Some t
+    → count_by (removes c t.schema) (current t.versions) ≡ closed_in n c o
+taken-current n c t o well e =
+    ap (count_by (removes c t.schema)) (sym (shown-current n t.versions well.times)) ∙ ap (closed_in n c) (sym e)
 
 -- there is room for them where there is room in the table that is shown
-pub room-current : (n : ℕ) (c : Change) (t : StoredTable) → IsWellKept n t → (changed c (table_at n t)).used ≤ version_limit → length t.versions + length (drafts_of c t.schema (current t.versions)) ≤ version_limit
+pub room-current : (n : ℕ) (c : Change) (t : StoredTable) → IsWellKept n t
+    → (changed c (table_at n t)).used ≤ version_limit
+    → length t.versions + length (drafts_of c t.schema (current t.versions)) ≤ version_limit
 room-current n c t well room = rw (sym (shown-current n t.versions well.times)) room

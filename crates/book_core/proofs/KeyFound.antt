@@ -24,39 +24,55 @@ tested : Change → StoredTable → List Row → Bool
 tested c t rows = break_key (key_of t.schema) (rows_left c t.schema rows ++ drafts_of c t.schema rows)
 
 -- those of the open versions are those of the table that the newest commit shows
-after-found : (n : ℕ) (c : Change) (t : StoredTable) → IsWellKept n t → overlap_after c t.schema t.versions ≡ tested c t (table_at n t).rows
+after-found : (n : ℕ) (c : Change) (t : StoredTable) → IsWellKept n t
+    → overlap_after c t.schema t.versions ≡ tested c t (table_at n t).rows
 unfolding tested
-after-found n c t well = ap (λ rows. break_key (key_of t.schema) (rows_left c t.schema rows ++ drafts_of c t.schema rows)) (sym (shown-current n t.versions well.times))
+after-found n c t well =
+    ap (λ rows. break_key (key_of t.schema) (rows_left c t.schema rows ++ drafts_of c t.schema rows))
+    (sym (shown-current n t.versions well.times))
 
 -- what is tested tells whether the change leaves rows of one key that share an instant
-pub overlap-found : (n : ℕ) (c : Change) (t : StoredTable) → IsWellKept n t → IsUnbroken t → overlap_after c t.schema t.versions ≡ leaves_overlap c (Some (table_at n t))
+pub overlap-found : (n : ℕ) (c : Change) (t : StoredTable) → IsWellKept n t → IsUnbroken t
+    → overlap_after c t.schema t.versions ≡ leaves_overlap c (Some (table_at n t))
 unfolding tested
 overlap-found n (Make name schema) t well none = make-unbroken name schema t.schema (current t.versions) none
-overlap-found n (Load name rows) t well none = after-found n (Load name rows) t well ∙ sym (breaks-changed (Load name rows) (table_at n t))
-overlap-found n (Update name portion sets conds) t well none = after-found n (Update name portion sets conds) t well ∙ sym (breaks-changed (Update name portion sets conds) (table_at n t))
-overlap-found n (Delete name portion conds) t well none = delete-unbroken name portion conds t.schema (current t.versions) none
+overlap-found n (Load name rows) t well none =
+    after-found n (Load name rows) t well ∙ sym (breaks-changed (Load name rows) (table_at n t))
+overlap-found n (Update name portion sets conds) t well none =
+    after-found n (Update name portion sets conds) t well
+    ∙ sym (breaks-changed (Update name portion sets conds) (table_at n t))
+overlap-found n (Delete name portion conds) t well none =
+    delete-unbroken name portion conds t.schema (current t.versions) none
 
-pub overlap-in : (n : ℕ) (c : Change) (t : StoredTable) (o : Option StoredTable) → IsWellKept n t → IsUnbroken t → o ≡ Some t → overlap_after c t.schema t.versions ≡ overlap_in n c o
+pub overlap-in : (n : ℕ) (c : Change) (t : StoredTable) (o : Option StoredTable) → IsWellKept n t → IsUnbroken t
+    → o ≡ Some t → overlap_after c t.schema t.versions ≡ overlap_in n c o
 overlap-in n c t o well none e = overlap-found n c t well none ∙ ap (overlap_in n c) (sym e)
 
 -- ---- what a book keeps
 
 -- its tables are those of the newest state, in which no two rows of one key share an instant
-unbroken-shown : (n : ℕ) (o : Option StoredTable) → IfSome (option_map (table_at n) o) (λ (t : Table). breaks_key t ≡ false) → IfSome o (IsWellKept n) → IfSome o IsUnbroken
+unbroken-shown : (n : ℕ) (o : Option StoredTable)
+    → IfSome (option_map (table_at n) o) (λ (t : Table). breaks_key t ≡ false) → IfSome o (IsWellKept n)
+    → IfSome o IsUnbroken
 unbroken-shown n None h well = tt
-unbroken-shown n (Some t) h well = ap (λ rows. break_key (key_of t.schema) (map unnumbered rows)) (sym (shown-current n t.versions well.times)) ∙ h
+unbroken-shown n (Some t) h well =
+    ap (λ rows. break_key (key_of t.schema) (map unnumbered rows)) (sym (shown-current n t.versions well.times)) ∙ h
 
-pub unbroken-named : (h now : History) (ts : List StoredTable) (name : List ℕ) → AreKept h ts → h ≡ now → IfSome (kept_table name ts) IsUnbroken
+pub unbroken-named : (h now : History) (ts : List StoredTable) (name : List ℕ) → AreKept h ts → h ≡ now
+    → IfSome (kept_table name ts) IsUnbroken
 unbroken-named h now ts name k v =
     let n = length now in
     let legal : IsLegal now = rw v at k.legal in
-    let all : AllByRecursion (λ (t : Table). breaks_key t ≡ false) (state_after now) = rw (take_all n now (omega arith)) at (unbroken now n legal) in
+    let all : AllByRecursion (λ (t : Table). breaks_key t ≡ false) (state_after now) =
+    rw (take_all n now (omega arith)) at (unbroken now n legal) in
     let shown = found-unbroken name (state_after now) all in
     unbroken-shown n (kept_table name ts) (rw (found_in n (state_after now) ts name (newest_of h now ts k v)) shown)
     (rw (sym v) (well_named h ts name k))
 
 -- the test of keys of the table of that name is the one of the newest state
-pub overlap-named : (h now : History) (ts : List StoredTable) (c : Change) (n : ℕ) → AreKept h ts → h ≡ now → n ≡ length h → overlap_in n c (kept_table (table_named c) ts) ≡ leaves_overlap c (table_of (state_after now) (table_named c))
+pub overlap-named : (h now : History) (ts : List StoredTable) (c : Change) (n : ℕ) → AreKept h ts → h ≡ now
+    → n ≡ length h
+    → overlap_in n c (kept_table (table_named c) ts) ≡ leaves_overlap c (table_of (state_after now) (table_named c))
 overlap-named h now ts c n k v e =
     ap (λ m. overlap_in m c (kept_table (table_named c) ts)) (e ∙ ap length v)
     ∙ ap (leaves_overlap c) (found_in (length now) (state_after now) ts (table_named c) (newest_of h now ts k v))

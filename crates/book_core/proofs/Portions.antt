@@ -26,38 +26,69 @@ first_of-some_then [] b e h = absurd (cc)
 first_of-some_then ((true, x) ∷ a) b e h = h
 first_of-some_then ((false, x) ∷ a) b e h = first_of-some_then a b e h
 
-pub first_of-some_or : {E : Type 0} (a b : List (Bool × E)) (o : Option E) → o ≡ first_of a → is_some o ≡ true → o ≡ first_of (a ++ b)
+pub first_of-some_or : {E : Type 0} (a b : List (Bool × E)) (o : Option E) → o ≡ first_of a → is_some o ≡ true
+    → o ≡ first_of (a ++ b)
 first_of-some_or a b None e h = absurd (cc)
 first_of-some_or a b (Some x) e h = sym (first_of-some_then a b x (sym e))
 
-pub first_of-none_or : {E : Type 0} (a b : List (Bool × E)) (o : Option E) → o ≡ first_of a → is_some o ≡ false → first_of (a ++ b) ≡ first_of b
+pub first_of-none_or : {E : Type 0} (a b : List (Bool × E)) (o : Option E) → o ≡ first_of a → is_some o ≡ false
+    → first_of (a ++ b) ≡ first_of b
 first_of-none_or a b None e h = first_of-none_then a b (sym e)
 first_of-none_or a b (Some x) e h = absurd (cc)
 
-left_more : {X E : Type 0} (f : X → List (Bool × E)) (xs : List X) (i : ℕ) (x : X) → i < length xs → x ≡ get_or xs i x → flat_map f (drop i xs) ≡ f x ++ flat_map f (drop (i + 1) xs)
-left_more f xs i x h e = ap (flat_map f) (drop_more xs i x h) ∙ flat_map-cons f (get_or xs i x) (drop (i + 1) xs) ∙ ap (λ y. f y ++ flat_map f (drop (i + 1) xs)) (sym e)
+left_more : {X E : Type 0} (f : X → List (Bool × E)) (xs : List X) (i : ℕ) (x : X) → i < length xs → x ≡ get_or xs i x
+    → flat_map f (drop i xs) ≡ f x ++ flat_map f (drop (i + 1) xs)
+left_more f xs i x h e =
+    ap (flat_map f) (drop_more xs i x h) ∙ flat_map-cons f (get_or xs i x) (drop (i + 1) xs)
+    ∙ ap (λ y. f y ++ flat_map f (drop (i + 1) xs)) (sym e)
 
 -- one that is refused decides
-pub refused_here : {X E : Type 0} (f : X → List (Bool × E)) (xs : List X) (i : ℕ) (x : X) (o all : Option E) → i < length xs → x ≡ get_or xs i x → o ≡ first_of (f x) → is_some o ≡ true → first_of (flat_map f (drop i xs)) ≡ all → o ≡ all
-refused_here f xs i x o all h e r s k = first_of-some_or (f x) (flat_map f (drop (i + 1) xs)) o r s ∙ ap first_of (sym (left_more f xs i x h e)) ∙ k
+pub refused_here : {X E : Type 0} (f : X → List (Bool × E)) (xs : List X) (i : ℕ) (x : X) (o all : Option E)
+    → i < length xs → x ≡ get_or xs i x → o ≡ first_of (f x) → is_some o ≡ true
+    → first_of (flat_map f (drop i xs)) ≡ all → o ≡ all
+refused_here f xs i x o all h e r s k =
+    first_of-some_or (f x) (flat_map f (drop (i + 1) xs)) o r s ∙ ap first_of (sym (left_more f xs i x h e)) ∙ k
 
 -- one that is allowed does not
-pub allowed_here : {X E : Type 0} (f : X → List (Bool × E)) (xs : List X) (i : ℕ) (x : X) (o all : Option E) → i < length xs → x ≡ get_or xs i x → o ≡ first_of (f x) → is_some o ≡ false → first_of (flat_map f (drop i xs)) ≡ all → first_of (flat_map f (drop (i + 1) xs)) ≡ all
-allowed_here f xs i x o all h e r s k = sym (first_of-none_or (f x) (flat_map f (drop (i + 1) xs)) o r s) ∙ ap first_of (sym (left_more f xs i x h e)) ∙ k
+pub allowed_here : {X E : Type 0} (f : X → List (Bool × E)) (xs : List X) (i : ℕ) (x : X) (o all : Option E)
+    → i < length xs → x ≡ get_or xs i x → o ≡ first_of (f x) → is_some o ≡ false
+    → first_of (flat_map f (drop i xs)) ≡ all → first_of (flat_map f (drop (i + 1) xs)) ≡ all
+allowed_here f xs i x o all h e r s k =
+    sym (first_of-none_or (f x) (flat_map f (drop (i + 1) xs)) o r s) ∙ ap first_of (sym (left_more f xs i x h e)) ∙ k
 
 -- the refusals
 
-pub conds_refused : {E : Type 0} (a b : List (Bool × E)) (o : Option E) (e : E) → o ≡ first_of a → o ≡ Some e → Some e ≡ first_of (a ++ b)
+pub conds_refused : {E : Type 0} (a b : List (Bool × E)) (o : Option E) (e : E) → o ≡ first_of a → o ≡ Some e
+    → Some e ≡ first_of (a ++ b)
 conds_refused a b o e h k = sym (first_of-some_then a b e (sym h ∙ k))
 
-pub conds_then : (a : List (Bool × BookRefused)) (o : Option BookRefused) (n used : ℕ) (full : Bool) → o ≡ first_of a → o ≡ None → full ≡ (leb commit_limit n || ltb version_limit used) → cond full (Some Full) None ≡ first_of (a ++ full_tests n used)
-conds_then a o n used full h k e = ap (λ b. cond b (Some Full) None) e ∙ sym (first_of-none_then a (full_tests n used) (sym h ∙ k))
+pub conds_then : (a : List (Bool × BookRefused)) (o : Option BookRefused) (n used : ℕ) (full : Bool) → o ≡ first_of a
+    → o ≡ None → full ≡ (leb commit_limit n || ltb version_limit used)
+    → cond full (Some Full) None ≡ first_of (a ++ full_tests n used)
+conds_then a o n used full h k e =
+    ap (λ b. cond b (Some Full) None) e ∙ sym (first_of-none_then a (full_tests n used) (sym h ∙ k))
 
-update_tests : (n : ℕ) (name : List ℕ) (portion : Period) (sets conds : List Pair) (t : Table) → tests_of n (Update name portion sets conds) t ≡ flat_map (pair_tests t.schema) sets ++ (flat_map (pair_tests t.schema) conds ++ full_tests n (changed (Update name portion sets conds) t).used)
-update_tests n name portion sets conds t = ap (λ l. l ++ full_tests n (changed (Update name portion sets conds) t).used) (flat_map-append (pair_tests t.schema) sets conds) ∙ append_assoc (flat_map (pair_tests t.schema) sets) (flat_map (pair_tests t.schema) conds) (full_tests n (changed (Update name portion sets conds) t).used)
+update_tests : (n : ℕ) (name : List ℕ) (portion : Period) (sets conds : List Pair) (t : Table)
+    → tests_of n (Update name portion sets conds) t ≡ flat_map (pair_tests t.schema) sets ++
+    (flat_map (pair_tests t.schema) conds ++ full_tests n (changed (Update name portion sets conds) t).used)
+update_tests n name portion sets conds t =
+    ap (λ l. l ++ full_tests n (changed (Update name portion sets conds) t).used)
+    (flat_map-append (pair_tests t.schema) sets conds)
+    ∙ append_assoc (flat_map (pair_tests t.schema) sets) (flat_map (pair_tests t.schema) conds)
+    (full_tests n (changed (Update name portion sets conds) t).used)
 
-pub update_refused : (n : ℕ) (name : List ℕ) (portion : Period) (sets conds : List Pair) (t : Table) (o : Option BookRefused) (e : BookRefused) → o ≡ first_of (flat_map (pair_tests t.schema) sets) → o ≡ Some e → Some e ≡ first_of (tests_of n (Update name portion sets conds) t)
-update_refused n name portion sets conds t o e h k = conds_refused (flat_map (pair_tests t.schema) sets) _ o e h k ∙ sym (ap first_of (update_tests n name portion sets conds t))
+pub update_refused : (n : ℕ) (name : List ℕ) (portion : Period) (sets conds : List Pair) (t : Table)
+    (o : Option BookRefused) (e : BookRefused) → o ≡ first_of (flat_map (pair_tests t.schema) sets) → o ≡ Some e
+    → Some e ≡ first_of (tests_of n (Update name portion sets conds) t)
+update_refused n name portion sets conds t o e h k =
+    conds_refused (flat_map (pair_tests t.schema) sets) _ o e h k
+    ∙ sym (ap first_of (update_tests n name portion sets conds t))
 
-pub update_then : (n : ℕ) (name : List ℕ) (portion : Period) (sets conds : List Pair) (t : Table) (o r : Option BookRefused) → o ≡ first_of (flat_map (pair_tests t.schema) sets) → o ≡ None → r ≡ first_of (flat_map (pair_tests t.schema) conds ++ full_tests n (changed (Update name portion sets conds) t).used) → r ≡ first_of (tests_of n (Update name portion sets conds) t)
-update_then n name portion sets conds t o r h k e = e ∙ sym (first_of-none_then (flat_map (pair_tests t.schema) sets) _ (sym h ∙ k)) ∙ sym (ap first_of (update_tests n name portion sets conds t))
+pub update_then : (n : ℕ) (name : List ℕ) (portion : Period) (sets conds : List Pair) (t : Table)
+    (o r : Option BookRefused) → o ≡ first_of (flat_map (pair_tests t.schema) sets) → o ≡ None
+    → r ≡ first_of
+    (flat_map (pair_tests t.schema) conds ++ full_tests n (changed (Update name portion sets conds) t).used)
+    → r ≡ first_of (tests_of n (Update name portion sets conds) t)
+update_then n name portion sets conds t o r h k e =
+    e ∙ sym (first_of-none_then (flat_map (pair_tests t.schema) sets) _ (sym h ∙ k))
+    ∙ sym (ap first_of (update_tests n name portion sets conds t))

@@ -21,27 +21,59 @@ pub none_from : {X : Type 0} (P : Type 0) (o : Option X) → IfNone o P → is_s
 none_from P None h e = h
 none_from P (Some x) h e = absurd (cc)
 
-pub load_wrong : (n : ℕ) (name : List ℕ) (rows : List Draft) (t : Table) → list_all (λ d. fits t.schema d.values) rows ≡ false → Some WrongKind ≡ first_of (tests_of n (Load name rows) t)
-load_wrong n name rows t h = sym (ap (λ b. first_of ((not b, WrongKind) ∷ (leb commit_limit n || ltb version_limit (t.used + length rows), Full) ∷ [])) h)
+pub load_wrong : (n : ℕ) (name : List ℕ) (rows : List Draft) (t : Table)
+    → list_all (λ d. fits t.schema d.values) rows ≡ false → Some WrongKind ≡ first_of (tests_of n (Load name rows) t)
+load_wrong n name rows t h =
+    sym (ap (λ b. first_of
+    ((not b, WrongKind) ∷ (leb commit_limit n || ltb version_limit (t.used + length rows), Full) ∷ [])) h)
 
-pub load_full : (n : ℕ) (name : List ℕ) (rows : List Draft) (t : Table) → list_all (λ d. fits t.schema d.values) rows ≡ true → (leb commit_limit n || ltb version_limit (t.used + length rows)) ≡ true → Some Full ≡ first_of (tests_of n (Load name rows) t)
-load_full n name rows t h k = sym (ap (λ b. first_of ((not b, WrongKind) ∷ (leb commit_limit n || ltb version_limit (t.used + length rows), Full) ∷ [])) h ∙ ap (λ b. first_of ((b, Full) ∷ [])) k)
+pub load_full : (n : ℕ) (name : List ℕ) (rows : List Draft) (t : Table)
+    → list_all (λ d. fits t.schema d.values) rows ≡ true
+    → (leb commit_limit n || ltb version_limit (t.used + length rows)) ≡ true
+    → Some Full ≡ first_of (tests_of n (Load name rows) t)
+load_full n name rows t h k =
+    sym (ap (λ b. first_of
+    ((not b, WrongKind) ∷ (leb commit_limit n || ltb version_limit (t.used + length rows), Full) ∷ [])) h
+    ∙ ap (λ b. first_of ((b, Full) ∷ [])) k)
 
-pub load_taken : (n : ℕ) (name : List ℕ) (rows : List Draft) (t : Table) → list_all (λ d. fits t.schema d.values) rows ≡ true → (leb commit_limit n || ltb version_limit (t.used + length rows)) ≡ false → None ≡ first_of (tests_of n (Load name rows) t)
-load_taken n name rows t h k = sym (ap (λ b. first_of ((not b, WrongKind) ∷ (leb commit_limit n || ltb version_limit (t.used + length rows), Full) ∷ [])) h ∙ ap (λ b. first_of ((b, Full) ∷ [])) k)
+pub load_taken : (n : ℕ) (name : List ℕ) (rows : List Draft) (t : Table)
+    → list_all (λ d. fits t.schema d.values) rows ≡ true
+    → (leb commit_limit n || ltb version_limit (t.used + length rows)) ≡ false
+    → None ≡ first_of (tests_of n (Load name rows) t)
+load_taken n name rows t h k =
+    sym (ap (λ b. first_of
+    ((not b, WrongKind) ∷ (leb commit_limit n || ltb version_limit (t.used + length rows), Full) ∷ [])) h
+    ∙ ap (λ b. first_of ((b, Full) ∷ [])) k)
 
-make_tests : (n : ℕ) (s : State) (name : List ℕ) (schema : List Column) → table_of s name ≡ None → first_refusal n s (Make name schema) ≡ first_of ((leb table_limit (length s), TooMany) ∷ (leb commit_limit n, Full) ∷ [])
-make_tests n s name schema h = ap (λ o. first_of ((not (is_none o), TableExists) ∷ (leb table_limit (length s), TooMany) ∷ (leb commit_limit n, Full) ∷ [])) h
+make_tests : (n : ℕ) (s : State) (name : List ℕ) (schema : List Column) → table_of s name ≡ None
+    → first_refusal n s (Make name schema) ≡ first_of
+    ((leb table_limit (length s), TooMany) ∷ (leb commit_limit n, Full) ∷ [])
+make_tests n s name schema h =
+    ap (λ o. first_of
+    ((not (is_none o), TableExists) ∷ (leb table_limit (length s), TooMany) ∷ (leb commit_limit n, Full) ∷ [])) h
 
-pub make_many : (n : ℕ) (s : State) (name : List ℕ) (schema : List Column) → table_of s name ≡ None → table_limit ≤ length s → Some TooMany ≡ first_refusal n s (Make name schema)
-make_many n s name schema h k = sym (make_tests n s name schema h ∙ ap (λ b. first_of ((b, TooMany) ∷ (leb commit_limit n, Full) ∷ [])) (le-leb table_limit (length s) k))
+pub make_many : (n : ℕ) (s : State) (name : List ℕ) (schema : List Column) → table_of s name ≡ None
+    → table_limit ≤ length s → Some TooMany ≡ first_refusal n s (Make name schema)
+make_many n s name schema h k =
+    sym (make_tests n s name schema h
+    ∙ ap (λ b. first_of ((b, TooMany) ∷ (leb commit_limit n, Full) ∷ [])) (le-leb table_limit (length s) k))
 
-pub make_full : (n : ℕ) (s : State) (name : List ℕ) (schema : List Column) → table_of s name ≡ None → length s < table_limit → commit_limit ≤ n → Some Full ≡ first_refusal n s (Make name schema)
-make_full n s name schema h k f = sym (make_tests n s name schema h ∙ ap (λ b. first_of ((b, TooMany) ∷ (leb commit_limit n, Full) ∷ [])) (lt-leb table_limit (length s) k) ∙ ap (λ b. first_of ((b, Full) ∷ [])) (le-leb commit_limit n f))
+pub make_full : (n : ℕ) (s : State) (name : List ℕ) (schema : List Column) → table_of s name ≡ None
+    → length s < table_limit → commit_limit ≤ n → Some Full ≡ first_refusal n s (Make name schema)
+make_full n s name schema h k f =
+    sym (make_tests n s name schema h
+    ∙ ap (λ b. first_of ((b, TooMany) ∷ (leb commit_limit n, Full) ∷ [])) (lt-leb table_limit (length s) k)
+    ∙ ap (λ b. first_of ((b, Full) ∷ [])) (le-leb commit_limit n f))
 
-pub make_taken : (n : ℕ) (s : State) (name : List ℕ) (schema : List Column) → table_of s name ≡ None → length s < table_limit → n < commit_limit → None ≡ first_refusal n s (Make name schema)
-make_taken n s name schema h k f = sym (make_tests n s name schema h ∙ ap (λ b. first_of ((b, TooMany) ∷ (leb commit_limit n, Full) ∷ [])) (lt-leb table_limit (length s) k) ∙ ap (λ b. first_of ((b, Full) ∷ [])) (lt-leb commit_limit n f))
+pub make_taken : (n : ℕ) (s : State) (name : List ℕ) (schema : List Column) → table_of s name ≡ None
+    → length s < table_limit → n < commit_limit → None ≡ first_refusal n s (Make name schema)
+make_taken n s name schema h k f =
+    sym (make_tests n s name schema h
+    ∙ ap (λ b. first_of ((b, TooMany) ∷ (leb commit_limit n, Full) ∷ [])) (lt-leb table_limit (length s) k)
+    ∙ ap (λ b. first_of ((b, Full) ∷ [])) (lt-leb commit_limit n f))
 
 -- a book keeps as many tables as the newest state has
-pub length-state : (h : History) (ts : List StoredTable) → ts ≡ kept_tables_from 0 [] h → length (state_after h) ≡ length ts
-length-state h ts e = ap length (sym (newest-kept h)) ∙ length-map (kept_tables_from 0 [] h) (table_at (length h)) ∙ ap length (sym e)
+pub length-state : (h : History) (ts : List StoredTable) → ts ≡ kept_tables_from 0 [] h
+    → length (state_after h) ≡ length ts
+length-state h ts e =
+    ap length (sym (newest-kept h)) ∙ length-map (kept_tables_from 0 [] h) (table_at (length h)) ∙ ap length (sym e)

@@ -13,7 +13,8 @@ use Rattle.book_core.specs.State.{State, Table, after, at_table, changed, rows_o
 use Rattle.book_core.proofs.Ids.{RiseIn, RiseIn-filter, RiseIn-lower, numbered_rise}
 use Rattle.book_core.proofs.Sound.{rising-rows}
 
-RiseIn-append : (lo mid hi : ℕ) (xs ys : List Row) → lo ≤ mid → mid ≤ hi → RiseIn lo mid xs → RiseIn mid hi ys → RiseIn lo hi (xs ++ ys)
+RiseIn-append : (lo mid hi : ℕ) (xs ys : List Row) → lo ≤ mid → mid ≤ hi → RiseIn lo mid xs → RiseIn mid hi ys
+    → RiseIn lo hi (xs ++ ys)
 RiseIn-append lo mid hi [] ys low high first second = RiseIn-lower mid lo hi ys low second
 RiseIn-append lo mid hi (r ∷ rs) ys low high first second =
     let within : r.id ≤ mid = first.1 in
@@ -25,15 +26,18 @@ Rises t = RiseIn 0 t.used t.rows
 
 Rises-changed : (c : Change) (t : Table) → Rises t → Rises (changed c t)
 Rises-changed c t rises =
-    RiseIn-append 0 t.used (t.used + length (drafts_of c t.schema t.rows)) (filter (λ row. not (removes c t.schema row)) t.rows) (numbered t.used (drafts_of c t.schema t.rows))
+    RiseIn-append 0 t.used (t.used + length (drafts_of c t.schema t.rows))
+    (filter (λ row. not (removes c t.schema row)) t.rows) (numbered t.used (drafts_of c t.schema t.rows))
     (omega arith) (omega arith)
     (RiseIn-filter (λ row. not (removes c t.schema row)) 0 t.used t.rows rises)
     (numbered_rise t.used (drafts_of c t.schema t.rows))
 
-Rises-at_table : (name : List ℕ) (c : Change) (s : State) → AllByRecursion Rises s → AllByRecursion Rises (at_table name (changed c) s)
+Rises-at_table : (name : List ℕ) (c : Change) (s : State) → AllByRecursion Rises s
+    → AllByRecursion Rises (at_table name (changed c) s)
 Rises-at_table name c [] all = tt
 Rises-at_table name c (t ∷ ts) all =
-    elim (same_name t.name name) as (λ b. AllByRecursion Rises (cond b (changed c t ∷ ts) (t ∷ at_table name (changed c) ts))) [
+    elim (same_name t.name name) as
+    (λ b. AllByRecursion Rises (cond b (changed c t ∷ ts) (t ∷ at_table name (changed c) ts))) [
       | true ↦ (Rises-changed c t all.0, all.1)
       | false ↦ (all.0, Rises-at_table name c ts all.1)
     ]
@@ -43,12 +47,14 @@ Rises-push [] t all rises = (rises, tt)
 Rises-push (u ∷ us) t all rises = (all.0, Rises-push us t all.1 rises)
 
 Rises-after : (c : Change) (s : State) → AllByRecursion Rises s → AllByRecursion Rises (after s c)
-Rises-after (Make table schema) s all = Rises-push s (record { name = table; schema = schema; used = 0; rows = [] }) all tt
+Rises-after (Make table schema) s all =
+    Rises-push s (record { name = table; schema = schema; used = 0; rows = [] }) all tt
 Rises-after (Load table rows) s all = Rises-at_table table (Load table rows) s all
 Rises-after (Update table portion sets conds) s all = Rises-at_table table (Update table portion sets conds) s all
 Rises-after (Delete table portion conds) s all = Rises-at_table table (Delete table portion conds) s all
 
-Rises-from : (s : State) (h : History) → AllByRecursion Rises s → AllByRecursion Rises (fold (λ s c. after s c.change) s h)
+Rises-from : (s : State) (h : History) → AllByRecursion Rises s
+    → AllByRecursion Rises (fold (λ s c. after s c.change) s h)
 Rises-from s [] all = all
 Rises-from s (c ∷ cs) all = Rises-from (after s c.change) cs (Rises-after c.change s all)
 
@@ -58,7 +64,8 @@ none_rises k d h = absurd (omega arith)
 IdsRise-named : (name : List ℕ) (s : State) → AllByRecursion Rises s → IdsRise (rows_of s name)
 IdsRise-named name [] all = none_rises
 IdsRise-named name (t ∷ ts) all =
-    elim (same_name t.name name) as (λ b. IdsRise (unwrap_or (option_map (λ (u : Table). u.rows) (cond b (Some t) (table_of ts name))) [])) [
+    elim (same_name t.name name) as
+    (λ b. IdsRise (unwrap_or (option_map (λ (u : Table). u.rows) (cond b (Some t) (table_of ts name))) [])) [
       | true ↦ rising-rows 0 t.used t.rows all.0
       | false ↦ IdsRise-named name ts all.1
     ]

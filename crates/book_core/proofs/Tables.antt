@@ -9,7 +9,9 @@ use Rattle.book_core.proofs.Ids.{found_well, all_well_kept}
 use Rattle.book_core.proofs.Sound.{all_sound, found_sound}
 
 -- the table that was found is the one of that name
-pub IsTableOf-found : (h now : History) (ts asked : List StoredTable) (name : List ℕ) (o : Option (Bor StoredTable)) → AreKept h ts → h ≡ now → asked ≡ ts → option_copied o ≡ kept_table name asked → IfSome o (λ t. IsTableOf now name t.now)
+pub IsTableOf-found : (h now : History) (ts asked : List StoredTable) (name : List ℕ) (o : Option (Bor StoredTable))
+    → AreKept h ts → h ≡ now → asked ≡ ts → option_copied o ≡ kept_table name asked
+    → IfSome o (λ t. IsTableOf now name t.now)
 IsTableOf-found h now ts asked name None k v e f = tt
 IsTableOf-found h now ts asked name (Some t) k v e f =
     let tables : asked ≡ kept_tables_from 0 [] now = e ∙ k.tables ∙ ap (kept_tables_from 0 []) v in record {
@@ -24,5 +26,6 @@ IsTableOf-found h now ts asked name (Some t) k v e f =
     }
 
 -- the table of a name is well kept
-pub well_named : (h : History) (ts : List StoredTable) (name : List ℕ) → AreKept h ts → IfSome (kept_table name ts) (IsWellKept (length h))
+pub well_named : (h : History) (ts : List StoredTable) (name : List ℕ) → AreKept h ts
+    → IfSome (kept_table name ts) (IsWellKept (length h))
 well_named h ts name k = rw k.tables (found_well (length h) name (kept_tables_from 0 [] h) (all_well_kept h))

@@ -16,16 +16,21 @@ use Rattle.book_core.proofs.Reading.{rows_at-found, table_of-newest}
 use Rattle.book_core.proofs.Sound.{all_sound, found_sound}
 
 -- the table of a name that a legal history has
-some_table : (h : History) (name : List ℕ) → IsLegal h → is_none (table_of (state_after h) name) ≡ false → (t : StoredTable) × IsTableOf h name t
+some_table : (h : History) (name : List ℕ) → IsLegal h → is_none (table_of (state_after h) name) ≡ false
+    → (t : StoredTable) × IsTableOf h name t
 some_table h name legal there = by_kept (kept_table name (kept_tables_from 0 [] h)) refl where
-  by_kept : (o : Option StoredTable) → o ≡ kept_table name (kept_tables_from 0 [] h) → (t : StoredTable) × IsTableOf h name t
-  by_kept None f = absurd (both_ways (is_none (table_of (state_after h) name)) there (ap is_none (table_of-newest h (kept_tables_from 0 [] h) name None refl f)))
+  by_kept : (o : Option StoredTable) → o ≡ kept_table name (kept_tables_from 0 [] h) → (t : StoredTable)
+      × IsTableOf h name t
+  by_kept None f =
+      absurd (both_ways (is_none (table_of (state_after h) name)) there
+      (ap is_none (table_of-newest h (kept_tables_from 0 [] h) name None refl f)))
   by_kept (Some t) f = (
     t,
     record {
       newest = table_of-newest h (kept_tables_from 0 [] h) name (Some t) refl f;
       past = λ n le. sym (rows_at-found h (kept_tables_from 0 [] h) name n t refl le f);
-      well = subst (λ o. IfSome o (IsWellKept (length h))) (sym f) (found_well (length h) name (kept_tables_from 0 [] h) (all_well_kept h));
+      well = subst (λ o. IfSome o (IsWellKept (length h))) (sym f)
+          (found_well (length h) name (kept_tables_from 0 [] h) (all_well_kept h));
       sound = subst (λ o. IfSome o IsSound) (sym f) (found_sound name (kept_tables_from 0 [] h) (all_sound h legal));
     },
   )
@@ -37,7 +42,8 @@ record MayRead (h : History) (at : ℕ) (is_bad : Bool) (name : List ℕ) : Type
   table : StoredTable
   is_table : IsTableOf h name table
 
-may_read : (h : History) (at : ℕ) (is_bad : Bool) (name : List ℕ) → IsLegal h → versions_refusal h at is_bad name ≡ None → MayRead h at is_bad name
+may_read : (h : History) (at : ℕ) (is_bad : Bool) (name : List ℕ) → IsLegal h
+    → versions_refusal h at is_bad name ≡ None → MayRead h at is_bad name
 may_read h at is_bad name legal none =
     let none_applies =
     first_of-none
@@ -46,18 +52,23 @@ may_read h at is_bad name legal none =
     let (t, is) = some_table h name legal none_applies.1.1.0 in
     record { within = ltb-false (length h) at none_applies.0; right = none_applies.1.0; table = t; is_table = is }
 
-pub some_between : (h : History) (at m n : ℕ) (name : List ℕ) → IsLegal h → versions_refusal h at (nat_lt n m) name ≡ None → (versions : List Version) × AreBetween h at m n name versions
+pub some_between : (h : History) (at m n : ℕ) (name : List ℕ) → IsLegal h
+    → versions_refusal h at (nat_lt n m) name ≡ None → (versions : List Version) × AreBetween h at m n name versions
 some_between h at m n name legal none =
     let may = may_read h at (nat_lt n m) name legal none in (
       seen at m n may.table.versions,
-      seen_are h name may.table at m n (λ v. (v.sysfrom ≤ n) × IsAfter v.systo m) (seen at m n may.table.versions) may.is_table may.within (λ v p. p) (λ v p. p) refl,
+      seen_are h name may.table at m n (λ v. (v.sysfrom ≤ n) × IsAfter v.systo m)
+          (seen at m n may.table.versions) may.is_table may.within (λ v p. p) (λ v p. p) refl,
     )
 
-pub some_from_to : (h : History) (at m n : ℕ) (name : List ℕ) → IsLegal h → versions_refusal h at (nat_le n m) name ≡ None → (versions : List Version) × AreFromTo h at m n name versions
+pub some_from_to : (h : History) (at m n : ℕ) (name : List ℕ) → IsLegal h
+    → versions_refusal h at (nat_le n m) name ≡ None → (versions : List Version) × AreFromTo h at m n name versions
 some_from_to h at m n name legal none =
     let may = may_read h at (nat_le n m) name legal none in
     let some : m < n = leb-false n m may.right in (
       seen at m (n - 1) may.table.versions,
-      seen_are h name may.table at m (n - 1) (λ v. (v.sysfrom < n) × IsAfter v.systo m) (seen at m (n - 1) may.table.versions) may.is_table may.within
-          (λ v p. let x = p.0 in (omega (arith, x, some), p.1)) (λ v p. let x = p.0 in (omega (arith, x, some), p.1)) refl,
+      seen_are h name may.table at m (n - 1) (λ v. (v.sysfrom < n) × IsAfter v.systo m)
+          (seen at m (n - 1) may.table.versions) may.is_table may.within
+          (λ v p. let x = p.0 in (omega (arith, x, some), p.1))
+          (λ v p. let x = p.0 in (omega (arith, x, some), p.1)) refl,
     )

@@ -32,8 +32,11 @@ schema_in h name = option_map (λ t. t.schema) (table_of (state_after h) name)
 
 -- why rows are not given, if they are not
 abbrev pub rows_refusal : History → ℕ → List ℕ → Option RowsRefused
-rows_refusal h n name = first_of ((nat_lt (length h) n, Future) ∷ (is_none (table_of (state_after h) name), NoTable) ∷ [])
+rows_refusal h n name =
+    first_of ((nat_lt (length h) n, Future) ∷ (is_none (table_of (state_after h) name), NoTable) ∷ [])
 
 -- why versions are not given, if they are not
 abbrev pub versions_refusal : History → ℕ → Bool → List ℕ → Option VersionsRefused
-versions_refusal h at is_bad name = first_of ((nat_lt (length h) at, no_versions.Future) ∷ (is_bad, no_versions.BadPeriod) ∷ (is_none (table_of (state_after h) name), no_versions.NoTable) ∷ [])
+versions_refusal h at is_bad name =
+    first_of ((nat_lt (length h) at, no_versions.Future) ∷ (is_bad, no_versions.BadPeriod) ∷
+    (is_none (table_of (state_after h) name), no_versions.NoTable) ∷ [])

@@ -120,7 +120,8 @@ leaves_overlap (Delete table portion conds) (Some t) = false
 -- the first refusal that applies to a change in the state after n commits, but for that of its rows' keys
 abbrev pub first_refusal : ℕ → State → Change → Option BookRefused
 first_refusal n s (Make table schema) =
-    first_of ((not (is_none (table_of s table)), TableExists) ∷ (nat_le table_limit (length s), TooMany) ∷ (nat_le commit_limit n, Full) ∷ [])
+    first_of ((not (is_none (table_of s table)), TableExists) ∷ (nat_le table_limit (length s), TooMany) ∷
+    (nat_le commit_limit n, Full) ∷ [])
 first_refusal n s c = with_table (table_of s (table_named c)) (λ t. first_of (tests_of n c t))
 
 -- that refusal, and else the one of keys, where rows of one key overlap

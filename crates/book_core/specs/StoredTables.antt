@@ -50,7 +50,8 @@ at_kept name f (t ∷ ts) = if same_name t.name name then f t ∷ ts else t ∷ 
 abbrev pub kept_tables_after : ℕ → List StoredTable → Change → List StoredTable
 kept_tables_after n ts (Make table schema) = ts ++ record { name = table; schema = schema; versions = [] } ∷ []
 kept_tables_after n ts (Load table rows) = at_kept table (kept_table_after n (Load table rows)) ts
-kept_tables_after n ts (Update table portion sets conds) = at_kept table (kept_table_after n (Update table portion sets conds)) ts
+kept_tables_after n ts (Update table portion sets conds) =
+    at_kept table (kept_table_after n (Update table portion sets conds)) ts
 kept_tables_after n ts (Delete table portion conds) = at_kept table (kept_table_after n (Delete table portion conds)) ts
 
 -- the tables after the commits that follow the first n
@@ -82,7 +83,8 @@ pub record IsBook (h : History) (ts : List StoredTable) (log : List Entry) : Typ
 abbrev pub HasRoomIn : ℕ → Change → StoredTable → Type 0
 HasRoomIn n (Make table schema) t = Unit {0}
 HasRoomIn n (Load table rows) t = (changed (Load table rows) (table_at n t)).used ≤ version_limit
-HasRoomIn n (Update table portion sets conds) t = (changed (Update table portion sets conds) (table_at n t)).used ≤ version_limit
+HasRoomIn n (Update table portion sets conds) t =
+    (changed (Update table portion sets conds) (table_at n t)).used ≤ version_limit
 HasRoomIn n (Delete table portion conds) t = (changed (Delete table portion conds) (table_at n t)).used ≤ version_limit
 
 -- so will the table of the change

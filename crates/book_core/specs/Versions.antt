@@ -25,7 +25,8 @@ pub record IsVersion (h : History) (at : ℕ) (name : List ℕ) (v : Version) : 
   pub first : (n : ℕ) → n < v.sysfrom → HasId h name n v.row.id → ⊥
   pub end : MatchOption v.systo
       ((n : ℕ) → v.sysfrom ≤ n → n ≤ at → HasId h name n v.row.id)
-      (λ to. (v.sysfrom < to) × (to ≤ at) × (HasId h name to v.row.id → ⊥) × ((n : ℕ) → v.sysfrom ≤ n → n < to → HasId h name n v.row.id))
+      (λ to. (v.sysfrom < to) × (to ≤ at) × (HasId h name to v.row.id → ⊥)
+      × ((n : ℕ) → v.sysfrom ≤ n → n < to → HasId h name n v.row.id))
 
 -- an open end is after every commit
 abbrev pub IsAfter : Option ℕ → ℕ → Type 0

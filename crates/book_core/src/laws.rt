@@ -6,7 +6,8 @@ ghost use Rattle.version_core.specs.declared.version.Version.{Version};
 ghost use Rattle.book_core.specs.History.{History, IsLegal, rows_at, versions_refusal};
 ghost use Rattle.book_core.specs.Versions.{AreBetween, AreFromTo};
 
-/// What is asked of a table's versions is one list at most, and where they may be read, in a legal history, exactly one.
+/// What is asked of a table's versions is one list at most, and where they may be read, in a legal history,
+/// exactly one.
 pub fn history_has_one_list_of_versions()
     ensures between_exists { (h : History) (at m n : ℕ) (name : List ℕ)
         → IsLegal h → versions_refusal h at (nat_lt n m) name ≡ None

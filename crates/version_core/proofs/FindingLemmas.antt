@@ -27,7 +27,9 @@ filter_filter : (p q : ℕ → Bool) (xs : List ℕ) → filter p (filter q xs) 
 filter_filter p q [] = refl
 filter_filter p q (x ∷ xs) =
     let rest = filter_filter p q xs in
-    elim (q x) as (λ b. filter p (cond b (x ∷ filter q xs) (filter q xs)) ≡ cond (b && p x) (x ∷ filter (λ x. q x && p x) xs) (filter (λ x. q x && p x) xs)) [
+    elim (q x) as
+    (λ b. filter p (cond b (x ∷ filter q xs) (filter q xs)) ≡ cond (b && p x) (x ∷ filter (λ x. q x && p x) xs)
+    (filter (λ x. q x && p x) xs)) [
       | true ↦ ap (λ l. cond (p x) (x ∷ l) l) rest
       | false ↦ rest
     ]
@@ -35,7 +37,9 @@ filter_filter p q (x ∷ xs) =
 -- two tests that agree at the elements
 filter_agree-within : (p q : ℕ → Bool) (xs : List ℕ) → AllByRecursion (λ x. p x ≡ q x) xs → filter p xs ≡ filter q xs
 filter_agree-within p q [] h = refl
-filter_agree-within p q (x ∷ xs) h = ap (λ b. cond b (x ∷ filter p xs) (filter p xs)) h.0 ∙ ap (λ l. cond (q x) (x ∷ l) l) (filter_agree-within p q xs h.1)
+filter_agree-within p q (x ∷ xs) h =
+    ap (λ b. cond b (x ∷ filter p xs) (filter p xs)) h.0
+    ∙ ap (λ l. cond (q x) (x ∷ l) l) (filter_agree-within p q xs h.1)
 
 and_self : (b : Bool) → (b && b) ≡ b
 and_self true = refl
@@ -49,46 +53,67 @@ length-filter-le p xs = omega (arith, length-filter p xs, count_by-le-length p x
 
 -- tests of versions at places
 
-passes-and : (vs : List Version) (p q : Version → Bool) (place : ℕ) → passes vs (λ v. p v && q v) place ≡ (passes vs p place && passes vs q place)
-passes-and vs p q place = elim (slice_get vs place) as (λ o. unwrap_or (option_map (λ v. p v && q v) o) false ≡ (unwrap_or (option_map p o) false && unwrap_or (option_map q o) false)) [
-  | Some v ↦ refl
-  | None ↦ refl
-]
+passes-and : (vs : List Version) (p q : Version → Bool) (place : ℕ)
+    → passes vs (λ v. p v && q v) place ≡ (passes vs p place && passes vs q place)
+passes-and vs p q place =
+    elim (slice_get vs place) as
+    (λ o. unwrap_or (option_map (λ v. p v && q v) o) false ≡
+    (unwrap_or (option_map p o) false && unwrap_or (option_map q o) false)) [
+      | Some v ↦ refl
+      | None ↦ refl
+    ]
 
-slice_get-mapped : (f : Version → Version) (vs : List Version) (place : ℕ) → slice_get (map f vs) place ≡ option_map f (slice_get vs place)
+slice_get-mapped : (f : Version → Version) (vs : List Version) (place : ℕ)
+    → slice_get (map f vs) place ≡ option_map f (slice_get vs place)
 slice_get-mapped f [] place = refl
 slice_get-mapped f (v ∷ vs) zero = refl
 slice_get-mapped f (v ∷ vs) (suc place) = slice_get-mapped f vs place
 
-passes-mapped : (f : Version → Version) (vs : List Version) (p q : Version → Bool) → ((v : Version) → p (f v) ≡ q v) → (place : ℕ) → passes (map f vs) p place ≡ passes vs q place
-passes-mapped f vs p q same place = ap (λ o. unwrap_or (option_map p o) false) (slice_get-mapped f vs place) ∙ (elim (slice_get vs place) as (λ o. unwrap_or (option_map p (option_map f o)) false ≡ unwrap_or (option_map q o) false) [
-  | Some v ↦ same v
-  | None ↦ refl
-])
+passes-mapped : (f : Version → Version) (vs : List Version) (p q : Version → Bool) → ((v : Version) → p (f v) ≡ q v)
+    → (place : ℕ) → passes (map f vs) p place ≡ passes vs q place
+passes-mapped f vs p q same place =
+    ap (λ o. unwrap_or (option_map p o) false) (slice_get-mapped f vs place)
+    ∙ (elim (slice_get vs place) as
+    (λ o. unwrap_or (option_map p (option_map f o)) false ≡ unwrap_or (option_map q o) false) [
+      | Some v ↦ same v
+      | None ↦ refl
+    ])
 
-slice_get-before : (vs us : List Version) (place : ℕ) → place < length vs → slice_get (vs ++ us) place ≡ slice_get vs place
+slice_get-before : (vs us : List Version) (place : ℕ) → place < length vs
+    → slice_get (vs ++ us) place ≡ slice_get vs place
 slice_get-before [] us place h = absurd (omega arith)
 slice_get-before (v ∷ vs) us zero h = refl
 slice_get-before (v ∷ vs) us (suc place) h = slice_get-before vs us place (omega arith)
 
-passes-before : (vs us : List Version) (p : Version → Bool) (places : List ℕ) → All (λ place. place < length vs) places → filter (passes (vs ++ us) p) places ≡ filter (passes vs p) places
+passes-before : (vs us : List Version) (p : Version → Bool) (places : List ℕ) → All (λ place. place < length vs) places
+    → filter (passes (vs ++ us) p) places ≡ filter (passes vs p) places
 passes-before vs us p places h =
     filter_agree-within (passes (vs ++ us) p) (passes vs p) places
     (recursion_from_All (λ place. passes (vs ++ us) p place ≡ passes vs p place) places
-    (All-weaker (λ place. place < length vs) (λ place. passes (vs ++ us) p place ≡ passes vs p place) (λ place below. ap (λ o. unwrap_or (option_map p o) false) (slice_get-before vs us place below)) places h))
+    (All-weaker (λ place. place < length vs) (λ place. passes (vs ++ us) p place ≡ passes vs p place)
+    (λ place below. ap (λ o. unwrap_or (option_map p o) false) (slice_get-before vs us place below)) places h))
 
-pub places_from-agree : (p q : Version → Bool) → ((v : Version) → p v ≡ q v) → (at : ℕ) (vs : List Version) → places_from p at vs ≡ places_from q at vs
+pub places_from-agree : (p q : Version → Bool) → ((v : Version) → p v ≡ q v) → (at : ℕ) (vs : List Version)
+    → places_from p at vs ≡ places_from q at vs
 places_from-agree p q same at [] = refl
-places_from-agree p q same at (v ∷ vs) = ap (λ b. cond b (at ∷ places_from p (at + 1) vs) (places_from p (at + 1) vs)) (same v) ∙ ap (λ l. cond (q v) (at ∷ l) l) (places_from-agree p q same (at + 1) vs)
+places_from-agree p q same at (v ∷ vs) =
+    ap (λ b. cond b (at ∷ places_from p (at + 1) vs) (places_from p (at + 1) vs)) (same v)
+    ∙ ap (λ l. cond (q v) (at ∷ l) l) (places_from-agree p q same (at + 1) vs)
 
-places_from-mapped : (f : Version → Version) (p q : Version → Bool) → ((v : Version) → p (f v) ≡ q v) → (at : ℕ) (vs : List Version) → places_from p at (map f vs) ≡ places_from q at vs
+places_from-mapped : (f : Version → Version) (p q : Version → Bool) → ((v : Version) → p (f v) ≡ q v)
+    → (at : ℕ) (vs : List Version) → places_from p at (map f vs) ≡ places_from q at vs
 places_from-mapped f p q same at [] = refl
-places_from-mapped f p q same at (v ∷ vs) = ap (λ b. cond b (at ∷ places_from p (at + 1) (map f vs)) (places_from p (at + 1) (map f vs))) (same v) ∙ ap (λ l. cond (q v) (at ∷ l) l) (places_from-mapped f p q same (at + 1) vs)
+places_from-mapped f p q same at (v ∷ vs) =
+    ap (λ b. cond b (at ∷ places_from p (at + 1) (map f vs)) (places_from p (at + 1) (map f vs))) (same v)
+    ∙ ap (λ l. cond (q v) (at ∷ l) l) (places_from-mapped f p q same (at + 1) vs)
 
 -- the open versions at the places that pass one test more
-pub filter-listed : (vs : List Version) (test : Row → Bool) (p : Version → Bool) (places : List ℕ) → ListsOpen vs test places → filter (passes vs (λ v. is_open v && p v)) places ≡ places_from (λ v. (is_open v && test v.row) && p v) 0 vs
+pub filter-listed : (vs : List Version) (test : Row → Bool) (p : Version → Bool) (places : List ℕ)
+    → ListsOpen vs test places
+    → filter (passes vs (λ v. is_open v && p v)) places ≡ places_from (λ v. (is_open v && test v.row) && p v) 0 vs
 filter-listed vs test p places h =
-    filter_agree (passes vs (λ v. is_open v && p v)) (λ x. passes vs is_open x && passes vs p x) (passes-and vs is_open p) places
+    filter_agree (passes vs (λ v. is_open v && p v)) (λ x. passes vs is_open x && passes vs p x)
+    (passes-and vs is_open p) places
     ∙ sym (filter_filter (passes vs p) (passes vs is_open) places)
     ∙ ap (filter (passes vs p)) h.exact
     ∙ filter-places_from (λ v. is_open v && test v.row) p vs
@@ -105,16 +130,20 @@ narrowed o false true h = absurd (let e = h refl in cc)
 narrowed true false false h = refl
 narrowed false false false h = refl
 
-pub candidates-listed : (c : Change) (schema : List Column) (vs : List Version) (test : Row → Bool) (places : List ℕ) → ListsOpen vs test places → ((row : Row) → removes c schema row ≡ true → test row ≡ true) → AreCandidates c schema vs places
+pub candidates-listed : (c : Change) (schema : List Column) (vs : List Version) (test : Row → Bool) (places : List ℕ)
+    → ListsOpen vs test places → ((row : Row) → removes c schema row ≡ true → test row ≡ true)
+    → AreCandidates c schema vs places
 candidates-listed c schema vs test places h covers = record {
   inside = h.inside;
   few = h.few;
   taken = filter-listed vs test (λ v. removes c schema v.row) places h
-      ∙ places_from-agree (λ v. (is_open v && test v.row) && removes c schema v.row) (is_taken c schema) (λ v. narrowed (is_open v) (test v.row) (removes c schema v.row) (covers v.row)) 0 vs;
+      ∙ places_from-agree (λ v. (is_open v && test v.row) && removes c schema v.row) (is_taken c schema)
+      (λ v. narrowed (is_open v) (test v.row) (removes c schema v.row) (covers v.row)) 0 vs;
 }
 
 -- the test of the version at a place
-pub passes-at : (vs : List Version) (test : Version → Bool) (place : ℕ) (v : Version) (b : Bool) → place < length vs → v ≡ get_or vs place v → b ≡ test v → passes vs test place ≡ b
+pub passes-at : (vs : List Version) (test : Version → Bool) (place : ℕ) (v : Version) (b : Bool) → place < length vs
+    → v ≡ get_or vs place v → b ≡ test v → passes vs test place ≡ b
 passes-at vs test place v b inside e h =
     ap (λ o. unwrap_or (option_map test o) false) (slice_get-get_or vs place v inside ∙ ap Some (sym e)) ∙ sym h
 
@@ -132,12 +161,22 @@ is_some_place (x ∷ xs) = true
 any-filter : (p : ℕ → Bool) (xs : List ℕ) → list_any p xs ≡ is_some_place (filter p xs)
 unfolding is_some_place
 any-filter p [] = refl
-any-filter p (x ∷ xs) = elim (p x) as (λ b. (b || list_any p xs) ≡ is_some_place (cond b (x ∷ filter p xs) (filter p xs))) [ true ↦ refl | false ↦ any-filter p xs ]
+any-filter p (x ∷ xs) =
+    elim (p x) as
+    (λ b. (b || list_any p xs) ≡ is_some_place (cond b (x ∷ filter p xs) (filter p xs))) [
+      | true ↦ refl
+      | false ↦
+          any-filter p xs
+    ]
 
-any-places : (test : Version → Bool) (at : ℕ) (vs : List Version) → is_some_place (places_from test at vs) ≡ list_any test vs
+any-places : (test : Version → Bool) (at : ℕ) (vs : List Version)
+    → is_some_place (places_from test at vs) ≡ list_any test vs
 unfolding is_some_place
 any-places test at [] = refl
-any-places test at (v ∷ vs) = elim (test v) as (λ b. is_some_place (cond b (at ∷ places_from test (at + 1) vs) (places_from test (at + 1) vs)) ≡ (b || list_any test vs)) [ true ↦ refl | false ↦ any-places test (at + 1) vs ]
+any-places test at (v ∷ vs) =
+    elim (test v) as
+    (λ b. is_some_place (cond b (at ∷ places_from test (at + 1) vs) (places_from test (at + 1) vs)) ≡
+    (b || list_any test vs)) [ true ↦ refl | false ↦ any-places test (at + 1) vs ]
 
 and_assoc : (a b c : Bool) → ((a && b) && c) ≡ (a && (b && c))
 and_assoc true b c = refl
@@ -150,21 +189,27 @@ narrowed-last true false true true h = absurd (let e = h refl in cc)
 narrowed-last true false true false h = refl
 narrowed-last true false false m h = refl
 
-pub near-listed : (key : List ℕ) (other : Draft) (vs : List Version) (test : Row → Bool) (places : List ℕ) → ListsOpen vs test places → ((v : Version) → collide key (draft_of v) other ≡ true → test v.row ≡ true) → AreNear key other vs places
+pub near-listed : (key : List ℕ) (other : Draft) (vs : List Version) (test : Row → Bool) (places : List ℕ)
+    → ListsOpen vs test places → ((v : Version) → collide key (draft_of v) other ≡ true → test v.row ≡ true)
+    → AreNear key other vs places
 near-listed key other vs test places h covers = record {
   inside = h.inside;
   found = λ left.
       let meets : Version → Bool = λ v. left v && collide key (draft_of v) other in
-      any-agree (passes vs (λ v. (is_open v && left v) && collide key (draft_of v) other)) (passes vs (λ v. is_open v && meets v))
+      any-agree (passes vs (λ v. (is_open v && left v) && collide key (draft_of v) other))
+      (passes vs (λ v. is_open v && meets v))
       (λ place. ap (λ o. unwrap_or o false) (mapped (slice_get vs place) left)) places
       ∙ any-filter (passes vs (λ v. is_open v && meets v)) places
       ∙ ap is_some_place (filter-listed vs test meets places h)
       ∙ any-places (λ v. (is_open v && test v.row) && meets v) 0 vs
-      ∙ any-agree (λ v. (is_open v && test v.row) && meets v) (λ v. (is_open v && left v) && collide key (draft_of v) other)
+      ∙ any-agree (λ v. (is_open v && test v.row) && meets v)
+      (λ v. (is_open v && left v) && collide key (draft_of v) other)
       (λ v. narrowed-last (is_open v) (test v.row) (left v) (collide key (draft_of v) other) (covers v)) vs;
 }
   where
-    mapped : (o : Option Version) (left : Version → Bool) → option_map (λ (v : Version). (is_open v && left v) && collide key (draft_of v) other) o ≡ option_map (λ (v : Version). is_open v && (left v && collide key (draft_of v) other)) o
+    mapped : (o : Option Version) (left : Version → Bool)
+        → option_map (λ (v : Version). (is_open v && left v) && collide key (draft_of v) other) o ≡ option_map
+        (λ (v : Version). is_open v && (left v && collide key (draft_of v) other)) o
     mapped None left = refl
     mapped (Some v) left = ap Some (and_assoc (is_open v) (left v) (collide key (draft_of v) other))
 
@@ -173,13 +218,19 @@ near-listed key other vs test places h covers = record {
 open_closed : (n : ℕ) (goes : Row → Bool) (v : Version) → is_open (closed n goes v) ≡ (is_open v && not (goes v.row))
 open_closed n goes v = after v.systo (goes v.row)
   where
-    after : (to : Option ℕ) (b : Bool) → is_none (cond {A = Version} (is_none to && b) (record { row = v.row; sysfrom = v.sysfrom; systo = Some n }) (record { row = v.row; sysfrom = v.sysfrom; systo = to })).systo ≡ (is_none to && not b)
+    after : (to : Option ℕ) (b : Bool)
+        → is_none
+        (cond {A = Version} (is_none to && b) (record { row = v.row; sysfrom = v.sysfrom; systo = Some n })
+        (record { row = v.row; sysfrom = v.sysfrom; systo = to })).systo ≡ (is_none to && not b)
     after None true = refl
     after None false = refl
     after (Some t) b = refl
 
 row_closed : (n : ℕ) (goes : Row → Bool) (v : Version) → (closed n goes v).row ≡ v.row
-row_closed n goes v = elim (is_open v && goes v.row) as (λ b. (cond {A = Version} b (record { row = v.row; sysfrom = v.sysfrom; systo = Some n }) (record { row = v.row; sysfrom = v.sysfrom; systo = v.systo })).row ≡ v.row) [ true ↦ refl | false ↦ refl ]
+row_closed n goes v =
+    elim (is_open v && goes v.row) as
+    (λ b. (cond {A = Version} b (record { row = v.row; sysfrom = v.sysfrom; systo = Some n })
+    (record { row = v.row; sysfrom = v.sysfrom; systo = v.systo })).row ≡ v.row) [ true ↦ refl | false ↦ refl ]
 
 and_swap : (a b c : Bool) → ((a && b) && c) ≡ ((a && c) && b)
 and_swap true true true = refl
@@ -188,24 +239,34 @@ and_swap true false true = refl
 and_swap true false false = refl
 and_swap false b c = refl
 
-pub ListsOpen-closed : (n : ℕ) (goes : Row → Bool) (vs : List Version) (test : Row → Bool) (places : List ℕ) → ListsOpen vs test places → ListsOpen (map (closed n goes) vs) test places
+pub ListsOpen-closed : (n : ℕ) (goes : Row → Bool) (vs : List Version) (test : Row → Bool) (places : List ℕ)
+    → ListsOpen vs test places → ListsOpen (map (closed n goes) vs) test places
 ListsOpen-closed n goes vs test places h =
     let counted = length-map vs (closed n goes) in
     record {
-      inside = All-weaker (λ place. place < length vs) (λ place. place < length (map (closed n goes) vs)) (λ place below. omega (arith, below, counted)) places h.inside;
+      inside = All-weaker (λ place. place < length vs) (λ place. place < length (map (closed n goes) vs))
+          (λ place below. omega (arith, below, counted)) places h.inside;
       few = omega (arith, h.few, counted);
-      exact = filter_agree (passes (map (closed n goes) vs) is_open) (passes vs (λ v. is_open v && not (goes v.row))) (passes-mapped (closed n goes) vs is_open (λ v. is_open v && not (goes v.row)) (open_closed n goes)) places
+      exact = filter_agree (passes (map (closed n goes) vs) is_open) (passes vs (λ v. is_open v && not (goes v.row)))
+          (passes-mapped (closed n goes) vs is_open (λ v. is_open v && not (goes v.row)) (open_closed n goes)) places
           ∙ filter-listed vs test (λ v. not (goes v.row)) places h
-          ∙ sym (places_from-mapped (closed n goes) (λ v. is_open v && test v.row) (λ v. (is_open v && test v.row) && not (goes v.row))
-          (λ v. ap (λ b. b && test (closed n goes v).row) (open_closed n goes v) ∙ ap (λ row. (is_open v && not (goes v.row)) && test row) (row_closed n goes v) ∙ and_swap (is_open v) (not (goes v.row)) (test v.row)) 0 vs);
+          ∙ sym (places_from-mapped (closed n goes) (λ v. is_open v && test v.row)
+          (λ v. (is_open v && test v.row) && not (goes v.row))
+          (λ v. ap (λ b. b && test (closed n goes v).row) (open_closed n goes v)
+          ∙ ap (λ row. (is_open v && not (goes v.row)) && test row) (row_closed n goes v)
+          ∙ and_swap (is_open v) (not (goes v.row)) (test v.row)) 0 vs);
     }
 
 -- versions are added
 
-grown-inside : (vs us : List Version) (places : List ℕ) → All (λ place. place < length vs) places → All (λ place. place < length (vs ++ us)) places
-grown-inside vs us places h = All-weaker (λ place. place < length vs) (λ place. place < length (vs ++ us)) (λ place below. omega (arith, below, length-append vs us)) places h
+grown-inside : (vs us : List Version) (places : List ℕ) → All (λ place. place < length vs) places
+    → All (λ place. place < length (vs ++ us)) places
+grown-inside vs us places h =
+    All-weaker (λ place. place < length vs) (λ place. place < length (vs ++ us))
+    (λ place below. omega (arith, below, length-append vs us)) places h
 
-listed-append : (vs us : List Version) (test : Row → Bool) (places more : List ℕ) → ListsOpen vs test places → filter (passes (vs ++ us) is_open) more ≡ places_from (λ v. is_open v && test v.row) (0 + length vs) us
+listed-append : (vs us : List Version) (test : Row → Bool) (places more : List ℕ) → ListsOpen vs test places
+    → filter (passes (vs ++ us) is_open) more ≡ places_from (λ v. is_open v && test v.row) (0 + length vs) us
     → filter (passes (vs ++ us) is_open) (places ++ more) ≡ places_from (λ v. is_open v && test v.row) 0 (vs ++ us)
 listed-append vs us test places more h e =
     filter-append (passes (vs ++ us) is_open) places more
@@ -218,7 +279,8 @@ slice_get-next [] us v = refl
 slice_get-next (w ∷ vs) us v = slice_get-next vs us v
 
 -- one that is not listed
-pub ListsOpen-skipped : (vs : List Version) (v : Version) (test : Row → Bool) (places : List ℕ) → (is_open v && test v.row) ≡ false → ListsOpen vs test places → ListsOpen (vs ++ v ∷ []) test places
+pub ListsOpen-skipped : (vs : List Version) (v : Version) (test : Row → Bool) (places : List ℕ)
+    → (is_open v && test v.row) ≡ false → ListsOpen vs test places → ListsOpen (vs ++ v ∷ []) test places
 ListsOpen-skipped vs v test places e h = record {
   inside = grown-inside vs (v ∷ []) places h.inside;
   few = omega (arith, h.few, length-append vs (v ∷ []));
@@ -227,11 +289,15 @@ ListsOpen-skipped vs v test places e h = record {
 }
 
 -- one that is
-pub ListsOpen-pushed : (vs : List Version) (v : Version) (test : Row → Bool) (places : List ℕ) (place : ℕ) → place ≡ length vs → is_open v ≡ true → test v.row ≡ true → ListsOpen vs test places → ListsOpen (vs ++ v ∷ []) test (places ++ place ∷ [])
+pub ListsOpen-pushed : (vs : List Version) (v : Version) (test : Row → Bool) (places : List ℕ) (place : ℕ)
+    → place ≡ length vs → is_open v ≡ true → test v.row ≡ true → ListsOpen vs test places
+    → ListsOpen (vs ++ v ∷ []) test (places ++ place ∷ [])
 ListsOpen-pushed vs v test places place at opened tested h =
     let grown = length-append vs (v ∷ []) in
     record {
-      inside = All-append (λ p. p < length (vs ++ v ∷ [])) places (place ∷ []) (grown-inside vs (v ∷ []) places h.inside) (All-from_recursion (λ p. p < length (vs ++ v ∷ [])) (place ∷ []) (omega (arith, grown, at), tt));
+      inside = All-append (λ p. p < length (vs ++ v ∷ [])) places (place ∷ [])
+          (grown-inside vs (v ∷ []) places h.inside)
+          (All-from_recursion (λ p. p < length (vs ++ v ∷ [])) (place ∷ []) (omega (arith, grown, at), tt));
       few = omega (arith, h.few, grown, length-append places (place ∷ []));
       exact = listed-append vs (v ∷ []) test places (place ∷ []) h
           (ap (λ p. filter (passes (vs ++ v ∷ []) is_open) (p ∷ [])) at
@@ -250,18 +316,26 @@ true_and : (b : Bool) → (true && b) ≡ (b && true)
 true_and true = refl
 true_and false = refl
 
-pub ListsOpen-grown : (vs us : List Version) (places : List ℕ) (before count : ℕ) → before ≡ length vs → count ≡ length us → ListsOpen vs any_row places → ListsOpen (vs ++ us) any_row (places ++ range_with_len before count)
+pub ListsOpen-grown : (vs us : List Version) (places : List ℕ) (before count : ℕ) → before ≡ length vs
+    → count ≡ length us → ListsOpen vs any_row places
+    → ListsOpen (vs ++ us) any_row (places ++ range_with_len before count)
 ListsOpen-grown vs us places before count at many h =
-    let range : range_with_len before count ≡ places_from (λ v. true) (length vs) us = ap (λ n. range_with_len n count) at ∙ ap (range_with_len (length vs)) many ∙ range-places (length vs) us in
+    let range : range_with_len before count ≡ places_from (λ v. true) (length vs) us =
+    ap (λ n. range_with_len n count) at ∙ ap (range_with_len (length vs)) many ∙ range-places (length vs) us in
     let grown = length-append vs us in
     record {
-      inside = All-append (λ p. p < length (vs ++ us)) places (range_with_len before count) (grown-inside vs us places h.inside)
-          (rw range (All-from_recursion (λ p. p < length (vs ++ us)) (places_from (λ v. true) (length vs) us) (bounded (λ v. true) (length vs) (length (vs ++ us)) us (omega (arith, grown)))));
-      few = omega (arith, h.few, grown, many, length-append places (range_with_len before count), length-range before count);
+      inside = All-append (λ p. p < length (vs ++ us)) places (range_with_len before count)
+          (grown-inside vs us places h.inside)
+          (rw range
+          (All-from_recursion (λ p. p < length (vs ++ us)) (places_from (λ v. true) (length vs) us)
+          (bounded (λ v. true) (length vs) (length (vs ++ us)) us (omega (arith, grown)))));
+      few = omega
+          (arith, h.few, grown, many, length-append places (range_with_len before count), length-range before count);
       exact = listed-append vs us any_row places (range_with_len before count) h
           (ap (filter (passes (vs ++ us) is_open)) range
           ∙ filter-behind (λ v. true) is_open vs us
-          ∙ places_from-agree (λ v. true && is_open v) (λ v. is_open v && true) (λ v. true_and (is_open v)) (length vs) us
+          ∙ places_from-agree (λ v. true && is_open v) (λ v. is_open v && true) (λ v. true_and (is_open v))
+          (length vs) us
           ∙ ap (λ n. places_from (λ v. is_open v && true) n us) (omega arith));
     }
   where
@@ -270,7 +344,8 @@ ListsOpen-grown vs us places before count at many h =
     length-range at (suc n) = ap suc (length-range (at + 1) n)
 
 -- places of closed versions are dropped
-pub ListsOpen-swept : (vs : List Version) (test : Row → Bool) (places : List ℕ) → ListsOpen vs test places → ListsOpen vs test (filter (passes vs is_open) places)
+pub ListsOpen-swept : (vs : List Version) (test : Row → Bool) (places : List ℕ) → ListsOpen vs test places
+    → ListsOpen vs test (filter (passes vs is_open) places)
 ListsOpen-swept vs test places h = record {
   inside = All-filter (passes vs is_open) (λ place. place < length vs) places h.inside;
   few = omega (arith, h.few, length-filter-le (passes vs is_open) places);
@@ -284,32 +359,59 @@ ListsOpen-none test = record { inside = All-from_recursion (λ place. place < 0)
 -- what a change makes of them
 
 -- at most three parts for each place
-pub parts-listed : (c : Change) (schema : List Column) (vs : List Version) (places : List ℕ) → ListsOpen vs any_row places → length (parts_in c schema (current vs)) ≤ 3 * length places
+pub parts-listed : (c : Change) (schema : List Column) (vs : List Version) (places : List ℕ)
+    → ListsOpen vs any_row places → length (parts_in c schema (current vs)) ≤ 3 * length places
 parts-listed c schema vs places h =
-    let same = ap length (h.exact ∙ places_from-agree (λ v. is_open v && true) is_open (λ v. and_true (is_open v)) 0 vs) in
+    let same = ap length
+    (h.exact ∙ places_from-agree (λ v. is_open v && true) is_open (λ v. and_true (is_open v)) 0 vs) in
     omega (arith, same, length-open 0 vs, parts-few c schema (current vs), length-filter-le (passes vs is_open) places)
 
 -- the versions after it, as they are written
-pub versions_after-written : (n len : ℕ) (c : Change) (schema : List Column) (vs fresh grown lent new : List Version) (taken passed : List ℕ) → len ≡ length grown → lent ≡ grown → passed ≡ taken → length new ≡ length lent → taken ≡ places_from (is_taken c schema) 0 vs
-    → fresh ≡ made n (numbered (length vs) (drafts_of c schema (current vs))) → grown ≡ vs ++ fresh → new ≡ fold (closed_at n) lent passed → take len (new ++ drop (length new) grown) ≡ versions_after n c schema vs
+pub versions_after-written : (n len : ℕ) (c : Change) (schema : List Column) (vs fresh grown lent new : List Version)
+    (taken passed : List ℕ) → len ≡ length grown → lent ≡ grown → passed ≡ taken → length new ≡ length lent
+    → taken ≡ places_from (is_taken c schema) 0 vs
+    → fresh ≡ made n (numbered (length vs) (drafts_of c schema (current vs))) → grown ≡ vs ++ fresh
+    → new ≡ fold (closed_at n) lent passed
+    → take len (new ++ drop (length new) grown) ≡ versions_after n c schema vs
 versions_after-written n len c schema vs fresh grown lent new taken passed counted lent_is passed_is same t f g e =
     written_back len new grown counted (same ∙ ap length lent_is)
-    ∙ versions_after-by n c schema vs fresh grown new taken t f g (e ∙ ap (λ l. fold (closed_at n) l passed) lent_is ∙ ap (fold (closed_at n) grown) passed_is)
+    ∙ versions_after-by n c schema vs fresh grown new taken t f g
+    (e ∙ ap (λ l. fold (closed_at n) l passed) lent_is ∙ ap (fold (closed_at n) grown) passed_is)
 
 -- they are as many as there is room for
-pub versions_after-few : (n : ℕ) (c : Change) (schema : List Column) (vs now : List Version) → now ≡ versions_after n c schema vs
+pub versions_after-few : (n : ℕ) (c : Change) (schema : List Column) (vs now : List Version)
+    → now ≡ versions_after n c schema vs
     → length vs + length (drafts_of c schema (current vs)) ≤ version_limit → length now ≤ version_limit
 versions_after-few n c schema vs now e room =
     let fresh = made n (numbered (length vs) (drafts_of c schema (current vs))) in
     let closing = map (closed n (removes c schema)) vs in
-    omega (arith, ap length e, length-append closing fresh, length-map vs (closed n (removes c schema)), fresh-count n c schema vs fresh refl, room)
+    omega (
+      arith,
+      ap length e,
+      length-append closing fresh,
+      length-map vs
+          (closed n (removes c schema)),
+      fresh-count n c schema vs fresh refl,
+      room,
+    )
 
 -- and found by the places of those before and the new ones
-pub all-versions_after : (n before count : ℕ) (c : Change) (schema : List Column) (vs fresh now : List Version) (places grown : List ℕ) → now ≡ versions_after n c schema vs → fresh ≡ made n (numbered (length vs) (drafts_of c schema (current vs))) → before ≡ length vs → count ≡ length fresh
+pub all-versions_after : (n before count : ℕ) (c : Change) (schema : List Column) (vs fresh now : List Version)
+    (places grown : List ℕ) → now ≡ versions_after n c schema vs
+    → fresh ≡ made n (numbered (length vs) (drafts_of c schema (current vs))) → before ≡ length vs
+    → count ≡ length fresh
     → grown ≡ places ++ range_with_len before count → ListsOpen vs any_row places → ListsOpen now any_row grown
 all-versions_after n before count c schema vs fresh now places grown e f b k g h =
-    rw (e, ← f, g) (ListsOpen-grown (map (closed n (removes c schema)) vs) fresh places before count (b ∙ sym (length-map vs (closed n (removes c schema)))) k (ListsOpen-closed n (removes c schema) vs any_row places h))
+    rw (e, ← f, g)
+    (ListsOpen-grown (map (closed n (removes c schema)) vs) fresh places before count
+    (b ∙ sym (length-map vs (closed n (removes c schema)))) k
+    (ListsOpen-closed n (removes c schema) vs any_row places h))
 
 -- without the new ones
-pub versions_after-front : (n before : ℕ) (c : Change) (schema : List Column) (vs now : List Version) → now ≡ versions_after n c schema vs → before ≡ length vs → take before now ≡ map (closed n (removes c schema)) vs
-versions_after-front n before c schema vs now e b = ap (take before) e ∙ take_at (map (closed n (removes c schema)) vs) (made n (numbered (length vs) (drafts_of c schema (current vs)))) before (length-map vs (closed n (removes c schema)) ∙ sym b)
+pub versions_after-front : (n before : ℕ) (c : Change) (schema : List Column) (vs now : List Version)
+    → now ≡ versions_after n c schema vs → before ≡ length vs → take before now ≡ map (closed n (removes c schema)) vs
+versions_after-front n before c schema vs now e b =
+    ap (take before) e
+    ∙ take_at (map (closed n (removes c schema)) vs)
+    (made n (numbered (length vs) (drafts_of c schema (current vs)))) before
+    (length-map vs (closed n (removes c schema)) ∙ sym b)

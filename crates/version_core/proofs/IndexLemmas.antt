@@ -35,7 +35,8 @@ use Rattle.version_core.proofs.FindingLemmas.{ListsOpen-closed, ListsOpen-none, 
 record Falls (opened : Bool) (value : Option Value) (bucket : ℕ) : Type 0 where
   opened_is : opened ≡ true
   here : unwrap_or (option_map (λ (v : Value). bucket_of v == bucket) value) false ≡ true
-  nowhere_else : (k : ℕ) → (k ≡ bucket → ⊥) → unwrap_or (option_map (λ (v : Value). bucket_of v == k) value) false ≡ false
+  nowhere_else : (k : ℕ) → (k ≡ bucket → ⊥)
+      → unwrap_or (option_map (λ (v : Value). bucket_of v == k) value) false ≡ false
 
 equal_here : (a b : ℕ) → a ≡ b → (a == b) ≡ true
 equal_here a b e = elim (eqb_tells a b) [ inl are ↦ are.0 | inr other ↦ absurd (other.1 e) ]
@@ -43,7 +44,8 @@ equal_here a b e = elim (eqb_tells a b) [ inl are ↦ are.0 | inr other ↦ absu
 unequal_here : (a b : ℕ) → (a ≡ b → ⊥) → (a == b) ≡ false
 unequal_here a b ne = elim (eqb_tells a b) [ inl are ↦ absurd (ne are.1) | inr other ↦ other.0 ]
 
-falls : (opened : Bool) (value : Option Value) (bucket : ℕ) → cond opened (option_map bucket_of value) None ≡ Some bucket → Falls opened value bucket
+falls : (opened : Bool) (value : Option Value) (bucket : ℕ)
+    → cond opened (option_map bucket_of value) None ≡ Some bucket → Falls opened value bucket
 falls false value bucket e = absurd (cc)
 falls true None bucket e = absurd (cc)
 falls true (Some v) bucket e =
@@ -54,7 +56,8 @@ falls true (Some v) bucket e =
       nowhere_else = λ k ne. unequal_here (bucket_of v) k (λ at. ne (sym at ∙ same));
     }
 
-falls_not : (opened : Bool) (value : Option Value) (k : ℕ) → cond opened (option_map bucket_of value) None ≡ None → (opened && unwrap_or (option_map (λ (v : Value). bucket_of v == k) value) false) ≡ false
+falls_not : (opened : Bool) (value : Option Value) (k : ℕ) → cond opened (option_map bucket_of value) None ≡ None
+    → (opened && unwrap_or (option_map (λ (v : Value). bucket_of v == k) value) false) ≡ false
 falls_not false value k e = refl
 falls_not true None k e = refl
 falls_not true (Some v) k e = absurd (cc)
@@ -65,36 +68,50 @@ and_false false c e = refl
 
 -- one version more
 
-pub index-skipped : (vs : List Version) (i : ℕ) (v : Version) (index : Index) → i < length vs → v ≡ get_or vs i v → bucket_in index.column v ≡ None → IsIndex (take i vs) index → IsIndex (take (i + 1) vs) index
+pub index-skipped : (vs : List Version) (i : ℕ) (v : Version) (index : Index) → i < length vs → v ≡ get_or vs i v
+    → bucket_in index.column v ≡ None → IsIndex (take i vs) index → IsIndex (take (i + 1) vs) index
 index-skipped vs i v index inside e none before =
-    let grown : take (i + 1) vs ≡ take i vs ++ v ∷ [] = take_more vs i v inside ∙ ap (λ u. take i vs ++ u ∷ []) (sym e) in
+    let grown : take (i + 1) vs ≡ take i vs ++ v ∷ [] =
+    take_more vs i v inside ∙ ap (λ u. take i vs ++ u ∷ []) (sym e) in
     rw grown (record {
       whole = before.whole;
-      each = λ k few. ListsOpen-skipped (take i vs) v (falls_into index.column k) (get_or index.buckets.items k []) (falls_not (is_open v) (slice_get v.row.values index.column) k none) (before.each k few);
+      each = λ k few. ListsOpen-skipped (take i vs) v (falls_into index.column k) (get_or index.buckets.items k [])
+          (falls_not (is_open v) (slice_get v.row.values index.column) k none) (before.each k few);
     })
 
-pushed : (vs : List Version) (v : Version) (column bucket place : ℕ) (buckets : List (List ℕ)) → place ≡ length vs → bucket < length buckets → bucket_in column v ≡ Some bucket
-    → (k : ℕ) → ListsOpen vs (falls_into column k) (get_or buckets k []) → ListsOpen (vs ++ v ∷ []) (falls_into column k) (get_or (set buckets bucket (get_or buckets bucket [] ++ place ∷ [])) k [])
+pushed : (vs : List Version) (v : Version) (column bucket place : ℕ) (buckets : List (List ℕ)) → place ≡ length vs
+    → bucket < length buckets → bucket_in column v ≡ Some bucket
+    → (k : ℕ) → ListsOpen vs (falls_into column k) (get_or buckets k [])
+    → ListsOpen (vs ++ v ∷ []) (falls_into column k)
+    (get_or (set buckets bucket (get_or buckets bucket [] ++ place ∷ [])) k [])
 pushed vs v column bucket place buckets at inside e k h =
     let f = falls (is_open v) (slice_get v.row.values column) bucket e in
     elim (cases_eq k bucket) [
       | inl same ↦
           let there : ListsOpen vs (falls_into column bucket) (get_or buckets bucket []) = rw same at h in
-          rw same (rw (get_or-set_same buckets bucket (get_or buckets bucket [] ++ place ∷ []) [] inside) (ListsOpen-pushed vs v (falls_into column bucket) (get_or buckets bucket []) place at f.opened_is f.here there))
+          rw same (rw (get_or-set_same buckets bucket (get_or buckets bucket [] ++ place ∷ []) [] inside)
+          (ListsOpen-pushed vs v (falls_into column bucket)
+          (get_or buckets bucket []) place at f.opened_is f.here there))
       | inr other ↦
           rw (get_or-set_other buckets bucket k (get_or buckets bucket [] ++ place ∷ []) [] other)
-          (ListsOpen-skipped vs v (falls_into column k) (get_or buckets k []) (and_false (is_open v) (falls_into column k v.row) (f.nowhere_else k other)) h)
+          (ListsOpen-skipped vs v (falls_into column k) (get_or buckets k [])
+          (and_false (is_open v) (falls_into column k v.row) (f.nowhere_else k other)) h)
     ]
 
-pub index-pushed : (vs : List Version) (i : ℕ) (v : Version) (old new : Index) (bucket : ℕ) → i < length vs → v ≡ get_or vs i v → bucket < bucket_count → bucket_in old.column v ≡ Some bucket → new.column ≡ old.column
-    → new.buckets.items ≡ set old.buckets.items bucket (get_or old.buckets.items bucket [] ++ i ∷ []) → IsIndex (take i vs) old → IsIndex (take (i + 1) vs) new
+pub index-pushed : (vs : List Version) (i : ℕ) (v : Version) (old new : Index) (bucket : ℕ) → i < length vs
+    → v ≡ get_or vs i v → bucket < bucket_count → bucket_in old.column v ≡ Some bucket → new.column ≡ old.column
+    → new.buckets.items ≡ set old.buckets.items bucket (get_or old.buckets.items bucket [] ++ i ∷ [])
+    → IsIndex (take i vs) old → IsIndex (take (i + 1) vs) new
 index-pushed vs i v old new bucket inside e small at column written before =
-    let grown : take (i + 1) vs ≡ take i vs ++ v ∷ [] = take_more vs i v inside ∙ ap (λ u. take i vs ++ u ∷ []) (sym e) in
+    let grown : take (i + 1) vs ≡ take i vs ++ v ∷ [] =
+    take_more vs i v inside ∙ ap (λ u. take i vs ++ u ∷ []) (sym e) in
     let here : i ≡ length (take i vs) = length-front vs i inside in
     let within : bucket < length old.buckets.items = omega (arith, before.whole, small) in
     rw grown (record {
-      whole = ap length written ∙ length-set old.buckets.items bucket (get_or old.buckets.items bucket [] ++ i ∷ []) ∙ before.whole;
-      each = λ k few. rw (column, written) (pushed (take i vs) v old.column bucket i old.buckets.items here within at k (before.each k few));
+      whole = ap length written ∙ length-set old.buckets.items bucket (get_or old.buckets.items bucket [] ++ i ∷ [])
+          ∙ before.whole;
+      each = λ k few. rw (column, written)
+          (pushed (take i vs) v old.column bucket i old.buckets.items here within at k (before.each k few));
     })
   where
     length-front : (vs : List Version) (i : ℕ) → i < length vs → i ≡ length (take i vs)
@@ -102,7 +119,9 @@ index-pushed vs i v old new bucket inside e small at column written before =
 
 -- places of closed versions are dropped from one bucket
 
-pub index-swept : (vs : List Version) (old new : Index) (bucket : ℕ) → bucket < bucket_count → new.column ≡ old.column → new.buckets.items ≡ set old.buckets.items bucket (filter (passes vs is_open) (get_or old.buckets.items bucket [])) → IsIndex vs old → IsIndex vs new
+pub index-swept : (vs : List Version) (old new : Index) (bucket : ℕ) → bucket < bucket_count → new.column ≡ old.column
+    → new.buckets.items ≡ set old.buckets.items bucket
+    (filter (passes vs is_open) (get_or old.buckets.items bucket [])) → IsIndex vs old → IsIndex vs new
 index-swept vs old new bucket small column written before =
     let swept = filter (passes vs is_open) (get_or old.buckets.items bucket []) in
     let within : bucket < length old.buckets.items = omega (arith, before.whole, small) in
@@ -110,28 +129,34 @@ index-swept vs old new bucket small column written before =
       whole = ap length written ∙ length-set old.buckets.items bucket swept ∙ before.whole;
       each = λ k few. rw (column, written) (elim (cases_eq k bucket) [
         | inl same ↦
-            let there : ListsOpen vs (falls_into old.column bucket) (get_or old.buckets.items bucket []) = before.each bucket small in
-            rw same (rw (get_or-set_same old.buckets.items bucket swept [] within) (ListsOpen-swept vs (falls_into old.column bucket) (get_or old.buckets.items bucket []) there))
+            let there : ListsOpen vs (falls_into old.column bucket) (get_or old.buckets.items bucket []) =
+            before.each bucket small in
+            rw same (rw (get_or-set_same old.buckets.items bucket swept [] within)
+            (ListsOpen-swept vs (falls_into old.column bucket) (get_or old.buckets.items bucket []) there))
         | inr other ↦ rw (get_or-set_other old.buckets.items bucket k swept [] other) (before.each k few)
       ]);
     }
 
 -- no versions
 
-pub index-empty : (index : Index) → length index.buckets.items ≡ bucket_count → All (λ (places : List ℕ). places ≡ []) index.buckets.items → IsIndex [] index
+pub index-empty : (index : Index) → length index.buckets.items ≡ bucket_count
+    → All (λ (places : List ℕ). places ≡ []) index.buckets.items → IsIndex [] index
 index-empty index whole empty = record {
   whole = whole;
   each = λ k few.
-      let none : get_or index.buckets.items k [] ≡ [] = All-get_or (λ (places : List ℕ). places ≡ []) index.buckets.items k [] (omega (arith, whole, few)) empty in
+      let none : get_or index.buckets.items k [] ≡ [] =
+      All-get_or (λ (places : List ℕ). places ≡ []) index.buckets.items k [] (omega (arith, whole, few)) empty in
       rw none (ListsOpen-none (falls_into index.column k));
 }
 
 -- versions are closed
 
-index-closed : (n : ℕ) (goes : Row → Bool) (vs : List Version) (index : Index) → IsIndex vs index → IsIndex (map (closed n goes) vs) index
+index-closed : (n : ℕ) (goes : Row → Bool) (vs : List Version) (index : Index) → IsIndex vs index
+    → IsIndex (map (closed n goes) vs) index
 index-closed n goes vs index h = record {
   whole = h.whole;
-  each = λ k few. ListsOpen-closed n goes vs (falls_into index.column k) (get_or index.buckets.items k []) (h.each k few);
+  each = λ k few. ListsOpen-closed n goes vs (falls_into index.column k) (get_or index.buckets.items k [])
+      (h.each k few);
 }
 
 -- what a change looks at
@@ -142,39 +167,63 @@ one_value (Text a) (Text b) e = ap Text ((bytes_eq-Decides a b).0 e)
 one_value (Int a) (Text b) e = absurd (cc)
 one_value (Text a) (Int b) e = absurd (cc)
 
-falls_where_equal : (x : Value) (o : Option Value) → unwrap_or (option_map (same_value x) o) false ≡ true → unwrap_or (option_map (λ (v : Value). bucket_of v == bucket_of x) o) false ≡ true
+falls_where_equal : (x : Value) (o : Option Value) → unwrap_or (option_map (same_value x) o) false ≡ true
+    → unwrap_or (option_map (λ (v : Value). bucket_of v == bucket_of x) o) false ≡ true
 falls_where_equal x None e = absurd (cc)
 falls_where_equal x (Some y) e = equal_here (bucket_of y) (bucket_of x) (ap bucket_of (sym (one_value x y e)))
 
 -- rows that meet a condition fall into its bucket
-pub lookup-covers : (schema : List Column) (pair : Pair) (column bucket : ℕ) (row : Row) → column_of schema pair.0 ≡ Some column → bucket ≡ bucket_of pair.1 → is_equal_at schema row.values pair ≡ true → falls_into column bucket row ≡ true
+pub lookup-covers : (schema : List Column) (pair : Pair) (column bucket : ℕ) (row : Row)
+    → column_of schema pair.0 ≡ Some column → bucket ≡ bucket_of pair.1 → is_equal_at schema row.values pair ≡ true
+    → falls_into column bucket row ≡ true
 lookup-covers schema pair column bucket row at b h =
-    let found : unwrap_or (option_map (same_value pair.1) (slice_get row.values column)) false ≡ true = ap (λ o. unwrap_or (option_map (same_value pair.1) (option_and_then (slice_get row.values) o)) false) (sym at) ∙ h in
+    let found : unwrap_or (option_map (same_value pair.1) (slice_get row.values column)) false ≡ true =
+    ap (λ o. unwrap_or (option_map (same_value pair.1) (option_and_then (slice_get row.values) o)) false) (sym at)
+    ∙ h in
     ap (λ k. falls_into column k row) b ∙ falls_where_equal pair.1 (slice_get row.values column) found
 
 -- rows that meet all conditions meet each
-pub lookup-of_all : (schema : List Column) (conds : List Pair) (i : ℕ) (pair : Pair) (lookup : Option Lookup) → i < length conds → pair ≡ get_or conds i pair → IfSome lookup (λ lookup. (row : Row) → is_equal_at schema row.values pair ≡ true → falls_into lookup.column lookup.bucket row ≡ true)
-    → IfSome lookup (λ lookup. (row : Row) → list_all (is_equal_at schema row.values) conds ≡ true → falls_into lookup.column lookup.bucket row ≡ true)
+pub lookup-of_all : (schema : List Column) (conds : List Pair) (i : ℕ) (pair : Pair) (lookup : Option Lookup)
+    → i < length conds → pair ≡ get_or conds i pair
+    → IfSome lookup
+    (λ lookup. (row : Row) → is_equal_at schema row.values pair ≡ true
+    → falls_into lookup.column lookup.bucket row ≡ true)
+    → IfSome lookup
+    (λ lookup. (row : Row) → list_all (is_equal_at schema row.values) conds ≡ true
+    → falls_into lookup.column lookup.bucket row ≡ true)
 lookup-of_all schema conds i pair None inside e h = tt
-lookup-of_all schema conds i pair (Some lookup) inside e h = λ row all. h row (ap (is_equal_at schema row.values) e ∙ and_at (list_all (is_equal_at schema row.values)) (is_equal_at schema row.values) refl (λ x xs. refl) conds i pair inside all)
+lookup-of_all schema conds i pair (Some lookup) inside e h =
+    λ row all. h row
+    (ap (is_equal_at schema row.values) e
+    ∙ and_at (list_all (is_equal_at schema row.values)) (is_equal_at schema row.values) refl
+    (λ x xs. refl) conds i pair inside all)
 
 -- what holds of both keys holds of the better one
-pub lookup-better : (P : Lookup → Type 0) (one other best : Option Lookup) → (best ≡ one) ⊎ (best ≡ other) → IfSome one P → IfSome other P → IfSome best P
+pub lookup-better : (P : Lookup → Type 0) (one other best : Option Lookup) → (best ≡ one) ⊎ (best ≡ other)
+    → IfSome one P → IfSome other P → IfSome best P
 lookup-better P one other best (inl e) h k = rw e h
 lookup-better P one other best (inr e) h k = rw e k
 
-pub candidates-all : (c : Change) (schema : List Column) (vs : List Version) (places : List ℕ) (indexes : List Index) → AreFound vs places indexes → AreCandidates c schema vs places
+pub candidates-all : (c : Change) (schema : List Column) (vs : List Version) (places : List ℕ) (indexes : List Index)
+    → AreFound vs places indexes → AreCandidates c schema vs places
 candidates-all c schema vs places indexes h = candidates-listed c schema vs any_row places h.all (λ row e. refl)
 
-pub candidates-bucket : (c : Change) (schema : List Column) (vs : List Version) (places read : List ℕ) (indexes : List Index) (lookup : Lookup) (i : ℕ) (index : Index) → AreFound vs places indexes → position (λ (index : Index). index.column == lookup.column) indexes ≡ Some i → index ≡ get_or indexes i index
-    → read ≡ get_or (get_or indexes i index).buckets.items lookup.bucket read → lookup.bucket < bucket_count → IsLookupOf c schema lookup → AreCandidates c schema vs read
+pub candidates-bucket : (c : Change) (schema : List Column) (vs : List Version) (places read : List ℕ)
+    (indexes : List Index) (lookup : Lookup) (i : ℕ) (index : Index) → AreFound vs places indexes
+    → position (λ (index : Index). index.column == lookup.column) indexes ≡ Some i → index ≡ get_or indexes i index
+    → read ≡ get_or (get_or indexes i index).buckets.items lookup.bucket read → lookup.bucket < bucket_count
+    → IsLookupOf c schema lookup → AreCandidates c schema vs read
 candidates-bucket c schema vs places read indexes lookup i index h found e r small covers =
     let at = position-Some (λ (index : Index). index.column == lookup.column) indexes i index found in
     let is = h.by_value i index at.0 in
     let whole = is.whole in
-    let named : (get_or indexes i index).column ≡ lookup.column = column_is (get_or indexes i index).column lookup.column at.1 in
-    let here : get_or (get_or indexes i index).buckets.items lookup.bucket [] ≡ read = get_or_default (get_or indexes i index).buckets.items lookup.bucket [] read (omega (arith, whole, small)) ∙ sym r in
-    candidates-listed c schema vs (falls_into (get_or indexes i index).column lookup.bucket) read (rw here at (is.each lookup.bucket small))
+    let named : (get_or indexes i index).column ≡ lookup.column =
+    column_is (get_or indexes i index).column lookup.column at.1 in
+    let here : get_or (get_or indexes i index).buckets.items lookup.bucket [] ≡ read =
+    get_or_default (get_or indexes i index).buckets.items lookup.bucket [] read (omega (arith, whole, small))
+    ∙ sym r in
+    candidates-listed c schema vs (falls_into (get_or indexes i index).column lookup.bucket) read
+    (rw here at (is.each lookup.bucket small))
     (λ row goes. ap (λ column. falls_into column lookup.bucket row) named ∙ covers row goes)
   where
     column_is : (a b : ℕ) → (a == b) ≡ true → a ≡ b
@@ -182,12 +231,18 @@ candidates-bucket c schema vs places read indexes lookup i index h found e r sma
 
 -- an index that is read and written
 
-pub index-written : (buckets : List (List ℕ)) (bucket : ℕ) (read new : List ℕ) (f : List ℕ → List ℕ) → bucket < length buckets → read ≡ get_or buckets bucket read → new ≡ f read → set buckets bucket new ≡ set buckets bucket (f (get_or buckets bucket []))
-index-written buckets bucket read new f inside r e = ap (set buckets bucket) (e ∙ ap f (r ∙ get_or_default buckets bucket read [] inside))
+pub index-written : (buckets : List (List ℕ)) (bucket : ℕ) (read new : List ℕ) (f : List ℕ → List ℕ)
+    → bucket < length buckets → read ≡ get_or buckets bucket read → new ≡ f read
+    → set buckets bucket new ≡ set buckets bucket (f (get_or buckets bucket []))
+index-written buckets bucket read new f inside r e =
+    ap (set buckets bucket) (e ∙ ap f (r ∙ get_or_default buckets bucket read [] inside))
 
 -- all indexes before the new versions are added
-pub indexes-closed : (n : ℕ) (goes : Row → Bool) (vs front : List Version) (indexes : List Index) → front ≡ map (closed n goes) vs → All (IsIndex vs) indexes → All (IsIndex front) indexes
-indexes-closed n goes vs front indexes e h = rw e (All-weaker (IsIndex vs) (IsIndex (map (closed n goes) vs)) (λ index is. index-closed n goes vs index is) indexes h)
+pub indexes-closed : (n : ℕ) (goes : Row → Bool) (vs front : List Version) (indexes : List Index)
+    → front ≡ map (closed n goes) vs → All (IsIndex vs) indexes → All (IsIndex front) indexes
+indexes-closed n goes vs front indexes e h =
+    rw e (All-weaker (IsIndex vs) (IsIndex (map (closed n goes) vs))
+    (λ index is. index-closed n goes vs index is) indexes h)
 
 -- buckets of values
 
@@ -195,7 +250,8 @@ pub bytes-none : 0 ≡ bucket_of_bytes []
 unfolding bucket_of_bytes
 bytes-none = refl
 
-pub bytes-more : (bytes : List ℕ) (i bucket : ℕ) → i < length bytes → bucket ≡ bucket_of_bytes (take i bytes) → (bucket * 31 + get_or bytes i 0) % bucket_count ≡ bucket_of_bytes (take (i + 1) bytes)
+pub bytes-more : (bytes : List ℕ) (i bucket : ℕ) → i < length bytes → bucket ≡ bucket_of_bytes (take i bytes)
+    → (bucket * 31 + get_or bytes i 0) % bucket_count ≡ bucket_of_bytes (take (i + 1) bytes)
 unfolding bucket_of_bytes
 bytes-more bytes i bucket h e =
     let step = λ (b x : ℕ). (b * 31 + x) % bucket_count in
@@ -203,17 +259,20 @@ bytes-more bytes i bucket h e =
     ∙ sym (fold-append step 0 (take i bytes) (get_or bytes i 0 ∷ []))
     ∙ ap (fold step 0) (sym (take_more bytes i 0 h))
 
-pub bucket-of_int : (value : Value) (n : ℤ) (k : ℕ) → value ≡ Int n → k ≡ unsigned_abs n → k % bucket_count ≡ bucket_of value
+pub bucket-of_int : (value : Value) (n : ℤ) (k : ℕ) → value ≡ Int n → k ≡ unsigned_abs n
+    → k % bucket_count ≡ bucket_of value
 unfolding bucket_of
 bucket-of_int value n k e h = ap (λ k. k % bucket_count) h ∙ ap bucket_of (sym e)
 
-pub bucket-of_text : (value : Value) (text bytes : List ℕ) (k : ℕ) → value ≡ Text text → bytes ≡ text → k ≡ bucket_of_bytes bytes → k ≡ bucket_of value
+pub bucket-of_text : (value : Value) (text bytes : List ℕ) (k : ℕ) → value ≡ Text text → bytes ≡ text
+    → k ≡ bucket_of_bytes bytes → k ≡ bucket_of value
 unfolding bucket_of
 bucket-of_text value text bytes k e b h = h ∙ ap bucket_of_bytes b ∙ ap bucket_of (sym e)
 
 -- rows that collide with another fall into its bucket
 
-key-at : (key : List ℕ) (a b : List Value) (column : ℕ) → same_key key a b ≡ true → is_column_of key column ≡ true → same_maybe (slice_get a column) (slice_get b column) ≡ true
+key-at : (key : List ℕ) (a b : List Value) (column : ℕ) → same_key key a b ≡ true → is_column_of key column ≡ true
+    → same_maybe (slice_get a column) (slice_get b column) ≡ true
 key-at [] a b column same in_key = absurd (cc)
 key-at (first ∷ rest) a b column same in_key =
     let both = and_parts (same_maybe (slice_get a first) (slice_get b first)) (same_key rest a b) same in
@@ -222,17 +281,23 @@ key-at (first ∷ rest) a b column same in_key =
       | inr other ↦ key-at rest a b column both.1 (sym (ap (λ t. t || is_column_of rest column) other.0) ∙ in_key)
     ]
 
-falls-where_same : (o : Option Value) (y : Value) → same_maybe o (Some y) ≡ true → unwrap_or (option_map (λ (v : Value). bucket_of v == bucket_of y) o) false ≡ true
+falls-where_same : (o : Option Value) (y : Value) → same_maybe o (Some y) ≡ true
+    → unwrap_or (option_map (λ (v : Value). bucket_of v == bucket_of y) o) false ≡ true
 falls-where_same None y e = absurd (cc)
 falls-where_same (Some x) y e = equal_here (bucket_of x) (bucket_of y) (ap bucket_of (one_value x y e))
 
-pub near-bucket : (vs : List Version) (index : Index) (key : List ℕ) (other : Draft) (value : Value) (places : List ℕ) → IsIndex vs index → is_column_of key index.column ≡ true → slice_get other.values index.column ≡ Some value
-    → bucket_of value < bucket_count → places ≡ get_or index.buckets.items (bucket_of value) [] → AreNear key other vs places
+pub near-bucket : (vs : List Version) (index : Index) (key : List ℕ) (other : Draft) (value : Value) (places : List ℕ)
+    → IsIndex vs index → is_column_of key index.column ≡ true → slice_get other.values index.column ≡ Some value
+    → bucket_of value < bucket_count → places ≡ get_or index.buckets.items (bucket_of value) []
+    → AreNear key other vs places
 near-bucket vs index key other value places is in_key has few at =
     near-listed key other vs (falls_into index.column (bucket_of value)) places (rw at (is.each (bucket_of value) few))
     (λ v meets.
     let both = and_parts (same_key key v.row.values other.values) (is_some (meet v.row.period other.period)) meets in
-    falls-where_same (slice_get v.row.values index.column) value (ap (same_maybe (slice_get v.row.values index.column)) (sym has) ∙ key-at key v.row.values other.values index.column both.0 in_key))
+    falls-where_same (slice_get v.row.values index.column) value
+    (ap (same_maybe (slice_get v.row.values index.column)) (sym has)
+    ∙ key-at key v.row.values other.values index.column both.0 in_key))
 
-pub near-all : (vs : List Version) (key : List ℕ) (other : Draft) (places : List ℕ) → ListsOpen vs any_row places → AreNear key other vs places
+pub near-all : (vs : List Version) (key : List ℕ) (other : Draft) (places : List ℕ) → ListsOpen vs any_row places
+    → AreNear key other vs places
 near-all vs key other places h = near-listed key other vs any_row places h (λ v meets. refl)

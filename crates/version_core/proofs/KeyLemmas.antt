@@ -28,74 +28,119 @@ drafts-made n used [] = refl
 drafts-made n used (d ∷ ds) = ap (λ l. d ∷ l) (drafts-made n (used + 1) ds)
 
 -- the rows that are left, found among the versions
-pub left-current : (c : Change) (schema : List Column) (vs : List Version) → map draft_of (filter (is_left c schema) vs) ≡ rows_left c schema (current vs)
+pub left-current : (c : Change) (schema : List Column) (vs : List Version)
+    → map draft_of (filter (is_left c schema) vs) ≡ rows_left c schema (current vs)
 left-current c schema [] = refl
 left-current c schema (v ∷ vs) = by_open (left-current c schema vs) (is_none v.systo) where
-  by_test : (map draft_of (filter (is_left c schema) vs) ≡ rows_left c schema (current vs)) → (b : Bool) → map draft_of (cond b (v ∷ filter (is_left c schema) vs) (filter (is_left c schema) vs)) ≡ map unnumbered (cond b (v.row ∷ filter (λ row. not (removes c schema row)) (current vs)) (filter (λ row. not (removes c schema row)) (current vs)))
+  by_test : (map draft_of (filter (is_left c schema) vs) ≡ rows_left c schema (current vs)) → (b : Bool)
+      → map draft_of (cond b (v ∷ filter (is_left c schema) vs) (filter (is_left c schema) vs)) ≡ map unnumbered
+      (cond b (v.row ∷ filter (λ row. not (removes c schema row)) (current vs))
+      (filter (λ row. not (removes c schema row)) (current vs)))
   by_test rest true = ap (λ l. draft_of v ∷ l) rest
   by_test rest false = rest
 
-  by_open : (map draft_of (filter (is_left c schema) vs) ≡ rows_left c schema (current vs)) → (b : Bool) → map draft_of (cond (b && not (removes c schema v.row)) (v ∷ filter (is_left c schema) vs) (filter (is_left c schema) vs))
-      ≡ map unnumbered (filter (λ row. not (removes c schema row)) (map (λ (v : Version). v.row) (cond b (v ∷ filter is_open vs) (filter is_open vs))))
+  by_open : (map draft_of (filter (is_left c schema) vs) ≡ rows_left c schema (current vs)) → (b : Bool)
+      → map draft_of
+      (cond (b && not (removes c schema v.row)) (v ∷ filter (is_left c schema) vs) (filter (is_left c schema) vs))
+      ≡ map unnumbered
+      (filter (λ row. not (removes c schema row))
+      (map (λ (v : Version). v.row) (cond b (v ∷ filter is_open vs) (filter is_open vs))))
   by_open rest false = rest
   by_open rest true = by_test rest (not (removes c schema v.row))
 
 -- one of them collides with another row exactly where a version tells so
-pub any-left : (c : Change) (schema : List Column) (key : List ℕ) (other : Draft) (vs : List Version) → list_any (collides_left c schema key other) vs ≡ list_any (λ left. collide key left other) (rows_left c schema (current vs))
+pub any-left : (c : Change) (schema : List Column) (key : List ℕ) (other : Draft) (vs : List Version)
+    → list_any (collides_left c schema key other) vs ≡ list_any (λ left. collide key left other)
+    (rows_left c schema (current vs))
 any-left c schema key other [] = refl
 any-left c schema key other (v ∷ vs) = by_open (any-left c schema key other vs) (is_none v.systo) where
-  by_test : (list_any (collides_left c schema key other) vs ≡ list_any (λ left. collide key left other) (rows_left c schema (current vs))) → (b : Bool) → ((b && collide key (draft_of v) other) || list_any (collides_left c schema key other) vs)
-      ≡ list_any (λ left. collide key left other) (map unnumbered (cond b (v.row ∷ filter (λ row. not (removes c schema row)) (current vs)) (filter (λ row. not (removes c schema row)) (current vs))))
+  by_test :
+      (list_any (collides_left c schema key other) vs ≡ list_any (λ left. collide key left other)
+      (rows_left c schema (current vs))) → (b : Bool)
+      → ((b && collide key (draft_of v) other) || list_any (collides_left c schema key other) vs)
+      ≡ list_any (λ left. collide key left other)
+      (map unnumbered
+      (cond b (v.row ∷ filter (λ row. not (removes c schema row)) (current vs))
+      (filter (λ row. not (removes c schema row)) (current vs))))
   by_test rest true = ap (λ t. collide key (draft_of v) other || t) rest
   by_test rest false = rest
 
-  by_open : (list_any (collides_left c schema key other) vs ≡ list_any (λ left. collide key left other) (rows_left c schema (current vs))) → (b : Bool) → (((b && not (removes c schema v.row)) && collide key (draft_of v) other) || list_any (collides_left c schema key other) vs)
-      ≡ list_any (λ left. collide key left other) (map unnumbered (filter (λ row. not (removes c schema row)) (map (λ (v : Version). v.row) (cond b (v ∷ filter is_open vs) (filter is_open vs)))))
+  by_open :
+      (list_any (collides_left c schema key other) vs ≡ list_any (λ left. collide key left other)
+      (rows_left c schema (current vs))) → (b : Bool)
+      → (((b && not (removes c schema v.row)) && collide key (draft_of v) other) || list_any
+      (collides_left c schema key other) vs)
+      ≡ list_any (λ left. collide key left other)
+      (map unnumbered
+      (filter (λ row. not (removes c schema row))
+      (map (λ (v : Version). v.row) (cond b (v ∷ filter is_open vs) (filter is_open vs)))))
   by_open rest false = rest
   by_open rest true = by_test rest (not (removes c schema v.row))
 
 -- none of them collide where none did before
-pub left-apart : (c : Change) (schema : List Column) (key : List ℕ) (rows : List Row) → have_collision key (map unnumbered rows) ≡ false → have_collision key (rows_left c schema rows) ≡ false
+pub left-apart : (c : Change) (schema : List Column) (key : List ℕ) (rows : List Row)
+    → have_collision key (map unnumbered rows) ≡ false → have_collision key (rows_left c schema rows) ≡ false
 left-apart c schema key rows none =
     have_pair-map (collide key) unnumbered (filter (λ row. not (removes c schema row)) rows)
-    ∙ pairs-filtered (λ a b. collide key (unnumbered a) (unnumbered b)) (λ row. not (removes c schema row)) rows (sym (have_pair-map (collide key) unnumbered rows) ∙ none)
+    ∙ pairs-filtered (λ a b. collide key (unnumbered a) (unnumbered b)) (λ row. not (removes c schema row)) rows
+    (sym (have_pair-map (collide key) unnumbered rows) ∙ none)
 
 -- the rows of the versions at places
 abbrev pub drafts_at : List Version → List ℕ → List Draft
 drafts_at vs places = map draft_of (picked vs places)
 
 -- those at the places of all open versions
-pub left-listed : (c : Change) (schema : List Column) (vs : List Version) (places : List ℕ) → ListsOpen vs any_row places → drafts_at vs (filter (passes vs (is_left c schema)) places) ≡ rows_left c schema (current vs)
+pub left-listed : (c : Change) (schema : List Column) (vs : List Version) (places : List ℕ)
+    → ListsOpen vs any_row places
+    → drafts_at vs (filter (passes vs (is_left c schema)) places) ≡ rows_left c schema (current vs)
 left-listed c schema vs places h =
     ap (drafts_at vs) (filter-listed vs any_row (λ v. not (removes c schema v.row)) places h
-    ∙ places_from-agree (λ v. (is_open v && true) && not (removes c schema v.row)) (is_left c schema) (λ v. ap (λ b. b && not (removes c schema v.row)) (and_true (is_open v))) 0 vs)
+    ∙ places_from-agree (λ v. (is_open v && true) && not (removes c schema v.row)) (is_left c schema)
+    (λ v. ap (λ b. b && not (removes c schema v.row)) (and_true (is_open v))) 0 vs)
     ∙ ap (map draft_of) (picked-places_from (is_left c schema) vs)
     ∙ left-current c schema vs
 
 -- one place more, left or not
 
-left-more : (vs : List Version) (p : Version → Bool) (places : List ℕ) (i : ℕ) (v : Version) → i < length places → get_or places i 0 < length vs → v ≡ get_or vs (get_or places i 0) v
-    → drafts_at vs (filter (passes vs p) (take (i + 1) places)) ≡ drafts_at vs (filter (passes vs p) (take i places)) ++ cond (p v) (draft_of v ∷ []) []
+left-more : (vs : List Version) (p : Version → Bool) (places : List ℕ) (i : ℕ) (v : Version) → i < length places
+    → get_or places i 0 < length vs → v ≡ get_or vs (get_or places i 0) v
+    → drafts_at vs (filter (passes vs p) (take (i + 1) places)) ≡ drafts_at vs
+    (filter (passes vs p) (take i places)) ++ cond (p v) (draft_of v ∷ []) []
 left-more vs p places i v h inside e =
     let before = filter (passes vs p) (take i places) in
     ap (drafts_at vs) (filter-more vs p places i v h inside e)
-    ∙ (elim (p v) as (λ b. drafts_at vs (before ++ cond b (get_or places i 0 ∷ []) []) ≡ drafts_at vs before ++ cond b (draft_of v ∷ []) []) [
+    ∙ (elim (p v) as
+    (λ b. drafts_at vs (before ++ cond b (get_or places i 0 ∷ []) []) ≡ drafts_at vs before ++ cond b
+    (draft_of v ∷ []) []) [
       | true ↦
-          ap (map draft_of) (filter_map-append (slice_get vs) before (get_or places i 0 ∷ []) ∙ ap (λ o. picked vs before ++ cons_option o []) (slice_get-get_or vs (get_or places i 0) v inside ∙ ap Some (sym e)))
+          ap (map draft_of)
+          (filter_map-append (slice_get vs) before (get_or places i 0 ∷ [])
+          ∙ ap (λ o. picked vs before ++ cons_option o [])
+          (slice_get-get_or vs (get_or places i 0) v inside ∙ ap Some (sym e)))
           ∙ map-append draft_of (picked vs before) (v ∷ [])
       | false ↦ ap (drafts_at vs) (append-nil before) ∙ sym (append-nil (drafts_at vs before))
     ])
 
-pub left-yes : (vs : List Version) (p : Version → Bool) (places : List ℕ) (i : ℕ) (v : Version) (rows : List KeyedRow) (row : KeyedRow) → i < length places → get_or places i 0 < length vs → v ≡ get_or vs (get_or places i 0) v → p v ≡ true → row_in row ≡ draft_of v
-    → map row_in rows ≡ drafts_at vs (filter (passes vs p) (take i places)) → map row_in (rows ++ row ∷ []) ≡ drafts_at vs (filter (passes vs p) (take (i + 1) places))
+pub left-yes : (vs : List Version) (p : Version → Bool) (places : List ℕ) (i : ℕ) (v : Version) (rows : List KeyedRow)
+    (row : KeyedRow) → i < length places → get_or places i 0 < length vs → v ≡ get_or vs (get_or places i 0) v
+    → p v ≡ true → row_in row ≡ draft_of v
+    → map row_in rows ≡ drafts_at vs (filter (passes vs p) (take i places))
+    → map row_in (rows ++ row ∷ []) ≡ drafts_at vs (filter (passes vs p) (take (i + 1) places))
 left-yes vs p places i v rows row h inside e test k was =
-    map-append row_in rows (row ∷ []) ∙ ap (λ l. l ++ row_in row ∷ []) was ∙ ap (λ d. drafts_at vs (filter (passes vs p) (take i places)) ++ d ∷ []) k
-    ∙ sym (left-more vs p places i v h inside e ∙ ap (λ b. drafts_at vs (filter (passes vs p) (take i places)) ++ cond b (draft_of v ∷ []) []) test)
+    map-append row_in rows (row ∷ []) ∙ ap (λ l. l ++ row_in row ∷ []) was
+    ∙ ap (λ d. drafts_at vs (filter (passes vs p) (take i places)) ++ d ∷ []) k
+    ∙ sym (left-more vs p places i v h inside e
+    ∙ ap (λ b. drafts_at vs (filter (passes vs p) (take i places)) ++ cond b (draft_of v ∷ []) []) test)
 
-pub left-no : (vs : List Version) (p : Version → Bool) (places : List ℕ) (i : ℕ) (v : Version) (rows : List KeyedRow) → i < length places → get_or places i 0 < length vs → v ≡ get_or vs (get_or places i 0) v → p v ≡ false
-    → map row_in rows ≡ drafts_at vs (filter (passes vs p) (take i places)) → map row_in rows ≡ drafts_at vs (filter (passes vs p) (take (i + 1) places))
+pub left-no : (vs : List Version) (p : Version → Bool) (places : List ℕ) (i : ℕ) (v : Version) (rows : List KeyedRow)
+    → i < length places → get_or places i 0 < length vs → v ≡ get_or vs (get_or places i 0) v → p v ≡ false
+    → map row_in rows ≡ drafts_at vs (filter (passes vs p) (take i places))
+    → map row_in rows ≡ drafts_at vs (filter (passes vs p) (take (i + 1) places))
 left-no vs p places i v rows h inside e test was =
-    was ∙ sym (left-more vs p places i v h inside e ∙ ap (λ b. drafts_at vs (filter (passes vs p) (take i places)) ++ cond b (draft_of v ∷ []) []) test ∙ append-nil (drafts_at vs (filter (passes vs p) (take i places))))
+    was ∙ sym
+    (left-more vs p places i v h inside e
+    ∙ ap (λ b. drafts_at vs (filter (passes vs p) (take i places)) ++ cond b (draft_of v ∷ []) []) test
+    ∙ append-nil (drafts_at vs (filter (passes vs p) (take i places))))
 
 -- one version more
 

@@ -9,7 +9,8 @@ pub at_some : {X : Type 0} (P : X → Type 0) (o : Option X) (x : X) → o ≡ S
 at_some P None x e h = absurd (cc)
 at_some P (Some y) x e h = let same : y ≡ x = cc in subst P same h
 
-pub count-cons : {X : Type 0} (p : X → Bool) (x : X) (xs : List X) → count_by p (x ∷ xs) ≡ cond (p x) 1 0 + count_by p xs
+pub count-cons : {X : Type 0} (p : X → Bool) (x : X) (xs : List X)
+    → count_by p (x ∷ xs) ≡ cond (p x) 1 0 + count_by p xs
 count-cons p x xs = sum_by-cons (λ x. cond (p x) 1 0) x xs
 
 pub count-append : {X : Type 0} (p : X → Bool) (xs ys : List X) → count_by p (xs ++ ys) ≡ count_by p xs + count_by p ys
@@ -20,7 +21,9 @@ drop_whole [] = refl
 drop_whole (v ∷ vs) = drop_whole vs
 
 -- what is written through a slice of all is what is there
-pub written_back : (len : ℕ) (new items : List Version) → len ≡ length items → length new ≡ length items → take len (new ++ drop (length new) items) ≡ new
+pub written_back : (len : ℕ) (new items : List Version) → len ≡ length items → length new ≡ length items
+    → take len (new ++ drop (length new) items) ≡ new
 written_back len new items e n =
     let enough : length new ≤ len = omega arith in
-    ap (λ k. take len (new ++ drop k items)) n ∙ ap (λ l. take len (new ++ l)) (drop_whole items) ∙ ap (take len) (append-nil new) ∙ take_all len new enough
+    ap (λ k. take len (new ++ drop k items)) n ∙ ap (λ l. take len (new ++ l)) (drop_whole items)
+    ∙ ap (take len) (append-nil new) ∙ take_all len new enough

@@ -27,19 +27,27 @@ use Rattle.version_core.proofs.MakingLemmas.{length-numbered}
 
 -- places lie inside
 
-pub bounded : (test : Version → Bool) (at top : ℕ) (vs : List Version) → at + length vs ≤ top → AllByRecursion (λ place. place < top) (places_from test at vs)
+pub bounded : (test : Version → Bool) (at top : ℕ) (vs : List Version) → at + length vs ≤ top
+    → AllByRecursion (λ place. place < top) (places_from test at vs)
 bounded test at top [] h = tt
-bounded test at top (v ∷ vs) h = elim (test v) as (λ b. AllByRecursion (λ place. place < top) (cond b (at ∷ places_from test (at + 1) vs) (places_from test (at + 1) vs))) [
-  | true ↦ (omega arith, bounded test (at + 1) top vs (omega arith))
-  | false ↦ bounded test (at + 1) top vs (omega arith)
-]
+bounded test at top (v ∷ vs) h =
+    elim (test v) as
+    (λ b. AllByRecursion (λ place. place < top)
+    (cond b (at ∷ places_from test (at + 1) vs) (places_from test (at + 1) vs))) [
+      | true ↦ (omega arith, bounded test (at + 1) top vs (omega arith))
+      | false ↦ bounded test (at + 1) top vs (omega arith)
+    ]
 
-pub places_from-bounded : (test : Version → Bool) (vs : List Version) → All (λ place. place < length vs) (places_from test 0 vs)
-places_from-bounded test vs = All-from_recursion (λ place. place < length vs) (places_from test 0 vs) (bounded test 0 (length vs) vs (omega arith))
+pub places_from-bounded : (test : Version → Bool) (vs : List Version)
+    → All (λ place. place < length vs) (places_from test 0 vs)
+places_from-bounded test vs =
+    All-from_recursion (λ place. place < length vs) (places_from test 0 vs)
+    (bounded test 0 (length vs) vs (omega arith))
 
 -- a version between others
 
-slice_get-seam : (done : List Version) (v : Version) (vs : List Version) → slice_get (done ++ v ∷ vs) (length done) ≡ Some v
+slice_get-seam : (done : List Version) (v : Version) (vs : List Version)
+    → slice_get (done ++ v ∷ vs) (length done) ≡ Some v
 slice_get-seam [] v vs = refl
 slice_get-seam (d ∷ ds) v vs = slice_get-seam ds v vs
 
@@ -53,110 +61,173 @@ picked vs places = filter_map (slice_get vs) places
 
 -- what is said of `done` and the versions behind it, of one version more
 module _ (X : Type 0) (of : List Version → List ℕ → X) where
-  moved : (test : Version → Bool) (done : List Version) (v : Version) (vs rest : List Version) (x : X) → of ((done ++ v ∷ []) ++ rest) (places_from test (length (done ++ v ∷ [])) vs) ≡ x → of (done ++ v ∷ rest) (places_from test (length done + 1) vs) ≡ x
-  moved test done v vs rest x h = ap (λ l. of l (places_from test (length done + 1) vs)) (sym (append_assoc done (v ∷ []) rest)) ∙ ap (λ n. of ((done ++ v ∷ []) ++ rest) (places_from test n vs)) (sym (length-push done v)) ∙ h
+  moved : (test : Version → Bool) (done : List Version) (v : Version) (vs rest : List Version) (x : X)
+      → of ((done ++ v ∷ []) ++ rest) (places_from test (length (done ++ v ∷ [])) vs) ≡ x
+      → of (done ++ v ∷ rest) (places_from test (length done + 1) vs) ≡ x
+  moved test done v vs rest x h =
+      ap (λ l. of l (places_from test (length done + 1) vs)) (sym (append_assoc done (v ∷ []) rest))
+      ∙ ap (λ n. of ((done ++ v ∷ []) ++ rest) (places_from test n vs)) (sym (length-push done v)) ∙ h
 
-picked-behind : (test : Version → Bool) (done vs : List Version) → picked (done ++ vs) (places_from test (length done) vs) ≡ filter test vs
+picked-behind : (test : Version → Bool) (done vs : List Version)
+    → picked (done ++ vs) (places_from test (length done) vs) ≡ filter test vs
 picked-behind test done [] = refl
 picked-behind test done (v ∷ vs) =
-    let rest = moved (List Version) picked test done v vs vs (filter test vs) (picked-behind test (done ++ v ∷ []) vs) in
-    elim (test v) as (λ b. picked (done ++ v ∷ vs) (cond b (length done ∷ places_from test (length done + 1) vs) (places_from test (length done + 1) vs)) ≡ cond b (v ∷ filter test vs) (filter test vs)) [
-      | true ↦ ap (λ o. cons_option o (picked (done ++ v ∷ vs) (places_from test (length done + 1) vs))) (slice_get-seam done v vs) ∙ ap (λ l. v ∷ l) rest
+    let rest = moved (List Version) picked test done v vs vs (filter test vs)
+    (picked-behind test (done ++ v ∷ []) vs) in
+    elim (test v) as
+    (λ b. picked (done ++ v ∷ vs)
+    (cond b (length done ∷ places_from test (length done + 1) vs) (places_from test (length done + 1) vs)) ≡ cond b
+    (v ∷ filter test vs) (filter test vs)) [
+      | true ↦ ap (λ o. cons_option o (picked (done ++ v ∷ vs) (places_from test (length done + 1) vs)))
+          (slice_get-seam done v vs) ∙ ap (λ l. v ∷ l) rest
       | false ↦ rest
     ]
 
 -- the versions at the places of those that pass
-pub picked-places_from : (test : Version → Bool) (vs : List Version) → picked vs (places_from test 0 vs) ≡ filter test vs
+pub picked-places_from : (test : Version → Bool) (vs : List Version)
+    → picked vs (places_from test 0 vs) ≡ filter test vs
 picked-places_from test vs = picked-behind test [] vs
 
-pub filter-behind : (test p : Version → Bool) (done vs : List Version) → filter (passes (done ++ vs) p) (places_from test (length done) vs) ≡ places_from (λ v. test v && p v) (length done) vs
+pub filter-behind : (test p : Version → Bool) (done vs : List Version)
+    → filter (passes (done ++ vs) p) (places_from test (length done) vs) ≡ places_from (λ v. test v && p v)
+    (length done) vs
 filter-behind test p done [] = refl
 filter-behind test p done (v ∷ vs) =
     let later = places_from (λ v. test v && p v) (length done + 1) vs in
-    let rest = moved (List ℕ) (λ l places. filter (passes l p) places) test done v vs vs later (filter-behind test p (done ++ v ∷ []) vs ∙ ap (λ n. places_from (λ v. test v && p v) n vs) (length-push done v)) in
-    elim (test v) as (λ b. filter (passes (done ++ v ∷ vs) p) (cond b (length done ∷ places_from test (length done + 1) vs) (places_from test (length done + 1) vs)) ≡ cond (b && p v) (length done ∷ later) later) [
+    let rest = moved (List ℕ) (λ l places. filter (passes l p) places) test done v vs vs later
+    (filter-behind test p (done ++ v ∷ []) vs
+    ∙ ap (λ n. places_from (λ v. test v && p v) n vs) (length-push done v)) in
+    elim (test v) as
+    (λ b. filter (passes (done ++ v ∷ vs) p)
+    (cond b (length done ∷ places_from test (length done + 1) vs) (places_from test (length done + 1) vs)) ≡ cond
+    (b && p v) (length done ∷ later) later) [
       | true ↦
-          ap (λ o. cond (unwrap_or (option_map p o) false) (length done ∷ filter (passes (done ++ v ∷ vs) p) (places_from test (length done + 1) vs)) (filter (passes (done ++ v ∷ vs) p) (places_from test (length done + 1) vs))) (slice_get-seam done v vs)
+          ap (λ o. cond (unwrap_or (option_map p o) false)
+          (length done ∷ filter (passes (done ++ v ∷ vs) p) (places_from test (length done + 1) vs))
+          (filter (passes (done ++ v ∷ vs) p) (places_from test (length done + 1) vs))) (slice_get-seam done v vs)
           ∙ ap (λ l. cond (p v) (length done ∷ l) l) rest
       | false ↦ rest
     ]
 
 -- the places of those that pass both tests
-pub filter-places_from : (test p : Version → Bool) (vs : List Version) → filter (passes vs p) (places_from test 0 vs) ≡ places_from (λ v. test v && p v) 0 vs
+pub filter-places_from : (test p : Version → Bool) (vs : List Version)
+    → filter (passes vs p) (places_from test 0 vs) ≡ places_from (λ v. test v && p v) 0 vs
 filter-places_from test p vs = filter-behind test p [] vs
 
 -- one place more
 
-pub filter-more : (vs : List Version) (p : Version → Bool) (places : List ℕ) (i : ℕ) (v : Version) → i < length places → get_or places i 0 < length vs → v ≡ get_or vs (get_or places i 0) v → filter (passes vs p) (take (i + 1) places) ≡ filter (passes vs p) (take i places) ++ cond (p v) (get_or places i 0 ∷ []) []
+pub filter-more : (vs : List Version) (p : Version → Bool) (places : List ℕ) (i : ℕ) (v : Version) → i < length places
+    → get_or places i 0 < length vs → v ≡ get_or vs (get_or places i 0) v
+    → filter (passes vs p) (take (i + 1) places) ≡ filter (passes vs p) (take i places) ++ cond (p v)
+    (get_or places i 0 ∷ []) []
 filter-more vs p places i v h inside e =
-    ap (filter (passes vs p)) (take_more places i 0 h) ∙ filter-append (passes vs p) (take i places) (get_or places i 0 ∷ [])
-    ∙ ap (λ o. filter (passes vs p) (take i places) ++ cond (unwrap_or (option_map p o) false) (get_or places i 0 ∷ []) []) (slice_get-get_or vs (get_or places i 0) v inside)
+    ap (filter (passes vs p)) (take_more places i 0 h)
+    ∙ filter-append (passes vs p) (take i places) (get_or places i 0 ∷ [])
+    ∙ ap (λ o. filter (passes vs p) (take i places) ++ cond (unwrap_or (option_map p o) false)
+    (get_or places i 0 ∷ []) []) (slice_get-get_or vs (get_or places i 0) v inside)
     ∙ ap (λ u. filter (passes vs p) (take i places) ++ cond (p u) (get_or places i 0 ∷ []) []) (sym e)
 
 -- closing at places
 
-closed-behind : (n : ℕ) (test : Version → Bool) (done vs us : List Version) → fold (closed_at n) (done ++ (vs ++ us)) (places_from test (length done) vs) ≡ done ++ (map (λ v. cond (test v) (record v { systo = Some n }) v) vs ++ us)
+closed-behind : (n : ℕ) (test : Version → Bool) (done vs us : List Version)
+    → fold (closed_at n) (done ++ (vs ++ us)) (places_from test (length done) vs) ≡ done ++
+    (map (λ v. cond (test v) (record v { systo = Some n }) v) vs ++ us)
 closed-behind n test done [] us = refl
 closed-behind n test done (v ∷ vs) us =
     let later = map (λ v. cond (test v) (record v { systo = Some n }) v) vs ++ us in
-    let next = λ (u : Version). moved (List Version) (fold (closed_at n)) test done u vs (vs ++ us) (done ++ u ∷ later) (closed-behind n test (done ++ u ∷ []) vs us ∙ append_assoc done (u ∷ []) later) in
-    elim (test v) as (λ b. fold (closed_at n) (done ++ v ∷ (vs ++ us)) (cond b (length done ∷ places_from test (length done + 1) vs) (places_from test (length done + 1) vs)) ≡ done ++ cond b (record v { systo = Some n }) v ∷ later) [
+    let next = λ (u : Version). moved (List Version) (fold (closed_at n)) test done u vs (vs ++ us) (done ++ u ∷ later)
+    (closed-behind n test (done ++ u ∷ []) vs us ∙ append_assoc done (u ∷ []) later) in
+    elim (test v) as
+    (λ b. fold (closed_at n) (done ++ v ∷ (vs ++ us))
+    (cond b (length done ∷ places_from test (length done + 1) vs)
+    (places_from test (length done + 1) vs)) ≡ done ++ cond b (record v { systo = Some n }) v ∷ later) [
       | true ↦
           ap (λ l. fold (closed_at n) l (places_from test (length done + 1) vs))
-          (ap (λ o. unwrap_or (option_map (λ u. slice_set (done ++ v ∷ (vs ++ us)) (length done) (record u { systo = Some n })) o) (done ++ v ∷ (vs ++ us))) (slice_get-seam done v (vs ++ us))
+          (ap (λ o. unwrap_or
+          (option_map (λ u. slice_set (done ++ v ∷ (vs ++ us)) (length done) (record u { systo = Some n })) o)
+          (done ++ v ∷ (vs ++ us))) (slice_get-seam done v (vs ++ us))
           ∙ set-append_seam done v (vs ++ us) (record v { systo = Some n }))
           ∙ next (record v { systo = Some n })
       | false ↦ next v
     ]
 
 -- closing what a change takes, with others behind
-pub closed-taken : (n : ℕ) (c : Change) (schema : List Column) (vs us : List Version) → fold (closed_at n) (vs ++ us) (places_from (is_taken c schema) 0 vs) ≡ map (closed n (removes c schema)) vs ++ us
+pub closed-taken : (n : ℕ) (c : Change) (schema : List Column) (vs us : List Version)
+    → fold (closed_at n) (vs ++ us) (places_from (is_taken c schema) 0 vs) ≡ map (closed n (removes c schema)) vs ++ us
 closed-taken n c schema vs us = closed-behind n (is_taken c schema) [] vs us
 
 -- one place more
-pub closed-more : (n : ℕ) (vs ws new : List Version) (places : List ℕ) (i : ℕ) (u : Version) → i < length places → get_or places i 0 < length ws → ws ≡ fold (closed_at n) vs (take i places)
-    → new ≡ set ws (get_or places i 0) (record { row = (get_or ws (get_or places i 0) u).row; sysfrom = (get_or ws (get_or places i 0) u).sysfrom; systo = Some n }) → new ≡ fold (closed_at n) vs (take (i + 1) places)
+pub closed-more : (n : ℕ) (vs ws new : List Version) (places : List ℕ) (i : ℕ) (u : Version) → i < length places
+    → get_or places i 0 < length ws → ws ≡ fold (closed_at n) vs (take i places)
+    → new ≡ set ws (get_or places i 0)
+    (record {
+      row = (get_or ws (get_or places i 0) u).row;
+      sysfrom =
+          (get_or ws (get_or places i 0) u).sysfrom;
+      systo = Some n;
+    }) → new ≡ fold (closed_at n) vs (take (i + 1) places)
 closed-more n vs ws new places i u h inside e written =
     written
-    ∙ ap (λ o. unwrap_or (option_map (λ (v : Version). set ws (get_or places i 0) (record { row = v.row; sysfrom = v.sysfrom; systo = Some n })) o) ws) (sym (slice_get-get_or ws (get_or places i 0) u inside))
+    ∙ ap (λ o. unwrap_or
+    (option_map
+    (λ (v : Version). set ws (get_or places i 0)
+    (record { row = v.row; sysfrom = v.sysfrom; systo = Some n })) o) ws)
+    (sym (slice_get-get_or ws (get_or places i 0) u inside))
     ∙ ap (λ l. closed_at n l (get_or places i 0)) e
     ∙ sym (fold-append (closed_at n) vs (take i places) (get_or places i 0 ∷ []))
     ∙ ap (fold (closed_at n) vs) (sym (take_more places i 0 h))
 
 -- the places after a change
 
-pub places_from-append : (test : Version → Bool) (at : ℕ) (vs us : List Version) → places_from test at (vs ++ us) ≡ places_from test at vs ++ places_from test (at + length vs) us
+pub places_from-append : (test : Version → Bool) (at : ℕ) (vs us : List Version)
+    → places_from test at (vs ++ us) ≡ places_from test at vs ++ places_from test (at + length vs) us
 places_from-append test at [] us = ap (λ n. places_from test n us) (omega arith)
 places_from-append test at (v ∷ vs) us =
-    let rest = places_from-append test (at + 1) vs us ∙ ap (λ n. places_from test (at + 1) vs ++ places_from test n us) (omega arith) in
-    elim (test v) as (λ b. cond b (at ∷ places_from test (at + 1) (vs ++ us)) (places_from test (at + 1) (vs ++ us)) ≡ cond b (at ∷ places_from test (at + 1) vs) (places_from test (at + 1) vs) ++ places_from test (at + suc (length vs)) us) [
+    let rest = places_from-append test (at + 1) vs us
+    ∙ ap (λ n. places_from test (at + 1) vs ++ places_from test n us) (omega arith) in
+    elim (test v) as
+    (λ b. cond b (at ∷ places_from test (at + 1) (vs ++ us)) (places_from test (at + 1) (vs ++ us)) ≡ cond b
+    (at ∷ places_from test (at + 1) vs) (places_from test (at + 1) vs) ++ places_from test
+    (at + suc (length vs)) us) [
       | true ↦ ap (λ l. at ∷ l) rest
       | false ↦ rest
     ]
 
 -- how many are taken
 
-count_taken : (c : Change) (schema : List Column) (at : ℕ) (vs : List Version) → length (places_from (is_taken c schema) at vs) ≡ count_by (removes c schema) (current vs)
+count_taken : (c : Change) (schema : List Column) (at : ℕ) (vs : List Version)
+    → length (places_from (is_taken c schema) at vs) ≡ count_by (removes c schema) (current vs)
 count_taken c schema at [] = refl
 count_taken c schema at (v ∷ vs) =
     let rest = count_taken c schema (at + 1) vs in
-    elim (is_open v) as (λ b. length (cond (b && removes c schema v.row) (at ∷ places_from (is_taken c schema) (at + 1) vs) (places_from (is_taken c schema) (at + 1) vs)) ≡ count_by (removes c schema) (map (λ (v : Version). v.row) (cond b (v ∷ filter is_open vs) (filter is_open vs)))) [
-      | true ↦ elim (removes c schema v.row) as (λ t. length (cond t (at ∷ places_from (is_taken c schema) (at + 1) vs) (places_from (is_taken c schema) (at + 1) vs)) ≡ cond t 1 0 + count_by (removes c schema) (current vs)) [
-        | true ↦ omega (arith, rest)
-        | false ↦ omega (arith, rest)
-      ] ∙ sym (count-cons (removes c schema) v.row (current vs))
+    elim (is_open v) as
+    (λ b. length
+    (cond (b && removes c schema v.row) (at ∷ places_from (is_taken c schema) (at + 1) vs)
+    (places_from (is_taken c schema) (at + 1) vs)) ≡ count_by (removes c schema)
+    (map (λ (v : Version). v.row) (cond b (v ∷ filter is_open vs) (filter is_open vs)))) [
+      | true ↦ elim (removes c schema v.row) as
+          (λ t. length
+          (cond t (at ∷ places_from (is_taken c schema) (at + 1) vs)
+          (places_from (is_taken c schema) (at + 1) vs)) ≡ cond t 1 0 + count_by (removes c schema) (current vs)) [
+            | true ↦ omega (arith, rest)
+            | false ↦ omega (arith, rest)
+          ] ∙ sym (count-cons (removes c schema) v.row (current vs))
       | false ↦ rest
     ]
 
 -- a change that removes no row takes none
 pub none-taken : (at : ℕ) (vs : List Version) → places_from (λ v. is_open v && false) at vs ≡ []
 none-taken at [] = refl
-none-taken at (v ∷ vs) = elim (is_open v) as (λ b. cond (b && false) (at ∷ places_from (λ v. is_open v && false) (at + 1) vs) (places_from (λ v. is_open v && false) (at + 1) vs) ≡ []) [
-  | true ↦ none-taken (at + 1) vs
-  | false ↦ none-taken (at + 1) vs
-]
+none-taken at (v ∷ vs) =
+    elim (is_open v) as
+    (λ b. cond (b && false) (at ∷ places_from (λ v. is_open v && false) (at + 1) vs)
+    (places_from (λ v. is_open v && false) (at + 1) vs) ≡ []) [
+      | true ↦ none-taken (at + 1) vs
+      | false ↦ none-taken (at + 1) vs
+    ]
 
-pub length-taken : (c : Change) (schema : List Column) (vs : List Version) → length (places_from (is_taken c schema) 0 vs) ≡ count_by (removes c schema) (current vs)
+pub length-taken : (c : Change) (schema : List Column) (vs : List Version)
+    → length (places_from (is_taken c schema) 0 vs) ≡ count_by (removes c schema) (current vs)
 length-taken c schema vs = count_taken c schema 0 vs
 
 -- a change takes at most three parts of a row
@@ -165,11 +236,22 @@ one_or_none : (period : Option Period) (values : List Value) → length (part pe
 one_or_none None values = refl
 one_or_none (Some p) values = refl
 
-pub length-two_parts : (a b : Option Period) (u v : List Value) (i j : ℕ) → i ≡ cond (is_some a) 1 0 → j ≡ cond (is_some b) 1 0 → i + j ≡ length (part a u ++ part b v)
+pub length-two_parts : (a b : Option Period) (u v : List Value) (i j : ℕ) → i ≡ cond (is_some a) 1 0
+    → j ≡ cond (is_some b) 1 0 → i + j ≡ length (part a u ++ part b v)
 length-two_parts a b u v i j e f = omega (arith, length-append (part a u) (part b v), one_or_none a u, one_or_none b v)
 
-pub length-three_parts : (a b c : Option Period) (u v w : List Value) (i j k : ℕ) → i ≡ cond (is_some a) 1 0 → j ≡ cond (is_some b) 1 0 → k ≡ cond (is_some c) 1 0 → i + j + k ≡ length (part a u ++ (part b v ++ part c w))
-length-three_parts a b c u v w i j k e f g = omega (arith, length-append (part a u) (part b v ++ part c w), length-append (part b v) (part c w), one_or_none a u, one_or_none b v, one_or_none c w)
+pub length-three_parts : (a b c : Option Period) (u v w : List Value) (i j k : ℕ) → i ≡ cond (is_some a) 1 0
+    → j ≡ cond (is_some b) 1 0 → k ≡ cond (is_some c) 1 0 → i + j + k ≡ length (part a u ++ (part b v ++ part c w))
+length-three_parts a b c u v w i j k e f g =
+    omega (
+      arith,
+      length-append (part a u) (part b v ++ part c w),
+      length-append (part b v)
+          (part c w),
+      one_or_none a u,
+      one_or_none b v,
+      one_or_none c w,
+    )
 
 part-few : (period : Option Period) (values : List Value) → length (part period values) ≤ 1
 part-few None values = omega arith
@@ -182,18 +264,44 @@ parts_of-few (Update name portion sets conds) schema row =
     let first = part (before row.period portion) row.values in
     let inner = part (meet row.period portion) (fold (set_at schema) row.values sets) in
     let last = part (later row.period portion) row.values in
-    omega (arith, length-append first (inner ++ last), length-append inner last, part-few (before row.period portion) row.values, part-few (meet row.period portion) (fold (set_at schema) row.values sets), part-few (later row.period portion) row.values)
+    omega (
+      arith,
+      length-append first (inner ++ last),
+      length-append inner last,
+      part-few
+          (before row.period portion) row.values,
+      part-few (meet row.period portion)
+          (fold (set_at schema) row.values sets),
+      part-few (later row.period portion) row.values,
+    )
 parts_of-few (Delete name portion conds) schema row =
     let first = part (before row.period portion) row.values in
     let last = part (later row.period portion) row.values in
-    omega (arith, length-append first last, part-few (before row.period portion) row.values, part-few (later row.period portion) row.values)
+    omega (
+      arith,
+      length-append first last,
+      part-few (before row.period portion) row.values,
+      part-few
+          (later row.period portion) row.values,
+    )
 
-pub parts-few : (c : Change) (schema : List Column) (rows : List Row) → length (parts_in c schema rows) ≤ 3 * length rows
+pub parts-few : (c : Change) (schema : List Column) (rows : List Row)
+    → length (parts_in c schema rows) ≤ 3 * length rows
 parts-few c schema [] = omega arith
 parts-few c schema (row ∷ rows) =
     let rest = parts-few c schema rows in
-    elim (removes c schema row) as (λ b. length (flat_map (parts_of c schema) (cond b (row ∷ filter (removes c schema) rows) (filter (removes c schema) rows))) ≤ 3 * length (row ∷ rows)) [
-      | true ↦ rw (flat_map-cons (parts_of c schema) row (filter (removes c schema) rows)) (omega (arith, rest, length-append (parts_of c schema row) (parts_in c schema rows), parts_of-few c schema row))
+    elim (removes c schema row) as
+    (λ b. length
+    (flat_map (parts_of c schema)
+    (cond b (row ∷ filter (removes c schema) rows) (filter (removes c schema) rows))) ≤ 3 * length (row ∷ rows)) [
+      | true ↦ rw (flat_map-cons (parts_of c schema) row (filter (removes c schema) rows))
+          (omega (
+            arith,
+            rest,
+            length-append (parts_of c schema row)
+                (parts_in c schema rows),
+            parts_of-few c schema row,
+          ))
       | false ↦ omega (arith, rest)
     ]
 
@@ -201,7 +309,9 @@ pub length-open : (at : ℕ) (vs : List Version) → length (places_from is_open
 length-open at [] = refl
 length-open at (v ∷ vs) =
     let rest = length-open (at + 1) vs in
-    elim (is_open v) as (λ b. length (cond b (at ∷ places_from is_open (at + 1) vs) (places_from is_open (at + 1) vs)) ≡ length (map (λ (v : Version). v.row) (cond b (v ∷ filter is_open vs) (filter is_open vs)))) [
+    elim (is_open v) as
+    (λ b. length (cond b (at ∷ places_from is_open (at + 1) vs) (places_from is_open (at + 1) vs)) ≡ length
+    (map (λ (v : Version). v.row) (cond b (v ∷ filter is_open vs) (filter is_open vs)))) [
       | true ↦ omega (arith, rest)
       | false ↦ rest
     ]
@@ -211,70 +321,109 @@ abbrev pub parts_at : Change → List Column → List Version → List ℕ → L
 parts_at c schema vs places = flat_map (λ v. parts_of c schema v.row) (picked vs places)
 
 -- one place more
-pub parts_at-push : (c : Change) (schema : List Column) (vs : List Version) (places : List ℕ) (place : ℕ) (v : Version) → place < length vs → v ≡ get_or vs place v → parts_at c schema vs (places ++ place ∷ []) ≡ parts_at c schema vs places ++ parts_of c schema v.row
+pub parts_at-push : (c : Change) (schema : List Column) (vs : List Version) (places : List ℕ) (place : ℕ) (v : Version)
+    → place < length vs → v ≡ get_or vs place v
+    → parts_at c schema vs (places ++ place ∷ []) ≡ parts_at c schema vs places ++ parts_of c schema v.row
 parts_at-push c schema vs places place v inside e =
     ap (flat_map (λ (v : Version). parts_of c schema v.row))
-    (filter_map-append (slice_get vs) places (place ∷ []) ∙ ap (λ o. picked vs places ++ cons_option o []) (slice_get-get_or vs place v inside ∙ ap Some (sym e)))
+    (filter_map-append (slice_get vs) places (place ∷ [])
+    ∙ ap (λ o. picked vs places ++ cons_option o []) (slice_get-get_or vs place v inside ∙ ap Some (sym e)))
     ∙ flat_map-append (λ (v : Version). parts_of c schema v.row) (picked vs places) (v ∷ [])
     ∙ ap (λ l. parts_at c schema vs places ++ l) (append-nil (parts_of c schema v.row))
 
-parts-taken : (c : Change) (schema : List Column) (vs : List Version) → flat_map (λ (v : Version). parts_of c schema v.row) (filter (is_taken c schema) vs) ≡ parts_in c schema (current vs)
+parts-taken : (c : Change) (schema : List Column) (vs : List Version)
+    → flat_map (λ (v : Version). parts_of c schema v.row) (filter (is_taken c schema) vs) ≡ parts_in c schema
+    (current vs)
 parts-taken c schema [] = refl
 parts-taken c schema (v ∷ vs) =
     let rest = parts-taken c schema vs in
-    elim (is_open v) as (λ b. flat_map (λ (v : Version). parts_of c schema v.row) (cond (b && removes c schema v.row) (v ∷ filter (is_taken c schema) vs) (filter (is_taken c schema) vs)) ≡ parts_in c schema (map (λ (v : Version). v.row) (cond b (v ∷ filter is_open vs) (filter is_open vs)))) [
-      | true ↦ elim (removes c schema v.row) as (λ t. flat_map (λ (v : Version). parts_of c schema v.row) (cond t (v ∷ filter (is_taken c schema) vs) (filter (is_taken c schema) vs)) ≡ flat_map (parts_of c schema) (cond t (v.row ∷ filter (removes c schema) (current vs)) (filter (removes c schema) (current vs)))) [
-        | true ↦ ap (λ l. parts_of c schema v.row ++ l) rest
-        | false ↦ rest
-      ]
+    elim (is_open v) as
+    (λ b. flat_map (λ (v : Version). parts_of c schema v.row)
+    (cond (b && removes c schema v.row) (v ∷ filter (is_taken c schema) vs)
+    (filter (is_taken c schema) vs)) ≡ parts_in c schema
+    (map (λ (v : Version). v.row) (cond b (v ∷ filter is_open vs) (filter is_open vs)))) [
+      | true ↦ elim (removes c schema v.row) as
+          (λ t. flat_map (λ (v : Version). parts_of c schema v.row)
+          (cond t (v ∷ filter (is_taken c schema) vs) (filter (is_taken c schema) vs)) ≡ flat_map (parts_of c schema)
+          (cond t (v.row ∷ filter (removes c schema) (current vs)) (filter (removes c schema) (current vs)))) [
+            | true ↦ ap (λ l. parts_of c schema v.row ++ l) rest
+            | false ↦ rest
+          ]
       | false ↦ rest
     ]
 
 -- what comes in the place of all that a change takes
-pub parts_at-taken : (c : Change) (schema : List Column) (vs : List Version) (taken : List ℕ) → taken ≡ places_from (is_taken c schema) 0 vs → parts_at c schema vs taken ≡ parts_in c schema (current vs)
-parts_at-taken c schema vs taken e = ap (parts_at c schema vs) e ∙ ap (flat_map (λ (v : Version). parts_of c schema v.row)) (picked-places_from (is_taken c schema) vs) ∙ parts-taken c schema vs
+pub parts_at-taken : (c : Change) (schema : List Column) (vs : List Version) (taken : List ℕ)
+    → taken ≡ places_from (is_taken c schema) 0 vs → parts_at c schema vs taken ≡ parts_in c schema (current vs)
+parts_at-taken c schema vs taken e =
+    ap (parts_at c schema vs) e
+    ∙ ap (flat_map (λ (v : Version). parts_of c schema v.row)) (picked-places_from (is_taken c schema) vs)
+    ∙ parts-taken c schema vs
 
 pub range_with_len-push : (a n : ℕ) → range_with_len a (n + 1) ≡ range_with_len a n ++ (a + n) ∷ []
 range_with_len-push a zero = ap (λ k. k ∷ []) (omega arith)
-range_with_len-push a (suc n) = rw add-one (ap (λ l. a ∷ l) (ap (range_with_len (a + 1)) (sym (add-one n)) ∙ range_with_len-push (a + 1) n ∙ ap (λ k. range_with_len (a + 1) n ++ k ∷ []) (omega arith)))
+range_with_len-push a (suc n) =
+    rw add-one
+    (ap (λ l. a ∷ l)
+    (ap (range_with_len (a + 1)) (sym (add-one n)) ∙ range_with_len-push (a + 1) n
+    ∙ ap (λ k. range_with_len (a + 1) n ++ k ∷ []) (omega arith)))
 
 -- one place more, taken or left
 
-pub place-yes : (vs : List Version) (p : Version → Bool) (places : List ℕ) (i : ℕ) (v : Version) (old new : List ℕ) → i < length places → get_or places i 0 < length vs → v ≡ get_or vs (get_or places i 0) v → p v ≡ true
-    → old ≡ filter (passes vs p) (take i places) → new ≡ old ++ get_or places i 0 ∷ [] → new ≡ filter (passes vs p) (take (i + 1) places)
+pub place-yes : (vs : List Version) (p : Version → Bool) (places : List ℕ) (i : ℕ) (v : Version) (old new : List ℕ)
+    → i < length places → get_or places i 0 < length vs → v ≡ get_or vs (get_or places i 0) v → p v ≡ true
+    → old ≡ filter (passes vs p) (take i places) → new ≡ old ++ get_or places i 0 ∷ []
+    → new ≡ filter (passes vs p) (take (i + 1) places)
 place-yes vs p places i v old new h inside e test was now =
-    now ∙ ap (λ l. l ++ get_or places i 0 ∷ []) was ∙ sym (filter-more vs p places i v h inside e ∙ ap (λ b. filter (passes vs p) (take i places) ++ cond b (get_or places i 0 ∷ []) []) test)
+    now ∙ ap (λ l. l ++ get_or places i 0 ∷ []) was
+    ∙ sym (filter-more vs p places i v h inside e
+    ∙ ap (λ b. filter (passes vs p) (take i places) ++ cond b (get_or places i 0 ∷ []) []) test)
 
-pub place-no : (vs : List Version) (p : Version → Bool) (places : List ℕ) (i : ℕ) (v : Version) (old new : List ℕ) → i < length places → get_or places i 0 < length vs → v ≡ get_or vs (get_or places i 0) v → p v ≡ false
+pub place-no : (vs : List Version) (p : Version → Bool) (places : List ℕ) (i : ℕ) (v : Version) (old new : List ℕ)
+    → i < length places → get_or places i 0 < length vs → v ≡ get_or vs (get_or places i 0) v → p v ≡ false
     → old ≡ filter (passes vs p) (take i places) → new ≡ old → new ≡ filter (passes vs p) (take (i + 1) places)
 place-no vs p places i v old new h inside e test was now =
-    now ∙ was ∙ sym (filter-more vs p places i v h inside e ∙ ap (λ b. filter (passes vs p) (take i places) ++ cond b (get_or places i 0 ∷ []) []) test ∙ append-nil (filter (passes vs p) (take i places)))
+    now ∙ was
+    ∙ sym (filter-more vs p places i v h inside e
+    ∙ ap (λ b. filter (passes vs p) (take i places) ++ cond b (get_or places i 0 ∷ []) []) test
+    ∙ append-nil (filter (passes vs p) (take i places)))
 
 -- what is made for the places that are taken
 abbrev pub made_so_far : ℕ → ℕ → Change → List Column → List Version → List ℕ → Making
-made_so_far before commit c schema vs taken = record { before = before; commit = commit; drafts = parts_at c schema vs taken }
+made_so_far before commit c schema vs taken =
+    record { before = before; commit = commit; drafts = parts_at c schema vs taken }
 
-pub made-push : (before commit : ℕ) (c : Change) (schema : List Column) (vs : List Version) (taken more : List ℕ) (place : ℕ) (v : Version) (old new : Making) → place < length vs → v ≡ get_or vs place v
-    → old ≡ made_so_far before commit c schema vs taken → AddsDrafts old new (parts_of c schema v.row) → more ≡ taken ++ place ∷ [] → new ≡ made_so_far before commit c schema vs more
+pub made-push : (before commit : ℕ) (c : Change) (schema : List Column) (vs : List Version) (taken more : List ℕ)
+    (place : ℕ) (v : Version) (old new : Making) → place < length vs → v ≡ get_or vs place v
+    → old ≡ made_so_far before commit c schema vs taken → AddsDrafts old new (parts_of c schema v.row)
+    → more ≡ taken ++ place ∷ [] → new ≡ made_so_far before commit c schema vs more
 made-push before commit c schema vs taken more place v old new inside e was now grown =
     now ∙ ap (λ (m : Making). record m { drafts = m.drafts ++ parts_of c schema v.row }) was
-    ∙ ap (λ ds. record { before = before; commit = commit; drafts = ds }) (sym (ap (parts_at c schema vs) grown ∙ parts_at-push c schema vs taken place v inside e))
+    ∙ ap (λ ds. record { before = before; commit = commit; drafts = ds })
+    (sym (ap (parts_at c schema vs) grown ∙ parts_at-push c schema vs taken place v inside e))
 
-pub made-all : (before commit : ℕ) (c : Change) (schema : List Column) (vs : List Version) (taken : List ℕ) (new : Making) → taken ≡ places_from (is_taken c schema) 0 vs
-    → new ≡ made_so_far before commit c schema vs taken → made_of new ≡ made commit (numbered before (parts_in c schema (current vs)))
+pub made-all : (before commit : ℕ) (c : Change) (schema : List Column) (vs : List Version) (taken : List ℕ)
+    (new : Making) → taken ≡ places_from (is_taken c schema) 0 vs
+    → new ≡ made_so_far before commit c schema vs taken
+    → made_of new ≡ made commit (numbered before (parts_in c schema (current vs)))
 made-all before commit c schema vs taken new e same =
     ap made_of same ∙ ap (λ ds. made commit (numbered before ds)) (parts_at-taken c schema vs taken e)
 
 -- the versions that a change leaves
 
-pub versions_after-by : (n : ℕ) (c : Change) (schema : List Column) (vs fresh grown new : List Version) (taken : List ℕ) → taken ≡ places_from (is_taken c schema) 0 vs → fresh ≡ made n (numbered (length vs) (drafts_of c schema (current vs)))
+pub versions_after-by : (n : ℕ) (c : Change) (schema : List Column) (vs fresh grown new : List Version)
+    (taken : List ℕ) → taken ≡ places_from (is_taken c schema) 0 vs
+    → fresh ≡ made n (numbered (length vs) (drafts_of c schema (current vs)))
     → grown ≡ vs ++ fresh → new ≡ fold (closed_at n) grown taken → new ≡ versions_after n c schema vs
 versions_after-by n c schema vs fresh grown new taken t f g e =
-    e ∙ ap (λ l. fold (closed_at n) l taken) g ∙ ap (fold (closed_at n) (vs ++ fresh)) t ∙ closed-taken n c schema vs fresh
+    e ∙ ap (λ l. fold (closed_at n) l taken) g ∙ ap (fold (closed_at n) (vs ++ fresh)) t
+    ∙ closed-taken n c schema vs fresh
     ∙ ap (λ l. map (closed n (removes c schema)) vs ++ l) f
 
 pub length-fresh : (n before : ℕ) (ds : List Draft) → length (made n (numbered before ds)) ≡ length ds
 length-fresh n before ds = length-map (numbered before ds) _ ∙ length-numbered before ds
 
-pub fresh-count : (n : ℕ) (c : Change) (schema : List Column) (vs fresh : List Version) → fresh ≡ made n (numbered (length vs) (drafts_of c schema (current vs))) → length fresh ≡ length (drafts_of c schema (current vs))
+pub fresh-count : (n : ℕ) (c : Change) (schema : List Column) (vs fresh : List Version)
+    → fresh ≡ made n (numbered (length vs) (drafts_of c schema (current vs)))
+    → length fresh ≡ length (drafts_of c schema (current vs))
 fresh-count n c schema vs fresh f = ap length f ∙ length-fresh n (length vs) (drafts_of c schema (current vs))

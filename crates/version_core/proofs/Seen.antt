@@ -7,22 +7,48 @@ use Rattle.row_core.specs.declared.row.Row.{Row}
 use Rattle.version_core.specs.Shown.{shows, row_shown, shown, is_behind, end_at, version_seen, seen}
 use Rattle.version_core.specs.declared.version.Version.{Version}
 
-seen-take_more : (at m last i : ℕ) (vs : List Version) (v : Version) → i < length vs → v ≡ get_or vs i v → seen at m last (take (i + 1) vs) ≡ seen at m last (take i vs) ++ cons_option (version_seen at m last v) []
-seen-take_more at m last i vs v h e = ap (seen at m last) (take_more vs i v h) ∙ filter_map-append (version_seen at m last) (take i vs) (get_or vs i v ∷ []) ∙ ap (λ u. seen at m last (take i vs) ++ cons_option (version_seen at m last u) []) (sym e)
+seen-take_more : (at m last i : ℕ) (vs : List Version) (v : Version) → i < length vs → v ≡ get_or vs i v
+    → seen at m last (take (i + 1) vs) ≡ seen at m last (take i vs) ++ cons_option (version_seen at m last v) []
+seen-take_more at m last i vs v h e =
+    ap (seen at m last) (take_more vs i v h)
+    ∙ filter_map-append (version_seen at m last) (take i vs) (get_or vs i v ∷ [])
+    ∙ ap (λ u. seen at m last (take i vs) ++ cons_option (version_seen at m last u) []) (sym e)
 
-pub seen-more : (at m last i : ℕ) (vs : List Version) (v : Version) (us : List Version) → i < length vs → v ≡ get_or vs i v → (leb v.sysfrom at && (leb v.sysfrom last && is_behind (end_at at v.systo) m)) ≡ true → us ≡ seen at m last (take i vs) → us ++ record { row = v.row; sysfrom = v.sysfrom; systo = end_at at v.systo } ∷ [] ≡ seen at m last (take (i + 1) vs)
-seen-more at m last i vs v us h e t k = ap (λ l. l ++ record { row = v.row; sysfrom = v.sysfrom; systo = end_at at v.systo } ∷ []) k ∙ sym (seen-take_more at m last i vs v h e ∙ ap (λ b. seen at m last (take i vs) ++ cons_option (cond b (Some (record { row = v.row; sysfrom = v.sysfrom; systo = end_at at v.systo })) None) []) t)
+pub seen-more : (at m last i : ℕ) (vs : List Version) (v : Version) (us : List Version) → i < length vs
+    → v ≡ get_or vs i v → (leb v.sysfrom at && (leb v.sysfrom last && is_behind (end_at at v.systo) m)) ≡ true
+    → us ≡ seen at m last (take i vs)
+    → us ++ record { row = v.row; sysfrom = v.sysfrom; systo = end_at at v.systo } ∷ [] ≡ seen at m last
+    (take (i + 1) vs)
+seen-more at m last i vs v us h e t k =
+    ap (λ l. l ++ record { row = v.row; sysfrom = v.sysfrom; systo = end_at at v.systo } ∷ []) k
+    ∙ sym (seen-take_more at m last i vs v h e
+    ∙ ap (λ b. seen at m last (take i vs) ++ cons_option
+    (cond b (Some (record { row = v.row; sysfrom = v.sysfrom; systo = end_at at v.systo })) None) []) t)
 
-pub seen-same : (at m last i : ℕ) (vs : List Version) (v : Version) (us : List Version) → i < length vs → v ≡ get_or vs i v → (leb v.sysfrom at && (leb v.sysfrom last && is_behind (end_at at v.systo) m)) ≡ false → us ≡ seen at m last (take i vs) → us ≡ seen at m last (take (i + 1) vs)
-seen-same at m last i vs v us h e t k = k ∙ sym (seen-take_more at m last i vs v h e ∙ ap (λ b. seen at m last (take i vs) ++ cons_option (cond b (Some (record { row = v.row; sysfrom = v.sysfrom; systo = end_at at v.systo })) None) []) t ∙ append-nil _)
+pub seen-same : (at m last i : ℕ) (vs : List Version) (v : Version) (us : List Version) → i < length vs
+    → v ≡ get_or vs i v → (leb v.sysfrom at && (leb v.sysfrom last && is_behind (end_at at v.systo) m)) ≡ false
+    → us ≡ seen at m last (take i vs) → us ≡ seen at m last (take (i + 1) vs)
+seen-same at m last i vs v us h e t k =
+    k ∙ sym (seen-take_more at m last i vs v h e
+    ∙ ap (λ b. seen at m last (take i vs) ++ cons_option
+    (cond b (Some (record { row = v.row; sysfrom = v.sysfrom; systo = end_at at v.systo })) None) []) t ∙ append-nil _)
 
-pub shown-take_more : (n i : ℕ) (vs : List Version) (v : Version) → i < length vs → v ≡ get_or vs i v → shown n (take (i + 1) vs) ≡ shown n (take i vs) ++ cons_option (row_shown n v) []
-shown-take_more n i vs v h e = ap (shown n) (take_more vs i v h) ∙ filter_map-append (row_shown n) (take i vs) (get_or vs i v ∷ []) ∙ ap (λ u. shown n (take i vs) ++ cons_option (row_shown n u) []) (sym e)
+pub shown-take_more : (n i : ℕ) (vs : List Version) (v : Version) → i < length vs → v ≡ get_or vs i v
+    → shown n (take (i + 1) vs) ≡ shown n (take i vs) ++ cons_option (row_shown n v) []
+shown-take_more n i vs v h e =
+    ap (shown n) (take_more vs i v h) ∙ filter_map-append (row_shown n) (take i vs) (get_or vs i v ∷ [])
+    ∙ ap (λ u. shown n (take i vs) ++ cons_option (row_shown n u) []) (sym e)
 
 -- a version that is shown adds its row
-pub shown-more : (n i : ℕ) (vs : List Version) (v : Version) (rows : List Row) → i < length vs → v ≡ get_or vs i v → shows n v ≡ true → rows ≡ shown n (take i vs) → rows ++ v.row ∷ [] ≡ shown n (take (i + 1) vs)
-shown-more n i vs v rows h e t k = ap (λ l. l ++ v.row ∷ []) k ∙ sym (shown-take_more n i vs v h e ∙ ap (λ b. shown n (take i vs) ++ cons_option (cond b (Some v.row) None) []) t)
+pub shown-more : (n i : ℕ) (vs : List Version) (v : Version) (rows : List Row) → i < length vs → v ≡ get_or vs i v
+    → shows n v ≡ true → rows ≡ shown n (take i vs) → rows ++ v.row ∷ [] ≡ shown n (take (i + 1) vs)
+shown-more n i vs v rows h e t k =
+    ap (λ l. l ++ v.row ∷ []) k
+    ∙ sym (shown-take_more n i vs v h e ∙ ap (λ b. shown n (take i vs) ++ cons_option (cond b (Some v.row) None) []) t)
 
 -- one that is not adds none
-pub shown-same : (n i : ℕ) (vs : List Version) (v : Version) (rows : List Row) → i < length vs → v ≡ get_or vs i v → shows n v ≡ false → rows ≡ shown n (take i vs) → rows ≡ shown n (take (i + 1) vs)
-shown-same n i vs v rows h e t k = k ∙ sym (shown-take_more n i vs v h e ∙ ap (λ b. shown n (take i vs) ++ cons_option (cond b (Some v.row) None) []) t ∙ append-nil _)
+pub shown-same : (n i : ℕ) (vs : List Version) (v : Version) (rows : List Row) → i < length vs → v ≡ get_or vs i v
+    → shows n v ≡ false → rows ≡ shown n (take i vs) → rows ≡ shown n (take (i + 1) vs)
+shown-same n i vs v rows h e t k =
+    k ∙ sym (shown-take_more n i vs v h e
+    ∙ ap (λ b. shown n (take i vs) ++ cons_option (cond b (Some v.row) None) []) t ∙ append-nil _)

@@ -30,7 +30,9 @@ any_row row = true
 
 -- the places of the columns that the first conditions name, as many as are looked up at once
 abbrev pub AreSought : List Column → List Pair → List (Option ℕ) → Type 0
-AreSought schema conds columns = (i : ℕ) → i < sought_limit → i < length conds → slice_get columns i ≡ option_map (λ (pair : Pair). column_of schema pair.0) (slice_get conds i)
+AreSought schema conds columns =
+    (i : ℕ) → i < sought_limit → i < length conds
+    → slice_get columns i ≡ option_map (λ (pair : Pair). column_of schema pair.0) (slice_get conds i)
 
 -- the bucket of a text's bytes
 unfoldable pub bucket_of_bytes : List ℕ → ℕ
@@ -43,7 +45,8 @@ bucket_of (Text bytes) = bucket_of_bytes bytes
 
 -- the row's value in the column falls into the bucket
 abbrev pub falls_into : ℕ → ℕ → Row → Bool
-falls_into column bucket row = unwrap_or (option_map (λ value. bucket_of value == bucket) (slice_get row.values column)) false
+falls_into column bucket row =
+    unwrap_or (option_map (λ value. bucket_of value == bucket) (slice_get row.values column)) false
 
 -- the bucket of a version's value in the column, where it is open and has one
 abbrev pub bucket_in : ℕ → Version → Option ℕ
@@ -52,7 +55,8 @@ bucket_in column v = if is_open v then option_map bucket_of (slice_get v.row.val
 -- each bucket lists the open versions whose value in the column falls into it
 pub record IsIndex (vs : List Version) (index : Index) : Type 0 where
   pub whole : length index.buckets.items ≡ bucket_count
-  pub each : (bucket : ℕ) → bucket < bucket_count → ListsOpen vs (falls_into index.column bucket) (get_or index.buckets.items bucket [])
+  pub each : (bucket : ℕ) → bucket < bucket_count
+      → ListsOpen vs (falls_into index.column bucket) (get_or index.buckets.items bucket [])
 
 -- what finds the open versions: all of them, and by the values of some columns
 pub record AreFound (vs : List Version) (places : List ℕ) (indexes : List Index) : Type 0 where
@@ -61,7 +65,8 @@ pub record AreFound (vs : List Version) (places : List ℕ) (indexes : List Inde
 
 -- the values of all rows that the change takes out fall into the bucket
 abbrev pub IsLookupOf : Change → List Column → Lookup → Type 0
-IsLookupOf c schema lookup = (row : Row) → removes c schema row ≡ true → falls_into lookup.column lookup.bucket row ≡ true
+IsLookupOf c schema lookup =
+    (row : Row) → removes c schema row ≡ true → falls_into lookup.column lookup.bucket row ≡ true
 
 -- among the places are those of all versions that the change closes, in their order
 pub record AreCandidates (c : Change) (schema : List Column) (vs : List Version) (places : List ℕ) : Type 0 where

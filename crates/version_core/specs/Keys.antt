@@ -27,7 +27,8 @@ rows_left c schema rows = map unnumbered (filter (λ row. not (removes c schema 
 -- of the rows that the change leaves and makes, two are equal in each column of the key and share an
 -- instant
 abbrev pub overlap_after : Change → List Column → List Version → Bool
-overlap_after c schema versions = break_key (key_of schema) (rows_left c schema (current versions) ++ drafts_of c schema (current versions))
+overlap_after c schema versions =
+    break_key (key_of schema) (rows_left c schema (current versions) ++ drafts_of c schema (current versions))
 
 -- the version is open, and the change leaves its row
 abbrev pub is_left : Change → List Column → Version → Bool
@@ -48,5 +49,6 @@ collides_left c schema key other v = is_left c schema v && collide key (draft_of
 -- among the places are those of all open versions whose rows collide with that one
 pub record AreNear (key : List ℕ) (other : Draft) (vs : List Version) (places : List ℕ) : Type 0 where
   pub inside : All (λ place. place < length vs) places
-  pub found : (left : Version → Bool) → list_any (passes vs (λ v. (is_open v && left v) && collide key (draft_of v) other)) places
+  pub found : (left : Version → Bool)
+      → list_any (passes vs (λ v. (is_open v && left v) && collide key (draft_of v) other)) places
       ≡ list_any (λ v. (is_open v && left v) && collide key (draft_of v) other) vs

@@ -30,7 +30,9 @@ closed n goes v = if is_none v.systo && goes v.row then record v { systo = Some 
 
 -- the versions with the one at that place closed by the commit
 abbrev pub closed_at : ℕ → List Version → ℕ → List Version
-closed_at commit versions place = unwrap_or (option_map (λ v. slice_set versions place (record v { systo = Some commit })) (slice_get versions place)) versions
+closed_at commit versions place =
+    unwrap_or
+    (option_map (λ v. slice_set versions place (record v { systo = Some commit })) (slice_get versions place)) versions
 
 -- the versions after a change of their table's rows, made by that commit
 abbrev pub versions_after : ℕ → Change → List Column → List Version → List Version

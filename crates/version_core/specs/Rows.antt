@@ -18,7 +18,8 @@ Pair = List ℕ × Value
 
 -- a row's value in the column of that name is the pair's
 abbrev pub is_equal_at : List Column → List Value → Pair → Bool
-is_equal_at schema values pair = unwrap_or (option_map (same_value pair.1) (option_and_then (slice_get values) (column_of schema pair.0))) false
+is_equal_at schema values pair =
+    unwrap_or (option_map (same_value pair.1) (option_and_then (slice_get values) (column_of schema pair.0))) false
 
 -- the values with the pair's in the column of that name
 abbrev pub set_at : List Column → List Value → Pair → List Value
@@ -26,7 +27,8 @@ set_at schema values pair = unwrap_or (option_map (λ i. slice_set values i pair
 
 -- the row meets all conditions and shares an instant with the portion
 abbrev pub is_touched : List Column → Period → List Pair → Row → Bool
-is_touched schema portion conds row = list_all (is_equal_at schema row.values) conds && is_some (meet row.period portion)
+is_touched schema portion conds row =
+    list_all (is_equal_at schema row.values) conds && is_some (meet row.period portion)
 
 -- the period, if there is one, with the values
 abbrev pub part : Option Period → List Value → List Draft

@@ -15,19 +15,23 @@ use Rattle.book_core.proofs.apply.change_table.Goals as goal
 
 -- no table has the name
 absent : (c : goal.In_default) → position (λ t. same_name t.name c.args.name) c.args.tables.now.items ≡ None
-absent c = sym (c.place_of.ensures ∙ ap (position (λ t. same_name t.name c.args.name)) c.deref.ensures.value) ∙ c.in_default.is
+absent c = sym (c.place_of.ensures ∙ ap (position (λ t. same_name t.name c.args.name)) c.deref.ensures.value)
+    ∙ c.in_default.is
 
 pub returns-in_default-clause-ok : goal.returns-in_default-clause-ok
 returns-in_default-clause-ok c = at_kept-absent c.args.name _ c.args.tables.now.items (absent c)
 
 pub returns-in_default-clause-added : goal.returns-in_default-clause-added
-returns-in_default-clause-added c = ap (added_in c.args.commits c.args.change.now) (sym (find-absent c.args.name c.args.tables.now.items (absent c)))
+returns-in_default-clause-added c =
+    ap (added_in c.args.commits c.args.change.now) (sym (find-absent c.args.name c.args.tables.now.items (absent c)))
 
 pub returns-in_default-clause-closed : goal.returns-in_default-clause-closed
-returns-in_default-clause-closed c = ap (closed_in c.args.commits c.args.change.now) (sym (find-absent c.args.name c.args.tables.now.items (absent c)))
+returns-in_default-clause-closed c =
+    ap (closed_in c.args.commits c.args.change.now) (sym (find-absent c.args.name c.args.tables.now.items (absent c)))
 
 pub returns-in_default-clause-apart : goal.returns-in_default-clause-apart
-returns-in_default-clause-apart c = ap (overlap_in c.args.commits c.args.change.now) (find-absent c.args.name c.args.tables.now.items (absent c))
+returns-in_default-clause-apart c =
+    ap (overlap_in c.args.commits c.args.change.now) (find-absent c.args.name c.args.tables.now.items (absent c))
 
 -- the table that is found, as the commits before leave it
 module _ (c : goal.After-tables-1) where
@@ -35,15 +39,20 @@ module _ (c : goal.After-tables-1) where
   at = sym (c.place_of.ensures ∙ ap (position (λ t. same_name t.name c.args.name)) c.deref.ensures.value) ∙ c.in-Some.is
 
   well : IsWellKept c.args.commits c.index_mut-table.result.now
-  well = holds-place (IsWellKept c.args.commits) c.args.name c.args.tables.now.items c.in-Some.at c.index_mut-table.result.now at c.index_mut-table.ensures.value c.requires.well
+  well = holds-place
+      (IsWellKept c.args.commits) c.args.name c.args.tables.now.items c.in-Some.at c.index_mut-table.result.now at
+      c.index_mut-table.ensures.value c.requires.well
 
   unbroken : IsUnbroken c.index_mut-table.result.now
-  unbroken = holds-place IsUnbroken c.args.name c.args.tables.now.items c.in-Some.at c.index_mut-table.result.now at c.index_mut-table.ensures.value c.requires.unbroken
+  unbroken = holds-place IsUnbroken c.args.name c.args.tables.now.items c.in-Some.at c.index_mut-table.result.now at
+      c.index_mut-table.ensures.value c.requires.unbroken
 
   found : kept_table c.args.name c.args.tables.now.items ≡ Some c.index_mut-table.result.now
-  found = find-place c.args.name c.args.tables.now.items c.in-Some.at c.index_mut-table.result.now at c.index_mut-table.ensures.value
+  found = find-place c.args.name c.args.tables.now.items c.in-Some.at c.index_mut-table.result.now at
+      c.index_mut-table.ensures.value
 
-  overlap : overlap_after c.args.change.now c.table.inside.schema c.table.inside.versions ≡ overlap_in c.args.commits c.args.change.now (kept_table c.args.name c.args.tables.now.items)
+  overlap : overlap_after c.args.change.now c.table.inside.schema c.table.inside.versions ≡ overlap_in c.args.commits
+      c.args.change.now (kept_table c.args.name c.args.tables.now.items)
   overlap =
       ap (λ (t : StoredTable). overlap_after c.args.change.now t.schema t.versions) c.table.view_is
       ∙ overlap-in c.args.commits c.args.change.now c.index_mut-table.result.now _ well unbroken found
@@ -51,18 +60,26 @@ module _ (c : goal.After-tables-1) where
 pub apply-requires-clause-room : goal.apply-requires-clause-room
 apply-requires-clause-room c =
     let change = c.args.change.now in
-    let at = sym (c.place_of.ensures ∙ ap (position (λ t. same_name t.name c.args.name)) c.deref.ensures.value) ∙ c.in-Some.is in
+    let at = sym (c.place_of.ensures ∙ ap (position (λ t. same_name t.name c.args.name)) c.deref.ensures.value)
+    ∙ c.in-Some.is in
     let t = c.index_mut-table.result.now in
-    let well = holds-place (IsWellKept c.args.commits) c.args.name c.args.tables.now.items c.in-Some.at t at c.index_mut-table.ensures.value c.requires.well in
+    let well = holds-place
+    (IsWellKept c.args.commits) c.args.name c.args.tables.now.items c.in-Some.at t at
+    c.index_mut-table.ensures.value c.requires.well in
     let R : StoredTable → Type 0 = λ t. (changed change (table_at c.args.commits t)).used ≤ version_limit in
-    let room = holds-place R c.args.name c.args.tables.now.items c.in-Some.at t at c.index_mut-table.ensures.value c.requires.room in
-    let P : StoredTable → Type 0 = λ t. length t.versions + length (drafts_of change t.schema (current t.versions)) ≤ version_limit in
+    let room = holds-place R c.args.name c.args.tables.now.items c.in-Some.at t at c.index_mut-table.ensures.value
+    c.requires.room in
+    let P : StoredTable → Type 0 =
+    λ t. length t.versions + length (drafts_of change t.schema (current t.versions)) ≤ version_limit in
     subst P (sym c.table.view_is) (room-current c.args.commits change t well room)
 
 pub apply-requires-clause-unbroken : goal.apply-requires-clause-unbroken
 apply-requires-clause-unbroken c =
-    let at = sym (c.place_of.ensures ∙ ap (position (λ t. same_name t.name c.args.name)) c.deref.ensures.value) ∙ c.in-Some.is in
-    subst IsUnbroken (sym c.table.view_is) (holds-place IsUnbroken c.args.name c.args.tables.now.items c.in-Some.at c.index_mut-table.result.now at c.index_mut-table.ensures.value c.requires.unbroken)
+    let at = sym (c.place_of.ensures ∙ ap (position (λ t. same_name t.name c.args.name)) c.deref.ensures.value)
+    ∙ c.in-Some.is in
+    subst IsUnbroken (sym c.table.view_is)
+    (holds-place IsUnbroken c.args.name c.args.tables.now.items c.in-Some.at c.index_mut-table.result.now at
+    c.index_mut-table.ensures.value c.requires.unbroken)
 
 abbrev with_versions : StoredTable → List Version → StoredTable
 with_versions t versions = record t { versions = versions }
@@ -71,8 +88,12 @@ pub returns-clause-ok : goal.returns-clause-ok
 returns-clause-ok c =
     let change = c.args.change.now in
     on_ok_weaker c.apply.result
-    (λ e. at_kept-place c.args.name (kept_table_after c.args.commits change) c.args.tables.now.items c.in-Some.at c.index_mut-table.result.now _ (at c) c.index_mut-table.ensures.value
-    (ap (λ vs. with_versions (record { name = c.table.inside.name; schema = c.table.inside.schema; versions = c.table.inside.versions }) vs) e
+    (λ e. at_kept-place c.args.name
+    (kept_table_after c.args.commits change) c.args.tables.now.items c.in-Some.at c.index_mut-table.result.now _
+    (at c) c.index_mut-table.ensures.value
+    (ap (λ vs. with_versions
+    (record { name = c.table.inside.name; schema = c.table.inside.schema; versions = c.table.inside.versions }) vs)
+    e
     ∙ ap (λ t. with_versions t (versions_after (c.args.commits + 1) change t.schema t.versions)) c.table.view_is
     ∙ versions_after-kept c.args.commits change c.index_mut-table.result.now (well c)))
     c.apply.ensures.ok
@@ -80,17 +101,22 @@ returns-clause-ok c =
 pub returns-clause-added : goal.returns-clause-added
 returns-clause-added c =
     IfOk-weaker c.apply.result _ _
-    (λ counts e. e.0 ∙ ap (λ (t : StoredTable). length (drafts_of c.args.change.now t.schema (current t.versions))) c.table.view_is ∙ added-current c.args.commits c.args.change.now c.index_mut-table.result.now _ (well c) (found c))
+    (λ counts e. e.0
+    ∙ ap (λ (t : StoredTable). length (drafts_of c.args.change.now t.schema (current t.versions))) c.table.view_is
+    ∙ added-current c.args.commits c.args.change.now c.index_mut-table.result.now _ (well c) (found c))
     c.apply.ensures.counts
 
 pub returns-clause-closed : goal.returns-clause-closed
 returns-clause-closed c =
     IfOk-weaker c.apply.result _ _
-    (λ counts e. e.1 ∙ ap (λ (t : StoredTable). count_by (removes c.args.change.now t.schema) (current t.versions)) c.table.view_is ∙ taken-current c.args.commits c.args.change.now c.index_mut-table.result.now _ (well c) (found c))
+    (λ counts e. e.1
+    ∙ ap (λ (t : StoredTable). count_by (removes c.args.change.now t.schema) (current t.versions)) c.table.view_is
+    ∙ taken-current c.args.commits c.args.change.now c.index_mut-table.result.now _ (well c) (found c))
     c.apply.ensures.counts
 
 pub returns-clause-apart : goal.returns-clause-apart
 returns-clause-apart c = on_ok_weaker c.apply.result (λ none. sym (overlap c) ∙ none) c.apply.ensures.apart
 
 pub returns-clause-overlap : goal.returns-clause-overlap
-returns-clause-overlap c = IfErr-weaker c.apply.result _ _ (λ failure some is. sym (overlap c) ∙ some is) c.apply.ensures.overlap
+returns-clause-overlap c =
+    IfErr-weaker c.apply.result _ _ (λ failure some is. sym (overlap c) ∙ some is) c.apply.ensures.overlap

@@ -6,4 +6,6 @@ use Rattle.book_core.proofs.pairs.pairs_refusal.Given as goal
 
 -- the pairs that are left decide
 abbrev pub invariant-loop-pair : goal.invariant-loop-pair
-invariant-loop-pair l = first_of (flat_map (pair_tests l.schema) (drop l.pair-index l.pairs)) ≡ first_of (flat_map (pair_tests l.schema) l.pairs)
+invariant-loop-pair l =
+    first_of (flat_map (pair_tests l.schema) (drop l.pair-index l.pairs)) ≡ first_of
+    (flat_map (pair_tests l.schema) l.pairs)

@@ -11,5 +11,7 @@ use Rattle.version_core.proofs.index.best_lookup.Given as goal
 abbrev pub invariant-loop-pair : goal.invariant-loop-pair
 invariant-loop-pair l = record {
   few : IfSome l.best (λ lookup. lookup.bucket < bucket_count);
-  lookup : IfSome l.best (λ lookup. (row : Row) → list_all (is_equal_at l.schema row.values) l.conds ≡ true → falls_into lookup.column lookup.bucket row ≡ true);
+  lookup : IfSome l.best
+      (λ lookup. (row : Row) → list_all (is_equal_at l.schema row.values) l.conds ≡ true
+      → falls_into lookup.column lookup.bucket row ≡ true);
 }

@@ -9,4 +9,6 @@ returns-in-Int-clause-bucket c =
     bucket-of_int c.args.value.now c.in-Int.number c.unsigned_abs.result c.in-Int.is size
 
 pub returns-in-Text-clause-bucket : goal.returns-in-Text-clause-bucket
-returns-in-Text-clause-bucket c = bucket-of_text c.args.value.now c.in-Text.text c.as_bytes.result.now c.bucket_of_bytes.result c.in-Text.is c.as_bytes.ensures.text c.bucket_of_bytes.ensures.bucket
+returns-in-Text-clause-bucket c =
+    bucket-of_text c.args.value.now c.in-Text.text c.as_bytes.result.now c.bucket_of_bytes.result c.in-Text.is
+    c.as_bytes.ensures.text c.bucket_of_bytes.ensures.bucket

@@ -7,6 +7,7 @@ loop-byte-init c = record { same = bytes-none; few = omega arith }
 
 pub loop-byte-preserved : goal.loop-byte-preserved
 loop-byte-preserved c = record {
-  same = bytes-more c.args.bytes.now c.loop-byte.byte-index c.loop-byte.bucket c.loop-byte-test.true c.loop-byte.invariant.same;
+  same = bytes-more c.args.bytes.now c.loop-byte.byte-index c.loop-byte.bucket c.loop-byte-test.true
+      c.loop-byte.invariant.same;
   few = omega arith;
 }

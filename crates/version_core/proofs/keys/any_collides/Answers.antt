@@ -21,7 +21,8 @@ returns-then-collides_at c =
     let new = draft_of c.args.new.now in
     let i = c.loop-place.place-index in
     let meets : Version → Bool = collides_left change schema key new in
-    let here = passes-at vs meets (get_or places i 0) c.index-versions-place.result c.collides_at.result (c.requires.inside i 0 c.loop-place-test.true) c.index-versions-place.is c.collides_at.ensures in
+    let here = passes-at vs meets (get_or places i 0) c.index-versions-place.result c.collides_at.result
+    (c.requires.inside i 0 c.loop-place-test.true) c.index-versions-place.is c.collides_at.ensures in
     sym (list_any_at (passes vs meets) places i 0 c.loop-place-test.true (here ∙ c.if-collides_at.true))
     ∙ c.requires.found (λ v. not (removes change schema v.row)) ∙ any-left change schema key new vs
 
@@ -30,8 +31,10 @@ loop-place-preserved c =
     let vs = c.args.versions.now in
     let places = c.args.places.now in
     let i = c.loop-place.place-index in
-    let meets : Version → Bool = collides_left c.args.change.now c.args.schema.now c.args.key.now (draft_of c.args.new.now) in
-    let here = passes-at vs meets (get_or places i 0) c.index-versions-place.result c.collides_at.result (c.requires.inside i 0 c.loop-place-test.true) c.index-versions-place.is c.collides_at.ensures in
+    let meets : Version → Bool =
+    collides_left c.args.change.now c.args.schema.now c.args.key.now (draft_of c.args.new.now) in
+    let here = passes-at vs meets (get_or places i 0) c.index-versions-place.result c.collides_at.result
+    (c.requires.inside i 0 c.loop-place-test.true) c.index-versions-place.is c.collides_at.ensures in
     list_any_more (passes vs meets) places i 0 c.loop-place-test.true
     ∙ ap (λ t. t || passes vs meets (get_or places i 0)) c.loop-place.invariant
     ∙ here ∙ c.if-collides_at.false
@@ -43,5 +46,6 @@ returns c =
     let schema = c.args.schema.now in
     let key = c.args.key.now in
     let new = draft_of c.args.new.now in
-    sym (ap (list_any (passes vs (collides_left change schema key new))) (sym (take_all c.loop-place.place-index c.args.places.now c.loop-place-test.false)) ∙ c.loop-place.invariant)
+    sym (ap (list_any (passes vs (collides_left change schema key new)))
+    (sym (take_all c.loop-place.place-index c.args.places.now c.loop-place-test.false)) ∙ c.loop-place.invariant)
     ∙ c.requires.found (λ v. not (removes change schema v.row)) ∙ any-left change schema key new vs

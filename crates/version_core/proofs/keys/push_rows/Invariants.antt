@@ -5,4 +5,5 @@ use Rattle.version_core.proofs.keys.push_rows.Given as goal
 
 -- the rows so far
 abbrev pub invariant-loop-version : goal.invariant-loop-version
-invariant-loop-version l = map row_in l.rows.items ≡ map row_in l.initial.rows.items ++ map draft_of (take l.version-index l.versions)
+invariant-loop-version l =
+    map row_in l.rows.items ≡ map row_in l.initial.rows.items ++ map draft_of (take l.version-index l.versions)

@@ -22,14 +22,19 @@ loop-place-preserved c =
     elim c.if-is_left.branch [
       | then-is_left+in_default w ↦
           ap (λ rows. map row_in rows.items) w.rows-is ∙ ap (map row_in) w.in_default.ensures.items
-          ∙ left-yes vs left places i version c.loop-place.rows.items w.keyed.result c.loop-place-test.true inside c.index-versions-place.is (sym c.is_left.ensures ∙ w.if-is_left.true) w.keyed.ensures c.loop-place.invariant
+          ∙ left-yes vs left places i version c.loop-place.rows.items w.keyed.result c.loop-place-test.true inside
+          c.index-versions-place.is
+          (sym c.is_left.ensures ∙ w.if-is_left.true) w.keyed.ensures c.loop-place.invariant
       | else-is_left w ↦
           ap (λ rows. map row_in rows.items) w.rows-is
-          ∙ left-no vs left places i version c.loop-place.rows.items c.loop-place-test.true inside c.index-versions-place.is (sym c.is_left.ensures ∙ w.if-is_left.false) c.loop-place.invariant
+          ∙ left-no vs left places i version c.loop-place.rows.items c.loop-place-test.true inside
+          c.index-versions-place.is (sym c.is_left.ensures ∙ w.if-is_left.false) c.loop-place.invariant
     ]
 
 pub returns : goal.returns
 returns c =
     c.loop-place.invariant
-    ∙ ap (λ places. drafts_at c.args.versions.now (filter (passes c.args.versions.now (is_left c.args.change.now c.args.schema.now)) places)) (take_all c.loop-place.place-index c.args.open_at.now c.loop-place-test.false)
+    ∙ ap (λ places. drafts_at c.args.versions.now
+    (filter (passes c.args.versions.now (is_left c.args.change.now c.args.schema.now)) places))
+    (take_all c.loop-place.place-index c.args.open_at.now c.loop-place-test.false)
     ∙ left-listed c.args.change.now c.args.schema.now c.args.versions.now c.args.open_at.now c.requires

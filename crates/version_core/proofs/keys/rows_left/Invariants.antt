@@ -8,4 +8,6 @@ use Rattle.version_core.proofs.keys.rows_left.Given as goal
 
 -- the rows that are left at the places so far
 abbrev pub invariant-loop-place : goal.invariant-loop-place
-invariant-loop-place l = map row_in l.rows.items ≡ drafts_at l.versions (filter (passes l.versions (is_left l.change l.schema)) (take l.place-index l.open_at))
+invariant-loop-place l =
+    map row_in l.rows.items ≡ drafts_at l.versions
+    (filter (passes l.versions (is_left l.change l.schema)) (take l.place-index l.open_at))

@@ -11,6 +11,10 @@ loop-place-preserved c =
     record {
       start = c.loop-place.invariant.start;
       pushed = c.in_default.ensures.items ∙ ap (λ l. l ++ c.loop-place.place ∷ []) c.loop-place.invariant.pushed
-          ∙ append_assoc c.args.places.now.items (range_with_len c.args.first (c.loop-place.place - c.args.first)) (c.loop-place.place ∷ [])
-          ∙ ap (λ l. c.args.places.now.items ++ l) (ap (λ k. range_with_len c.args.first (c.loop-place.place - c.args.first) ++ k ∷ []) last ∙ sym (range_with_len-push c.args.first (c.loop-place.place - c.args.first)) ∙ ap (range_with_len c.args.first) (sym n));
+          ∙ append_assoc c.args.places.now.items (range_with_len c.args.first (c.loop-place.place - c.args.first))
+          (c.loop-place.place ∷ [])
+          ∙ ap (λ l. c.args.places.now.items ++ l)
+          (ap (λ k. range_with_len c.args.first (c.loop-place.place - c.args.first) ++ k ∷ []) last
+          ∙ sym (range_with_len-push c.args.first (c.loop-place.place - c.args.first))
+          ∙ ap (range_with_len c.args.first) (sym n));
     }

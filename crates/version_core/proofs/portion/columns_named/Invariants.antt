@@ -9,5 +9,6 @@ use Rattle.version_core.proofs.portion.columns_named.Given as goal
 abbrev pub invariant-loop-i : goal.invariant-loop-i
 invariant-loop-i l = record {
   width : length l.columns ≡ sought_limit;
-  found : (k : ℕ) → k < l.i → slice_get l.columns k ≡ option_map (λ (pair : Pair). column_of l.schema pair.0) (slice_get l.pairs k);
+  found : (k : ℕ) → k < l.i
+      → slice_get l.columns k ≡ option_map (λ (pair : Pair). column_of l.schema pair.0) (slice_get l.pairs k);
 }

@@ -5,12 +5,16 @@ use Rattle.version_core.proofs.OpenLemmas.{length-two_parts, length-three_parts}
 use Rattle.version_core.proofs.portion.count_of.Goals as goal
 
 pub returns-in-Update-clause-parts : goal.returns-in-Update-clause-parts
-returns-in-Update-clause-parts c = λ columns. rw c.in-Update.is (length-three_parts _ _ _ c.args.row.now.values (fold (set_at columns) c.args.row.now.values c.in-Update.sets) c.args.row.now.values _ _ _
+returns-in-Update-clause-parts c =
+    λ columns. rw c.in-Update.is
+    (length-three_parts _ _ _ c.args.row.now.values
+    (fold (set_at columns) c.args.row.now.values c.in-Update.sets) c.args.row.now.values _ _ _
     (c.one_if.ensures ∙ ap (λ o. cond (is_some o) 1 0) c.minus-before.ensures.before_ends)
     (c.one_if-in-Update.ensures ∙ ap (λ o. cond (is_some o) 1 0) c.meet-inside.ensures.ends)
     (c.one_if-in-Update-2.ensures ∙ ap (λ o. cond (is_some o) 1 0) c.minus-before.ensures.after_ends))
 
 pub returns-in-Delete-clause-parts : goal.returns-in-Delete-clause-parts
-returns-in-Delete-clause-parts c = λ columns. rw c.in-Delete.is (length-two_parts _ _ c.args.row.now.values c.args.row.now.values _ _
+returns-in-Delete-clause-parts c =
+    λ columns. rw c.in-Delete.is (length-two_parts _ _ c.args.row.now.values c.args.row.now.values _ _
     (c.one_if-in-Delete.ensures ∙ ap (λ o. cond (is_some o) 1 0) c.minus-before-in-Delete.ensures.before_ends)
     (c.one_if-in-Delete-2.ensures ∙ ap (λ o. cond (is_some o) 1 0) c.minus-before-in-Delete.ensures.after_ends))

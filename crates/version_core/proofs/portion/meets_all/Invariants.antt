@@ -5,4 +5,5 @@ use Rattle.version_core.proofs.portion.meets_all.Given as goal
 
 -- it turns on the conditions that are left
 abbrev pub invariant-loop-i : goal.invariant-loop-i
-invariant-loop-i l = list_all (is_equal_at l.schema l.values) (drop l.i l.conds) ≡ list_all (is_equal_at l.schema l.values) l.conds
+invariant-loop-i l =
+    list_all (is_equal_at l.schema l.values) (drop l.i l.conds) ≡ list_all (is_equal_at l.schema l.values) l.conds

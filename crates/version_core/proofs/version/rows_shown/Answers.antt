@@ -8,7 +8,12 @@ loop-version-preserved c = elim c.if-is_shown.branch [
   | then-is_shown+in_ok-copy+in_ok-push w ↦
       w.rows-is ∙ w.in_ok-push.ensures.ok
       ∙ ap (λ row. c.loop-version.rows ++ row ∷ []) w.in_ok-copy.ensures
-      ∙ shown-more c.args.n c.loop-version.version-index c.args.versions.now c.version-item.result c.loop-version.rows c.loop-version-test.true c.version-item.is (sym c.is_shown.ensures ∙ w.if-is_shown.true) c.loop-version.invariant
+      ∙ shown-more c.args.n c.loop-version.version-index c.args.versions.now c.version-item.result c.loop-version.rows
+      c.loop-version-test.true c.version-item.is
+      (sym c.is_shown.ensures ∙ w.if-is_shown.true) c.loop-version.invariant
   | else-is_shown w ↦
-      w.rows-is ∙ shown-same c.args.n c.loop-version.version-index c.args.versions.now c.version-item.result c.loop-version.rows c.loop-version-test.true c.version-item.is (sym c.is_shown.ensures ∙ w.if-is_shown.false) c.loop-version.invariant
+      w.rows-is
+      ∙ shown-same c.args.n c.loop-version.version-index c.args.versions.now c.version-item.result
+      c.loop-version.rows c.loop-version-test.true c.version-item.is
+      (sym c.is_shown.ensures ∙ w.if-is_shown.false) c.loop-version.invariant
 ]

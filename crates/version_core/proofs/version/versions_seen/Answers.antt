@@ -6,13 +6,25 @@ use Rattle.version_core.proofs.version.versions_seen.Goals.{then-is_seen+in_ok-c
 
 pub loop-version-preserved : goal.loop-version-preserved
 loop-version-preserved c =
-    let test = ap (λ end. leb c.version-item.result.sysfrom c.args.at && (leb c.version-item.result.sysfrom c.args.last && is_behind end c.args.m)) (sym c.end_at-end.ensures) ∙ sym c.is_seen.ensures in
+    let test = ap
+    (λ end. leb c.version-item.result.sysfrom c.args.at &&
+    (leb c.version-item.result.sysfrom c.args.last && is_behind end c.args.m)) (sym c.end_at-end.ensures)
+    ∙ sym c.is_seen.ensures in
     elim c.if-is_seen.branch [
       | then-is_seen+in_ok-copy+in_ok-push w ↦
           w.seen-is ∙ w.in_ok-push.ensures.ok
-          ∙ ap (λ row. c.loop-version.seen ++ record { row = row; sysfrom = c.version-item.result.sysfrom; systo = c.end_at-end.result } ∷ []) w.in_ok-copy.ensures
-          ∙ ap (λ end. c.loop-version.seen ++ record { row = c.version-item.result.row; sysfrom = c.version-item.result.sysfrom; systo = end } ∷ []) c.end_at-end.ensures
-          ∙ seen-more c.args.at c.args.m c.args.last c.loop-version.version-index c.args.versions.now c.version-item.result c.loop-version.seen c.loop-version-test.true c.version-item.is (test ∙ w.if-is_seen.true) c.loop-version.invariant
+          ∙ ap (λ row. c.loop-version.seen ++ record
+          { row = row; sysfrom = c.version-item.result.sysfrom; systo = c.end_at-end.result } ∷ [])
+          w.in_ok-copy.ensures
+          ∙ ap (λ end. c.loop-version.seen ++ record
+          { row = c.version-item.result.row; sysfrom = c.version-item.result.sysfrom; systo = end } ∷ [])
+          c.end_at-end.ensures
+          ∙ seen-more c.args.at c.args.m c.args.last c.loop-version.version-index c.args.versions.now
+          c.version-item.result c.loop-version.seen c.loop-version-test.true c.version-item.is
+          (test ∙ w.if-is_seen.true) c.loop-version.invariant
       | else-is_seen w ↦
-          w.seen-is ∙ seen-same c.args.at c.args.m c.args.last c.loop-version.version-index c.args.versions.now c.version-item.result c.loop-version.seen c.loop-version-test.true c.version-item.is (test ∙ w.if-is_seen.false) c.loop-version.invariant
+          w.seen-is
+          ∙ seen-same c.args.at c.args.m c.args.last c.loop-version.version-index c.args.versions.now
+          c.version-item.result c.loop-version.seen c.loop-version-test.true c.version-item.is
+          (test ∙ w.if-is_seen.false) c.loop-version.invariant
     ]

@@ -28,18 +28,33 @@ loop-place-preserved c =
     elim c.if-is_taken.branch [
       | then-is_taken w ↦
           let test = sym c.is_taken.ensures ∙ w.if-is_taken.true in
-          let more = place-yes vs taken places i version so_far (so_far ++ get_or places i 0 ∷ []) c.loop-place-test.true inside c.index-versions-place.is test refl refl in
-          let grown = ap length (ap (parts_at c.args.change.now c.args.schema.now vs) (sym more) ∙ parts_at-push c.args.change.now c.args.schema.now vs so_far (get_or places i 0) version inside c.index-versions-place.is) in
+          let more = place-yes vs taken places i version so_far
+          (so_far ++ get_or places i 0 ∷ []) c.loop-place-test.true inside c.index-versions-place.is test refl refl
+          in
+          let grown = ap length
+          (ap (parts_at c.args.change.now c.args.schema.now vs) (sym more)
+          ∙ parts_at-push c.args.change.now c.args.schema.now vs so_far
+          (get_or places i 0) version inside c.index-versions-place.is) in
           let parts = w.count_of-count.ensures.parts c.args.schema.now in
           let three = w.count_of-count.ensures.few in
           let sum = w.count-is in
           record {
-            counted = omega (arith, grown, counted, parts, sum, length-append (parts_at c.args.change.now c.args.schema.now vs so_far) (parts_of c.args.change.now c.args.schema.now version.row));
+            counted = omega (
+              arith,
+              grown,
+              counted,
+              parts,
+              sum,
+              length-append
+                  (parts_at c.args.change.now c.args.schema.now vs so_far)
+                  (parts_of c.args.change.now c.args.schema.now version.row),
+            );
             few = omega (arith, few, three, sum);
           }
       | else-is_taken w ↦
           let test = sym c.is_taken.ensures ∙ w.if-is_taken.false in
-          let same = place-no vs taken places i version so_far so_far c.loop-place-test.true inside c.index-versions-place.is test refl refl in
+          let same = place-no vs taken places i version so_far so_far c.loop-place-test.true inside
+          c.index-versions-place.is test refl refl in
           let kept = w.count-is in
           record {
             counted = kept ∙ counted ∙ ap (λ l. length (parts_at c.args.change.now c.args.schema.now vs l)) same;
@@ -51,4 +66,5 @@ pub returns : goal.returns
 returns c =
     c.loop-place.invariant.counted
     ∙ ap length (parts_at-taken c.args.change.now c.args.schema.now c.args.versions.now _
-    (ap (filter (passes c.args.versions.now (is_taken c.args.change.now c.args.schema.now))) (take_all c.loop-place.place-index c.args.places.now (omega arith)) ∙ c.requires.places.taken))
+    (ap (filter (passes c.args.versions.now (is_taken c.args.change.now c.args.schema.now)))
+    (take_all c.loop-place.place-index c.args.places.now (omega arith)) ∙ c.requires.places.taken))

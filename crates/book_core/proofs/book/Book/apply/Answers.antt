@@ -13,36 +13,68 @@ use Rattle.book_core.proofs.book.Book.apply.Goals as goal
 
 pub change_tables-requires-clause-few : goal.change_tables-requires-clause-few
 change_tables-requires-clause-few c =
-    let accepted : first_refusal (length c.args.self.now) (state_after c.args.self.now) c.args.change ≡ None = sym c.refusal.ensures ∙ c.in_default.is in
-    omega (arith, few (length c.args.self.now) (state_after c.args.self.now) c.args.change accepted, c.self.inside.history.ok.0, ap length c.self.view_is)
+    let accepted : first_refusal (length c.args.self.now) (state_after c.args.self.now) c.args.change ≡ None =
+    sym c.refusal.ensures ∙ c.in_default.is in
+    omega (
+      arith,
+      few (length c.args.self.now)
+          (state_after c.args.self.now) c.args.change accepted,
+      c.self.inside.history.ok.0,
+      ap length c.self.view_is,
+    )
 
 pub change_tables-requires-clause-room : goal.change_tables-requires-clause-room
 change_tables-requires-clause-room c =
-    let accepted : first_refusal (length c.args.self.now) (state_after c.args.self.now) c.args.change ≡ None = sym c.refusal.ensures ∙ c.in_default.is in
-    let commits : length c.args.self.now ≡ c.len-commits.result = omega (arith, c.self.inside.history.ok.0, ap length c.self.view_is) in
-    rw (← commits) (room (length c.args.self.now) (state_after c.args.self.now) c.self.inside.tables.items c.args.change (newest_of c.self.inside.history.items c.args.self.now c.self.inside.tables.items c.self.invariant.kept c.self.view_is) accepted)
+    let accepted : first_refusal (length c.args.self.now) (state_after c.args.self.now) c.args.change ≡ None =
+    sym c.refusal.ensures ∙ c.in_default.is in
+    let commits : length c.args.self.now ≡ c.len-commits.result =
+    omega (arith, c.self.inside.history.ok.0, ap length c.self.view_is) in
+    rw (← commits)
+    (room (length c.args.self.now) (state_after c.args.self.now) c.self.inside.tables.items c.args.change
+    (newest_of c.self.inside.history.items c.args.self.now c.self.inside.tables.items c.self.invariant.kept
+    c.self.view_is) accepted)
 
 pub change_tables-requires-clause-well : goal.change_tables-requires-clause-well
 change_tables-requires-clause-well c =
-    let commits : length c.self.inside.history.items ≡ c.len-commits.result = omega (arith, c.self.inside.history.ok.0) in
-    rw (← commits) (well_named c.self.inside.history.items c.self.inside.tables.items (table_named c.args.change) c.self.invariant.kept)
+    let commits : length c.self.inside.history.items ≡ c.len-commits.result =
+    omega (arith, c.self.inside.history.ok.0) in
+    rw (← commits)
+    (well_named c.self.inside.history.items c.self.inside.tables.items
+    (table_named c.args.change) c.self.invariant.kept)
 
 pub entry_of-entry-requires : goal.entry_of-entry-requires
 entry_of-entry-requires c =
-    let accepted : first_refusal (length c.args.self.now) (state_after c.args.self.now) c.args.change ≡ None = sym c.refusal.ensures ∙ c.in_default.is in
-    omega (arith, few (length c.args.self.now) (state_after c.args.self.now) c.args.change accepted, c.self.inside.history.ok.0, ap length c.self.view_is)
+    let accepted : first_refusal (length c.args.self.now) (state_after c.args.self.now) c.args.change ≡ None =
+    sym c.refusal.ensures ∙ c.in_default.is in
+    omega (
+      arith,
+      few (length c.args.self.now)
+          (state_after c.args.self.now) c.args.change accepted,
+      c.self.inside.history.ok.0,
+      ap length c.self.view_is,
+    )
 
 pub change_tables-requires-clause-unbroken : goal.change_tables-requires-clause-unbroken
-change_tables-requires-clause-unbroken c = unbroken-named c.self.inside.history.items c.args.self.now c.self.inside.tables.items (table_named c.args.change) c.self.invariant.kept c.self.view_is
+change_tables-requires-clause-unbroken c =
+    unbroken-named c.self.inside.history.items c.args.self.now c.self.inside.tables.items
+    (table_named c.args.change) c.self.invariant.kept c.self.view_is
 
 -- a failure is told as it is
-failure : (c : goal.Joined-change-4) → IsFailed (refusal_of (length c.args.self.now) (state_after c.args.self.now) c.args.change) c.from_residual-in_err-counts.result
+failure : (c : goal.Joined-change-4)
+    → IsFailed
+    (refusal_of (length c.args.self.now)
+    (state_after c.args.self.now) c.args.change) c.from_residual-in_err-counts.result
 failure c =
-    let commits : c.len-commits.result ≡ length c.self.inside.history.items = omega (arith, c.self.inside.history.ok.0) in
+    let commits : c.len-commits.result ≡ length c.self.inside.history.items =
+    omega (arith, c.self.inside.history.ok.0) in
     let p = err_from_is_err_and c.from_residual-in_err-counts.result c.from_residual-in_err-counts.ensures.1 in
-    failed (length c.args.self.now) (state_after c.args.self.now) c.args.change c.in_err-counts.field-0.0 c.from_residual-in_err-counts.result (sym c.refusal.ensures ∙ c.in_default.is)
+    failed (length c.args.self.now)
+    (state_after c.args.self.now) c.args.change c.in_err-counts.field-0.0 c.from_residual-in_err-counts.result
+    (sym c.refusal.ensures ∙ c.in_default.is)
     (p.1 ∙ ap Err p.2)
-    (λ is. sym (overlap-named c.self.inside.history.items c.args.self.now c.self.inside.tables.items c.args.change c.len-commits.result c.self.invariant.kept c.self.view_is commits) ∙ c.in_err-counts.ensures.overlap is)
+    (λ is. sym
+    (overlap-named c.self.inside.history.items c.args.self.now c.self.inside.tables.items c.args.change
+    c.len-commits.result c.self.invariant.kept c.self.view_is commits) ∙ c.in_err-counts.ensures.overlap is)
 
 pub returns-in_err-counts-clause-refused : goal.returns-in_err-counts-clause-refused
 returns-in_err-counts-clause-refused c = (failure c).refused
@@ -51,26 +83,40 @@ pub returns-in_err-counts-clause-accepted : goal.returns-in_err-counts-clause-ac
 returns-in_err-counts-clause-accepted c = (failure c).accepted
 
 -- the change is accepted
-accepted : (c : goal.In-Ok-push) → refusal_of (length c.args.self.now) (state_after c.args.self.now) c.args.change ≡ None
+accepted : (c : goal.In-Ok-push)
+    → refusal_of (length c.args.self.now) (state_after c.args.self.now) c.args.change ≡ None
 accepted c =
-    let commits : c.len-commits.result ≡ length c.self.inside.history.items = omega (arith, c.self.inside.history.ok.0) in
-    accepted-both (length c.args.self.now) (state_after c.args.self.now) c.args.change (sym c.refusal.ensures ∙ c.in_default.is)
-    (sym (overlap-named c.self.inside.history.items c.args.self.now c.self.inside.tables.items c.args.change c.len-commits.result c.self.invariant.kept c.self.view_is commits) ∙ c.in_ok-counts.ensures.apart)
+    let commits : c.len-commits.result ≡ length c.self.inside.history.items =
+    omega (arith, c.self.inside.history.ok.0) in
+    accepted-both (length c.args.self.now) (state_after c.args.self.now) c.args.change
+    (sym c.refusal.ensures ∙ c.in_default.is)
+    (sym (overlap-named c.self.inside.history.items c.args.self.now c.self.inside.tables.items c.args.change
+    c.len-commits.result c.self.invariant.kept c.self.view_is commits) ∙ c.in_ok-counts.ensures.apart)
 
 pub returns-clause-refused : goal.returns-clause-refused
 returns-clause-refused c = rw (accepted c) tt
 
 pub invariant_of-self-in-Ok : goal.invariant_of-self-in-Ok
 invariant_of-self-in-Ok c =
-    let commits : c.len-commits.result ≡ length c.self.inside.history.items = omega (arith, c.self.inside.history.ok.0) in
+    let commits : c.len-commits.result ≡ length c.self.inside.history.items =
+    omega (arith, c.self.inside.history.ok.0) in
     let commit : Commit = record { by = c.args.by; change = c.args.change } in
     let grown = c.in-Ok-push.ensures.items ∙ ap (λ l. l ++ commit ∷ []) c.reserve.ensures.items in
-    let entry : c.entry_of-entry.result ≡ new_entry (length c.self.inside.history.items) c.args.by c.args.change c.self.inside.tables.items =
-    entry_same c.len-commits.result (length c.self.inside.history.items) c.args.by c.in_ok-counts.counts.added c.in_ok-counts.counts.closed c.args.change c.self.inside.tables.items c.entry_of-entry.result commits c.in_ok-counts.ensures.added c.in_ok-counts.ensures.closed c.entry_of-entry.ensures in
+    let entry : c.entry_of-entry.result ≡ new_entry
+    (length c.self.inside.history.items) c.args.by c.args.change c.self.inside.tables.items =
+    entry_same c.len-commits.result
+    (length c.self.inside.history.items) c.args.by c.in_ok-counts.counts.added c.in_ok-counts.counts.closed
+    c.args.change c.self.inside.tables.items c.entry_of-entry.result commits c.in_ok-counts.ensures.added
+    c.in_ok-counts.ensures.closed c.entry_of-entry.ensures in
     record {
-      kept = AreKept-push c.self.inside.history.items c.args.self.now c.push-in-Ok.new.self.items c.self.inside.tables.items c.change_tables.new.tables.items commit c.self.invariant.kept c.self.view_is (accepted c)
+      kept = AreKept-push c.self.inside.history.items c.args.self.now c.push-in-Ok.new.self.items
+          c.self.inside.tables.items c.change_tables.new.tables.items commit c.self.invariant.kept c.self.view_is
+          (accepted c)
           (c.in_ok-counts.ensures.ok ∙ ap (λ m. kept_tables_after m c.self.inside.tables.items c.args.change) commits)
           grown;
-      logged = log-push c.self.inside.history.items c.args.self.now c.push-in-Ok.new.self.items c.self.inside.tables.items c.self.inside.log.items c.push.new.self.items commit c.self.invariant c.self.view_is (accepted c) grown
-          (c.in-Ok.ensures.items ∙ ap (λ l. l ++ c.entry_of-entry.result ∷ []) c.reserve-2.ensures.items ∙ ap (λ e. c.self.inside.log.items ++ e ∷ []) entry);
+      logged = log-push c.self.inside.history.items c.args.self.now c.push-in-Ok.new.self.items
+          c.self.inside.tables.items c.self.inside.log.items c.push.new.self.items commit c.self.invariant
+          c.self.view_is (accepted c) grown
+          (c.in-Ok.ensures.items ∙ ap (λ l. l ++ c.entry_of-entry.result ∷ []) c.reserve-2.ensures.items
+          ∙ ap (λ e. c.self.inside.log.items ++ e ∷ []) entry);
     }

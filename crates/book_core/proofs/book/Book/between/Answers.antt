@@ -7,11 +7,17 @@ use Rattle.book_core.proofs.book.Book.between.Goals as goal
 pub returns-in_ok-versions_seen-in-Some-clause-versions : goal.returns-in_ok-versions_seen-in-Some-clause-versions
 returns-in_ok-versions_seen-in-Some-clause-versions c =
     let within : c.args.at ≤ length c.args.self.now = omega (arith, c.if-at-commits.false, c.commits.ensures) in
-    seen_are c.args.self.now c.args.name c.in-Some.table.now c.args.at c.args.m c.args.n (λ v. (v.sysfrom ≤ c.args.n) × IsAfter v.systo c.args.m) c.in_ok-versions_seen-in-Some.field-0 c.in-Some.ensures.found within (λ v p. p) (λ v p. p)
-    (c.in_ok-versions_seen-in-Some.ensures ∙ ap (seen c.args.at c.args.m c.args.n) (c.as_slice.ensures ∙ ap (λ t. t.versions) c.table-in-Some.view_is))
+    seen_are c.args.self.now c.args.name c.in-Some.table.now c.args.at c.args.m c.args.n
+    (λ v. (v.sysfrom ≤ c.args.n)
+    × IsAfter v.systo c.args.m) c.in_ok-versions_seen-in-Some.field-0 c.in-Some.ensures.found within (λ v p. p)
+    (λ v p. p)
+    (c.in_ok-versions_seen-in-Some.ensures
+    ∙ ap (seen c.args.at c.args.m c.args.n) (c.as_slice.ensures ∙ ap (λ t. t.versions) c.table-in-Some.view_is))
 
 pub returns-in_ok-versions_seen-in-Some-clause-at_once : goal.returns-in_ok-versions_seen-in-Some-clause-at_once
 returns-in_ok-versions_seen-in-Some-clause-at_once c = λ e b.
     let within : c.args.at ≤ length c.args.self.now = omega (arith, c.if-at-commits.false, c.commits.ensures) in
-    rows_at_once c.args.self.now c.args.name c.in-Some.table.now c.args.at c.args.m c.args.n c.in_ok-versions_seen-in-Some.field-0 c.in-Some.ensures.found within e b
-    (c.in_ok-versions_seen-in-Some.ensures ∙ ap (seen c.args.at c.args.m c.args.n) (c.as_slice.ensures ∙ ap (λ t. t.versions) c.table-in-Some.view_is))
+    rows_at_once c.args.self.now c.args.name c.in-Some.table.now c.args.at c.args.m c.args.n
+    c.in_ok-versions_seen-in-Some.field-0 c.in-Some.ensures.found within e b
+    (c.in_ok-versions_seen-in-Some.ensures
+    ∙ ap (seen c.args.at c.args.m c.args.n) (c.as_slice.ensures ∙ ap (λ t. t.versions) c.table-in-Some.view_is))

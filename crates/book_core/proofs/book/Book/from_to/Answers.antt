@@ -8,6 +8,10 @@ pub returns-in_ok-versions_seen-in-Some-clause-versions : goal.returns-in_ok-ver
 returns-in_ok-versions_seen-in-Some-clause-versions c =
     let within : c.args.at ≤ length c.args.self.now = omega (arith, c.if-at-commits.false, c.commits.ensures) in
     let some : c.args.m < c.args.n = omega (arith, c.if-m-n.false) in
-    seen_are c.args.self.now c.args.name c.in-Some.table.now c.args.at c.args.m (c.args.n - 1) (λ v. (v.sysfrom < c.args.n) × IsAfter v.systo c.args.m) c.in_ok-versions_seen-in-Some.field-0 c.in-Some.ensures.found within
+    seen_are c.args.self.now c.args.name c.in-Some.table.now c.args.at c.args.m (c.args.n - 1)
+    (λ v. (v.sysfrom < c.args.n)
+    × IsAfter v.systo c.args.m) c.in_ok-versions_seen-in-Some.field-0 c.in-Some.ensures.found within
     (λ v p. let x = p.0 in (omega (arith, x, some), p.1)) (λ v p. let x = p.0 in (omega (arith, x, some), p.1))
-    (c.in_ok-versions_seen-in-Some.ensures ∙ ap (seen c.args.at c.args.m (c.args.n - 1)) (c.as_slice.ensures ∙ ap (λ t. t.versions) c.table-in-Some.view_is))
+    (c.in_ok-versions_seen-in-Some.ensures
+    ∙ ap (seen c.args.at c.args.m (c.args.n - 1))
+    (c.as_slice.ensures ∙ ap (λ t. t.versions) c.table-in-Some.view_is))

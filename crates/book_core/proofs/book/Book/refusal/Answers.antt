@@ -6,23 +6,35 @@ use Rattle.book_core.proofs.book.Book.refusal.Goals as goal
 
 pub returns-then-len-ge-TABLE_LIMIT : goal.returns-then-len-ge-TABLE_LIMIT
 returns-then-len-ge-TABLE_LIMIT c =
-    let absent : table_of (state_after c.args.self.now) c.in-Make.table ≡ None = none_from _ c.table.result c.table.ensures.absent (sym c.is_some.ensures ∙ c.if-is_some.false) in
-    let tables = ap (λ h. length (state_after h)) (sym c.self.view_is) ∙ length-state c.self.inside.history.items c.self.inside.tables.items c.self.invariant.kept.tables in
+    let absent : table_of (state_after c.args.self.now) c.in-Make.table ≡ None =
+    none_from _ c.table.result c.table.ensures.absent (sym c.is_some.ensures ∙ c.if-is_some.false) in
+    let tables = ap (λ h. length (state_after h)) (sym c.self.view_is)
+    ∙ length-state c.self.inside.history.items c.self.inside.tables.items c.self.invariant.kept.tables in
     let counted = c.self.inside.tables.ok.0 in
-    rw c.in-Make.is (make_many (length c.args.self.now) (state_after c.args.self.now) c.in-Make.table c.in-Make.schema absent (omega (arith, tables, counted)))
+    rw c.in-Make.is
+    (make_many (length c.args.self.now) (state_after c.args.self.now) c.in-Make.table c.in-Make.schema absent
+    (omega (arith, tables, counted)))
 
 pub returns-then-commits-ge-COMMIT_LIMIT : goal.returns-then-commits-ge-COMMIT_LIMIT
 returns-then-commits-ge-COMMIT_LIMIT c =
-    let absent : table_of (state_after c.args.self.now) c.in-Make.table ≡ None = none_from _ c.table.result c.table.ensures.absent (sym c.is_some.ensures ∙ c.if-is_some.false) in
-    let tables = ap (λ h. length (state_after h)) (sym c.self.view_is) ∙ length-state c.self.inside.history.items c.self.inside.tables.items c.self.invariant.kept.tables in
+    let absent : table_of (state_after c.args.self.now) c.in-Make.table ≡ None =
+    none_from _ c.table.result c.table.ensures.absent (sym c.is_some.ensures ∙ c.if-is_some.false) in
+    let tables = ap (λ h. length (state_after h)) (sym c.self.view_is)
+    ∙ length-state c.self.inside.history.items c.self.inside.tables.items c.self.invariant.kept.tables in
     let counted = c.self.inside.tables.ok.0 in
     let commits = c.self.inside.history.ok.0 ∙ ap length c.self.view_is in
-    rw c.in-Make.is (make_full (length c.args.self.now) (state_after c.args.self.now) c.in-Make.table c.in-Make.schema absent (omega (arith, tables, counted)) (omega (arith, commits)))
+    rw c.in-Make.is
+    (make_full (length c.args.self.now) (state_after c.args.self.now) c.in-Make.table c.in-Make.schema absent
+    (omega (arith, tables, counted)) (omega (arith, commits)))
 
 pub returns-else-commits-ge-COMMIT_LIMIT : goal.returns-else-commits-ge-COMMIT_LIMIT
 returns-else-commits-ge-COMMIT_LIMIT c =
-    let absent : table_of (state_after c.args.self.now) c.in-Make.table ≡ None = none_from _ c.table.result c.table.ensures.absent (sym c.is_some.ensures ∙ c.if-is_some.false) in
-    let tables = ap (λ h. length (state_after h)) (sym c.self.view_is) ∙ length-state c.self.inside.history.items c.self.inside.tables.items c.self.invariant.kept.tables in
+    let absent : table_of (state_after c.args.self.now) c.in-Make.table ≡ None =
+    none_from _ c.table.result c.table.ensures.absent (sym c.is_some.ensures ∙ c.if-is_some.false) in
+    let tables = ap (λ h. length (state_after h)) (sym c.self.view_is)
+    ∙ length-state c.self.inside.history.items c.self.inside.tables.items c.self.invariant.kept.tables in
     let counted = c.self.inside.tables.ok.0 in
     let commits = c.self.inside.history.ok.0 ∙ ap length c.self.view_is in
-    rw c.in-Make.is (make_taken (length c.args.self.now) (state_after c.args.self.now) c.in-Make.table c.in-Make.schema absent (omega (arith, tables, counted)) (omega (arith, commits)))
+    rw c.in-Make.is
+    (make_taken (length c.args.self.now) (state_after c.args.self.now) c.in-Make.table c.in-Make.schema absent
+    (omega (arith, tables, counted)) (omega (arith, commits)))

@@ -6,15 +6,18 @@ use Rattle.book_core.proofs.book.Book.rows_at.Goals as goal
 pub returns-in_ok-rows_shown-in-Some-clause-few : goal.returns-in_ok-rows_shown-in-Some-clause-few
 returns-in_ok-rows_shown-in-Some-clause-few c =
     rows-few c.args.self.now c.args.name c.in-Some.table.now c.args.n _ c.in-Some.ensures.found
-    (c.in_ok-rows_shown-in-Some.ensures ∙ ap (shown c.args.n) (c.as_slice.ensures ∙ ap (λ t. t.versions) c.table-in-Some.view_is))
+    (c.in_ok-rows_shown-in-Some.ensures
+    ∙ ap (shown c.args.n) (c.as_slice.ensures ∙ ap (λ t. t.versions) c.table-in-Some.view_is))
 
 pub returns-in_ok-rows_shown-in-Some-clause-rise :
     goal.returns-in_ok-rows_shown-in-Some-clause-rise
 returns-in_ok-rows_shown-in-Some-clause-rise c =
     rows-rise c.args.self.now c.args.name c.in-Some.table.now c.args.n _ c.in-Some.ensures.found
-    (c.in_ok-rows_shown-in-Some.ensures ∙ ap (shown c.args.n) (c.as_slice.ensures ∙ ap (λ t. t.versions) c.table-in-Some.view_is))
+    (c.in_ok-rows_shown-in-Some.ensures
+    ∙ ap (shown c.args.n) (c.as_slice.ensures ∙ ap (λ t. t.versions) c.table-in-Some.view_is))
 
 pub returns-in_ok-rows_shown-in-Some-clause-fit : goal.returns-in_ok-rows_shown-in-Some-clause-fit
 returns-in_ok-rows_shown-in-Some-clause-fit c =
     rows-fit c.args.self.now c.args.name c.in-Some.table.now c.args.n _ c.in-Some.ensures.found
-    (c.in_ok-rows_shown-in-Some.ensures ∙ ap (shown c.args.n) (c.as_slice.ensures ∙ ap (λ t. t.versions) c.table-in-Some.view_is))
+    (c.in_ok-rows_shown-in-Some.ensures
+    ∙ ap (shown c.args.n) (c.as_slice.ensures ∙ ap (λ t. t.versions) c.table-in-Some.view_is))

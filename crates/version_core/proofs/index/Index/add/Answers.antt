@@ -7,8 +7,13 @@ returns-in_ok-push c =
     let bucket = sym c.bucket_in.ensures.bucket ∙ c.in-Some.is in
     let small = c.in-Some.ensures.few in
     let whole = c.requires.before.whole in
-    let written = index-written c.args.self.now.buckets.items c.in-Some.bucket c.index_mut.result.now c.push.new.self (λ places. places ++ c.args.place ∷ []) (omega (arith, small, whole)) c.index_mut.ensures.value c.in_ok-push.ensures.ok in
-    index-pushed c.args.versions.now c.args.place c.index-versions-place.result c.args.self.now _ c.in-Some.bucket c.requires.inside c.index-versions-place.is small bucket refl written c.requires.before
+    let written = index-written c.args.self.now.buckets.items c.in-Some.bucket c.index_mut.result.now c.push.new.self
+    (λ places. places ++ c.args.place ∷ [])
+    (omega (arith, small, whole)) c.index_mut.ensures.value c.in_ok-push.ensures.ok in
+    index-pushed c.args.versions.now c.args.place c.index-versions-place.result c.args.self.now _ c.in-Some.bucket
+    c.requires.inside c.index-versions-place.is small bucket refl written c.requires.before
 
 pub returns-in_default : goal.returns-in_default
-returns-in_default c = index-skipped c.args.versions.now c.args.place c.index-versions-place.result c.args.self.now c.requires.inside c.index-versions-place.is (sym c.bucket_in.ensures.bucket ∙ c.in_default.is) c.requires.before
+returns-in_default c =
+    index-skipped c.args.versions.now c.args.place c.index-versions-place.result c.args.self.now c.requires.inside
+    c.index-versions-place.is (sym c.bucket_in.ensures.bucket ∙ c.in_default.is) c.requires.before

@@ -8,5 +8,8 @@ use Rattle.version_core.proofs.index.Index.drop_closed.Goals as goal
 pub returns : goal.returns
 returns c =
     let whole = c.requires.index.whole in
-    let written = index-written c.args.self.now.buckets.items c.args.bucket c.index_mut.result.now c.drop_closed.new.self (filter (passes c.args.versions.now is_open)) (omega (arith, c.requires.few, whole)) c.index_mut.ensures.value c.drop_closed.ensures in
+    let written =
+    index-written c.args.self.now.buckets.items c.args.bucket c.index_mut.result.now c.drop_closed.new.self
+    (filter (passes c.args.versions.now is_open))
+    (omega (arith, c.requires.few, whole)) c.index_mut.ensures.value c.drop_closed.ensures in
     index-swept c.args.versions.now c.args.self.now _ c.args.bucket c.requires.few refl written c.requires.index

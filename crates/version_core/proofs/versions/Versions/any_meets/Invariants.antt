@@ -8,4 +8,6 @@ use Rattle.version_core.proofs.versions.Versions.any_meets.Given as goal
 
 -- none so far
 abbrev pub invariant-loop-version : goal.invariant-loop-version
-invariant-loop-version l = list_any (λ other. list_any (λ left. collide l.columns left other) (rows_left l.change l.schema (current l.self))) (map draft_of (take l.version-index l.new)) ≡ false
+invariant-loop-version l =
+    list_any (λ other. list_any (λ left. collide l.columns left other) (rows_left l.change l.schema (current l.self)))
+    (map draft_of (take l.version-index l.new)) ≡ false

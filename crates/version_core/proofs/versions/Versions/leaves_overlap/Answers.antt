@@ -11,7 +11,11 @@ use Rattle.version_core.proofs.versions.Versions.leaves_overlap.Goals as goal
 pub find_overlap-requires : goal.find_overlap-requires
 find_overlap-requires c =
     let rows = map unnumbered (current c.args.self.now) in
-    record { unbroken = ap (λ key. have_collision key rows) c.requires.columns ∙ sym (keyed-breaks (key_of c.args.schema.now) rows (c.may_overlap.ensures.keyed c.if-may_overlap.true)) ∙ c.requires.unbroken }
+    record {
+      unbroken = ap (λ key. have_collision key rows) c.requires.columns
+          ∙ sym (keyed-breaks (key_of c.args.schema.now) rows (c.may_overlap.ensures.keyed c.if-may_overlap.true))
+          ∙ c.requires.unbroken;
+    }
 
 pub returns-then-may_overlap : goal.returns-then-may_overlap
 returns-then-may_overlap c =
@@ -19,6 +23,7 @@ returns-then-may_overlap c =
     let left = rows_left c.args.change.now c.args.schema.now (current c.args.self.now) in
     let made = drafts_of c.args.change.now c.args.schema.now (current c.args.self.now) in
     IfOk-weaker c.find_overlap.result _ _
-    (λ overlap e. e ∙ ap (λ l. have_collision c.args.columns.now (left ++ l)) c.requires.new ∙ ap (λ key. have_collision key (left ++ made)) c.requires.columns
+    (λ overlap e. e ∙ ap (λ l. have_collision c.args.columns.now (left ++ l)) c.requires.new
+    ∙ ap (λ key. have_collision key (left ++ made)) c.requires.columns
     ∙ sym (keyed-breaks key (left ++ made) (c.may_overlap.ensures.keyed c.if-may_overlap.true)))
     c.find_overlap.ensures
