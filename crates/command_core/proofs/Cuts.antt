@@ -11,9 +11,11 @@ use Rattle.command_core.specs.declared.refusal.Refusal.TheVariants.{Unended}
 use Rattle.command_core.proofs.Cutting.{slice_get-there, take-slice_get}
 
 -- a block up to its end
-pub block-means : (xs : List Record) (x : Record) (number n : ℕ) (meaning : Meaning) (rest : List Record) → rest ≡ drop 1 xs → slice_get xs 0 ≡ Some x → opens_block x ≡ true
+pub block-means : (xs : List Record) (x : Record) (number n : ℕ) (meaning : Meaning) (rest : List Record)
+    → rest ≡ drop 1 xs → slice_get xs 0 ≡ Some x → opens_block x ≡ true
     → n < length rest → IsBody (take n rest) → IfSome (slice_get rest n) (λ line. is_end line ≡ true)
-    → meaning ≡ told number (block_meaning x (take n (drop 1 xs))) → Means number (take (n + 2) xs) (drop (n + 2) xs) meaning
+    → meaning ≡ told number (block_meaning x (take n (drop 1 xs)))
+    → Means number (take (n + 2) xs) (drop (n + 2) xs) meaning
 block-means [] x number n meaning rest r e opens within before last means = absurd (cc e)
 block-means (y ∷ ys) x number n meaning rest r e opens within before last means = by (slice_get ys n) refl
   where
@@ -42,7 +44,8 @@ IsBody-more xs x body e = All-append (λ line. is_end line ≡ false) xs (x ∷ 
     one (suc k) d lt = absurd (omega arith)
 
 -- a block whose end is not among the records
-pub unended-means : (xs : List Record) (x : Record) (number size : ℕ) (rest : List Record) → size ≡ length xs → rest ≡ drop 1 xs → slice_get xs 0 ≡ Some x → opens_block x ≡ true → IsBody rest
+pub unended-means : (xs : List Record) (x : Record) (number size : ℕ) (rest : List Record) → size ≡ length xs
+    → rest ≡ drop 1 xs → slice_get xs 0 ≡ Some x → opens_block x ≡ true → IsBody rest
     → Means number (take size xs) (drop size xs) (refuse number Unended)
 unended-means [] x number size rest n r e opens body = absurd (cc e)
 unended-means (y ∷ ys) x number size rest n r e opens body =

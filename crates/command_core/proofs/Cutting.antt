@@ -11,29 +11,33 @@ pub length-cut : {X : Type 0} (from : ℕ) (ends : List ℕ) (xs : List X) → l
 length-cut from [] xs = refl
 length-cut from (end ∷ ends) xs = ap suc (length-cut end ends xs)
 
-pub EndsAt-from : (from : ℕ) (ends : List ℕ) (size : ℕ) → EndsAt from ends size → from ≤ size
+EndsAt-from : (from : ℕ) (ends : List ℕ) (size : ℕ) → EndsAt from ends size → from ≤ size
 EndsAt-from from [] size h = omega (arith, h)
 EndsAt-from from (end ∷ ends) size (h, more) = omega (arith, h, EndsAt-from end ends size more)
 
-pub EndsAt-part : (from : ℕ) (ends : List ℕ) (size i : ℕ) → EndsAt from ends size → i < length ends → (start_at from ends i ≤ get_or ends i 0) × (get_or ends i 0 ≤ size)
+pub EndsAt-part : (from : ℕ) (ends : List ℕ) (size i : ℕ) → EndsAt from ends size → i < length ends
+    → (start_at from ends i ≤ get_or ends i 0) × (get_or ends i 0 ≤ size)
 EndsAt-part from [] size i h lt = absurd (omega arith)
 EndsAt-part from (end ∷ ends) size zero (h, more) lt = (h, EndsAt-from end ends size more)
 EndsAt-part from (end ∷ ends) size (suc zero) (h, more) lt = EndsAt-part end ends size zero more (omega arith)
 EndsAt-part from (end ∷ ends) size (suc (suc i)) (h, more) lt = EndsAt-part end ends size (suc i) more (omega arith)
 
 pub slice_get-cut : {X : Type 0} (from : ℕ) (ends : List ℕ) (xs : List X) (i : ℕ) → i < length ends
-    → slice_get (cut from ends xs) i ≡ Some (take (get_or ends i 0 - start_at from ends i) (drop (start_at from ends i) xs))
+    → slice_get (cut from ends xs) i ≡ Some
+    (take (get_or ends i 0 - start_at from ends i) (drop (start_at from ends i) xs))
 slice_get-cut from [] xs i lt = absurd (omega arith)
 slice_get-cut from (end ∷ ends) xs zero lt = refl
 slice_get-cut from (end ∷ ends) xs (suc zero) lt = slice_get-cut end ends xs zero (omega arith)
 slice_get-cut from (end ∷ ends) xs (suc (suc i)) lt = slice_get-cut end ends xs (suc i) (omega arith)
 
-pub EndsAt-more : (from : ℕ) (ends : List ℕ) (size more : ℕ) → EndsAt from ends size → EndsAt from (ends ++ (size + more) ∷ []) (size + more)
+pub EndsAt-more : (from : ℕ) (ends : List ℕ) (size more : ℕ) → EndsAt from ends size
+    → EndsAt from (ends ++ (size + more) ∷ []) (size + more)
 EndsAt-more from [] size more h = (omega (arith, h), refl)
 EndsAt-more from (end ∷ ends) size more (h, rest) = (h, EndsAt-more end ends size more rest)
 
 -- a part that ends within the list stays with more behind it
-part-append : {X : Type 0} (from end : ℕ) (xs ys : List X) → from ≤ end → end ≤ length xs → take (end - from) (drop from (xs ++ ys)) ≡ take (end - from) (drop from xs)
+part-append : {X : Type 0} (from end : ℕ) (xs ys : List X) → from ≤ end → end ≤ length xs
+    → take (end - from) (drop from (xs ++ ys)) ≡ take (end - from) (drop from xs)
 part-append from end xs ys h within =
     let start : from ≤ length xs = omega arith in
     let room : end - from ≤ length (drop from xs) = omega (arith, length-drop from xs) in
@@ -43,10 +47,14 @@ part-append from end xs ys h within =
 pub cut-more : {X : Type 0} (from : ℕ) (ends : List ℕ) (xs ys : List X) → EndsAt from ends (length xs)
     → cut from (ends ++ (length xs + length ys) ∷ []) (xs ++ ys) ≡ cut from ends xs ++ ys ∷ []
 cut-more from [] xs ys h =
-    let size : length (drop (length xs) (xs ++ ys)) ≤ length xs + length ys - length xs = omega (arith, length-drop (length xs) (xs ++ ys), length-append xs ys) in
-    ap (λ l. l ∷ []) (ap (λ n. take (length xs + length ys - n) (drop n (xs ++ ys))) h ∙ (take_all (length xs + length ys - length xs) (drop (length xs) (xs ++ ys)) size ∙ drop-append_seam xs ys))
+    let size : length (drop (length xs) (xs ++ ys)) ≤ length xs + length ys - length xs =
+    omega (arith, length-drop (length xs) (xs ++ ys), length-append xs ys) in
+    ap (λ l. l ∷ [])
+    (ap (λ n. take (length xs + length ys - n) (drop n (xs ++ ys))) h
+    ∙ (take_all (length xs + length ys - length xs) (drop (length xs) (xs ++ ys)) size ∙ drop-append_seam xs ys))
 cut-more from (end ∷ ends) xs ys (h, more) =
-    ap (λ l. l ∷ cut end (ends ++ (length xs + length ys) ∷ []) (xs ++ ys)) (part-append from end xs ys h (EndsAt-from end ends (length xs) more))
+    ap (λ l. l ∷ cut end (ends ++ (length xs + length ys) ∷ []) (xs ++ ys))
+    (part-append from end xs ys h (EndsAt-from end ends (length xs) more))
     ∙ ap (λ l. take (end - from) (drop from xs) ∷ l) (cut-more end ends xs ys more)
 
 pub slice_get-drop : {X : Type 0} (m : ℕ) (xs : List X) (i : ℕ) → slice_get (drop m xs) i ≡ slice_get xs (m + i)
@@ -61,14 +69,31 @@ slice_get-take (suc n) (x ∷ xs) zero lt = refl
 slice_get-take (suc n) (x ∷ xs) (suc i) lt = slice_get-take n xs i (omega arith)
 
 -- an element of a part
-pub slice_get-part : {X : Type 0} (from to : ℕ) (xs : List X) (i : ℕ) → i < to - from → slice_get (take (to - from) (drop from xs)) i ≡ slice_get xs (from + i)
+pub slice_get-part : {X : Type 0} (from to : ℕ) (xs : List X) (i : ℕ) → i < to - from
+    → slice_get (take (to - from) (drop from xs)) i ≡ slice_get xs (from + i)
 slice_get-part from to xs i lt = slice_get-take (to - from) (drop from xs) i lt ∙ slice_get-drop from xs i
 
-pub length-part : {X : Type 0} (from to : ℕ) (xs : List X) → to ≤ length xs → length (take (to - from) (drop from xs)) ≡ to - from
+pub length-part : {X : Type 0} (from to : ℕ) (xs : List X) → to ≤ length xs
+    → length (take (to - from) (drop from xs)) ≡ to - from
 length-part from to xs h = omega (arith, length-take (to - from) (drop from xs), length-drop from xs)
 
-pub slice_get-part-past : {X : Type 0} (from to : ℕ) (xs : List X) (i : ℕ) → to - from ≤ i → slice_get (take (to - from) (drop from xs)) i ≡ None
-slice_get-part-past from to xs i h = slice_get_past (take (to - from) (drop from xs)) i (omega (arith, length-take (to - from) (drop from xs)))
+pub slice_get-part-past : {X : Type 0} (from to : ℕ) (xs : List X) (i : ℕ) → to - from ≤ i
+    → slice_get (take (to - from) (drop from xs)) i ≡ None
+slice_get-part-past from to xs i h =
+    slice_get_past (take (to - from) (drop from xs)) i (omega (arith, length-take (to - from) (drop from xs)))
+
+-- all from a place on
+pub rest-from : {X : Type 0} (xs rest : List X) (n k : ℕ) → n ≡ length xs → rest ≡ take (n - k) (drop k xs)
+    → rest ≡ drop k xs
+rest-from xs rest n k size e = e ∙ take_all (n - k) (drop k xs) (omega (arith, size, length-drop k xs))
+
+-- all before a place
+pub part-first : {X : Type 0} (xs part : List X) (k : ℕ) → part ≡ take (k - 0) (drop 0 xs) → part ≡ take k xs
+part-first xs part k e = let whole : k - 0 ≡ k = omega arith in e ∙ ap (λ n. take n xs) whole
+
+-- none from the end on
+pub part-none : {X : Type 0} (xs part : List X) (n m : ℕ) → n ≡ m → part ≡ take (n - m) (drop m xs) → part ≡ []
+part-none xs part n m same e = let none : n - m ≡ 0 = omega (arith, same) in e ∙ ap (λ l. take l (drop m xs)) none
 
 -- a part of a part
 pub part-part : {X : Type 0} (a b from to : ℕ) (xs : List X) → from ≤ to → to ≤ b - a
@@ -77,7 +102,8 @@ part-part a b from to xs h within =
     let rest : ℕ = (b - a) - from in
     let whole : b - a ≡ from + rest = omega arith in
     let same : (a + to) - (a + from) ≡ to - from = omega arith in
-    rw (whole, drop-take from rest (drop a xs), drop-drop from a xs, same) (take-take (to - from) rest (drop (a + from) xs) (omega arith))
+    rw (whole, drop-take from rest (drop a xs), drop-drop from a xs, same)
+    (take-take (to - from) rest (drop (a + from) xs) (omega arith))
 
 pub field_at-slice_get : (fields : List (List ℕ)) (i : ℕ) → field_at fields i ≡ slice_get fields i
 unfolding field_at
@@ -85,17 +111,21 @@ field_at-slice_get [] i = refl
 field_at-slice_get (f ∷ fs) zero = refl
 field_at-slice_get (f ∷ fs) (suc i) = field_at-slice_get fs i
 
-pub take-slice_get : {X : Type 0} (xs : List X) (i : ℕ) (x : X) → slice_get xs i ≡ Some x → take (i + 1) xs ≡ take i xs ++ x ∷ []
+pub take-slice_get : {X : Type 0} (xs : List X) (i : ℕ) (x : X) → slice_get xs i ≡ Some x
+    → take (i + 1) xs ≡ take i xs ++ x ∷ []
 take-slice_get [] i x e = absurd (cc e)
 take-slice_get (y ∷ ys) zero x e = let same : y ≡ x = cc in ap (λ z. z ∷ []) same
-take-slice_get (y ∷ ys) (suc i) x e = let next : suc i + 1 ≡ suc (i + 1) = omega arith in rw next (ap (λ l. y ∷ l) (take-slice_get ys i x e))
+take-slice_get (y ∷ ys) (suc i) x e =
+    let next : suc i + 1 ≡ suc (i + 1) = omega arith in rw next (ap (λ l. y ∷ l) (take-slice_get ys i x e))
 
 pub slice_get-there : {X : Type 0} (xs : List X) (i : ℕ) → i < length xs → slice_get xs i ≡ None → ⊥
 slice_get-there [] i lt e = omega arith
 slice_get-there (x ∷ xs) zero lt e = cc
 slice_get-there (x ∷ xs) (suc i) lt e = slice_get-there xs i (omega arith) e
 
-pub drop-slice_get : {X : Type 0} (xs : List X) (i : ℕ) (x : X) → slice_get xs i ≡ Some x → drop i xs ≡ x ∷ drop (i + 1) xs
+pub drop-slice_get : {X : Type 0} (xs : List X) (i : ℕ) (x : X) → slice_get xs i ≡ Some x
+    → drop i xs ≡ x ∷ drop (i + 1) xs
 drop-slice_get [] i x e = absurd (cc e)
 drop-slice_get (y ∷ ys) zero x e = let same : y ≡ x = cc in ap (λ z. z ∷ ys) same
-drop-slice_get (y ∷ ys) (suc i) x e = let next : suc i + 1 ≡ suc (i + 1) = omega arith in rw next (drop-slice_get ys i x e)
+drop-slice_get (y ∷ ys) (suc i) x e =
+    let next : suc i + 1 ≡ suc (i + 1) = omega arith in rw next (drop-slice_get ys i x e)

@@ -6,10 +6,12 @@ use Rattle.csv.specs.declared.error.ErrorKind.TheVariants as kind
 use Rattle.csv.specs.declared.reader.Reader.{Reader}
 
 -- no fault of reading bytes is of a record's length or of its text
-pub flexible-stops : {R : Type 0} (rem : R → Option (List ℕ)) (old new : Reader R) (k : ErrorKind) → is_flexible old ≡ true → ExplainsRead rem old new false k → stops_reader k ≡ true
+pub flexible-stops : {R : Type 0} (rem : R → Option (List ℕ)) (old new : Reader R) (k : ErrorKind)
+    → is_flexible old ≡ true → ExplainsRead rem old new false k → stops_reader k ≡ true
 flexible-stops rem old new (kind.Io e) flexible why = refl
 flexible-stops rem old new kind.OutOfMemory flexible why = refl
-flexible-stops rem old new (kind.UnequalLengths pos expected len) flexible why = let stiff : old.flexible ≡ false = why.0 in absurd (cc (rw flexible at stiff))
+flexible-stops rem old new (kind.UnequalLengths pos expected len) flexible why =
+    let stiff : old.flexible ≡ false = why.0 in absurd (cc (rw flexible at stiff))
 flexible-stops rem old new (kind.Utf8 pos err) flexible why = absurd (cc why.0)
 flexible-stops rem old new (kind.Serialize text) flexible why = absurd why
 flexible-stops rem old new (kind.Deserialize pos err) flexible why = absurd why

@@ -1,16 +1,20 @@
 -- What the fields at the first places say of a record.
-use Rattle.std.proofs.Common.{◌≡◌, ℕ, List, [], ◌∷◌, Some, None, refl, ap}
+use Rattle.std.proofs.Common.{◌≡◌, ◌+◌, ℕ, zero, suc, List, [], ◌∷◌, true, false, drop, length, take, Some, None, refl, ap, arith}
+use Rattle.std.specs.Prelude.{codes}
 use Rattle.std.specs.List.{slice_get}
-use Rattle.command_core.specs.Fields.{both, claimed, dated, instant_in, name_in, named, natural_in, point_in, spanned}
+use Rattle.command_core.specs.Fields.{both, claimed, dated, field_before, instant_in, name_in, named, natural_in, point_in, spanned, split_asof}
 use Rattle.command_core.specs.Records.{Record}
+use Rattle.command_core.specs.Words.{begins}
 
-pub named-two : (line : Record) (name : List ℕ) → slice_get line 1 ≡ Some name → slice_get line 2 ≡ None → named line ≡ name_in name
+pub named-two : (line : Record) (name : List ℕ) → slice_get line 1 ≡ Some name → slice_get line 2 ≡ None
+    → named line ≡ name_in name
 named-two [] name one two = absurd (cc one)
 named-two (word ∷ []) name one two = absurd (cc one)
 named-two (word ∷ n ∷ []) name one two = let same : n ≡ name = cc in ap name_in same
 named-two (word ∷ n ∷ third ∷ rest) name one two = absurd (cc two)
 
-pub dated-three : (line : Record) (name point : List ℕ) → slice_get line 1 ≡ Some name → slice_get line 2 ≡ Some point → slice_get line 3 ≡ None
+pub dated-three : (line : Record) (name point : List ℕ) → slice_get line 1 ≡ Some name → slice_get line 2 ≡ Some point
+    → slice_get line 3 ≡ None
     → dated line ≡ both (name_in name) (point_in point)
 dated-three [] name point one two three = absurd (cc one)
 dated-three (word ∷ []) name point one two three = absurd (cc one)
@@ -22,7 +26,8 @@ dated-three (word ∷ n ∷ p ∷ []) name point one two three =
 dated-three (word ∷ n ∷ p ∷ fourth ∷ rest) name point one two three = absurd (cc three)
 
 -- three fields behind the word, and no other
-three_behind : (P : Record → Type 0) (line : Record) (name second third : List ℕ) → slice_get line 1 ≡ Some name → slice_get line 2 ≡ Some second → slice_get line 3 ≡ Some third → slice_get line 4 ≡ None
+three_behind : (P : Record → Type 0) (line : Record) (name second third : List ℕ) → slice_get line 1 ≡ Some name
+    → slice_get line 2 ≡ Some second → slice_get line 3 ≡ Some third → slice_get line 4 ≡ None
     → ((word : List ℕ) → P (word ∷ name ∷ second ∷ third ∷ [])) → P line
 three_behind P [] name second third one two three four there = absurd (cc one)
 three_behind P (word ∷ []) name second third one two three four there = absurd (cc one)
@@ -35,12 +40,47 @@ three_behind P (word ∷ n ∷ s ∷ t ∷ []) name second third one two three f
     rw (first, second, third) (there word)
 three_behind P (word ∷ n ∷ s ∷ t ∷ fifth ∷ rest) name second third one two three four there = absurd (cc four)
 
-pub spanned-four : (line : Record) (name first last : List ℕ) → slice_get line 1 ≡ Some name → slice_get line 2 ≡ Some first → slice_get line 3 ≡ Some last → slice_get line 4 ≡ None
+pub spanned-four : (line : Record) (name first last : List ℕ) → slice_get line 1 ≡ Some name
+    → slice_get line 2 ≡ Some first → slice_get line 3 ≡ Some last → slice_get line 4 ≡ None
     → spanned line ≡ both (name_in name) (both (natural_in first) (natural_in last))
 spanned-four line name first last one two three four =
-    three_behind (λ l. spanned l ≡ both (name_in name) (both (natural_in first) (natural_in last))) line name first last one two three four (λ word. refl)
+    three_behind
+    (λ l. spanned l ≡ both (name_in name)
+    (both (natural_in first) (natural_in last))) line name first last one two three four (λ word. refl)
 
-pub claimed-four : (line : Record) (name parts instant : List ℕ) → slice_get line 1 ≡ Some name → slice_get line 2 ≡ Some parts → slice_get line 3 ≡ Some instant → slice_get line 4 ≡ None
+pub claimed-four : (line : Record) (name parts instant : List ℕ) → slice_get line 1 ≡ Some name
+    → slice_get line 2 ≡ Some parts → slice_get line 3 ≡ Some instant → slice_get line 4 ≡ None
     → claimed line ≡ both (name_in name) (both (natural_in parts) (instant_in instant))
 claimed-four line name parts instant one two three four =
-    three_behind (λ l. claimed l ≡ both (name_in name) (both (natural_in parts) (instant_in instant))) line name parts instant one two three four (λ word. refl)
+    three_behind
+    (λ l. claimed l ≡ both (name_in name)
+    (both (natural_in parts) (instant_in instant))) line name parts instant one two three four (λ word. refl)
+
+-- ---- the suffix
+
+-- the last field but one is `asof`
+pub split_asof-told : (k : ℕ) (line : Record) → length line ≡ k + 2 → begins (codes "asof") (drop k line) ≡ true
+    → split_asof line ≡ (take k line, slice_get line (k + 1))
+split_asof-told zero [] n e = absurd (omega arith)
+split_asof-told zero (only ∷ []) n e = absurd (omega arith)
+split_asof-told zero (word ∷ text ∷ []) n e = rw e refl
+split_asof-told zero (first ∷ second ∷ third ∷ fields) n e = absurd (omega arith)
+split_asof-told (suc k) [] n e = absurd (omega arith)
+split_asof-told (suc k) (only ∷ []) n e = absurd (omega arith)
+split_asof-told (suc k) (first ∷ second ∷ []) n e = absurd (omega arith)
+split_asof-told (suc k) (field ∷ second ∷ third ∷ fields) n e =
+    let next : suc k + 1 ≡ suc (k + 1) = omega arith in
+    rw next (ap (field_before field) (split_asof-told k (second ∷ third ∷ fields) (omega arith) e))
+
+-- it is another word
+pub split_asof-none : (k : ℕ) (line : Record) → length line ≡ k + 2 → begins (codes "asof") (drop k line) ≡ false
+    → split_asof line ≡ (line, None)
+split_asof-none zero [] n e = absurd (omega arith)
+split_asof-none zero (only ∷ []) n e = absurd (omega arith)
+split_asof-none zero (word ∷ text ∷ []) n e = rw e refl
+split_asof-none zero (first ∷ second ∷ third ∷ fields) n e = absurd (omega arith)
+split_asof-none (suc k) [] n e = absurd (omega arith)
+split_asof-none (suc k) (only ∷ []) n e = absurd (omega arith)
+split_asof-none (suc k) (first ∷ second ∷ []) n e = absurd (omega arith)
+split_asof-none (suc k) (field ∷ second ∷ third ∷ fields) n e =
+    ap (field_before field) (split_asof-none k (second ∷ third ∷ fields) (omega arith) e)

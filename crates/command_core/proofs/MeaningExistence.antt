@@ -20,7 +20,16 @@ record Ended (records : List Record) : Type 0 where
 ended_or_not : (records : List Record) → Ended records ⊎ IsBody records
 ended_or_not [] = inr (All-nil (λ line. is_end line ≡ false))
 ended_or_not (x ∷ xs) = elim (cases_Bool (is_end x)) [
-  | inl ends ↦ inl (record { body = []; last = x; later = xs; split = refl; inside = All-nil (λ line. is_end line ≡ false); closes = ends })
+  | inl ends ↦
+      inl (record {
+        body = [];
+        last = x;
+        later = xs;
+        split = refl;
+        inside = All-nil
+            (λ line. is_end line ≡ false);
+        closes = ends;
+      })
   | inr inner ↦ elim (ended_or_not xs) [
     | inl found ↦ inl (record {
       body = x ∷ found.body;
@@ -43,14 +52,33 @@ some_meaning number (opening ∷ rest) some = elim (cases_Bool (opens_block open
       later = found.later;
       meaning = told number (block_meaning opening found.body);
       taken = ap (λ l. opening ∷ l) (found.split ∙ sym (append_assoc found.body (found.last ∷ []) found.later));
-      means = inr (inl (record { opening = opening; body = found.body; last = found.last; whole = refl; opens = opens; inside = found.inside; closes = found.closes; means = refl }));
+      means = inr
+          (inl (record {
+            opening = opening;
+            body = found.body;
+            last = found.last;
+            whole = refl;
+            opens = opens;
+            inside = found.inside;
+            closes = found.closes;
+            means = refl;
+          }));
     }
     | inr none ↦ record {
       own = opening ∷ rest;
       later = [];
       meaning = refuse number Unended;
       taken = sym (append-nil (opening ∷ rest));
-      means = inr (inr (record { opening = opening; body = rest; whole = refl; opens = opens; inside = none; last = refl; means = refl }));
+      means = inr
+          (inr (record {
+            opening = opening;
+            body = rest;
+            whole = refl;
+            opens = opens;
+            inside = none;
+            last = refl;
+            means = refl;
+          }));
     }
   ]
   | inr plain ↦ record {

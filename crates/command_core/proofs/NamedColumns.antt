@@ -1,23 +1,23 @@
 -- Names of a new table's columns, read one after another.
-use Rattle.std.proofs.Common.{◌≡◌, ℕ, zero, suc, ◌+◌, ◌<◌, ◌&&◌, Bool, true, false, List, [], ◌∷◌, ◌++◌, length, take, drop, get_or, Some, None, Result, Ok, Err, refl, sym, ap, ◌∙◌, arith, if◌then◌else◌}
+use Rattle.std.proofs.Common.{◌≡◌, ℕ, zero, suc, ◌+◌, ◌<◌, ◌&&◌, Bool, true, false, List, [], ◌∷◌, ◌++◌, length, take, drop, get_or, Some, None, Result, Err, refl, sym, ap, ◌∙◌, arith, if◌then◌else◌}
 use Rattle.std.specs.Borrow.{Bor}
 use Rattle.std.specs.List.{list_all, slice_get}
 use Rattle.row_core.specs.Name.{is_name, name_of}
-use Rattle.row_core.specs.Refusals.{IsAnswerUnless}
+use Rattle.row_core.specs.Refusals.{Reads}
+use Rattle.row_core.specs.declared.failure.Failure.{Failure}
+use Rattle.row_core.specs.declared.failure.Failure.TheVariants.{Refused, NoMemory}
 use Rattle.row_core.specs.declared.schema.Column.{Column}
 use Rattle.row_core.specs.declared.value.Kind.{Kind}
-use Rattle.command_core.specs.Command.{Reads, meaning_of}
+use Rattle.command_core.specs.Command.{meaning_of}
 use Rattle.command_core.specs.Meaning.{TableForm, make_table, name_table, table_columns, table_form, table_meaning}
 use Rattle.command_core.specs.Records.{Record}
 use Rattle.command_core.specs.TableCommand.{raw_column, raw_of}
-use Rattle.command_core.specs.declared.refusal.NotRead.{NotRead}
-use Rattle.command_core.specs.declared.refusal.NotRead.TheVariants.{Refused, NoMemory}
 use Rattle.command_core.specs.declared.refusal.Refusal.{Refusal}
 use Rattle.command_core.specs.declared.refusal.Refusal.TheVariants.{BadName}
 use Rattle.command_core.proofs.Cutting.{drop-slice_get}
 
 -- whether all columns have names that are names
-abbrev pub all_named : List (List ℕ × Kind) → Bool
+abbrev all_named : List (List ℕ × Kind) → Bool
 all_named columns = list_all (λ column. is_name column.0) columns
 
 pub none-named : (text : List ℕ) → None ≡ name_of text → is_name text ≡ false
@@ -30,18 +30,22 @@ none-named text e = by (is_name text) refl e
 pub some-named : (text name : List ℕ) → Some name ≡ name_of text → (is_name text ≡ true) × (name ≡ text)
 some-named text name e = by (is_name text) refl e
   where
-    by : (b : Bool) → is_name text ≡ b → Some name ≡ (if b then Some text else None) → (is_name text ≡ true) × (name ≡ text)
+    by : (b : Bool) → is_name text ≡ b → Some name ≡ (if b then Some text else None) → (is_name text ≡ true)
+        × (name ≡ text)
     by true same e = (same, cc)
     by false same e = absurd (cc)
 
 -- a column without a name is met
-pub all_named-fails : (raw : List (Bor (List ℕ) × Kind)) (place : ℕ) (d : Bor (List ℕ) × Kind) → place < length raw → is_name (get_or raw place d).0.now ≡ false → all_named (raw_of (drop place raw)) ≡ false
+pub all_named-fails : (raw : List (Bor (List ℕ) × Kind)) (place : ℕ) (d : Bor (List ℕ) × Kind) → place < length raw
+    → is_name (get_or raw place d).0.now ≡ false → all_named (raw_of (drop place raw)) ≡ false
 all_named-fails [] place d lt e = absurd (omega arith)
 all_named-fails (x ∷ raw) zero d lt e = ap (λ b. b && all_named (raw_of raw)) e
 all_named-fails (x ∷ raw) (suc place) d lt e = all_named-fails raw place d (omega arith) e
 
 -- a column with a name leaves the others
-pub all_named-more : (raw : List (Bor (List ℕ) × Kind)) (place : ℕ) (d : Bor (List ℕ) × Kind) → place < length raw → is_name (get_or raw place d).0.now ≡ true → all_named (raw_of (drop (place + 1) raw)) ≡ all_named (raw_of (drop place raw))
+pub all_named-more : (raw : List (Bor (List ℕ) × Kind)) (place : ℕ) (d : Bor (List ℕ) × Kind) → place < length raw
+    → is_name (get_or raw place d).0.now ≡ true
+    → all_named (raw_of (drop (place + 1) raw)) ≡ all_named (raw_of (drop place raw))
 all_named-more [] place d lt e = absurd (omega arith)
 all_named-more (x ∷ raw) zero d lt e = sym (ap (λ b. b && all_named (raw_of raw)) e)
 all_named-more (x ∷ raw) (suc place) d lt e =
@@ -49,7 +53,8 @@ all_named-more (x ∷ raw) (suc place) d lt e =
     rw next (all_named-more raw place d (omega arith) e)
 
 -- the columns before a place, and the one there
-pub raw_of-more : (raw : List (Bor (List ℕ) × Kind)) (place : ℕ) (d : Bor (List ℕ) × Kind) → place < length raw → raw_of (take place raw) ++ raw_column (get_or raw place d) ∷ [] ≡ raw_of (take (place + 1) raw)
+pub raw_of-more : (raw : List (Bor (List ℕ) × Kind)) (place : ℕ) (d : Bor (List ℕ) × Kind) → place < length raw
+    → raw_of (take place raw) ++ raw_column (get_or raw place d) ∷ [] ≡ raw_of (take (place + 1) raw)
 raw_of-more [] place d lt = absurd (omega arith)
 raw_of-more (x ∷ raw) zero d lt = refl
 raw_of-more (x ∷ raw) (suc place) d lt =
@@ -88,7 +93,7 @@ pub name_table-key : (table : List ℕ) (form : TableForm) → is_name table ≡
 name_table-key table form e f g = rw (e, f, g) refl
 
 -- all names are names
-pub name_table-named : (table : List ℕ) (form : TableForm) → is_name table ≡ true → all_named form.0 ≡ true
+name_table-named : (table : List ℕ) (form : TableForm) → is_name table ≡ true → all_named form.0 ≡ true
     → list_all is_name form.1 ≡ true
     → name_table table (Some form) ≡ make_table table (table_columns form)
 name_table-named table form e f g = rw (e, f, g) refl
@@ -103,7 +108,7 @@ name_table-made table form columns key e (all, same) (names, own) =
     ∙ ap (λ k. make_table table (table_columns (columns, k))) (sym own)
 
 -- a table is not read where its columns are not
-pub make_table-unread : (table : List ℕ) (columns : Result (List Column) Refusal) (why : NotRead)
+pub make_table-unread : (table : List ℕ) (columns : Result (List Column) Refusal) (why : Failure Refusal)
     → Reads {T = List Column} (λ schema. schema) columns (Err why)
     → Reads meaning_of (make_table table columns) (Err why)
 make_table-unread table columns (Refused refusal) e = ap (make_table table) e
@@ -117,13 +122,3 @@ table_meaning-named (word ∷ []) name e = absurd (cc)
 table_meaning-named (word ∷ own ∷ fields) name e =
     let same : own ≡ name = cc in
     ap (λ n. name_table n (table_form fields)) same
-
--- a value that was given is the answer
-pub is-answer : {T E : Type 0} (value : T) (other : E) (answer : Result T E) → IsAnswerUnless (Ok value) other answer → answer ≡ Ok value
-is-answer value other (Ok own) e = ap Ok (sym e)
-is-answer value other (Err refusal) e = sym e
-
--- a refusal that is not the other one is the answer
-pub is-refusal : {T E : Type 0} (refusal other : E) (answer : Result T E) → (refusal ≡ other → ⊥) → IsAnswerUnless (Err refusal) other answer → answer ≡ Err refusal
-is-refusal refusal other (Ok own) not e = absurd (not e)
-is-refusal refusal other (Err own) not e = sym e

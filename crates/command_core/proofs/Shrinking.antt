@@ -14,7 +14,9 @@ at_most_one : (b : Bool) → cond b 1 0 ≤ 1
 at_most_one true = omega arith
 at_most_one false = omega arith
 
-next_record-shrinks : (cfg : Config) (s : State) (fields : List (List ℕ)) (field xs : List ℕ) (p : Read) → next_record cfg s fields field xs ≡ Some p → work_left p.1 p.2 < work_left s xs
+-- one record, as it is read
+pub next_record-shrinks : (cfg : Config) (s : State) (fields : List (List ℕ)) (field xs : List ℕ) (p : Read)
+    → next_record cfg s fields field xs ≡ Some p → work_left p.1 p.2 < work_left s xs
 unfolding next_record
 next_record-shrinks cfg s fields field [] p e = by (ends_at_end s) refl
   where
@@ -25,18 +27,24 @@ next_record-shrinks cfg s fields field [] p e = by (ends_at_end s) refl
         subst (λ (q : Read). work_left q.1 q.2 < work_left s []) it (rw t (omega arith))
     by false t = absurd (cc (rw t at e))
 next_record-shrinks cfg s fields field (c ∷ rest) p e =
-    by (is_end (step cfg s c).1) refl (next_record-shrinks cfg (step cfg s c).0 (fields_after (step cfg s c).1 fields field) (field_after (step cfg s c).1 c field) rest p)
+    by (is_end (step cfg s c).1) refl
+    (next_record-shrinks cfg (step cfg s c).0 (fields_after (step cfg s c).1 fields field)
+    (field_after (step cfg s c).1 c field) rest p)
   where
     by : (b : Bool) → is_end (step cfg s c).1 ≡ b
-        → (next_record cfg (step cfg s c).0 (fields_after (step cfg s c).1 fields field) (field_after (step cfg s c).1 c field) rest ≡ Some p → work_left p.1 p.2 < work_left (step cfg s c).0 rest)
+        → (next_record cfg (step cfg s c).0 (fields_after (step cfg s c).1 fields field)
+        (field_after (step cfg s c).1 c field) rest ≡ Some p → work_left p.1 p.2 < work_left (step cfg s c).0 rest)
         → work_left p.1 p.2 < work_left s (c ∷ rest)
     by true t more =
         let same : Some (fields_after (step cfg s c).1 fields field, (step cfg s c).0, rest) ≡ Some p = rw t at e in
         let it : (fields_after (step cfg s c).1 fields field, (step cfg s c).0, rest) ≡ p = cc in
-        subst (λ (q : Read). work_left q.1 q.2 < work_left s (c ∷ rest)) it (omega (arith, at_most_one (ends_at_end (step cfg s c).0)))
+        subst (λ (q : Read). work_left q.1 q.2 < work_left s (c ∷ rest)) it
+        (omega (arith, at_most_one (ends_at_end (step cfg s c).0)))
     by false t more = omega (arith, more (rw t at e), at_most_one (ends_at_end (step cfg s c).0))
 
 -- one record
-pub Reached-shrinks : (cfg : Config) (s s2 : State) (f : List (List ℕ)) (xs z : List ℕ) → Reached cfg s xs (f ∷ []) s2 z → work_left s2 z < work_left s xs
+pub Reached-shrinks : (cfg : Config) (s s2 : State) (f : List (List ℕ)) (xs z : List ℕ)
+    → Reached cfg s xs (f ∷ []) s2 z → work_left s2 z < work_left s xs
 unfolding Reached
-Reached-shrinks cfg s s2 f xs z (p, e, fields, (state, rest)) = rw (sym state, sym rest) (next_record-shrinks cfg s [] [] xs p e)
+Reached-shrinks cfg s s2 f xs z (p, e, fields, (state, rest)) =
+    rw (sym state, sym rest) (next_record-shrinks cfg s [] [] xs p e)

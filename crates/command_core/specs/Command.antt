@@ -1,14 +1,12 @@
 -- What a command in memory means.
-use Rattle.std.specs.Prelude.{◌≡◌, Result, Ok, Err, ⊤}
-use Rattle.std.specs.Result.{result_map_both}
+use Rattle.std.specs.Prelude.{Result}
+use Rattle.row_core.specs.Refusals.{map_ok}
 use Rattle.command_core.specs.Lines.{lines_in}
 use Rattle.command_core.specs.Meaning.{Meaning}
 use Rattle.command_core.specs.Meaning as M
 use Rattle.command_core.specs.PairsIn.{pairs_in}
 use Rattle.command_core.specs.declared.command.Command.{Command}
 use Rattle.command_core.specs.declared.command.Command.TheVariants.{Refused, Make, Load, Update, Delete, Rows, At, Between, FromTo, Dip, Check, Log}
-use Rattle.command_core.specs.declared.refusal.NotRead.{NotRead}
-use Rattle.command_core.specs.declared.refusal.NotRead.TheVariants as not_read
 use Rattle.command_core.specs.declared.refusal.Refusal.{Refusal}
 
 abbrev pub meaning_of : Command → Meaning
@@ -27,11 +25,4 @@ meaning_of Log = M.Log
 
 -- what a command that was read means, or why it was not
 abbrev pub meant_by : Result Command Refusal → Result Meaning Refusal
-meant_by read = result_map_both meaning_of (λ refusal. refusal) read
-
--- a value that is read is the one that is meant, and a refusal the one that applies; of want of
--- memory nothing is said
-abbrev pub Reads : {S T : Type 0} → (T → S) → Result S Refusal → Result T NotRead → Type 0
-Reads stands meant (Ok value) = meant ≡ Ok (stands value)
-Reads stands meant (Err (not_read.Refused refusal)) = meant ≡ Err refusal
-Reads stands meant (Err not_read.NoMemory) = ⊤
+meant_by read = map_ok meaning_of read

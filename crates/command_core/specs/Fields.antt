@@ -1,12 +1,12 @@
 -- What the fields of a record give, or the first refusal.
-use Rattle.std.specs.Prelude.{ℕ, ◌-◌, ℤ, pos, negsuc, List, [], ◌∷◌, Bool, false, ◌&&◌, Option, Some, None, Result, Ok, Err, bytes_eq, codes, length, nat_le, slice_get, take, if◌then◌else◌}
-use Rattle.std.specs.Option.{ok_or, option_and_then, option_map_or}
-use Rattle.period_core.specs.Period.{between}
+use Rattle.std.specs.Prelude.{ℕ, ℤ, pos, negsuc, List, [], ◌∷◌, Option, Some, None, Result, Ok, Err, bytes_eq, codes, if◌then◌else◌}
+use Rattle.std.specs.Option.{ok_or, option_and_then}
 use Rattle.period_core.specs.Point.{point_of}
 use Rattle.period_core.specs.declared.period.Period.{Period}
 use Rattle.row_core.specs.Name.{name_of}
 use Rattle.row_core.specs.Number.{number_of}
-use Rattle.row_core.specs.Refusals.{result_and_then}
+use Rattle.row_core.specs.Reading.{period_by}
+use Rattle.row_core.specs.Refusals.{map_ok}
 use Rattle.command_core.specs.Records.{Record}
 use Rattle.command_core.specs.declared.refusal.Refusal.{Refusal}
 use Rattle.command_core.specs.declared.refusal.Refusal.TheVariants.{BadCommand, BadName, BadNumber, BadPeriod, BadPoint}
@@ -33,7 +33,7 @@ natural_in text = ok_or (natural_of text) BadNumber
 
 -- an instant: a point, or `-` for none
 abbrev pub instant_in : List ℕ → Result (Option ℤ) Refusal
-instant_in text = if bytes_eq text (codes "-") then Ok None else result_and_then (λ point. Ok (Some point)) (point_in text)
+instant_in text = if bytes_eq text (codes "-") then Ok None else map_ok Some (point_in text)
 
 -- both, or the first that is refused
 abbrev pub both : {S T E : Type 0} → Result S E → Result T E → Result (S × T) E
@@ -43,7 +43,7 @@ both (Ok x) (Ok y) = Ok (x, y)
 
 -- the period from one text's point on and before another's
 abbrev pub period_in : List ℕ → List ℕ → Result Period Refusal
-period_in from to = result_and_then (λ ends. ok_or (between ends.0 ends.1) BadPeriod) (both (point_in from) (point_in to))
+period_in from to = period_by BadPoint BadPeriod from to
 
 -- the name that a record is on that has no other field behind its word, or why there is none
 abbrev pub named : Record → Result (List ℕ) Refusal
@@ -65,27 +65,25 @@ abbrev pub claimed : Record → Result (List ℕ × (ℕ × Option ℤ)) Refusal
 claimed (word ∷ name ∷ parts ∷ instant ∷ []) = both (name_in name) (both (natural_in parts) (instant_in instant))
 claimed line = Err BadCommand
 
--- the record ends with the suffix `asof,N`: its last field but one is the word
-abbrev pub has_asof : Record → Bool
-has_asof line = nat_le 2 (length line) && option_map_or (λ field. bytes_eq field (codes "asof")) (slice_get line (length line - 2)) false
+-- a field before the others of a record, and the text of its suffix
+abbrev pub field_before : List ℕ → Record × Option (List ℕ) → Record × Option (List ℕ)
+field_before field parts = (field ∷ parts.0, parts.1)
 
--- the record without that suffix
-abbrev pub front_of : Record → Record
-front_of line = if has_asof line then take (length line - 2) line else line
+-- a record without the suffix `asof,N` at its end, and the text of that number; no text where there is
+-- no such suffix
+abbrev pub split_asof : Record → Record × Option (List ℕ)
+split_asof [] = ([], None)
+split_asof (only ∷ []) = (only ∷ [], None)
+split_asof (word ∷ text ∷ []) =
+    if bytes_eq word (codes "asof") then ([], Some text) else (word ∷ text ∷ [], None)
+split_asof (field ∷ word ∷ text ∷ fields) = field_before field (split_asof (word ∷ text ∷ fields))
 
 -- the number that a suffix may have told: none where there is no suffix
 abbrev pub commit_told : Option (List ℕ) → Result (Option ℕ) Refusal
 commit_told None = Ok None
-commit_told (Some text) = result_and_then (λ n. Ok (Some n)) (natural_in text)
+commit_told (Some text) = map_ok Some (natural_in text)
 
--- the text of the suffix's number
-abbrev pub asof_text : Record → Option (List ℕ)
-asof_text line = if has_asof line then slice_get line (length line - 1) else None
-
--- the commit that a query reads: the suffix's, and without one none, which is the newest
-abbrev pub asof_in : Record → Result (Option ℕ) Refusal
-asof_in line = commit_told (asof_text line)
-
--- what the record tells without its suffix, and the commit of the suffix
+-- what the record tells without its suffix, and the commit that the suffix tells; without one none, which
+-- is the newest
 abbrev pub with_asof : {T : Type 0} → (Record → Result T Refusal) → Record → Result (T × Option ℕ) Refusal
-with_asof read line = both (read (front_of line)) (asof_in line)
+with_asof read line = both (read (split_asof line).0) (commit_told (split_asof line).1)

@@ -1,10 +1,9 @@
 -- What a command's records mean, before any table is looked at.
 use Rattle.std.specs.Prelude.{ℕ, ◌+◌, ◌≡◌, ◌⊎◌, ◌&&◌, ℤ, List, [], ◌∷◌, ◌++◌, Bool, true, false, Option, Some, None, Result, Ok, Err, All, bytes_eq, codes, length, option_map, if◌then◌else◌}
 use Rattle.std.specs.List.{list_all}
-use Rattle.std.specs.Result.{result_map_both}
 use Rattle.period_core.specs.declared.period.Period.{Period}
 use Rattle.row_core.specs.Name.{is_name}
-use Rattle.row_core.specs.Refusals.{result_and_then}
+use Rattle.row_core.specs.Refusals.{and_then, map_err, map_ok}
 use Rattle.row_core.specs.Schema.{keyed_of, schema_of}
 use Rattle.row_core.specs.declared.schema.Column.{Column}
 use Rattle.row_core.specs.declared.value.Kind.{Kind}
@@ -49,7 +48,10 @@ told number (Err refusal) = refuse number refusal
 
 -- the kind of that word
 abbrev pub kind_named : List ℕ → Option Kind
-kind_named word = if bytes_eq word (codes "int") then Some kind.Int else if bytes_eq word (codes "text") then Some kind.Text else None
+kind_named word =
+    if bytes_eq word (codes "int") then Some kind.Int
+    else if bytes_eq word (codes "text") then Some kind.Text
+    else None
 
 -- columns, and the names of a key's, of which there are none where there is no key
 abbrev pub TableForm : Type 0
@@ -72,8 +74,7 @@ table_form (name ∷ word ∷ fields) =
 -- the columns with their key, or the first refusal, of the columns and then of the key
 abbrev pub table_columns : TableForm → Result (List Column) Refusal
 table_columns form =
-    result_and_then (λ columns. result_map_both (λ keyed. keyed) key_refusal (keyed_of columns form.1))
-    (result_map_both (λ columns. columns) schema_refusal (schema_of form.0))
+    and_then (map_err schema_refusal (schema_of form.0)) (λ columns. map_err key_refusal (keyed_of columns form.1))
 
 -- the names of columns and of a key's are names
 abbrev pub is_named : TableForm → Bool
@@ -81,7 +82,7 @@ is_named form = list_all (λ column. is_name column.0) form.0 && list_all is_nam
 
 -- a new table of columns, or why there are none
 abbrev pub make_table : List ℕ → Result (List Column) Refusal → Result Meaning Refusal
-make_table name columns = result_map_both (λ made. Make name made) (λ refusal. refusal) columns
+make_table name columns = map_ok (Make name) columns
 
 -- a new table, where its name and those of its columns and its key are names
 abbrev pub name_table : List ℕ → Option TableForm → Result Meaning Refusal
@@ -95,16 +96,19 @@ table_meaning line = Err BadCommand
 
 -- ---- portions of tables
 
--- the name of a table, and then the pairs of its columns and values, and then the portion
-abbrev pub update_of : List ℕ → List ℕ → List ℕ → Record × Record → Result Meaning Refusal
-update_of name from to fields =
-    result_and_then (λ table. result_and_then (λ sets. result_and_then (λ conds. result_and_then (λ portion. Ok (Update table portion sets conds))
-    (period_in from to)) (named_pairs fields.1)) (named_pairs fields.0)) (name_in name)
+-- the name of a table, then the pairs of its columns and values, and then the portion
+abbrev pub update_of : List ℕ → List ℕ → List ℕ → List TextPair × List TextPair → Result Meaning Refusal
+update_of name from to parts =
+    and_then (name_in name) (λ table.
+    and_then (named_pairs parts.0) (λ sets.
+    and_then (named_pairs parts.1) (λ conds.
+    and_then (period_in from to) (λ portion. Ok (Update table portion sets conds)))))
 
-abbrev pub delete_of : List ℕ → List ℕ → List ℕ → Record → Result Meaning Refusal
-delete_of name from to fields =
-    result_and_then (λ table. result_and_then (λ conds. result_and_then (λ portion. Ok (Delete table portion conds))
-    (period_in from to)) (named_pairs fields)) (name_in name)
+abbrev pub delete_of : List ℕ → List ℕ → List ℕ → List TextPair → Result Meaning Refusal
+delete_of name from to conds =
+    and_then (name_in name) (λ table.
+    and_then (named_pairs conds) (λ named.
+    and_then (period_in from to) (λ portion. Ok (Delete table portion named))))
 
 -- what follows from fields, where they have the right form
 abbrev pub if_formed : {T : Type 0} → (T → Result Meaning Refusal) → Option T → Result Meaning Refusal
@@ -122,19 +126,19 @@ delete_meaning line = Err BadCommand
 -- ---- queries
 
 abbrev pub rows_meaning : Record → Result Meaning Refusal
-rows_meaning line = result_and_then (λ r. Ok (Rows r.0 r.1)) (with_asof named line)
+rows_meaning line = map_ok (λ r. Rows r.0 r.1) (with_asof named line)
 
 abbrev pub at_meaning : Record → Result Meaning Refusal
-at_meaning line = result_and_then (λ r. Ok (At r.0.0 r.0.1 r.1)) (with_asof dated line)
+at_meaning line = map_ok (λ r. At r.0.0 r.0.1 r.1) (with_asof dated line)
 
 abbrev pub dip_meaning : Record → Result Meaning Refusal
-dip_meaning line = result_and_then (λ r. Ok (Dip r.0 r.1)) (with_asof named line)
+dip_meaning line = map_ok (λ r. Dip r.0 r.1) (with_asof named line)
 
 abbrev pub between_meaning : Record → Result Meaning Refusal
-between_meaning line = result_and_then (λ r. Ok (Between r.0 r.1.0 r.1.1)) (spanned line)
+between_meaning line = map_ok (λ r. Between r.0 r.1.0 r.1.1) (spanned line)
 
 abbrev pub from_to_meaning : Record → Result Meaning Refusal
-from_to_meaning line = result_and_then (λ r. Ok (FromTo r.0 r.1.0 r.1.1)) (spanned line)
+from_to_meaning line = map_ok (λ r. FromTo r.0 r.1.0 r.1.1) (spanned line)
 
 abbrev pub log_meaning : Record → Result Meaning Refusal
 log_meaning (word ∷ []) = Ok Log
@@ -160,13 +164,14 @@ record_meaning line = verb_meaning line (verb_of line)
 
 -- what a block means, by the word that opens it
 abbrev pub load_meaning : Record → List Record → Result Meaning Refusal
-load_meaning opening body = result_and_then (λ name. Ok (Load name body)) (named opening)
+load_meaning opening body = map_ok (λ name. Load name body) (named opening)
 
 abbrev pub check_meaning : Record → List Record → Result Meaning Refusal
-check_meaning opening body = result_and_then (λ r. Ok (Check r.0.0 r.0.1.0 r.0.1.1 r.1 body)) (with_asof claimed opening)
+check_meaning opening body = map_ok (λ r. Check r.0.0 r.0.1.0 r.0.1.1 r.1 body) (with_asof claimed opening)
 
 abbrev pub block_meaning : Record → List Record → Result Meaning Refusal
-block_meaning opening body = if begins (codes "load") opening then load_meaning opening body else check_meaning opening body
+block_meaning opening body =
+    if begins (codes "load") opening then load_meaning opening body else check_meaning opening body
 
 -- no record of a block's body ends it
 abbrev pub IsBody : List Record → Type 0

@@ -28,5 +28,5 @@ abbrev pub all_columns : List TextPair → Bool
 all_columns pairs = list_all (λ pair. is_name pair.0) pairs
 
 -- the pairs, where they do
-abbrev pub named_pairs : Record → Result (List TextPair) Refusal
-named_pairs fields = if all_columns (pairs_of fields) then Ok (pairs_of fields) else Err BadName
+abbrev pub named_pairs : List TextPair → Result (List TextPair) Refusal
+named_pairs pairs = if all_columns pairs then Ok pairs else Err BadName

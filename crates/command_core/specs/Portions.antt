@@ -1,25 +1,35 @@
--- The fields of the settings and the conditions of a portion.
-use Rattle.std.specs.Prelude.{ℕ, ◌+◌, [], ◌∷◌, ◌&&◌, Option, Some, None, bytes_eq, codes, drop, take, if◌then◌else◌}
-use Rattle.command_core.specs.Pairs.{are_pairs}
+-- The settings and the conditions of a portion, as the fields behind its ends tell them.
+use Rattle.std.specs.Prelude.{List, [], ◌∷◌, ◌&&◌, Option, Some, None, bytes_eq, codes, option_map, if◌then◌else◌}
+use Rattle.std.specs.Option.{option_and_then}
+use Rattle.command_core.specs.Pairs.{TextPair, are_pairs, pairs_of}
 use Rattle.command_core.specs.Records.{Record}
 
--- how many fields come before the first `where` in a column's place
-abbrev pub settings_length : Record → ℕ
-settings_length [] = 0
-settings_length (column ∷ []) = 1
-settings_length (column ∷ text ∷ fields) = if bytes_eq column (codes "where") then 0 else settings_length fields + 2
-
--- the fields of conditions: none, or pairs behind `where`
-abbrev pub conditions_in : Record → Option Record
+-- the conditions that fields tell: none where there is no field, or pairs behind `where`
+abbrev pub conditions_in : Record → Option (List TextPair)
 conditions_in [] = Some []
-conditions_in (word ∷ fields) = if bytes_eq word (codes "where") && are_pairs fields then Some fields else None
+conditions_in (word ∷ fields) =
+    if bytes_eq word (codes "where") && are_pairs fields then Some (pairs_of fields) else None
 
--- the fields of the settings behind `set`, and those of the conditions
-abbrev pub with_conditions : Record → Option Record → Option (Record × Record)
-with_conditions sets None = None
-with_conditions sets (Some conds) = if are_pairs sets then Some (sets, conds) else None
+-- a setting before other settings, and the conditions behind them
+abbrev pub set_before : TextPair → List TextPair × List TextPair → List TextPair × List TextPair
+set_before pair parts = (pair ∷ parts.0, parts.1)
 
-abbrev pub settings_in : Record → Option (Record × Record)
+-- settings, each a column and its value, and then the conditions: the first `where` in a column's place
+-- begins them
+abbrev pub parts_in : Record → Option (List TextPair × List TextPair)
+parts_in [] = Some ([], [])
+parts_in (column ∷ []) = None
+parts_in (column ∷ text ∷ fields) =
+    if bytes_eq column (codes "where") then option_map (λ conds. ([], conds)) (conditions_in (column ∷ text ∷ fields))
+    else option_map (set_before (column, text)) (parts_in fields)
+
+-- settings and conditions, where there is a setting at least
+abbrev pub some_set : List TextPair × List TextPair → Option (List TextPair × List TextPair)
+some_set ([], conds) = None
+some_set (set ∷ sets, conds) = Some (set ∷ sets, conds)
+
+-- the settings that fields tell behind `set`, at least one, and the conditions behind them
+abbrev pub settings_in : Record → Option (List TextPair × List TextPair)
 settings_in [] = None
-settings_in (word ∷ fields) = let size = settings_length fields in
-    if bytes_eq word (codes "set") then with_conditions (take size fields) (conditions_in (drop size fields)) else None
+settings_in (word ∷ fields) =
+    if bytes_eq word (codes "set") then option_and_then some_set (parts_in fields) else None

@@ -5,8 +5,6 @@ use Rattle.row_core.specs.declared.schema.KeyRefused.TheVariants as key
 use Rattle.row_core.specs.declared.schema.SchemaRefused.{SchemaRefused}
 use Rattle.row_core.specs.declared.schema.SchemaRefused.TheVariants as schema
 use Rattle.command_core.specs.declared.refusal.Fault.{Fault}
-use Rattle.command_core.specs.declared.refusal.NotRead.{NotRead}
-use Rattle.command_core.specs.declared.refusal.NotRead.TheVariants as not_read
 use Rattle.command_core.specs.declared.refusal.Refusal.{Refusal}
 use Rattle.command_core.specs.declared.refusal.Refusal.TheVariants.{BadCommand, BadName, BadNumber, BadPeriod, BadPoint, BadUtf8, Full, Future, KeyOverlap, NoColumn, NoTable, TableExists, TooLong, TooMany, TwiceNamed, Unended, WrongKind, WrongWidth}
 
@@ -35,23 +33,12 @@ refusal_text WrongWidth = codes "WrongWidth"
 abbrev pub fault : ℕ → Refusal → Fault
 fault number refusal = record { number = number; refusal = refusal }
 
--- what is wrong with columns; want of memory is none of it, and stands for nothing
+-- what is wrong with columns
 abbrev pub schema_refusal : SchemaRefused → Refusal
 schema_refusal schema.TooMany = TooMany
 schema_refusal schema.TwiceNamed = TwiceNamed
-schema_refusal schema.NoMemory = Full
 
--- what is wrong with a key, of which the same holds
+-- what is wrong with a key
 abbrev pub key_refusal : KeyRefused → Refusal
 key_refusal key.NoColumn = NoColumn
 key_refusal key.TwiceNamed = TwiceNamed
-key_refusal key.NoMemory = Full
-
--- why columns, or a key of them, are not read
-abbrev pub schema_not_read : SchemaRefused → NotRead
-schema_not_read schema.NoMemory = not_read.NoMemory
-schema_not_read why = not_read.Refused (schema_refusal why)
-
-abbrev pub key_not_read : KeyRefused → NotRead
-key_not_read key.NoMemory = not_read.NoMemory
-key_not_read why = not_read.Refused (key_refusal why)

@@ -1,21 +1,49 @@
 //! Commands, and the records that they take.
-ghost use Rattle.std.specs.Prelude.{◌≡◌, ◌+◌, ◌<◌, ◌≤◌, Some, IfErr, IfOk, IfSome, IfNone, OnErr, codes, true, length, take, drop, slice_get};
-ghost use Rattle.command_core.specs.Command.{Reads, meaning_of, meant_by};
+ghost use Rattle.std.specs.Prelude.{
+  ◌≡◌,
+  ◌+◌,
+  ◌<◌,
+  ◌≤◌,
+  Some,
+  IfErr,
+  IfOk,
+  IfSome,
+  IfNone,
+  OnErr,
+  codes,
+  true,
+  length,
+  take,
+  drop,
+  slice_get,
+};
+ghost use Rattle.row_core.specs.Refusals.{Reads};
+ghost use Rattle.row_core.specs.declared.failure.Failure.TheVariants as failure;
+ghost use Rattle.command_core.specs.Command.{meaning_of, meant_by};
 ghost use Rattle.command_core.specs.Lines.{fields_in, lines_in};
-ghost use Rattle.command_core.specs.Meaning.{IsBody, Means, behind_length, block_meaning, check_meaning, load_meaning, record_meaning, refuse, told};
+ghost use Rattle.command_core.specs.Meaning.{
+  IsBody,
+  Means,
+  behind_length,
+  block_meaning,
+  check_meaning,
+  load_meaning,
+  record_meaning,
+  refuse,
+  told,
+};
 ghost use Rattle.command_core.specs.Words.{begins, is_end, opens_block};
-ghost use Rattle.command_core.specs.declared.refusal.NotRead.TheVariants as not_read;
 
 use crate::fields::{claimed, commit_told, named, split_asof};
 use crate::lines::{Line, Lines};
 use crate::pairs::TextPairs;
 use crate::portions::{read_delete, read_update};
 use crate::queries::{read_at, read_between, read_dip, read_from_to, read_log, read_rows};
-use crate::refusal::{Fault, NotRead, Refusal};
+use crate::refusal::{Fault, Refusal};
 use crate::table_command::read_table;
 use crate::words::{Verb, begins, is_end, opens_block, verb_of};
 use period_core::{NoMemory, Period, Point};
-use row_core::{Name, Schema};
+use row_core::{Failure, Name, Schema};
 use std::alloc::{AllocError, Global};
 
 /// A command that may be done where the tables allow it, or the fault that it has whatever they are.
@@ -103,9 +131,10 @@ fn refused<'a>(number: u64, refusal: Refusal) -> Command<'a>
 }
 
 /// What a record means that opens no block.
-fn read_record<'a>(alloc: Global, line: Line<'a>) -> Result<Command<'a>, NotRead>
+fn read_record<'a>(alloc: Global, line: Line<'a>) -> Result<Command<'a>, Failure<Refusal>>
     ensures reads { Reads meaning_of (record_meaning (fields_in line.entry)) result }
-    ensures memory { IfErr result (λ why. why ≡ not_read.NoMemory → begins (codes "table") (fields_in line.entry) ≡ true) }
+    ensures memory { IfErr result
+        (λ why. why ≡ failure.NoMemory → begins (codes "table") (fields_in line.entry) ≡ true) }
 {
     match verb_of(line) {
         Some(Verb::Table) => read_table(alloc, line),
@@ -117,7 +146,7 @@ fn read_record<'a>(alloc: Global, line: Line<'a>) -> Result<Command<'a>, NotRead
         Some(Verb::FromTo) => Ok(read_from_to(line)?),
         Some(Verb::Dip) => Ok(read_dip(line)?),
         Some(Verb::Log) => Ok(read_log(line)?),
-        None => Err(NotRead::Refused(Refusal::BadCommand)),
+        None => Err(Failure::Refused(Refusal::BadCommand)),
     }
 }
 
@@ -185,9 +214,12 @@ pub fn next_command<'a>(alloc: Global, lines: Lines<'a>, number: u64) -> Result<
     requires { 0 < length (lines_in lines) }
     ensures some { IfOk result (λ cut. 0 < cut.taken) }
     ensures within { IfOk result (λ cut. cut.taken ≤ length (lines_in lines.entry)) }
-    ensures means { IfOk result (λ cut. Means number (take cut.taken (lines_in lines.entry)) (drop cut.taken (lines_in lines.entry)) (meaning_of cut.command)) }
+    ensures means { IfOk result
+        (λ cut. Means number (take cut.taken (lines_in lines.entry)) (drop cut.taken (lines_in lines.entry))
+        (meaning_of cut.command)) }
     ensures behind { IfOk result (λ cut. behind_length (meaning_of cut.command) < length (lines_in lines.entry)) }
-    ensures memory { OnErr result (IfSome (slice_get (lines_in lines.entry) 0) (λ line. begins (codes "table") line ≡ true)) }
+    ensures memory { OnErr result
+        (IfSome (slice_get (lines_in lines.entry) 0) (λ line. begins (codes "table") line ≡ true)) }
 {
     let opening = lines.get(0);
     if opens_block(opening) {
@@ -195,8 +227,8 @@ pub fn next_command<'a>(alloc: Global, lines: Lines<'a>, number: u64) -> Result<
     }
     let command = match read_record(alloc, opening) {
         Ok(command) => command,
-        Err(NotRead::Refused(refusal)) => refused(number, refusal),
-        Err(NotRead::NoMemory) => return Err(AllocError),
+        Err(Failure::Refused(refusal)) => refused(number, refusal),
+        Err(Failure::NoMemory) => return Err(AllocError),
     };
     Ok(Cut { command, taken: 1 })
 }
@@ -207,7 +239,8 @@ fn next_block<'a>(opening: Line<'a>, lines: Lines<'a>, number: u64) -> Cut<'a>
     requires opens { opens_block (fields_in opening) ≡ true }
     ensures some { 0 < result.taken }
     ensures within { result.taken ≤ length (lines_in lines.entry) }
-    ensures means { Means number (take result.taken (lines_in lines.entry)) (drop result.taken (lines_in lines.entry)) (meaning_of result.command) }
+    ensures means { Means number (take result.taken (lines_in lines.entry)) (drop result.taken (lines_in lines.entry))
+        (meaning_of result.command) }
     ensures behind { behind_length (meaning_of result.command) < length (lines_in lines.entry) }
 {
     match body_len(lines.range(1, lines.len())) {

@@ -1,10 +1,24 @@
 //! What the fields of a record give.
 ghost use Rattle.std.specs.Prelude.{◌≡◌, option_map};
-ghost use Rattle.command_core.specs.Fields.{asof_text, both, claimed, commit_told, dated, front_of, instant_in, name_in, named, natural_in, period_in, point_in, spanned};
+ghost use Rattle.command_core.specs.Fields.{
+  both,
+  claimed,
+  commit_told,
+  dated,
+  instant_in,
+  name_in,
+  named,
+  natural_in,
+  period_in,
+  point_in,
+  spanned,
+  split_asof,
+};
 ghost use Rattle.command_core.specs.Lines.{fields_in};
 
 use crate::lines::Line;
 use crate::refusal::Refusal;
+use crate::words::begins;
 use period_core::{Period, Point};
 use row_core::{Name, read_number};
 
@@ -126,16 +140,17 @@ pub(crate) fn claimed(line: Line<'_>) -> Result<(Name, (u64, Option<Point>)), Re
 
 /// A record without its suffix `asof,N`, and the text of that number.
 pub(crate) fn split_asof<'a>(line: Line<'a>) -> (Line<'a>, Option<&'a [u8]>)
-    ensures front { fields_in result.0 ≡ front_of (fields_in line.entry) }
-    ensures text { option_map (λ s. s.now) result.1 ≡ asof_text (fields_in line.entry) }
+    ensures front { fields_in result.0 ≡ (split_asof (fields_in line.entry)).0 }
+    ensures text { option_map (λ s. s.now) result.1 ≡ (split_asof (fields_in line.entry)).1 }
 {
     let len = line.len();
     if len < 2 {
         return (line, None);
     }
-    match line.get(len - 2) {
-        Some(word) if word == b"asof".as_slice() => (line.range(0, len - 2), line.get(len - 1)),
-        _ => (line, None),
+    if begins(line.range(len - 2, len), b"asof") {
+        (line.range(0, len - 2), line.get(len - 1))
+    } else {
+        (line, None)
     }
 }
 

@@ -1,8 +1,8 @@
 //! Fields two by two: a column's name, and the text of a value.
 ghost use Rattle.std.specs.Prelude.{◌≡◌, ◌+◌, ◌*◌, ◌/◌, ◌<◌, IfSome, IsTrue, length, option_map, slice_get};
 ghost use Rattle.std.specs.List.{list_all};
-ghost use Rattle.std.specs.Result.{result_map_both};
 ghost use Rattle.row_core.specs.Name.{is_name};
+ghost use Rattle.row_core.specs.Refusals.{map_ok};
 ghost use Rattle.command_core.specs.Lines.{fields_in};
 ghost use Rattle.command_core.specs.Pairs.{all_columns, are_pairs, named_pairs, pairs_of};
 
@@ -76,7 +76,8 @@ fn all_columns(line: Line<'_>) -> bool
 
 /// The pairs of fields, where all columns have names that are names.
 pub(crate) fn named_pairs<'a>(fields: Line<'a>) -> Result<TextPairs<'a>, Refusal>
-    ensures { result_map_both (λ pairs. pairs_of (fields_in pairs.fields)) (λ e. e) result ≡ named_pairs (fields_in fields.entry) }
+    ensures { map_ok (λ pairs. pairs_of (fields_in pairs.fields)) result ≡ named_pairs
+        (pairs_of (fields_in fields.entry)) }
 {
     if all_columns(fields) {
         Ok(TextPairs { fields })

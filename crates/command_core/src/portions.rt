@@ -1,9 +1,10 @@
 //! What a record means that changes a portion of a table's rows.
-ghost use Rattle.std.specs.Prelude.{◌≡◌, ◌≤◌, length, option_map};
+ghost use Rattle.std.specs.Prelude.{◌≡◌, option_map};
 ghost use Rattle.command_core.specs.Command.{meant_by};
 ghost use Rattle.command_core.specs.Lines.{fields_in};
 ghost use Rattle.command_core.specs.Meaning.{delete_meaning, delete_of, update_meaning, update_of};
-ghost use Rattle.command_core.specs.Portions.{conditions_in, settings_in, settings_length};
+ghost use Rattle.command_core.specs.Pairs.{pairs_of};
+ghost use Rattle.command_core.specs.Portions.{conditions_in, parts_in, settings_in};
 
 use crate::command::Command;
 use crate::fields::{name_in, period_in};
@@ -12,24 +13,9 @@ use crate::pairs::{are_pairs, named_pairs};
 use crate::refusal::Refusal;
 use crate::words::begins;
 
-/// How many fields come before the first `where` in a column's place.
-fn settings_len(line: Line<'_>) -> usize
-    ensures size { result ≡ settings_length (fields_in line.entry) }
-    ensures within { result ≤ length (fields_in line.entry) }
-{
-    let mut place = 0;
-    while line.len() - place >= 2 {
-        if begins(line.range(place, line.len()), b"where") {
-            return place;
-        }
-        place += 2;
-    }
-    line.len()
-}
-
 /// The fields of conditions: none, or pairs behind `where`.
 fn conditions_in<'a>(line: Line<'a>) -> Option<Line<'a>>
-    ensures { option_map fields_in result ≡ conditions_in (fields_in line.entry) }
+    ensures { option_map (λ conds. pairs_of (fields_in conds)) result ≡ conditions_in (fields_in line.entry) }
 {
     if line.len() == 0 {
         return Some(line);
@@ -42,18 +28,35 @@ fn conditions_in<'a>(line: Line<'a>) -> Option<Line<'a>>
     }
 }
 
-/// The fields of the settings behind `set`, and those of the conditions.
+/// The fields of the settings, up to the first `where` in a column's place, and those of the conditions.
+fn parts_in<'a>(line: Line<'a>) -> Option<(Line<'a>, Line<'a>)>
+    ensures { option_map (λ parts. (pairs_of (fields_in parts.0), pairs_of (fields_in parts.1))) result ≡ parts_in
+        (fields_in line.entry) }
+{
+    for pair in 0..line.len() / 2 {
+        let rest = line.range(2 * pair, line.len());
+        if begins(rest, b"where") {
+            let conds = conditions_in(rest)?;
+            return Some((line.range(0, 2 * pair), conds));
+        }
+    }
+    if line.len() % 2 == 0 {
+        Some((line, line.range(line.len(), line.len())))
+    } else {
+        None
+    }
+}
+
+/// The fields of the settings behind `set`, of which there is one at least, and those of the conditions.
 fn settings_in<'a>(line: Line<'a>) -> Option<(Line<'a>, Line<'a>)>
-    ensures { option_map (λ fields. (fields_in fields.0, fields_in fields.1)) result ≡ settings_in (fields_in line.entry) }
+    ensures { option_map (λ parts. (pairs_of (fields_in parts.0), pairs_of (fields_in parts.1))) result ≡ settings_in
+        (fields_in line.entry) }
 {
     if !begins(line, b"set") {
         return None;
     }
-    let fields = line.range(1, line.len());
-    let size = settings_len(fields);
-    let sets = fields.range(0, size);
-    let conds = conditions_in(fields.range(size, fields.len()))?;
-    if are_pairs(sets) {
+    let (sets, conds) = parts_in(line.range(1, line.len()))?;
+    if sets.len() >= 2 {
         Some((sets, conds))
     } else {
         None
@@ -80,7 +83,8 @@ fn update_of<'a>(
     sets: Line<'a>,
     conds: Line<'a>,
 ) -> Result<Command<'a>, Refusal>
-    ensures { meant_by result ≡ update_of name.now from.now to.now (fields_in sets.entry, fields_in conds.entry) }
+    ensures { meant_by result ≡ update_of name.now from.now to.now
+        (pairs_of (fields_in sets.entry), pairs_of (fields_in conds.entry)) }
 {
     let table = name_in(name)?;
     let sets = named_pairs(sets)?;
@@ -113,7 +117,7 @@ fn delete_of<'a>(
     to: &[u8],
     conds: Line<'a>,
 ) -> Result<Command<'a>, Refusal>
-    ensures { meant_by result ≡ delete_of name.now from.now to.now (fields_in conds.entry) }
+    ensures { meant_by result ≡ delete_of name.now from.now to.now (pairs_of (fields_in conds.entry)) }
 {
     let table = name_in(name)?;
     let conds = named_pairs(conds)?;

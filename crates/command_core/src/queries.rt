@@ -2,7 +2,14 @@
 ghost use Rattle.std.specs.Prelude.{◌≡◌};
 ghost use Rattle.command_core.specs.Command.{meant_by};
 ghost use Rattle.command_core.specs.Lines.{fields_in};
-ghost use Rattle.command_core.specs.Meaning.{at_meaning, between_meaning, dip_meaning, from_to_meaning, log_meaning, rows_meaning};
+ghost use Rattle.command_core.specs.Meaning.{
+  at_meaning,
+  between_meaning,
+  dip_meaning,
+  from_to_meaning,
+  log_meaning,
+  rows_meaning,
+};
 
 use crate::command::Command;
 use crate::fields::{commit_told, dated, named, spanned, split_asof};

@@ -1,6 +1,24 @@
 //! The records of a script, kept flat: all their fields in one record of `csv`, and where each
 //! record of the script ends among them.
-ghost use Rattle.std.specs.Prelude.{◌≡◌, ◌+◌, ◌<◌, ◌≤◌, ◌++◌, [], length, take, drop, slice_get, ◌-◌, IfOk, OnOk, OnErr, Some, option_map, true};
+ghost use Rattle.std.specs.Prelude.{
+  ◌≡◌,
+  ◌+◌,
+  ◌<◌,
+  ◌≤◌,
+  ◌++◌,
+  [],
+  length,
+  take,
+  drop,
+  slice_get,
+  ◌-◌,
+  IfOk,
+  OnOk,
+  OnErr,
+  Some,
+  option_map,
+  true,
+};
 ghost use Rattle.csv.specs.Reading.{error_kind, stops_reader};
 ghost use Rattle.csv.specs.Records.{fields_of, partial_of};
 ghost use Rattle.command_core.specs.Cut.{cut, start_at, EndsAt};

@@ -1,10 +1,10 @@
 //! Why a command is refused, and where.
 ghost use Rattle.std.specs.Prelude.{◌≡◌};
-ghost use Rattle.command_core.specs.Refusal.{refusal_text};
-ghost use Rattle.command_core.specs.declared.refusal.NotRead.TheVariants.{Refused, NoMemory};
+ghost use Rattle.row_core.specs.Refusals.{map_refused};
+ghost use Rattle.row_core.specs.declared.failure.Failure.TheVariants.{Refused};
+ghost use Rattle.command_core.specs.Refusal.{key_refusal, refusal_text, schema_refusal};
 
-use row_core::{KeyRefused, SchemaRefused};
-use std::alloc::{AllocError, AllocFailed};
+use row_core::{Failure, KeyRefused, SchemaRefused};
 
 /// Why a command is refused.
 #[derive(Clone, Copy, Debug, PartialEq, Eq)]
@@ -84,61 +84,50 @@ impl Refusal {
     }
 }
 
-/// Why a record is not read: it is refused, or memory is.
-#[derive(Clone, Copy, Debug, PartialEq, Eq)]
-pub(crate) enum NotRead {
-    Refused(Refusal),
-    NoMemory,
-}
-
-impl From<Refusal> for NotRead {
+impl From<Refusal> for Failure<Refusal> {
     ghost from_gives = { λ refusal e. e ≡ Refused refusal };
 
-    fn from(refusal: Refusal) -> NotRead {
-        NotRead::Refused(refusal)
+    fn from(refusal: Refusal) -> Failure<Refusal> {
+        Failure::Refused(refusal)
     }
 }
 
-impl From<SchemaRefused> for NotRead {
-    ghost use Rattle.command_core.specs.Refusal.{schema_not_read};
-
-    ghost from_gives = { λ refused e. e ≡ schema_not_read refused };
-
-    fn from(refused: SchemaRefused) -> NotRead {
-        match refused {
-            SchemaRefused::TooMany => NotRead::Refused(Refusal::TooMany),
-            SchemaRefused::TwiceNamed => NotRead::Refused(Refusal::TwiceNamed),
-            SchemaRefused::NoMemory => NotRead::NoMemory,
-        }
+/// What is wrong with columns.
+fn schema_refusal(why: SchemaRefused) -> Refusal
+    ensures { result ≡ schema_refusal why }
+{
+    match why {
+        SchemaRefused::TooMany => Refusal::TooMany,
+        SchemaRefused::TwiceNamed => Refusal::TwiceNamed,
     }
 }
 
-impl From<KeyRefused> for NotRead {
-    ghost use Rattle.command_core.specs.Refusal.{key_not_read};
-
-    ghost from_gives = { λ refused e. e ≡ key_not_read refused };
-
-    fn from(refused: KeyRefused) -> NotRead {
-        match refused {
-            KeyRefused::NoColumn => NotRead::Refused(Refusal::NoColumn),
-            KeyRefused::TwiceNamed => NotRead::Refused(Refusal::TwiceNamed),
-            KeyRefused::NoMemory => NotRead::NoMemory,
-        }
+/// What is wrong with a key.
+fn key_refusal(why: KeyRefused) -> Refusal
+    ensures { result ≡ key_refusal why }
+{
+    match why {
+        KeyRefused::NoColumn => Refusal::NoColumn,
+        KeyRefused::TwiceNamed => Refusal::TwiceNamed,
     }
 }
 
-impl From<AllocError> for NotRead {
-    ghost from_gives = { λ _ e. e ≡ NoMemory };
-
-    fn from(_error: AllocError) -> NotRead {
-        NotRead::NoMemory
+/// Why there are no columns.
+pub(crate) fn schema_failure(why: Failure<SchemaRefused>) -> Failure<Refusal>
+    ensures { result ≡ map_refused schema_refusal why }
+{
+    match why {
+        Failure::Refused(refused) => Failure::Refused(schema_refusal(refused)),
+        Failure::NoMemory => Failure::NoMemory,
     }
 }
 
-impl<T: Drop> From<AllocFailed<T>> for NotRead {
-    ghost from_gives = { λ _ e. e ≡ NoMemory };
-
-    fn from(_error: AllocFailed<T>) -> NotRead {
-        NotRead::NoMemory
+/// Why they have no key.
+pub(crate) fn key_failure(why: Failure<KeyRefused>) -> Failure<Refusal>
+    ensures { result ≡ map_refused key_refusal why }
+{
+    match why {
+        Failure::Refused(refused) => Failure::Refused(key_refusal(refused)),
+        Failure::NoMemory => Failure::NoMemory,
     }
 }

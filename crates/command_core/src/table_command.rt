@@ -2,17 +2,18 @@
 ghost use Rattle.std.specs.Prelude.{◌≡◌, ◌≤◌, IfOk, MatchOption, Some, false, length, option_map, true};
 ghost use Rattle.std.specs.List.{list_all};
 ghost use Rattle.row_core.specs.Name.{is_name};
-ghost use Rattle.command_core.specs.Command.{Reads, meaning_of};
+ghost use Rattle.row_core.specs.Refusals.{Reads};
+ghost use Rattle.command_core.specs.Command.{meaning_of};
 ghost use Rattle.command_core.specs.Lines.{fields_in};
 ghost use Rattle.command_core.specs.Meaning.{kind_named, name_table, table_columns, table_form, table_meaning};
 ghost use Rattle.command_core.specs.TableCommand.{first_column, form_of, raw_column, raw_of};
 
 use crate::command::Command;
 use crate::lines::Line;
-use crate::refusal::{NotRead, Refusal};
+use crate::refusal::{Refusal, key_failure, schema_failure};
 use crate::words::begins;
 use period_core::NoMemory;
-use row_core::{Kind, Name, Schema};
+use row_core::{Failure, Kind, Name, Schema};
 use std::alloc::Global;
 
 /// A column's name, which may be none, and its kind.
@@ -78,7 +79,8 @@ fn raw_table<'a>(alloc: Global, fields: Line<'a>) -> Result<Option<RawTable<'a>>
 
 /// The columns by their names, where these are names.
 fn name_columns(alloc: Global, raw: &[RawColumn<'_>]) -> Result<Option<Vec<(Name, Kind)>>, NoMemory>
-    ensures { IfOk result (λ columns. MatchOption columns (list_all (λ column. is_name column.0) (raw_of raw.now) ≡ false)
+    ensures { IfOk result
+        (λ columns. MatchOption columns (list_all (λ column. is_name column.0) (raw_of raw.now) ≡ false)
         (λ v. (list_all (λ column. is_name column.0) (raw_of raw.now) ≡ true) × (v.items ≡ raw_of raw.now))) }
 {
     let mut columns = Vec::with_capacity(alloc, raw.len())?;
@@ -110,40 +112,48 @@ fn name_key(alloc: Global, key: Line<'_>) -> Result<Option<Vec<Name>>, NoMemory>
 }
 
 /// The columns with those of the names as their key, where they may be a table's.
-fn make_schema(alloc: Global, columns: &[(Name, Kind)], key: &[Name]) -> Result<Schema, NotRead>
+fn make_schema(
+    alloc: Global,
+    columns: &[(Name, Kind)],
+    key: &[Name],
+) -> Result<Schema, Failure<Refusal>>
     ensures { Reads (λ schema. schema) (table_columns (columns.now, key.now)) result }
 {
-    let schema = Schema::new(alloc, columns)?;
-    Ok(schema.with_key(alloc, key)?)
+    let schema = Schema::new(alloc, columns).map_err(schema_failure)?;
+    schema.with_key(alloc, key).map_err(key_failure)
 }
 
 /// A table of columns and a key, where its name and theirs are names, and the columns with that key may
 /// be a table's.
-fn name_table<'a>(alloc: Global, table: &[u8], raw: &RawTable<'_>) -> Result<Command<'a>, NotRead>
+fn name_table<'a>(
+    alloc: Global,
+    table: &[u8],
+    raw: &RawTable<'_>,
+) -> Result<Command<'a>, Failure<Refusal>>
     ensures { Reads meaning_of (name_table table.now (Some (form_of raw.now))) result }
 {
     let Ok(table) = Name::parse(table) else {
-        return Err(NotRead::Refused(Refusal::BadName));
+        return Err(Failure::Refused(Refusal::BadName));
     };
     let Some(columns) = name_columns(alloc, &raw.columns)? else {
-        return Err(NotRead::Refused(Refusal::BadName));
+        return Err(Failure::Refused(Refusal::BadName));
     };
     let Some(key) = name_key(alloc, raw.key)? else {
-        return Err(NotRead::Refused(Refusal::BadName));
+        return Err(Failure::Refused(Refusal::BadName));
     };
     let schema = make_schema(alloc, &columns, &key)?;
     Ok(Command::Make { table, schema })
 }
 
 /// What a record means whose word is `table`.
-pub(crate) fn read_table<'a>(alloc: Global, line: Line<'a>) -> Result<Command<'a>, NotRead>
+pub(crate) fn read_table<'a>(alloc: Global, line: Line<'a>) -> Result<Command<'a>, Failure<Refusal>>
     ensures { Reads meaning_of (table_meaning (fields_in line.entry)) result }
 {
     let Some(table) = line.get(1) else {
-        return Err(NotRead::Refused(Refusal::BadCommand));
+        return Err(Failure::Refused(Refusal::BadCommand));
     };
     let Some(raw) = raw_table(alloc, line.range(2, line.len()))? else {
-        return Err(NotRead::Refused(Refusal::BadCommand));
+        return Err(Failure::Refused(Refusal::BadCommand));
     };
     name_table(alloc, table, &raw)
 }

@@ -1,6 +1,6 @@
 -- Keys: as many columns as names, each at the place of its name.
 use Rattle.std.proofs.Common.{◌≡◌, ◌≢◌, ℕ, zero, suc, ◌+◌, ◌<◌, List, [], ◌∷◌, ◌++◌, Bool, true, false, ◌||◌, not, cond, length, map, get_or, Option, Some, None, refl, sym, ap, ◌∙◌, arith, append_assoc}
-use Rattle.std.specs.Prelude.{All, AllPairs, IsSome, count_by, is_some, nat_eq, position, slice_get}
+use Rattle.std.specs.Prelude.{bytes_eq, All, AllPairs, IsSome, count_by, is_some, nat_eq, position, slice_get}
 use Rattle.std.specs.Cmp.Lexicographic.{bytes_decides}
 use Rattle.std.specs.List.{AllByRecursion, filter_map, list_any, position_from, range_with_len}
 use Rattle.std.specs.Option.{option_eq}
@@ -8,7 +8,6 @@ use Rattle.std.proofs.lemmas.Bool.{eq-eqb, ne_eqb}
 use Rattle.std.proofs.lemmas.Iterator.Adapters.{position_from-zero}
 use Rattle.std.proofs.lemmas.List.{append-nil}
 use Rattle.std.proofs.lemmas.List.Recursion.{is_count_by, or_push}
-use Rattle.row_core.specs.Name.{same_name}
 use Rattle.row_core.specs.Refusals.{first_of}
 use Rattle.row_core.specs.Schema.{IsSchema, column_of, columns_of, in_key, is_in_key, key_of, key_place, key_tests, keyed}
 use Rattle.row_core.specs.declared.schema.Column.{Column}
@@ -18,9 +17,9 @@ use Rattle.row_core.specs.declared.value.Kind.{Kind}
 
 -- ---- names
 
-pub same-flips : (a b : List ℕ) → same_name a b ≡ same_name b a
-same-flips a b = by_tests (same_name a b) (same_name b a) refl refl where
-  by_tests : (s t : Bool) → same_name a b ≡ s → same_name b a ≡ t → s ≡ t
+same-flips : (a b : List ℕ) → bytes_eq a b ≡ bytes_eq b a
+same-flips a b = by_tests (bytes_eq a b) (bytes_eq b a) refl refl where
+  by_tests : (s t : Bool) → bytes_eq a b ≡ s → bytes_eq b a ≡ t → s ≡ t
   by_tests true true e f = refl
   by_tests false false e f = refl
   by_tests true false e f = let back = (bytes_decides b a).1 (sym ((bytes_decides a b).0 e)) in absurd (cc)
@@ -28,7 +27,7 @@ same-flips a b = by_tests (same_name a b) (same_name b a) refl refl where
 
 -- the name is among those
 abbrev pub among : List (List ℕ) → List ℕ → Bool
-among names name = list_any (λ other. same_name other name) names
+among names name = list_any (λ other. bytes_eq other name) names
 
 some-from : {X : Type 0} (p : X → Bool) (at : ℕ) (xs : List X) → is_some (position_from p at xs) ≡ list_any p xs
 some-from p at [] = refl
@@ -37,13 +36,13 @@ some-from p at (x ∷ xs) =
     [ true ↦ refl | false ↦ some-from p (at + 1) xs ]
 
 -- a first place is there where some element passes
-pub some-position : {X : Type 0} (p : X → Bool) (xs : List X) → is_some (position p xs) ≡ list_any p xs
+some-position : {X : Type 0} (p : X → Bool) (xs : List X) → is_some (position p xs) ≡ list_any p xs
 some-position p xs = ap is_some (position_from-zero p xs) ∙ some-from p 0 xs
 
 among-push : (names : List (List ℕ)) (last name : List ℕ)
-    → among (names ++ last ∷ []) name ≡ (among names name || same_name last name)
+    → among (names ++ last ∷ []) name ≡ (among names name || bytes_eq last name)
 among-push names last name =
-    or_push (list_any (λ other. same_name other name)) (λ other. same_name other name) refl (λ _ _. refl) names last
+    or_push (list_any (λ other. bytes_eq other name)) (λ other. bytes_eq other name) refl (λ _ _. refl) names last
 
 or_false : (a : Bool) → (a || false) ≡ a
 or_false true = refl
@@ -60,9 +59,9 @@ one_out : (b : Bool) (n : ℕ) → cond b (1 + (n + 1)) (n + 1) ≡ cond b (1 + 
 one_out true n = omega arith
 one_out false n = refl
 
-differs : (a b : List ℕ) → a ≢ b → same_name a b ≡ false
-differs a b h = by_test (same_name a b) refl where
-  by_test : (t : Bool) → same_name a b ≡ t → t ≡ false
+differs : (a b : List ℕ) → a ≢ b → bytes_eq a b ≡ false
+differs a b h = by_test (bytes_eq a b) refl where
+  by_test : (t : Bool) → bytes_eq a b ≡ t → t ≡ false
   by_test false e = refl
   by_test true e = absurd (h ((bytes_decides a b).0 e))
 
@@ -74,9 +73,9 @@ or-false false false h = (refl, refl)
 -- ---- what the tests of names leave
 
 -- no name stands twice
-abbrev pub AreDistinct : List (List ℕ) → Type 0
+abbrev AreDistinct : List (List ℕ) → Type 0
 AreDistinct [] = Unit {0}
-AreDistinct (name ∷ names) = AllByRecursion (λ other. same_name name other ≡ false) names × AreDistinct names
+AreDistinct (name ∷ names) = AllByRecursion (λ other. bytes_eq name other ≡ false) names × AreDistinct names
 
 -- each name is a column's, none stands twice, and none is among the others
 pub record AreNew (columns : List Column) (others names : List (List ℕ)) : Type 0 where
@@ -93,26 +92,26 @@ none-twice false b rest h = absurd (cc)
 before-last : (others names : List (List ℕ)) (last : List ℕ)
     → AllByRecursion (λ name. among (others ++ last ∷ []) name ≡ false) names
     → AllByRecursion (λ name. among others name ≡ false) names
-    × AllByRecursion (λ name. same_name last name ≡ false) names
+    × AllByRecursion (λ name. bytes_eq last name ≡ false) names
 before-last others [] last h = (tt, tt)
 before-last others (name ∷ names) last h =
-    let both = or-false (among others name) (same_name last name) (sym (among-push others last name) ∙ h.0) in
+    let both = or-false (among others name) (bytes_eq last name) (sym (among-push others last name) ∙ h.0) in
     let rest = before-last others names last h.1 in
     ((both.0, rest.0), (both.1, rest.1))
 
-pub are-new : (columns : List Column) (others names : List (List ℕ)) → first_of (key_tests columns others names) ≡ None
+are-new : (columns : List Column) (others names : List (List ℕ)) → first_of (key_tests columns others names) ≡ None
     → AreNew columns others names
 are-new columns others [] h = record { found = tt; fresh = tt; distinct = tt }
 are-new columns others (name ∷ names) h =
     let tests =
-    none-twice (is_some (column_of columns name)) (is_some (position (λ other. same_name other name) others))
+    none-twice (is_some (column_of columns name)) (is_some (position (λ other. bytes_eq other name) others))
     (key_tests columns (others ++ name ∷ []) names) h
     in
     let rest = are-new columns (others ++ name ∷ []) names tests.2 in
     let split = before-last others names name rest.fresh in
     record {
       found = (tests.0, rest.found);
-      fresh = (sym (some-position (λ other. same_name other name) others) ∙ tests.1, split.0);
+      fresh = (sym (some-position (λ other. bytes_eq other name) others) ∙ tests.1, split.0);
       distinct = (split.1, rest.distinct);
     }
 
@@ -131,7 +130,7 @@ counts : (names : List (List ℕ)) (columns : List Column) → count_keyed (keye
 counts names [] = refl
 counts names (c ∷ cs) =
     ap (λ b. cond b (1 + count_keyed (keyed cs names)) (count_keyed (keyed cs names)))
-    (some-position (λ name. same_name name c.name) names)
+    (some-position (λ name. bytes_eq name c.name) names)
     ∙ ap (λ n. cond (among names c.name) (1 + n) n) (counts names cs)
 
 module _ (others : List (List ℕ)) (name : List ℕ) where
@@ -148,18 +147,18 @@ module _ (others : List (List ℕ)) (name : List ℕ) where
 
   -- one column has a new name that is a column's
   one-more : (columns : List Column) → AllPairs (λ (one other : Column). one.name ≢ other.name) columns
-      → list_any (λ c. same_name c.name name) columns ≡ true → among others name ≡ false
+      → list_any (λ c. bytes_eq c.name name) columns ≡ true → among others name ≡ false
       → count_named (others ++ name ∷ []) columns ≡ count_named others columns + 1
   one-more [] distinct found fresh = absurd (cc)
   one-more (c ∷ cs) distinct found fresh =
-      by_test (same_name c.name name) refl
+      by_test (bytes_eq c.name name) refl
       (λ rest. one-more cs (λ i j d below inside. distinct (suc i) (suc j) d (omega arith) (omega arith)) rest fresh)
     where
       more : ℕ
       more = count_named (others ++ name ∷ []) cs
 
-      by_test : (t : Bool) → same_name c.name name ≡ t
-          → (list_any (λ d. same_name d.name name) cs ≡ true → more ≡ count_named others cs + 1)
+      by_test : (t : Bool) → bytes_eq c.name name ≡ t
+          → (list_any (λ d. bytes_eq d.name name) cs ≡ true → more ≡ count_named others cs + 1)
           → count_named (others ++ name ∷ []) (c ∷ cs) ≡ count_named others (c ∷ cs) + 1
       by_test true e rest =
           let same = (bytes_decides c.name name).0 e in
@@ -177,7 +176,7 @@ module _ (others : List (List ℕ)) (name : List ℕ) where
           ∙ ap (λ b. among others c.name || b) (same-flips name c.name ∙ e)
           ∙ or_false (among others c.name))
           ∙ ap (λ n. cond (among others c.name) (1 + n) n)
-          (rest (sym (ap (λ b. b || list_any (λ d. same_name d.name name) cs) e) ∙ found))
+          (rest (sym (ap (λ b. b || list_any (λ d. bytes_eq d.name name) cs) e) ∙ found))
           ∙ one_out (among others c.name) (count_named others cs)
 
 -- columns that are in no key
@@ -201,15 +200,15 @@ count-new columns others [] distinct h = ap (λ l. count_named l columns) (appen
 count-new columns others (name ∷ names) distinct h =
     let new = are-new columns others (name ∷ names) h in
     let tests =
-    none-twice (is_some (column_of columns name)) (is_some (position (λ other. same_name other name) others))
+    none-twice (is_some (column_of columns name)) (is_some (position (λ other. bytes_eq other name) others))
     (key_tests columns (others ++ name ∷ []) names) h
     in
-    let found = sym (some-position (λ c. same_name c.name name) columns) ∙ new.found.0 in
+    let found = sym (some-position (λ c. bytes_eq c.name name) columns) ∙ new.found.0 in
     let one = one-more others name columns distinct found new.fresh.0 in
     let rest = count-new columns (others ++ name ∷ []) names distinct tests.2 in
     ap (λ l. count_named l columns) (sym (append_assoc others (name ∷ []) names)) ∙ (omega (arith, one, rest))
 
-pub count-keyed : (columns : List Column) (names : List (List ℕ))
+count-keyed : (columns : List Column) (names : List (List ℕ))
     → AllPairs (λ (one other : Column). one.name ≢ other.name) columns → first_of (key_tests columns [] names) ≡ None
     → count_by is_in_key (keyed columns names) ≡ length names
 count-keyed columns names distinct h =
@@ -226,7 +225,7 @@ later-place p (x ∷ xs) at j h =
     [ true ↦ ne_eqb at j (λ e. omega arith) | false ↦ later-place p xs (at + 1) j (omega arith) ]
 
 none-same : (name : List ℕ) (names : List (List ℕ)) (j : ℕ) (d : List ℕ) → j < length names
-    → AllByRecursion (λ other. same_name name other ≡ false) names → same_name (get_or names j d) name ≡ false
+    → AllByRecursion (λ other. bytes_eq name other ≡ false) names → bytes_eq (get_or names j d) name ≡ false
 none-same name [] j d h all = absurd (omega arith)
 none-same name (other ∷ names) zero d h all = same-flips other name ∙ all.0
 none-same name (other ∷ names) (suc j) d h all = none-same name names j d (omega arith) all.1
@@ -234,27 +233,27 @@ none-same name (other ∷ names) (suc j) d h all = none-same name names j d (ome
 -- a name's first place among distinct names is j exactly where it is the one at j
 first-place : (name : List ℕ) (names : List (List ℕ)) (at j k : ℕ) (d : List ℕ) → AreDistinct names → j < length names
     → at + j ≡ k
-    → option_eq nat_eq (position_from (λ other. same_name other name) at names) (Some k)
-    ≡ same_name (get_or names j d) name
+    → option_eq nat_eq (position_from (λ other. bytes_eq other name) at names) (Some k)
+    ≡ bytes_eq (get_or names j d) name
 first-place name [] at j k d distinct h e = absurd (omega arith)
 first-place name (other ∷ names) at zero k d distinct h e =
-    elim (same_name other name)
-    as (λ b. option_eq nat_eq (cond b (Some at) (position_from (λ other. same_name other name) (at + 1) names)) (Some k)
+    elim (bytes_eq other name)
+    as (λ b. option_eq nat_eq (cond b (Some at) (position_from (λ other. bytes_eq other name) (at + 1) names)) (Some k)
     ≡ b) [
       | true ↦ eq-eqb at k (omega arith)
-      | false ↦ later-place (λ other. same_name other name) names (at + 1) k (omega arith)
+      | false ↦ later-place (λ other. bytes_eq other name) names (at + 1) k (omega arith)
     ]
 first-place name (other ∷ names) at (suc j) k d distinct h e =
-    by_test (same_name other name) refl (first-place name names (at + 1) j k d distinct.1 (omega arith) (omega arith))
+    by_test (bytes_eq other name) refl (first-place name names (at + 1) j k d distinct.1 (omega arith) (omega arith))
   where
-    by_test : (t : Bool) → same_name other name ≡ t
-        → option_eq nat_eq (position_from (λ other. same_name other name) (at + 1) names) (Some k)
-        ≡ same_name (get_or names j d) name
-        → option_eq nat_eq (cond t (Some at) (position_from (λ other. same_name other name) (at + 1) names)) (Some k)
-        ≡ same_name (get_or names j d) name
+    by_test : (t : Bool) → bytes_eq other name ≡ t
+        → option_eq nat_eq (position_from (λ other. bytes_eq other name) (at + 1) names) (Some k)
+        ≡ bytes_eq (get_or names j d) name
+        → option_eq nat_eq (cond t (Some at) (position_from (λ other. bytes_eq other name) (at + 1) names)) (Some k)
+        ≡ bytes_eq (get_or names j d) name
     by_test true same rest =
         ne_eqb at k (λ f. omega arith)
-        ∙ sym (ap (same_name (get_or names j d)) (sym ((bytes_decides other name).0 same))
+        ∙ sym (ap (bytes_eq (get_or names j d)) (sym ((bytes_decides other name).0 same))
         ∙ none-same other names j d (omega arith) distinct.0)
     by_test false same rest = rest
 
@@ -272,10 +271,10 @@ key-place : (columns : List Column) (names : List (List ℕ)) (j : ℕ) (d : Lis
 key-place columns names j d distinct h =
     position_from-zero (λ (c : Column). option_eq nat_eq c.key (Some j)) (keyed columns names)
     ∙ position-map (in_key names) (λ (c : Column). option_eq nat_eq c.key (Some j))
-    (λ c. same_name c.name (get_or names j d)) 0 columns
-    (λ c. ap (λ o. option_eq nat_eq o (Some j)) (position_from-zero (λ name. same_name name c.name) names)
+    (λ c. bytes_eq c.name (get_or names j d)) 0 columns
+    (λ c. ap (λ o. option_eq nat_eq o (Some j)) (position_from-zero (λ name. bytes_eq name c.name) names)
     ∙ first-place c.name names 0 j j d distinct h (omega arith) ∙ same-flips (get_or names j d) c.name)
-    ∙ sym (position_from-zero (λ (c : Column). same_name c.name (get_or names j d)) columns)
+    ∙ sym (position_from-zero (λ (c : Column). bytes_eq c.name (get_or names j d)) columns)
 
 map-range : (f : ℕ → Option ℕ) (g : List ℕ → Option ℕ) (names : List (List ℕ)) (at : ℕ)
     → ((j k : ℕ) → j < length names → at + j ≡ k → f k ≡ g (get_or names j []))
@@ -310,7 +309,8 @@ module _
     (accepted : first_of (key_tests columns [] names) ≡ None)
   where
     -- each place of the key has its column
-    pub keyed-places : (i : ℕ) → i < count_by is_in_key (keyed columns names) → IsSome (key_place (keyed columns names) i)
+    pub keyed-places : (i : ℕ) → i < count_by is_in_key (keyed columns names)
+        → IsSome (key_place (keyed columns names) i)
     keyed-places i h =
         let new = are-new columns [] names accepted in
         let count = count-keyed columns names distinct accepted in
@@ -354,7 +354,8 @@ kept-at f at (suc n) zero k h lt e = by_first (f at) refl where
   by_first None f_at = let some = sym (h at (omega arith) (omega arith)) ∙ ap is_some f_at in absurd (cc)
   by_first (Some x) f_at = rw f_at (sym f_at ∙ ap f (omega arith))
 kept-at f at (suc n) (suc j) k h lt e =
-    by_first (f at) refl (kept-at f (at + 1) n j k (λ j low high. h j (omega arith) (omega arith)) (omega arith) (omega arith)) where
+    by_first (f at) refl
+    (kept-at f (at + 1) n j k (λ j low high. h j (omega arith) (omega arith)) (omega arith) (omega arith)) where
       by_first : (o : Option ℕ) → f at ≡ o → slice_get (filter_map f (range_with_len (at + 1) n)) j ≡ f k
           → slice_get (filter_map f (range_with_len at (suc n))) (suc j) ≡ f k
       by_first None f_at rest = let some = sym (h at (omega arith) (omega arith)) ∙ ap is_some f_at in absurd (cc)

@@ -20,31 +20,39 @@ prefix_len-zeros : (k : ℕ) → prefix_len (λ byte. not (byte == 0)) (replicat
 prefix_len-zeros zero = refl
 prefix_len-zeros (suc k) = refl
 
-prefix_len-padded : (text : List ℕ) (k : ℕ) → list_all is_name_byte text ≡ true → prefix_len (λ byte. not (byte == 0)) (text ++ replicate k 0) ≡ length text
+prefix_len-padded : (text : List ℕ) (k : ℕ) → list_all is_name_byte text ≡ true
+    → prefix_len (λ byte. not (byte == 0)) (text ++ replicate k 0) ≡ length text
 prefix_len-padded [] k h = prefix_len-zeros k
 prefix_len-padded (c ∷ cs) k h =
     let both = and-true (is_name_byte c) (list_all is_name_byte cs) h in
     let rest = prefix_len (λ byte. not (byte == 0)) (cs ++ replicate k 0) in
-    ap (λ b. cond (not b) (1 + rest) 0) (ne_eqb c 0 (name_byte-not_zero c both.0)) ∙ (omega (arith, prefix_len-padded cs k both.1))
+    ap (λ b. cond (not b) (1 + rest) 0) (ne_eqb c 0 (name_byte-not_zero c both.0))
+    ∙ (omega (arith, prefix_len-padded cs k both.1))
 
 -- the zeros behind a name fall away
 unpadded-append : (text : List ℕ) (k : ℕ) → list_all is_name_byte text ≡ true → unpadded (text ++ replicate k 0) ≡ text
-unpadded-append text k h = ap (λ n. take n (text ++ replicate k 0)) (prefix_len-padded text k h) ∙ take-append_seam text (replicate k 0)
+unpadded-append text k h =
+    ap (λ n. take n (text ++ replicate k 0)) (prefix_len-padded text k h) ∙ take-append_seam text (replicate k 0)
 
 -- a name is of name's bytes, and short
-pub name-parts : (text : List ℕ) → is_name text ≡ true → (list_all is_name_byte text ≡ true) × (length text ≤ 32)
+name-parts : (text : List ℕ) → is_name text ≡ true → (list_all is_name_byte text ≡ true) × (length text ≤ 32)
 name-parts text h =
-    let one = and-true (starts_with_letter text) (nat_le (length text) 32 && (list_all is_name_byte text && not (is_reserved text))) h in
+    let one = and-true (starts_with_letter text)
+    (nat_le (length text) 32 && (list_all is_name_byte text && not (is_reserved text))) h in
     let two = and-true (nat_le (length text) 32) (list_all is_name_byte text && not (is_reserved text)) one.1 in
     let three = and-true (list_all is_name_byte text) (not (is_reserved text)) two.1 in
     (three.0, let short = two.0 in grind (arith, nat_tests))
 
 -- what is kept of a name
-pub unpadded-kept : (text kept : List ℕ) → is_name text ≡ true → kept ≡ text ++ drop {A = ℕ} (length text) (replicate 32 0) → unpadded kept ≡ text
+pub unpadded-kept : (text kept : List ℕ) → is_name text ≡ true
+    → kept ≡ text ++ drop {A = ℕ} (length text) (replicate 32 0) → unpadded kept ≡ text
 unpadded-kept text kept name same =
     let parts = name-parts text name in
-    ap unpadded (same ∙ ap (λ zeros. text ++ zeros) (drop-replicate (length text) 32 0)) ∙ unpadded-append text (32 - length text) parts.0
+    ap unpadded (same ∙ ap (λ zeros. text ++ zeros) (drop-replicate (length text) 32 0))
+    ∙ unpadded-append text (32 - length text) parts.0
 
-pub padded-kept : (text kept : List ℕ) → is_name text ≡ true → kept ≡ text ++ drop {A = ℕ} (length text) (replicate 32 0) → padded (unpadded kept) ≡ kept
+pub padded-kept : (text kept : List ℕ) → is_name text ≡ true
+    → kept ≡ text ++ drop {A = ℕ} (length text) (replicate 32 0) → padded (unpadded kept) ≡ kept
 padded-kept text kept name same =
-    ap padded (unpadded-kept text kept name same) ∙ sym (same ∙ ap (λ zeros. text ++ zeros) (drop-replicate (length text) 32 0))
+    ap padded (unpadded-kept text kept name same)
+    ∙ sym (same ∙ ap (λ zeros. text ++ zeros) (drop-replicate (length text) 32 0))

@@ -21,11 +21,11 @@ use Rattle.row_core.specs.Number.{is_number, number_text, number_of, is_leading,
 own : IsNumeralModel (AllDigits 10) (digits_value 10)
 own = numerals_by_value (AllDigits 10) tells_digits
 
-pub is_number-mag : (z : ℤ) → is_number z ≡ true → mag z < 2 ^ 63
+is_number-mag : (z : ℤ) → is_number z ≡ true → mag z < 2 ^ 63
 is_number-mag (pos n) h = grind (arith, nat_tests)
 is_number-mag (negsuc n) h = grind (arith, nat_tests)
 
-pub is_number-from_mag : (z : ℤ) → mag z < 2 ^ 63 → is_number z ≡ true
+is_number-from_mag : (z : ℤ) → mag z < 2 ^ 63 → is_number z ≡ true
 is_number-from_mag (pos n) h = grind (arith, nat_tests)
 is_number-from_mag (negsuc n) h = grind (arith, nat_tests)
 
@@ -47,7 +47,8 @@ number_of-none text h =
     h z both.0 (sym ((bytes_decides (number_text z) text).0 both.1)))
 
 -- the number that is printed so
-pub number_of-some : (text : List ℕ) → is_number (signed_digits_value 10 text) ≡ true → number_text (signed_digits_value 10 text) ≡ text → number_of text ≡ Some (signed_digits_value 10 text)
+number_of-some : (text : List ℕ) → is_number (signed_digits_value 10 text) ≡ true
+    → number_text (signed_digits_value 10 text) ≡ text → number_of text ≡ Some (signed_digits_value 10 text)
 number_of-some text fits same =
     let z = signed_digits_value 10 text in
     ap (λ b. cond (b && pointwise nat_eq (number_text z) text) (Some z) None) fits
@@ -59,21 +60,26 @@ unsigned first rest minus plus =
     ap (λ b. cond b rest (without_leading_plus (first ∷ rest))) (ne_eqb first 45 minus)
     ∙ ap (λ b. drop (cond b 1 0) (first ∷ rest)) (ne_eqb first 43 plus)
 
-unsigned_value : (first : ℕ) (rest : List ℕ) → first ≢ 45 → first ≢ 43 → signed_digits_value 10 (first ∷ rest) ≡ pos (digits_value 10 (first ∷ rest))
+unsigned_value : (first : ℕ) (rest : List ℕ) → first ≢ 45 → first ≢ 43
+    → signed_digits_value 10 (first ∷ rest) ≡ pos (digits_value 10 (first ∷ rest))
 unsigned_value first rest minus plus =
-    ap (λ b. cond b (neg_ℤ (pos (digits_value 10 (without_leading_sign (first ∷ rest))))) (pos (digits_value 10 (without_leading_sign (first ∷ rest))))) (ne_eqb first 45 minus)
+    ap (λ b. cond b (neg_ℤ (pos (digits_value 10 (without_leading_sign (first ∷ rest)))))
+    (pos (digits_value 10 (without_leading_sign (first ∷ rest))))) (ne_eqb first 45 minus)
     ∙ ap (λ bs. pos (digits_value 10 bs)) (unsigned first rest minus plus)
 
 -- such digits are printed as they stand
-unsigned_text : (first : ℕ) (rest : List ℕ) → first ≢ 45 → first ≢ 43 → (first ≡ 48 → length (first ∷ rest) ≡ 1) → IsNumeral 10 (without_leading_sign (first ∷ rest)) → is_number (signed_digits_value 10 (first ∷ rest)) ≡ true
+unsigned_text : (first : ℕ) (rest : List ℕ) → first ≢ 45 → first ≢ 43 → (first ≡ 48 → length (first ∷ rest) ≡ 1)
+    → IsNumeral 10 (without_leading_sign (first ∷ rest)) → is_number (signed_digits_value 10 (first ∷ rest)) ≡ true
     → number_text (signed_digits_value 10 (first ∷ rest)) ≡ first ∷ rest
 unsigned_text first rest minus plus sole numeral fits =
     let value = unsigned_value first rest minus plus in
     let digits = subst (IsNumeral 10) (unsigned first rest minus plus) numeral in
-    let small : digits_value 10 (first ∷ rest) < 2 ^ 63 = is_number-mag (pos (digits_value 10 (first ∷ rest))) (ap is_number (sym value) ∙ fits) in
+    let small : digits_value 10 (first ∷ rest) < 2 ^ 63 =
+    is_number-mag (pos (digits_value 10 (first ∷ rest))) (ap is_number (sym value) ∙ fits) in
     ap number_text value ∙ decimal-digits_value own (first ∷ rest) digits.1 digits.0 sole (omega arith)
 
-negative : (n : ℕ) (text : List ℕ) (first : ℕ) (rest : List ℕ) → text ≡ first ∷ rest → first ≢ 48 → decimal n ≡ text → number_text (neg_ℤ (pos n)) ≡ 45 ∷ text
+negative : (n : ℕ) (text : List ℕ) (first : ℕ) (rest : List ℕ) → text ≡ first ∷ rest → first ≢ 48 → decimal n ≡ text
+    → number_text (neg_ℤ (pos n)) ≡ 45 ∷ text
 negative zero text first rest e lead same =
     let same_head : 48 ∷ [] ≡ first ∷ rest = sym (decimal_digit 0 (omega arith)) ∙ same ∙ e in
     absurd (lead (ap (λ ds. get_or ds 0 0) (sym same_head)))
@@ -84,33 +90,45 @@ small_negative zero fits = omega arith
 small_negative (suc n) fits = let h : n < 2 ^ 63 = is_number-mag (negsuc n) fits in omega arith
 
 -- so are a minus and digits that begin with no zero
-signed_text : (first : ℕ) (rest : List ℕ) → is_leading first ≡ true → IsNumeral 10 (first ∷ rest) → is_number (signed_digits_value 10 (45 ∷ first ∷ rest)) ≡ true
+signed_text : (first : ℕ) (rest : List ℕ) → is_leading first ≡ true → IsNumeral 10 (first ∷ rest)
+    → is_number (signed_digits_value 10 (45 ∷ first ∷ rest)) ≡ true
     → number_text (signed_digits_value 10 (45 ∷ first ∷ rest)) ≡ 45 ∷ first ∷ rest
 signed_text first rest lead digits fits =
     let n = digits_value 10 (first ∷ rest) in
     let other : first ≢ 48 = λ e. let t : is_leading 48 ≡ true = ap is_leading (sym e) ∙ lead in absurd (cc) in
     let small : n < 2 ^ 64 = small_negative n fits in
-    negative n (first ∷ rest) first rest refl other (decimal-digits_value own (first ∷ rest) digits.1 digits.0 (λ e. absurd (other e)) small)
+    negative n (first ∷ rest) first rest refl other
+    (decimal-digits_value own (first ∷ rest) digits.1 digits.0 (λ e. absurd (other e)) small)
 
-with_minus : (first second : ℕ) (rest : List ℕ) → first ≡ 45 → is_plain (first ∷ second ∷ rest) ≡ true → IsNumeral 10 (without_leading_sign (first ∷ second ∷ rest)) → is_number (signed_digits_value 10 (first ∷ second ∷ rest)) ≡ true
+with_minus : (first second : ℕ) (rest : List ℕ) → first ≡ 45 → is_plain (first ∷ second ∷ rest) ≡ true
+    → IsNumeral 10 (without_leading_sign (first ∷ second ∷ rest))
+    → is_number (signed_digits_value 10 (first ∷ second ∷ rest)) ≡ true
     → number_text (signed_digits_value 10 (first ∷ second ∷ rest)) ≡ first ∷ second ∷ rest
 with_minus first second rest e =
-    let P : ℕ → Type 0 = λ x. is_plain (x ∷ second ∷ rest) ≡ true → IsNumeral 10 (without_leading_sign (x ∷ second ∷ rest)) → is_number (signed_digits_value 10 (x ∷ second ∷ rest)) ≡ true → number_text (signed_digits_value 10 (x ∷ second ∷ rest)) ≡ x ∷ second ∷ rest in
+    let P : ℕ → Type 0 = λ x. is_plain (x ∷ second ∷ rest) ≡ true
+    → IsNumeral 10 (without_leading_sign (x ∷ second ∷ rest))
+    → is_number (signed_digits_value 10 (x ∷ second ∷ rest)) ≡ true
+    → number_text (signed_digits_value 10 (x ∷ second ∷ rest)) ≡ x ∷ second ∷ rest in
     let it : P 45 = λ plain numeral fits. signed_text second rest plain numeral fits in
     subst P (sym e) it
 
 -- a plain text is what is printed of its value
-pub plain_text : (text : List ℕ) → is_plain text ≡ true → IsNumeral 10 (without_leading_sign text) → is_number (signed_digits_value 10 text) ≡ true → number_text (signed_digits_value 10 text) ≡ text
+plain_text : (text : List ℕ) → is_plain text ≡ true → IsNumeral 10 (without_leading_sign text)
+    → is_number (signed_digits_value 10 text) ≡ true → number_text (signed_digits_value 10 text) ≡ text
 plain_text [] plain numeral fits = absurd (cc)
 plain_text (first ∷ []) plain numeral fits =
-    let minus : first ≢ 45 = λ e. let t : is_plain (45 ∷ []) ≡ true = ap (λ x. is_plain (x ∷ [])) (sym e) ∙ plain in absurd (cc) in
-    let plus : first ≢ 43 = λ e. let t : is_plain (43 ∷ []) ≡ true = ap (λ x. is_plain (x ∷ [])) (sym e) ∙ plain in absurd (cc) in
+    let minus : first ≢ 45 = λ e. let t : is_plain (45 ∷ []) ≡ true =
+    ap (λ x. is_plain (x ∷ [])) (sym e) ∙ plain in absurd (cc) in
+    let plus : first ≢ 43 = λ e. let t : is_plain (43 ∷ []) ≡ true =
+    ap (λ x. is_plain (x ∷ [])) (sym e) ∙ plain in absurd (cc) in
     unsigned_text first [] minus plus (λ e. refl) numeral fits
 plain_text (first ∷ second ∷ rest) plain numeral fits =
-    elim (eqb_tells first 45) as (λ _. number_text (signed_digits_value 10 (first ∷ second ∷ rest)) ≡ first ∷ second ∷ rest) [
+    elim (eqb_tells first 45) as
+    (λ _. number_text (signed_digits_value 10 (first ∷ second ∷ rest)) ≡ first ∷ second ∷ rest) [
       | inl h ↦ with_minus first second rest h.1 plain numeral fits
       | inr h ↦
-          let lead : is_leading first ≡ true = ap (λ b. cond b (is_leading second) (is_leading first)) (sym h.0) ∙ plain in
+          let lead : is_leading first ≡ true =
+          ap (λ b. cond b (is_leading second) (is_leading first)) (sym h.0) ∙ plain in
           let plus : first ≢ 43 = λ e. let t : is_leading 43 ≡ true = ap is_leading (sym e) ∙ lead in absurd (cc) in
           let other : first ≢ 48 = λ e. let t : is_leading 48 ≡ true = ap is_leading (sym e) ∙ lead in absurd (cc) in
           unsigned_text first (second ∷ rest) h.1 plus (λ e. absurd (other e)) numeral fits
@@ -120,7 +138,8 @@ leading : (c : ℕ) → 48 < c → digit_value c < 10 → is_leading c ≡ true
 leading c low digit = let range = digit_from_value c digit in grind (arith, nat_tests)
 
 -- digits that begin with none that is zero are plain, and so with a minus
-plain_digits : (ds : List ℕ) → 0 < length ds → 48 < get_or ds 0 0 → AllDigits 10 ds → (is_plain ds ≡ true) × (is_plain (45 ∷ ds) ≡ true)
+plain_digits : (ds : List ℕ) → 0 < length ds → 48 < get_or ds 0 0 → AllDigits 10 ds → (is_plain ds ≡ true)
+    × (is_plain (45 ∷ ds) ≡ true)
 plain_digits [] some low digits = absurd (omega arith)
 plain_digits (c ∷ []) some low digits =
     let lead = leading c low digits.0 in
@@ -131,7 +150,9 @@ plain_digits (c ∷ d ∷ ds) some low digits =
     (ap (λ b. cond b (is_leading d) (is_leading c)) (ne_eqb c 45 minus) ∙ lead, lead)
 
 plain_decimal : (n : ℕ) → 0 < n → n < 2 ^ 64 → (is_plain (decimal n) ≡ true) × (is_plain (45 ∷ decimal n) ≡ true)
-plain_decimal n some small = plain_digits (decimal n) (decimal_nonempty n small) (first_decimal n some small) ((decimal_is_IsNumeral n small).0.1)
+plain_decimal n some small =
+    plain_digits (decimal n) (decimal_nonempty n small) (first_decimal n some small)
+    ((decimal_is_IsNumeral n small).0.1)
 
 -- what is printed is plain
 pub number_text-plain : (z : ℤ) → is_number z ≡ true → is_plain (number_text z) ≡ true
@@ -151,27 +172,36 @@ fits_signed : (z : ℤ) → is_number z ≡ true → FitsSigned w64 z
 fits_signed z h = record { sfits = is_number-mag z h }
 
 -- what the parser answers to a plain text is its number, and an error where it is no number's
-pub number-from_parse : {E : Type 0} (text : List ℕ) (r : Result ℤ E) → is_plain text ≡ true → ParsesSigned w64 10 text r
-    → MatchResult r (λ z. (text ≡ number_text z) × (number_of text ≡ Some z)) (λ e. (z : ℤ) → is_number z ≡ true → text ≢ number_text z)
+number-from_parse : {E : Type 0} (text : List ℕ) (r : Result ℤ E) → is_plain text ≡ true → ParsesSigned w64 10 text r
+    → MatchResult r (λ z. (text ≡ number_text z) × (number_of text ≡ Some z))
+    (λ e. (z : ℤ) → is_number z ≡ true → text ≢ number_text z)
 number-from_parse text (Ok z) plain parses =
-    let fits : is_number (signed_digits_value 10 text) ≡ true = is_number-from_mag (signed_digits_value 10 text) parses.0.1.sfits in
+    let fits : is_number (signed_digits_value 10 text) ≡ true =
+    is_number-from_mag (signed_digits_value 10 text) parses.0.1.sfits in
     let same = plain_text text plain parses.0.0 fits in
     (sym same ∙ ap number_text (sym parses.1), number_of-some text fits same ∙ ap Some (sym parses.1))
 number-from_parse {E} text (Err e) plain parses = λ z h same.
-    let it : ◌≡◌ {A = Result ℤ E} (Err e) (Ok z) = parse-signed_decimal w64 z text (Err e) (fits_signed z h) (is_number-mag z h) same parses in
+    let it : ◌≡◌ {A = Result ℤ E} (Err e) (Ok z) =
+    parse-signed_decimal w64 z text (Err e) (fits_signed z h) (is_number-mag z h) same parses in
     absurd (cc)
 
 -- the same of a result that hands the number on
-pub number-handed_on : {E F : Type 0} (text : List ℕ) (r : Result ℤ E) (q : Result ℤ F) (P : E → Type 0) → is_plain text ≡ true → ParsesSigned w64 10 text r → MatchResult r (λ z. q ≡ Ok z) P → is_ok q ≡ is_ok r
-    → MatchResult q (λ z. (text ≡ number_text z) × (number_of text ≡ Some z)) (λ e. (z : ℤ) → is_number z ≡ true → text ≢ number_text z)
+pub number-handed_on : {E F : Type 0} (text : List ℕ) (r : Result ℤ E) (q : Result ℤ F) (P : E → Type 0)
+    → is_plain text ≡ true → ParsesSigned w64 10 text r → MatchResult r (λ z. q ≡ Ok z) P → is_ok q ≡ is_ok r
+    → MatchResult q (λ z. (text ≡ number_text z) × (number_of text ≡ Some z))
+    (λ e. (z : ℤ) → is_number z ≡ true → text ≢ number_text z)
 number-handed_on {E} {F} text (Ok z) q P plain parses same ok =
     let given = number-from_parse {E = E} text (Ok z) plain parses in
-    let Q : Result ℤ F → Type 0 = λ o. MatchResult o (λ z. (text ≡ number_text z) × (number_of text ≡ Some z)) (λ e. (z : ℤ) → is_number z ≡ true → text ≢ number_text z) in
+    let Q : Result ℤ F
+    → Type 0 = λ o. MatchResult o (λ z. (text ≡ number_text z) × (number_of text ≡ Some z))
+    (λ e. (z : ℤ) → is_number z ≡ true → text ≢ number_text z) in
     subst Q (sym same) given
 number-handed_on text (Err e) (Ok z) P plain parses same ok = absurd (cc)
 number-handed_on text (Err e) (Err f) P plain parses same ok = number-from_parse text (Err e) plain parses
 
 -- the number of what is answered
-pub result_ok-number : {F : Type 0} (text : List ℕ) (q : Result ℤ F) → MatchResult q (λ z. (text ≡ number_text z) × (number_of text ≡ Some z)) (λ e. (z : ℤ) → is_number z ≡ true → text ≢ number_text z) → result_ok q ≡ number_of text
+pub result_ok-number : {F : Type 0} (text : List ℕ) (q : Result ℤ F)
+    → MatchResult q (λ z. (text ≡ number_text z) × (number_of text ≡ Some z))
+    (λ e. (z : ℤ) → is_number z ≡ true → text ≢ number_text z) → result_ok q ≡ number_of text
 result_ok-number text (Ok z) h = sym h.1
 result_ok-number text (Err e) h = sym (number_of-none text h)

@@ -1,87 +1,108 @@
 -- Values that are read one column after another.
-use Rattle.std.proofs.Common.{◌≡◌, ◌≢◌, ℕ, ◌+◌, ◌<◌, List, [], ◌∷◌, ◌++◌, length, drop, get_or, refl, sym, ◌∙◌, ap, append_assoc}
+use Rattle.std.proofs.Common.{◌≡◌, ℕ, ◌+◌, ◌<◌, List, [], ◌∷◌, ◌++◌, length, drop, get_or, refl, sym, ◌∙◌, ap, append_assoc}
 use Rattle.std.specs.Prelude.{Result, Ok, Err, Some, None}
-use Rattle.std.specs.Result.{result_map_both, result_err}
+use Rattle.std.specs.Result.{result_err}
 use Rattle.std.proofs.lemmas.List.{drop_more}
-use Rattle.row_core.specs.Refusals.{IsAnswerUnless, result_and_then}
+use Rattle.row_core.specs.Refusals.{IsAnswer, Reads, and_then, map_err, map_ok, map_refused}
 use Rattle.row_core.specs.Reading.{field_of, refusal_of_value, values_of}
 use Rattle.row_core.specs.Value.{value_of}
+use Rattle.row_core.specs.declared.failure.Failure.{Failure}
+use Rattle.row_core.specs.declared.failure.Failure.TheVariants.{Refused, NoMemory}
 use Rattle.row_core.specs.declared.reading.RowRefused.{RowRefused}
-use Rattle.row_core.specs.declared.reading.RowRefused.TheVariants as row
 use Rattle.row_core.specs.declared.schema.Column.{Column}
 use Rattle.row_core.specs.declared.value.Kind.{Kind}
 use Rattle.row_core.specs.declared.value.Value.{Value}
 use Rattle.row_core.specs.declared.value.ValueRefused.{ValueRefused}
-use Rattle.row_core.specs.declared.value.ValueRefused.TheVariants as value
 
 -- one column on
-pub values_of-drop : (cs : List Column) (fs : List (List ℕ)) (i : ℕ) (c : Column) (f : List ℕ) → i < length cs → i < length fs
-    → values_of (drop i cs) (drop i fs) ≡ result_and_then (λ first. result_map_both (λ rest. first ∷ rest) (λ e. e) (values_of (drop (i + 1) cs) (drop (i + 1) fs))) (field_of (get_or cs i c).kind (get_or fs i f))
-values_of-drop cs fs i c f h k = ap (λ l. values_of l (drop i fs)) (drop_more cs i c h) ∙ ap (values_of (get_or cs i c ∷ drop (i + 1) cs)) (drop_more fs i f k)
+values_of-drop : (cs : List Column) (fs : List (List ℕ)) (i : ℕ) (c : Column) (f : List ℕ) → i < length cs
+    → i < length fs
+    → values_of (drop i cs) (drop i fs) ≡ and_then (field_of (get_or cs i c).kind (get_or fs i f))
+    (λ first. map_ok (λ rest. first ∷ rest) (values_of (drop (i + 1) cs) (drop (i + 1) fs)))
+values_of-drop cs fs i c f h k =
+    ap (λ l. values_of l (drop i fs)) (drop_more cs i c h)
+    ∙ ap (values_of (get_or cs i c ∷ drop (i + 1) cs)) (drop_more fs i f k)
 
 -- what stands before the rest, and one value more
-pub map_both-push : {E : Type 0} (done : List Value) (v : Value) (r : Result (List Value) E) → result_map_both (λ rest. done ++ rest) (λ e. e) (result_map_both (λ rest. v ∷ rest) (λ e. e) r) ≡ result_map_both (λ rest. (done ++ v ∷ []) ++ rest) (λ e. e) r
+map_both-push : {E : Type 0} (done : List Value) (v : Value) (r : Result (List Value) E)
+    → map_ok (λ rest. done ++ rest) (map_ok (λ rest. v ∷ rest) r) ≡ map_ok (λ rest. (done ++ v ∷ []) ++ rest) r
 map_both-push done v (Ok rest) = ap Ok (sym (append_assoc done (v ∷ []) rest))
 map_both-push done v (Err e) = refl
 
 -- a field that is read
-pub field_of-ok : (kind : Kind) (field : List ℕ) (v : Value) → value_of kind field ≡ Ok v → field_of kind field ≡ Ok v
-field_of-ok kind field v e = ap (result_map_both (λ w. w) refusal_of_value) e
+field_of-ok : (kind : Kind) (field : List ℕ) (v : Value) → value_of kind field ≡ Ok v → field_of kind field ≡ Ok v
+field_of-ok kind field v e = ap (map_err refusal_of_value) e
 
-pub field_of-err : (kind : Kind) (field : List ℕ) (e : ValueRefused) → value_of kind field ≡ Err e → field_of kind field ≡ Err (refusal_of_value e)
-field_of-err kind field e h = ap (result_map_both (λ w. w) refusal_of_value) h
-
--- what the answer is where there is no want of memory
-pub answer-ok : {T E : Type 0} (answer : Result T E) (other : E) (v : T) → IsAnswerUnless (Ok v) other answer → answer ≡ Ok v
-answer-ok (Ok w) other v h = ap Ok (sym h)
-answer-ok (Err e) other v h = sym h
-
-pub answer-err : {T E : Type 0} (answer : Result T E) (other e : E) → IsAnswerUnless (Err e) other answer → e ≢ other → answer ≡ Err e
-answer-err (Ok w) other e h no_memory = absurd (no_memory h)
-answer-err (Err d) other e h no_memory = sym h
-
--- a field that is refused, for want of no memory
-pub field_of-refused : (kind : Kind) (field : List ℕ) (e : ValueRefused) → IsAnswerUnless (Err e) value.NoMemory (value_of kind field) → refusal_of_value e ≢ row.NoMemory → field_of kind field ≡ Err (refusal_of_value e)
-field_of-refused kind field e h no_memory = field_of-err kind field e (answer-err (value_of kind field) value.NoMemory e h (λ same. no_memory (ap refusal_of_value same)))
+field_of-err : (kind : Kind) (field : List ℕ) (e : ValueRefused) → value_of kind field ≡ Err e
+    → field_of kind field ≡ Err (refusal_of_value e)
+field_of-err kind field e h = ap (map_err refusal_of_value) h
 
 -- one value more
-pub values_of-push : (cs : List Column) (fs : List (List ℕ)) (i : ℕ) (done : List Value) (c : Column) (f : List ℕ) (v : Value) → i < length cs → i < length fs → value_of (get_or cs i c).kind (get_or fs i f) ≡ Ok v
-    → values_of cs fs ≡ result_map_both (λ rest. done ++ rest) (λ e. e) (values_of (drop i cs) (drop i fs))
-    → values_of cs fs ≡ result_map_both (λ rest. (done ++ v ∷ []) ++ rest) (λ e. e) (values_of (drop (i + 1) cs) (drop (i + 1) fs))
+pub values_of-push : (cs : List Column) (fs : List (List ℕ)) (i : ℕ) (done : List Value) (c : Column) (f : List ℕ)
+    (v : Value) → i < length cs → i < length fs → value_of (get_or cs i c).kind (get_or fs i f) ≡ Ok v
+    → values_of cs fs ≡ map_ok (λ rest. done ++ rest) (values_of (drop i cs) (drop i fs))
+    → values_of cs fs ≡ map_ok (λ rest. (done ++ v ∷ []) ++ rest) (values_of (drop (i + 1) cs) (drop (i + 1) fs))
 values_of-push cs fs i done c f v h k given e =
     let rest = values_of (drop (i + 1) cs) (drop (i + 1) fs) in
-    e ∙ ap (result_map_both (λ rest. done ++ rest) (λ e. e)) (values_of-drop cs fs i c f h k ∙ ap (result_and_then (λ first. result_map_both (λ rest. first ∷ rest) (λ e. e) rest)) (field_of-ok (get_or cs i c).kind (get_or fs i f) v given))
+    e ∙ ap (map_ok (λ rest. done ++ rest))
+    (values_of-drop cs fs i c f h k
+    ∙ ap (λ read. and_then read (λ first. map_ok (λ rest. first ∷ rest) rest))
+    (field_of-ok (get_or cs i c).kind (get_or fs i f) v given))
     ∙ map_both-push done v rest
 
 -- the first that is refused
-pub values_of-refused : (cs : List Column) (fs : List (List ℕ)) (i : ℕ) (done : List Value) (c : Column) (f : List ℕ) (e : RowRefused) → i < length cs → i < length fs → field_of (get_or cs i c).kind (get_or fs i f) ≡ Err e
-    → values_of cs fs ≡ result_map_both (λ rest. done ++ rest) (λ e. e) (values_of (drop i cs) (drop i fs)) → values_of cs fs ≡ Err e
+values_of-refused : (cs : List Column) (fs : List (List ℕ)) (i : ℕ) (done : List Value) (c : Column) (f : List ℕ)
+    (e : RowRefused) → i < length cs → i < length fs → field_of (get_or cs i c).kind (get_or fs i f) ≡ Err e
+    → values_of cs fs ≡ map_ok (λ rest. done ++ rest) (values_of (drop i cs) (drop i fs)) → values_of cs fs ≡ Err e
 values_of-refused cs fs i done c f e h k given same =
     let rest = values_of (drop (i + 1) cs) (drop (i + 1) fs) in
-    same ∙ ap (result_map_both (λ rest. done ++ rest) (λ e. e)) (values_of-drop cs fs i c f h k ∙ ap (result_and_then (λ first. result_map_both (λ rest. first ∷ rest) (λ e. e) rest)) given)
+    same ∙ ap (map_ok (λ rest. done ++ rest))
+    (values_of-drop cs fs i c f h k
+    ∙ ap (λ read. and_then read (λ first. map_ok (λ rest. first ∷ rest) rest)) given)
 
-result_err-map : (v : Value) (r : Result (List Value) RowRefused) → result_err (result_map_both (λ rest. v ∷ rest) (λ e. e) r) ≡ result_err r
+-- the next value fails: it is refused, or memory is
+pub values_of-failed : (cs : List Column) (fs : List (List ℕ)) (i : ℕ) (done : List Value) (c : Column)
+    (f field : List ℕ) (e : Failure ValueRefused) → i < length cs → i < length fs → get_or fs i f ≡ field
+    → IsAnswer {T = Value} (value_of (get_or cs i c).kind field) (Err e)
+    → values_of cs fs ≡ map_ok (λ rest. done ++ rest) (values_of (drop i cs) (drop i fs))
+    → Reads {T = List Value} (λ values. values) (values_of cs fs) (Err (map_refused refusal_of_value e))
+values_of-failed cs fs i done c f field (Refused e) h k at given same =
+    let refused = ap (field_of (get_or cs i c).kind) at ∙ field_of-err (get_or cs i c).kind field e given in
+    values_of-refused cs fs i done c f (refusal_of_value e) h k refused same
+values_of-failed cs fs i done c f field NoMemory h k at given same = tt
+
+result_err-map : (v : Value) (r : Result (List Value) RowRefused)
+    → result_err (map_ok (λ rest. v ∷ rest) r) ≡ result_err r
 result_err-map v (Ok rest) = refl
 result_err-map v (Err e) = refl
 
 result_err-then : (rest : Result (List Value) RowRefused) (read : Result Value ValueRefused) → None ≡ result_err read
-    → result_err (result_and_then (λ first. result_map_both (λ more. first ∷ more) (λ e. e) rest) (result_map_both (λ w. w) refusal_of_value read)) ≡ result_err rest
+    → result_err
+    (and_then (map_err refusal_of_value read) (λ first. map_ok (λ more. first ∷ more) rest)) ≡ result_err rest
 result_err-then rest (Ok v) h = result_err-map v rest
 result_err-then rest (Err e) h = absurd (cc)
 
-result_err-stop : (rest : Result (List Value) RowRefused) (read : Result Value ValueRefused) (e : ValueRefused) → Some e ≡ result_err read
-    → result_err (result_and_then (λ first. result_map_both (λ more. first ∷ more) (λ e. e) rest) (result_map_both (λ w. w) refusal_of_value read)) ≡ Some (refusal_of_value e)
+result_err-stop : (rest : Result (List Value) RowRefused) (read : Result Value ValueRefused) (e : ValueRefused)
+    → Some e ≡ result_err read
+    → result_err (and_then (map_err refusal_of_value read) (λ first. map_ok (λ more. first ∷ more) rest)) ≡ Some
+    (refusal_of_value e)
 result_err-stop rest (Ok v) e h = absurd (cc)
 result_err-stop rest (Err d) e h = let same : e ≡ d = cc in ap (λ x. Some (refusal_of_value x)) (sym same)
 
 -- a field that is not refused leaves the refusal to the rest
-pub result_err-next : (cs : List Column) (fs : List (List ℕ)) (i : ℕ) (c : Column) (f : List ℕ) → i < length cs → i < length fs → None ≡ result_err (value_of (get_or cs i c).kind (get_or fs i f))
+pub result_err-next : (cs : List Column) (fs : List (List ℕ)) (i : ℕ) (c : Column) (f : List ℕ) → i < length cs
+    → i < length fs → None ≡ result_err (value_of (get_or cs i c).kind (get_or fs i f))
     → result_err (values_of (drop i cs) (drop i fs)) ≡ result_err (values_of (drop (i + 1) cs) (drop (i + 1) fs))
 result_err-next cs fs i c f h k none =
-    ap result_err (values_of-drop cs fs i c f h k) ∙ result_err-then (values_of (drop (i + 1) cs) (drop (i + 1) fs)) (value_of (get_or cs i c).kind (get_or fs i f)) none
+    ap result_err (values_of-drop cs fs i c f h k)
+    ∙ result_err-then (values_of (drop (i + 1) cs) (drop (i + 1) fs))
+    (value_of (get_or cs i c).kind (get_or fs i f)) none
 
 -- one that is refused is the first
-pub result_err-here : (cs : List Column) (fs : List (List ℕ)) (i : ℕ) (c : Column) (f : List ℕ) (e : ValueRefused) → i < length cs → i < length fs → Some e ≡ result_err (value_of (get_or cs i c).kind (get_or fs i f))
+pub result_err-here : (cs : List Column) (fs : List (List ℕ)) (i : ℕ) (c : Column) (f : List ℕ) (e : ValueRefused)
+    → i < length cs → i < length fs → Some e ≡ result_err (value_of (get_or cs i c).kind (get_or fs i f))
     → result_err (values_of (drop i cs) (drop i fs)) ≡ Some (refusal_of_value e)
 result_err-here cs fs i c f e h k some =
-    ap result_err (values_of-drop cs fs i c f h k) ∙ result_err-stop (values_of (drop (i + 1) cs) (drop (i + 1) fs)) (value_of (get_or cs i c).kind (get_or fs i f)) e some
+    ap result_err (values_of-drop cs fs i c f h k)
+    ∙ result_err-stop (values_of (drop (i + 1) cs) (drop (i + 1) fs))
+    (value_of (get_or cs i c).kind (get_or fs i f)) e some

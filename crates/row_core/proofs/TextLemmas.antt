@@ -12,15 +12,19 @@ use Rattle.row_core.specs.declared.text.TextRefused.TheVariants.{TooLong, BadUtf
 short : (n : ℕ) → n ≤ 4096 → nat_lt 4096 n ≡ false
 short n h = grind (arith, nat_tests)
 
-both : (bytes : List ℕ) (test : Bool) → refused_or (first_of ((false, TooLong) ∷ (not test, BadUtf8) ∷ [])) bytes ≡ cond test (Ok bytes) (Err BadUtf8)
+both : (bytes : List ℕ) (test : Bool)
+    → refused_or (first_of ((false, TooLong) ∷ (not test, BadUtf8) ∷ [])) bytes ≡ cond test (Ok bytes) (Err BadUtf8)
 both bytes true = refl
 both bytes false = refl
 
 -- the text of bytes that are few enough
-decided : (bytes : List ℕ) (test : Bool) → length bytes ≤ 4096 → is_utf8 bytes ≡ test → text_of bytes ≡ cond test (Ok bytes) (Err BadUtf8)
+decided : (bytes : List ℕ) (test : Bool) → length bytes ≤ 4096 → is_utf8 bytes ≡ test
+    → text_of bytes ≡ cond test (Ok bytes) (Err BadUtf8)
 decided bytes test few e =
-    let tests : Bool → Bool → Result (List ℕ) TextRefused = λ long utf8. refused_or (first_of ((long, TooLong) ∷ (not utf8, BadUtf8) ∷ [])) bytes in
-    ap (λ long. tests long (is_utf8 bytes)) (short (length bytes) few) ∙ ap (λ utf8. tests false utf8) e ∙ both bytes test
+    let tests : Bool → Bool → Result (List ℕ) TextRefused =
+    λ long utf8. refused_or (first_of ((long, TooLong) ∷ (not utf8, BadUtf8) ∷ [])) bytes in
+    ap (λ long. tests long (is_utf8 bytes)) (short (length bytes) few) ∙ ap (λ utf8. tests false utf8) e
+    ∙ both bytes test
 
 utf8_false : (bytes : List ℕ) (test : Bool) → is_utf8 bytes ≡ test → (IsUtf8 bytes → ⊥) → test ≡ false
 utf8_false bytes true e h = absurd (h (IsUtf8-from_is_utf8 bytes e))

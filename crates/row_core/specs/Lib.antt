@@ -1,3 +1,4 @@
+pub mod Limits
 pub mod Name
 pub mod Number
 pub mod Reading

@@ -1,11 +1,11 @@
 -- Names: 1 to 32 lower-case letters, digits and `_`, the first a letter, and no reserved word.
-use Rattle.std.specs.Prelude.{ℕ, ◌-◌, List, [], ◌∷◌, ◌++◌, length, Bool, false, ◌&&◌, ◌||◌, ◌==◌, not, if◌then◌else◌, Option, Some, None, nat_eq, nat_le, replicate, take_while, codes}
+use Rattle.std.specs.Prelude.{ℕ, ◌-◌, List, [], ◌∷◌, ◌++◌, length, Bool, false, ◌&&◌, ◌||◌, ◌==◌, not, if◌then◌else◌, Option, Some, None, bytes_eq, nat_le, replicate, take_while, codes}
 use Rattle.std.specs.List.{list_all, list_any}
-use Rattle.std.specs.Cmp.Lexicographic.{pointwise}
+use Rattle.row_core.specs.Limits.{name_limit}
 
 -- two names are one
 abbrev pub same_name : List ℕ → List ℕ → Bool
-same_name a b = pointwise nat_eq a b
+same_name a b = bytes_eq a b
 
 -- a letter from a to z
 abbrev pub is_letter : ℕ → Bool
@@ -26,19 +26,21 @@ reserved_words = codes "asof" ∷ codes "by" ∷ codes "key" ∷ codes "on" ∷ 
 
 -- the text is one of the reserved words
 abbrev pub is_reserved : List ℕ → Bool
-is_reserved text = list_any (λ word. same_name word text) reserved_words
+is_reserved text = list_any (λ word. bytes_eq word text) reserved_words
 
 -- the text is a name
 abbrev pub is_name : List ℕ → Bool
-is_name text = starts_with_letter text && (nat_le (length text) 32 && (list_all is_name_byte text && not (is_reserved text)))
+is_name text =
+    starts_with_letter text &&
+    (nat_le (length text) name_limit && (list_all is_name_byte text && not (is_reserved text)))
 
 -- the name that a text is, if it is one
 abbrev pub name_of : List ℕ → Option (List ℕ)
 name_of text = if is_name text then Some text else None
 
--- a name as it is kept: zeros behind it, up to 32 bytes
+-- a name as it is kept: zeros behind it, up to the limit
 abbrev pub padded : List ℕ → List ℕ
-padded text = text ++ replicate (32 - length text) 0
+padded text = text ++ replicate (name_limit - length text) 0
 
 -- what stands before the zeros
 abbrev pub unpadded : List ℕ → List ℕ

@@ -1,6 +1,5 @@
 -- Numbers as texts: decimal, as they are printed.
-use Rattle.std.specs.Prelude.{ℕ, ◌^◌, ℤ, pos, negsuc, List, [], ◌∷◌, Bool, false, ◌&&◌, ◌||◌, ◌==◌, if◌then◌else◌, Option, Some, None, nat_eq, nat_le, nat_lt}
-use Rattle.std.specs.Cmp.Lexicographic.{pointwise}
+use Rattle.std.specs.Prelude.{ℕ, ◌^◌, ℤ, pos, negsuc, List, [], ◌∷◌, Bool, false, ◌&&◌, ◌||◌, ◌==◌, if◌then◌else◌, Option, Some, None, bytes_eq, nat_le, nat_lt}
 use Rattle.std.specs.Fmt.{signed_decimal}
 use Rattle.std.specs.Str.Parse.{signed_digits_value}
 
@@ -17,7 +16,7 @@ number_text n = signed_decimal n
 -- the number of that text, if there is one: what its digits stand for, where that is printed so
 abbrev pub number_of : List ℕ → Option ℤ
 number_of text = let number = signed_digits_value 10 text in
-    if is_number number && pointwise nat_eq (number_text number) text then Some number else None
+    if is_number number && bytes_eq (number_text number) text then Some number else None
 
 -- a digit from 1 to 9
 abbrev pub is_leading : ℕ → Bool

@@ -1,6 +1,8 @@
 -- Refusals in the order in which they are tested.
-use Rattle.std.specs.Prelude.{◌≡◌, List, [], ◌∷◌, Bool, if◌then◌else◌, Option, Some, None, Result, Ok, Err, MatchResult}
+use Rattle.std.specs.Prelude.{◌≡◌, List, [], ◌∷◌, Bool, if◌then◌else◌, Option, Some, None, Result, Ok, Err, IsOk, ⊤}
 use Rattle.std.specs.Result.{result_map_both}
+use Rattle.row_core.specs.declared.failure.Failure.{Failure}
+use Rattle.row_core.specs.declared.failure.Failure.TheVariants.{Refused, NoMemory}
 
 -- the name of the first test that applies
 abbrev pub first_of : {E : Type 0} → List (Bool × E) → Option E
@@ -12,17 +14,37 @@ abbrev pub refused_or : {T E : Type 0} → Option E → T → Result T E
 refused_or None answer = Ok answer
 refused_or (Some refusal) answer = Err refusal
 
--- what follows from the value, or the first refusal
-abbrev pub result_and_then : {T U E : Type 0} → (T → Result U E) → Result T E → Result U E
-result_and_then f (Ok value) = f value
-result_and_then f (Err refusal) = Err refusal
+-- what follows from the value, or the refusal that comes before it
+abbrev pub and_then : {T U E : Type 0} → Result T E → (T → Result U E) → Result U E
+and_then (Ok value) follow = follow value
+and_then (Err refusal) follow = Err refusal
+
+-- what the value makes, or the refusal
+abbrev pub map_ok : {T U E : Type 0} → (T → U) → Result T E → Result U E
+map_ok make answer = result_map_both make (λ refusal. refusal) answer
+
+-- the value, or what the refusal is by another name
+abbrev pub map_err : {T E D : Type 0} → (E → D) → Result T E → Result T D
+map_err rename answer = result_map_both (λ value. value) rename answer
 
 -- what each of these gives, or the first refusal
 abbrev pub read_each : {T U E : Type 0} → (T → Result U E) → List T → Result (List U) E
 read_each read [] = Ok []
-read_each read (x ∷ xs) = result_and_then (λ first. result_map_both (λ others. first ∷ others) (λ refusal. refusal) (read_each read xs)) (read x)
+read_each read (x ∷ xs) = and_then (read x) (λ first. map_ok (λ others. first ∷ others) (read_each read xs))
 
--- the answer: a refusal always, and a value unless there is the one error that is no answer's
-abbrev pub IsAnswerUnless : {T E : Type 0} → Result T E → E → Result T E → Type 0
-IsAnswerUnless result other (Ok value) = MatchResult result (λ given. given ≡ value) (λ refusal. refusal ≡ other)
-IsAnswerUnless result other (Err refusal) = result ≡ Err refusal
+-- a call's answer is the value that is meant, or the refusal; memory is missed only where a value is meant
+abbrev pub IsAnswer : {T E : Type 0} → Result T E → Result T (Failure E) → Type 0
+IsAnswer meant (Ok value) = meant ≡ Ok value
+IsAnswer meant (Err (Refused refusal)) = meant ≡ Err refusal
+IsAnswer meant (Err NoMemory) = IsOk meant
+
+-- it stands for the value that is meant, or is the refusal; of memory that is missed nothing is said
+abbrev pub Reads : {S T E : Type 0} → (T → S) → Result S E → Result T (Failure E) → Type 0
+Reads stands meant (Ok value) = meant ≡ Ok (stands value)
+Reads stands meant (Err (Refused refusal)) = meant ≡ Err refusal
+Reads stands meant (Err NoMemory) = ⊤
+
+-- a failure whose refusal has another name
+abbrev pub map_refused : {D E : Type 0} → (E → D) → Failure E → Failure D
+map_refused rename (Refused refusal) = Refused (rename refusal)
+map_refused rename NoMemory = NoMemory

@@ -1,9 +1,9 @@
 -- The columns of a table, and what fits them.
-use Rattle.std.specs.Prelude.{◌≢◌, ◌≤◌, ◌<◌, ℕ, List, [], ◌∷◌, ◌++◌, length, map, count_by, Bool, false, ◌||◌, Option, Some, None, IsSome, is_none, is_some, Result, position, nat_eq, nat_lt, AllPairs}
+use Rattle.std.specs.Prelude.{bytes_eq, ◌≢◌, ◌≤◌, ◌<◌, ℕ, List, [], ◌∷◌, ◌++◌, length, map, count_by, Bool, false, ◌||◌, Option, Some, None, IsSome, is_none, is_some, Result, position, nat_eq, nat_lt, AllPairs}
 use Rattle.std.specs.Cmp.Lexicographic.{pointwise}
 use Rattle.std.specs.List.{filter_map, list_any, range_with_len}
 use Rattle.std.specs.Option.{option_eq}
-use Rattle.row_core.specs.Name.{same_name}
+use Rattle.row_core.specs.Limits.{column_limit}
 use Rattle.row_core.specs.Refusals.{first_of, refused_or}
 use Rattle.row_core.specs.Value.{kind_of, same_kind}
 use Rattle.row_core.specs.declared.schema.Column.{Column}
@@ -17,7 +17,7 @@ use Rattle.row_core.specs.declared.value.Value.{Value}
 -- two pairs have one name
 abbrev pub has_twins : List (List ℕ × Kind) → Bool
 has_twins [] = false
-has_twins (pair ∷ pairs) = list_any (λ other. same_name pair.0 other.0) pairs || has_twins pairs
+has_twins (pair ∷ pairs) = list_any (λ other. bytes_eq pair.0 other.0) pairs || has_twins pairs
 
 -- the column is part of the key
 abbrev pub is_in_key : Column → Bool
@@ -33,7 +33,7 @@ key_of columns = filter_map (key_place columns) (range_with_len 0 (count_by is_i
 
 -- at most 16 columns, of different names; where k are in the key, they stand at its places 0 to k - 1
 pub record IsSchema (columns : List Column) : Type 0 where
-  pub few : length columns ≤ 16
+  pub few : length columns ≤ column_limit
   pub distinct : AllPairs (λ one other. one.name ≢ other.name) columns
   pub keyed : (i : ℕ) → i < count_by is_in_key columns → IsSome (key_place columns i)
 
@@ -43,7 +43,9 @@ columns_of pairs = map (λ pair. record { name = pair.0; kind = pair.1; key = No
 
 -- the columns, or why they are no table's
 abbrev pub schema_of : List (List ℕ × Kind) → Result (List Column) SchemaRefused
-schema_of pairs = refused_or (first_of ((nat_lt 16 (length pairs), TooMany) ∷ (has_twins pairs, TwiceNamed) ∷ [])) (columns_of pairs)
+schema_of pairs =
+    refused_or (first_of ((nat_lt column_limit (length pairs), TooMany) ∷ (has_twins pairs, TwiceNamed) ∷ []))
+    (columns_of pairs)
 
 -- as many values as columns, each of its column's kind
 abbrev pub fits : List Column → List Value → Bool
@@ -51,11 +53,11 @@ fits columns values = pointwise (λ column value. same_kind column.kind (kind_of
 
 -- the place of the column of that name
 abbrev pub column_of : List Column → List ℕ → Option ℕ
-column_of columns name = position (λ column. same_name column.name name) columns
+column_of columns name = position (λ column. bytes_eq column.name name) columns
 
 -- the column with its place among the names of a key, if it is among them
 abbrev pub in_key : List (List ℕ) → Column → Column
-in_key names column = record column { key = position (λ name. same_name name column.name) names }
+in_key names column = record column { key = position (λ name. bytes_eq name column.name) names }
 
 -- the columns with those of the names as their key
 abbrev pub keyed : List Column → List (List ℕ) → List Column
@@ -66,7 +68,7 @@ abbrev pub key_tests : List Column → List (List ℕ) → List (List ℕ) → L
 key_tests columns others [] = []
 key_tests columns others (name ∷ names) =
     (is_none (column_of columns name), key.NoColumn)
-    ∷ (is_some (position (λ other. same_name other name) others), key.TwiceNamed)
+    ∷ (is_some (position (λ other. bytes_eq other name) others), key.TwiceNamed)
     ∷ key_tests columns (others ++ name ∷ []) names
 
 -- the columns with that key, or why they have none

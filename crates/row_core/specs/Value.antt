@@ -1,9 +1,9 @@
 -- Values, their kinds, and how they are read.
 use Rattle.std.specs.Prelude.{ℕ, List, [], ◌∷◌, length, Bool, true, false, not, option_map, Result, nat_lt}
 use Rattle.std.specs.Option.{ok_or}
-use Rattle.std.specs.Result.{result_map_both}
 use Rattle.std.specs.Str.{is_utf8}
-use Rattle.row_core.specs.Refusals.{first_of, refused_or}
+use Rattle.row_core.specs.Refusals.{first_of, map_err, map_ok, refused_or}
+use Rattle.row_core.specs.Limits.{text_limit}
 use Rattle.row_core.specs.Number.{number_of}
 use Rattle.row_core.specs.declared.text.TextRefused.{TextRefused}
 use Rattle.row_core.specs.declared.text.TextRefused.TheVariants as text
@@ -12,22 +12,23 @@ use Rattle.row_core.specs.declared.value.Kind.TheVariants as kind
 use Rattle.row_core.specs.declared.value.Value.{Value}
 use Rattle.row_core.specs.declared.value.Value.TheVariants.{Int, Text}
 use Rattle.row_core.specs.declared.value.ValueRefused.{ValueRefused}
-use Rattle.row_core.specs.declared.value.ValueRefused.TheVariants.{BadNumber, TooLong, BadUtf8, NoMemory}
+use Rattle.row_core.specs.declared.value.ValueRefused.TheVariants.{BadNumber, TooLong, BadUtf8}
 
 -- the text of the bytes, or why they are none: at most 4,096 bytes of UTF-8
 abbrev pub text_of : List ℕ → Result (List ℕ) TextRefused
-text_of bytes = refused_or (first_of ((nat_lt 4096 (length bytes), text.TooLong) ∷ (not (is_utf8 bytes), text.BadUtf8) ∷ [])) bytes
+text_of bytes =
+    refused_or
+    (first_of ((nat_lt text_limit (length bytes), text.TooLong) ∷ (not (is_utf8 bytes), text.BadUtf8) ∷ [])) bytes
 
 -- a text's refusal as a value's
 abbrev pub refusal_of_text : TextRefused → ValueRefused
 refusal_of_text text.TooLong = TooLong
 refusal_of_text text.BadUtf8 = BadUtf8
-refusal_of_text text.NoMemory = NoMemory
 
 -- the value of the kind that the bytes write, or why they write none
 abbrev pub value_of : Kind → List ℕ → Result Value ValueRefused
 value_of kind.Int bytes = ok_or (option_map Int (number_of bytes)) BadNumber
-value_of kind.Text bytes = result_map_both Text refusal_of_text (text_of bytes)
+value_of kind.Text bytes = map_ok Text (map_err refusal_of_text (text_of bytes))
 
 -- the kind of a value
 abbrev pub kind_of : Value → Kind

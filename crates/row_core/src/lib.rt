@@ -3,6 +3,7 @@
 //! Names, values, schemas and rows, and how they are read from bytes.
 
 mod draft;
+mod failure;
 mod name;
 mod number;
 mod reading;
@@ -12,6 +13,7 @@ mod text;
 mod value;
 
 pub use draft::{Draft, Drafts};
+pub use failure::Failure;
 pub use list_core::{DeepCopy, List, copy_each};
 pub use name::{BadName, Name};
 pub use number::{BadNumber, read_number};

@@ -1,9 +1,17 @@
-ghost use Rattle.std.specs.Prelude.{◌≡◌, ◌&&◌, ◌≤◌, IsTrue, ◌==◌, length, nat_eq, not, position};
+ghost use Rattle.std.specs.Prelude.{◌≡◌, ◌&&◌, ◌≤◌, IsTrue, ◌==◌, bytes_eq, length, not, position};
 ghost use Rattle.std.specs.List.{list_all};
 ghost use Rattle.std.specs.Result.{result_ok};
 ghost use Rattle.std.specs.Cmp.{partial_equiv_from_equiv};
-ghost use Rattle.std.specs.Cmp.Lexicographic.{nat_list_eq_equiv, pointwise};
-ghost use Rattle.row_core.specs.Name.{is_letter, is_name, is_name_byte, is_reserved, name_of, padded, starts_with_letter};
+ghost use Rattle.std.specs.Cmp.Lexicographic.{nat_list_eq_equiv};
+ghost use Rattle.row_core.specs.Name.{
+  is_letter,
+  is_name,
+  is_name_byte,
+  is_reserved,
+  name_of,
+  padded,
+  starts_with_letter,
+};
 
 use std::marker::Model;
 
@@ -18,7 +26,7 @@ const RESERVED: [&[u8]; 6] = [b"asof", b"by", b"key", b"on", b"set", b"where"];
 #[derive(Clone, Copy, Debug)]
 pub struct Name {
     // Zeros stand behind the text.
-    bytes: [u8; 32],
+    bytes: [u8; MAX_LEN],
 }
 
 impl Model for Name {
@@ -66,7 +74,7 @@ impl Name {
 }
 
 impl PartialEq for Name {
-    ghost eq = { λ a b. pointwise nat_eq a b };
+    ghost eq = { λ a b. bytes_eq a b };
 
     ghost laws = { partial_equiv_from_equiv nat_list_eq_equiv };
 

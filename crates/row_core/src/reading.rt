@@ -1,14 +1,15 @@
-ghost use Rattle.std.specs.Prelude.{◌≡◌, ◌≢◌, ◌≤◌, length, map, IfOk, MatchResult};
+ghost use Rattle.std.specs.Prelude.{◌≡◌, ◌≤◌, length, map, IfOk};
 ghost use Rattle.std.specs.Result.{result_err};
-ghost use Rattle.row_core.specs.Refusals.{IsAnswerUnless};
+ghost use Rattle.row_core.specs.Refusals.{IsAnswer, Reads};
 ghost use Rattle.row_core.specs.Reading.{period_of, row_of, values_of};
 
 use crate::NoMemory;
 use crate::draft::Draft;
+use crate::failure::Failure;
 use crate::schema::{Column, Schema};
 use crate::value::{Value, ValueRefused, Values};
 use period_core::{BadPeriod, BadPoint, Period, Point};
-use std::alloc::{AllocFailed, Global};
+use std::alloc::Global;
 use std::convert::AsSlice;
 use std::marker::Model;
 
@@ -60,29 +61,6 @@ pub enum RowRefused {
     TooLong,
     /// It is no UTF-8.
     BadUtf8,
-    NoMemory,
-}
-
-impl From<NoMemory> for RowRefused {
-    ghost use Rattle.std.specs.Prelude.{◌≡◌};
-    ghost use Rattle.row_core.specs.declared.reading.RowRefused.TheVariants as refused;
-
-    ghost from_gives = { λ _ e. e ≡ refused.NoMemory };
-
-    fn from(_error: NoMemory) -> RowRefused {
-        RowRefused::NoMemory
-    }
-}
-
-impl<T: Drop> From<AllocFailed<T>> for RowRefused {
-    ghost use Rattle.std.specs.Prelude.{◌≡◌};
-    ghost use Rattle.row_core.specs.declared.reading.RowRefused.TheVariants as refused;
-
-    ghost from_gives = { λ _ e. e ≡ refused.NoMemory };
-
-    fn from(_error: AllocFailed<T>) -> RowRefused {
-        RowRefused::NoMemory
-    }
 }
 
 impl From<BadPoint> for RowRefused {
@@ -118,7 +96,21 @@ impl From<ValueRefused> for RowRefused {
             ValueRefused::BadNumber => RowRefused::BadNumber,
             ValueRefused::TooLong => RowRefused::TooLong,
             ValueRefused::BadUtf8 => RowRefused::BadUtf8,
-            ValueRefused::NoMemory => RowRefused::NoMemory,
+        }
+    }
+}
+
+impl From<Failure<ValueRefused>> for Failure<RowRefused> {
+    ghost use Rattle.std.specs.Prelude.{◌≡◌};
+    ghost use Rattle.row_core.specs.Reading.{refusal_of_value};
+    ghost use Rattle.row_core.specs.Refusals.{map_refused};
+
+    ghost from_gives = { λ value e. e ≡ map_refused refusal_of_value value };
+
+    fn from(failure: Failure<ValueRefused>) -> Failure<RowRefused> {
+        match failure {
+            Failure::Refused(value) => Failure::Refused(RowRefused::from(value)),
+            Failure::NoMemory => Failure::NoMemory,
         }
     }
 }
@@ -126,14 +118,20 @@ impl From<ValueRefused> for RowRefused {
 impl Schema {
     /// The row of the fields: two points, and one field for each column. Want of memory is
     /// answered only where no field is refused.
-    pub fn read_row<F: AsSlice<u8>>(&self, alloc: Global, fields: &[F]) -> Result<Draft, RowRefused>
-        ensures { IsAnswerUnless result RowRefused.NoMemory (row_of self.now (map F.items fields.now)) }
+    pub fn read_row<F: AsSlice<u8>>(
+        &self,
+        alloc: Global,
+        fields: &[F],
+    ) -> Result<Draft, Failure<RowRefused>>
+        ensures { IsAnswer (row_of self.now (map F.items fields.now)) result }
     {
         let columns = self.as_slice();
         if fields.len() != columns.len() + 2 {
-            return Err(RowRefused::WrongWidth);
+            return Err(Failure::Refused(RowRefused::WrongWidth));
         }
-        let period = read_period(fields[0].as_slice(), fields[1].as_slice())?;
+        let period = read_period(fields[0].as_slice(), fields[1].as_slice()).map_err(
+            Failure::Refused,
+        )?;
         let values = read_values(alloc, columns, &fields[2..])?;
         Ok(Draft { period, values })
     }
@@ -153,14 +151,14 @@ fn read_values<F: AsSlice<u8>>(
     alloc: Global,
     columns: &[Column],
     fields: &[F],
-) -> Result<Values, RowRefused>
+) -> Result<Values, Failure<RowRefused>>
     requires { length columns.now ≤ length fields.now }
-    ensures { IsAnswerUnless result RowRefused.NoMemory (values_of columns.now (map F.items fields.now)) }
+    ensures { IsAnswer (values_of columns.now (map F.items fields.now)) result }
 {
     match collect_values(alloc, columns, fields) {
-        Err(RowRefused::NoMemory) => {
-            check_values(columns, fields)?;
-            Err(RowRefused::NoMemory)
+        Err(Failure::NoMemory) => {
+            check_values(columns, fields).map_err(Failure::Refused)?;
+            Err(Failure::NoMemory)
         }
         answer => answer,
     }
@@ -171,10 +169,9 @@ fn collect_values<F: AsSlice<u8>>(
     alloc: Global,
     columns: &[Column],
     fields: &[F],
-) -> Result<Values, RowRefused>
+) -> Result<Values, Failure<RowRefused>>
     requires { length columns.now ≤ length fields.now }
-    ensures { MatchResult result (λ values. values_of columns.now (map F.items fields.now) ≡ Ok values)
-        (λ refusal. (refusal ≢ RowRefused.NoMemory) → values_of columns.now (map F.items fields.now) ≡ Err refusal) }
+    ensures { Reads (λ values. values) (values_of columns.now (map F.items fields.now)) result }
 {
     let mut values = Vec::with_capacity(alloc, columns.len())?;
     for i in 0..columns.len() {

@@ -1,11 +1,40 @@
-ghost use Rattle.std.specs.Prelude.{◌≡◌, ◌<◌, ◌≤◌, [], IfOk, IfSome, count_by, length, map, option_map, position, slice_get, Some};
+ghost use Rattle.std.specs.Prelude.{
+  bytes_eq,
+  ◌≡◌,
+  ◌<◌,
+  ◌≤◌,
+  [],
+  IfOk,
+  IfSome,
+  count_by,
+  length,
+  map,
+  option_map,
+  position,
+  slice_get,
+  Some,
+};
 ghost use Rattle.std.specs.List.{list_any};
-ghost use Rattle.row_core.specs.Refusals.{IsAnswerUnless, first_of};
-ghost use Rattle.row_core.specs.Name.{same_name};
-ghost use Rattle.row_core.specs.Schema.{IsSchema, column_of, columns_of, fits, has_twins, in_key, is_in_key, key_of, key_place, key_tests, keyed, keyed_of, schema_of};
+ghost use Rattle.row_core.specs.Refusals.{IsAnswer, first_of};
+ghost use Rattle.row_core.specs.Schema.{
+  IsSchema,
+  column_of,
+  columns_of,
+  fits,
+  has_twins,
+  in_key,
+  is_in_key,
+  key_of,
+  key_place,
+  key_tests,
+  keyed,
+  keyed_of,
+  schema_of,
+};
 ghost use Rattle.row_core.specs.Value.{kind_of, same_kind, value_of};
 
 use crate::NoMemory;
+use crate::failure::Failure;
 use crate::name::Name;
 use crate::value::{Kind, Value, ValueRefused, Values};
 use list_core::DeepCopy;
@@ -48,18 +77,6 @@ pub enum SchemaRefused {
     TooMany,
     /// Two have one name.
     TwiceNamed,
-    NoMemory,
-}
-
-impl From<NoMemory> for SchemaRefused {
-    ghost use Rattle.std.specs.Prelude.{◌≡◌};
-    ghost use Rattle.row_core.specs.declared.schema.SchemaRefused.TheVariants as refused;
-
-    ghost from_gives = { λ _ e. e ≡ refused.NoMemory };
-
-    fn from(_error: NoMemory) -> SchemaRefused {
-        SchemaRefused::NoMemory
-    }
 }
 
 /// Why columns make no key, in the order of the tests; each name is tested for both before the next one.
@@ -69,18 +86,6 @@ pub enum KeyRefused {
     NoColumn,
     /// The name stands twice.
     TwiceNamed,
-    NoMemory,
-}
-
-impl From<NoMemory> for KeyRefused {
-    ghost use Rattle.std.specs.Prelude.{◌≡◌};
-    ghost use Rattle.row_core.specs.declared.schema.KeyRefused.TheVariants as refused;
-
-    ghost from_gives = { λ _ e. e ≡ refused.NoMemory };
-
-    fn from(_error: NoMemory) -> KeyRefused {
-        KeyRefused::NoMemory
-    }
 }
 
 impl DeepCopy for Schema {
@@ -93,14 +98,14 @@ impl DeepCopy for Schema {
 
 impl Schema {
     /// The columns of those names and kinds, in that order.
-    pub fn new(alloc: Global, columns: &[(Name, Kind)]) -> Result<Schema, SchemaRefused>
-        ensures { IsAnswerUnless result SchemaRefused.NoMemory (schema_of columns.now) }
+    pub fn new(alloc: Global, columns: &[(Name, Kind)]) -> Result<Schema, Failure<SchemaRefused>>
+        ensures { IsAnswer (schema_of columns.now) result }
     {
         if columns.len() > MAX_COLUMNS {
-            return Err(SchemaRefused::TooMany);
+            return Err(Failure::Refused(SchemaRefused::TooMany));
         }
         if has_twins(columns) {
-            return Err(SchemaRefused::TwiceNamed);
+            return Err(Failure::Refused(SchemaRefused::TwiceNamed));
         }
         Ok(Schema {
             columns: collect_columns(alloc, columns)?,
@@ -160,14 +165,14 @@ impl Schema {
     ///
     /// For each name from the left `NoColumn`, and then `TwiceNamed`; `NoMemory` comes last. The columns are
     /// then dropped.
-    pub fn with_key(self, alloc: Global, names: &[Name]) -> Result<Schema, KeyRefused>
-        ensures columns { IsAnswerUnless result KeyRefused.NoMemory (keyed_of self names.now) }
+    pub fn with_key(self, alloc: Global, names: &[Name]) -> Result<Schema, Failure<KeyRefused>>
+        ensures columns { IsAnswer (keyed_of self names.now) result }
 
         // The key's columns are those of the names, in their order.
         ensures key { IfOk result (λ schema. map Some (key_of schema) ≡ map (column_of self) names.now) }
     {
         if let Some(refused) = key_refusal(&self.columns, names) {
-            return Err(refused);
+            return Err(Failure::Refused(refused));
         }
         Ok(Schema {
             columns: keyed_columns(alloc, &self.columns, names)?,
@@ -205,9 +210,14 @@ impl Schema {
     }
 
     /// The value that the bytes write in the column at that place.
-    pub fn read_value(&self, alloc: Global, i: u32, bytes: &[u8]) -> Result<Value, ValueRefused>
+    pub fn read_value(
+        &self,
+        alloc: Global,
+        i: u32,
+        bytes: &[u8],
+    ) -> Result<Value, Failure<ValueRefused>>
         requires { i < length self.now }
-        ensures { IfSome (slice_get self.now i) (λ column. IsAnswerUnless result ValueRefused.NoMemory (value_of column.kind bytes.now)) }
+        ensures { IfSome (slice_get self.now i) (λ column. IsAnswer (value_of column.kind bytes.now) result) }
     {
         Value::read(alloc, self.kind(i), bytes)
     }
@@ -241,7 +251,7 @@ fn has_twins(pairs: &[(Name, Kind)]) -> bool
 }
 
 fn is_among(name: Name, pairs: &[(Name, Kind)]) -> bool
-    ensures { result ≡ list_any (λ other. same_name name other.0) pairs.now }
+    ensures { result ≡ list_any (λ other. bytes_eq name other.0) pairs.now }
 {
     pairs.iter().any(|pair| name == pair.0)
 }
@@ -299,7 +309,7 @@ fn key_refusal(columns: &[Column], names: &[Name]) -> Option<KeyRefused>
 
 // The place of the name among those.
 fn place_among(names: &[Name], name: Name) -> Option<usize>
-    ensures { result ≡ position (λ other. same_name other name) names.now }
+    ensures { result ≡ position (λ other. bytes_eq other name) names.now }
 {
     names.iter().position(|other| *other == name)
 }

@@ -1,12 +1,14 @@
-ghost use Rattle.std.specs.Prelude.{◌≡◌, ◌≤◌, IfOk, MatchResult, length, nat_eq, refl, Some};
+ghost use Rattle.std.specs.Prelude.{◌≡◌, ◌≤◌, IfOk, MatchResult, bytes_eq, length, refl, Some};
 ghost use Rattle.std.specs.Str.{IsUtf8};
 ghost use Rattle.std.specs.Cmp.{partial_equiv_from_equiv};
-ghost use Rattle.std.specs.Cmp.Lexicographic.{nat_list_cmp_total, nat_list_eq_equiv, pointwise, slice_cmp, texts_po, texts_ties};
+ghost use Rattle.std.specs.Cmp.Lexicographic.{nat_list_cmp_total, nat_list_eq_equiv, slice_cmp, texts_po, texts_ties};
 ghost use Rattle.std.specs.Ordering.{nat_cmp};
-ghost use Rattle.row_core.specs.Refusals.{IsAnswerUnless};
+ghost use Rattle.row_core.specs.Refusals.{IsAnswer};
+ghost use Rattle.row_core.specs.Limits.{text_limit};
 ghost use Rattle.row_core.specs.Value.{text_of};
 
 use crate::NoMemory;
+use crate::failure::Failure;
 use list_core::DeepCopy;
 use std::alloc::Global;
 use std::cmp::Ordering;
@@ -24,12 +26,13 @@ pub struct Text {
 impl Model for Text {
     ghost use Rattle.std.specs.Prelude.{ℕ, List, ◌≤◌, length};
     ghost use Rattle.std.specs.String.{string_bytes};
+    ghost use Rattle.row_core.specs.Limits.{text_limit};
 
     ghost Value = { List ℕ };
 
     ghost view = { λ t. string_bytes t.text };
 
-    ghost invariant = { λ t. length (string_bytes t.text) ≤ 4096 };
+    ghost invariant = { λ t. length (string_bytes t.text) ≤ text_limit };
 }
 
 /// Why bytes are no text, in the order of the tests.
@@ -39,34 +42,23 @@ pub enum TextRefused {
     TooLong,
     /// The bytes are no UTF-8.
     BadUtf8,
-    NoMemory,
-}
-
-impl From<NoMemory> for TextRefused {
-    ghost use Rattle.std.specs.Prelude.{◌≡◌};
-    ghost use Rattle.row_core.specs.declared.text.TextRefused.TheVariants as refused;
-
-    ghost from_gives = { λ _ e. e ≡ refused.NoMemory };
-
-    fn from(_error: NoMemory) -> TextRefused {
-        TextRefused::NoMemory
-    }
 }
 
 impl Text {
     /// The text of the bytes.
-    pub fn new(alloc: Global, bytes: &[u8]) -> Result<Text, TextRefused>
-        ensures { IsAnswerUnless result TextRefused.NoMemory (text_of bytes.now) }
+    pub fn new(alloc: Global, bytes: &[u8]) -> Result<Text, Failure<TextRefused>>
+        ensures { IsAnswer (text_of bytes.now) result }
     {
+        let text = checked_text(bytes).map_err(Failure::Refused)?;
         Ok(Text {
-            text: String::from_str(alloc, checked_text(bytes)?)?,
+            text: String::from_str(alloc, text)?,
         })
     }
 
     /// The text as a string.
     pub fn as_str(&self) -> &str
         ensures text { result.now ≡ self.now }
-        ensures short { length result.now ≤ 4096 }
+        ensures short { length result.now ≤ text_limit }
     {
         self.text.as_str()
     }
@@ -74,7 +66,7 @@ impl Text {
     /// The bytes of the text, which are UTF-8.
     pub fn as_bytes(&self) -> &[u8]
         ensures text { result.now ≡ self.now }
-        ensures short { length result.now ≤ 4096 }
+        ensures short { length result.now ≤ text_limit }
         ensures utf8 { IsUtf8 result.now }
     {
         self.as_str().as_bytes()
@@ -90,7 +82,7 @@ impl DeepCopy for Text {
 }
 
 impl PartialEq for Text {
-    ghost eq = { λ a b. pointwise nat_eq a b };
+    ghost eq = { λ a b. bytes_eq a b };
 
     ghost laws = { partial_equiv_from_equiv nat_list_eq_equiv };
 
@@ -129,7 +121,8 @@ impl Ord for Text {
 
 /// The bytes as a text's, which takes no memory.
 pub(crate) fn checked_text(bytes: &[u8]) -> Result<&str, TextRefused>
-    ensures { MatchResult result (λ text. (text_of bytes.now ≡ Ok text.now) × (length text.now ≤ 4096)) (λ refusal. text_of bytes.now ≡ Err refusal) }
+    ensures { MatchResult result (λ text. (text_of bytes.now ≡ Ok text.now) × (length text.now ≤ text_limit))
+        (λ refusal. text_of bytes.now ≡ Err refusal) }
 {
     if bytes.len() > MAX_LEN {
         return Err(TextRefused::TooLong);

@@ -1,10 +1,11 @@
 ghost use Rattle.std.specs.Prelude.{◌≡◌, ◌++◌, ◌==◌, [], ◌∷◌, length, IfOk, OnOk, OnErr, slice_get};
 ghost use Rattle.std.specs.Option.{option_copied};
 ghost use Rattle.std.specs.Result.{result_err};
-ghost use Rattle.row_core.specs.Refusals.{IsAnswerUnless};
+ghost use Rattle.row_core.specs.Refusals.{IsAnswer};
 ghost use Rattle.row_core.specs.Value.{kind_of, same_kind, value_of};
 
 use crate::NoMemory;
+use crate::failure::Failure;
 use crate::number::{BadNumber, read_number};
 use crate::text::{Text, TextRefused, checked_text};
 use list_core::{DeepCopy, copy_each};
@@ -35,18 +36,6 @@ pub enum ValueRefused {
     TooLong,
     /// They are no UTF-8.
     BadUtf8,
-    NoMemory,
-}
-
-impl From<NoMemory> for ValueRefused {
-    ghost use Rattle.std.specs.Prelude.{◌≡◌};
-    ghost use Rattle.row_core.specs.declared.value.ValueRefused.TheVariants as refused;
-
-    ghost from_gives = { λ _ e. e ≡ refused.NoMemory };
-
-    fn from(_error: NoMemory) -> ValueRefused {
-        ValueRefused::NoMemory
-    }
 }
 
 impl From<BadNumber> for ValueRefused {
@@ -70,7 +59,33 @@ impl From<TextRefused> for ValueRefused {
         match error {
             TextRefused::TooLong => ValueRefused::TooLong,
             TextRefused::BadUtf8 => ValueRefused::BadUtf8,
-            TextRefused::NoMemory => ValueRefused::NoMemory,
+        }
+    }
+}
+
+impl From<BadNumber> for Failure<ValueRefused> {
+    ghost use Rattle.std.specs.Prelude.{◌≡◌};
+    ghost use Rattle.row_core.specs.declared.failure.Failure.TheVariants as failure;
+    ghost use Rattle.row_core.specs.declared.value.ValueRefused.TheVariants as refused;
+
+    ghost from_gives = { λ _ e. e ≡ failure.Refused refused.BadNumber };
+
+    fn from(_error: BadNumber) -> Failure<ValueRefused> {
+        Failure::Refused(ValueRefused::BadNumber)
+    }
+}
+
+impl From<Failure<TextRefused>> for Failure<ValueRefused> {
+    ghost use Rattle.std.specs.Prelude.{◌≡◌};
+    ghost use Rattle.row_core.specs.Refusals.{map_refused};
+    ghost use Rattle.row_core.specs.Value.{refusal_of_text};
+
+    ghost from_gives = { λ text e. e ≡ map_refused refusal_of_text text };
+
+    fn from(failure: Failure<TextRefused>) -> Failure<ValueRefused> {
+        match failure {
+            Failure::Refused(text) => Failure::Refused(ValueRefused::from(text)),
+            Failure::NoMemory => Failure::NoMemory,
         }
     }
 }
@@ -78,8 +93,8 @@ impl From<TextRefused> for ValueRefused {
 impl Value {
     /// The value of the kind that the bytes write: a number as it is printed, or a text of at
     /// most 4,096 bytes of UTF-8.
-    pub fn read(alloc: Global, kind: Kind, bytes: &[u8]) -> Result<Value, ValueRefused>
-        ensures { IsAnswerUnless result ValueRefused.NoMemory (value_of kind bytes.now) }
+    pub fn read(alloc: Global, kind: Kind, bytes: &[u8]) -> Result<Value, Failure<ValueRefused>>
+        ensures { IsAnswer (value_of kind bytes.now) result }
     {
         match kind {
             Kind::Int => Ok(Value::Int(read_number(bytes)?)),

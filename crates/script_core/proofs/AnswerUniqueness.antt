@@ -24,7 +24,7 @@ use Rattle.command_core.specs.declared.refusal.Fault.{Fault}
 use Rattle.answer_core.specs.PrintedRecords.{IsPrintedAs, division_records}
 use Rattle.answer_core.specs.declared.answer.Answer.{Answer}
 use Rattle.answer_core.specs.declared.answer.Answer.TheVariants as answer
-use Rattle.script_core.specs.Answer.{Answers, AnswersChange, AnswersQuery, IsAnswer, IsDipOf, IsVerdictOn, IsVersions, Refuses}
+use Rattle.script_core.specs.Answer.{Answers, AnswersChange, AnswersQuery, IsAnswerTo, IsDipOf, IsVerdictOn, IsVersions, Refuses}
 use Rattle.script_core.specs.State.{claim_of, delete_in, load_in, make_in, rows_on, rows_told, update_in, versions_told}
 
 -- ---- what queries are answered
@@ -91,7 +91,7 @@ one_query before (Ok s) Is unique one other f g p q = (unique s refl one other p
 one_query before (Err wrong) Is unique one other f g p q = one_refusal before wrong one other f g p q
 
 one_given : (before : History) (number : ℕ) (meaning : Meaning) (one other : Answer) (f g : History)
-    → IsAnswer before number meaning one f → IsAnswer before number meaning other g → Same one other f g
+    → IsAnswerTo before number meaning one f → IsAnswerTo before number meaning other g → Same one other f g
 one_given before number (Refuse wrong) one other f g p q = one_refusal before wrong one other f g p q
 one_given before number (Make name columns) one other f g p q =
     one_change before (make_in number before name columns) one other f g p q
@@ -162,7 +162,7 @@ query-divides before (Ok s) Is each given after p = each s given p.0
 query-divides before (Err wrong) Is each given after p = plain given (answer.Refused wrong) tt p.0
 
 divides : (before : History) (number : ℕ) (meaning : Meaning) (given : Answer) (after : History)
-    → IsAnswer before number meaning given after → Divides given
+    → IsAnswerTo before number meaning given after → Divides given
 divides before number (Refuse wrong) given after p = plain given (answer.Refused wrong) tt p.0
 divides before number (Make name columns) given after p =
     change-divides before (make_in number before name columns) given after p

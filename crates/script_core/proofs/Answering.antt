@@ -5,15 +5,15 @@ use Rattle.command_core.specs.Meaning.{Meaning}
 use Rattle.command_core.specs.declared.refusal.Fault.{Fault}
 use Rattle.answer_core.specs.declared.answer.Answer.{Answer}
 use Rattle.answer_core.specs.declared.answer.Answer.TheVariants as answer
-use Rattle.script_core.specs.Answer.{AnswersChange, AnswersQuery, IsAnswer}
+use Rattle.script_core.specs.Answer.{AnswersChange, AnswersQuery, IsAnswerTo}
 use Rattle.script_core.specs.Performing.{Changes, Gives, Performs}
-use Rattle.script_core.specs.declared.failure.Failure.{Failure}
-use Rattle.script_core.specs.declared.failure.Failure.TheVariants.{Refused, NoMemory}
+use Rattle.script_core.specs.Failure.{Failure}
+use Rattle.row_core.specs.declared.failure.Failure.TheVariants.{Refused, NoMemory}
 
 -- a change that is made, or refused, is answered
 pub change-answered : (number : ℕ) (meaning : Meaning) (meant : Result History Fault) (before after : History)
     (outcome : Result Answer Failure)
-    → ((given : Answer) → AnswersChange before meant given after → IsAnswer before number meaning given after)
+    → ((given : Answer) → AnswersChange before meant given after → IsAnswerTo before number meaning given after)
     → Changes meant before after outcome → Performs before number meaning outcome after
 change-answered number meaning meant before after (Ok given) answers (same, is) =
     answers given (subst (λ m. AnswersChange before m given after) (sym same) (is, refl))
@@ -25,7 +25,7 @@ change-answered number meaning meant before after (Err NoMemory) answers changes
 -- a query is answered by what it asks of what it reads, or by its refusal
 pub query-answered : {S : Type 0} (number : ℕ) (meaning : Meaning) (before : History) (meant : Result S Fault)
     (Is : S → Answer → Type 0) (outcome : Result Answer Failure)
-    → ((given : Answer) → AnswersQuery before meant Is given before → IsAnswer before number meaning given before)
+    → ((given : Answer) → AnswersQuery before meant Is given before → IsAnswerTo before number meaning given before)
     → Gives meant Is outcome → Performs before number meaning outcome before
 query-answered number meaning before meant Is (Ok given) answers (read, same, is) =
     answers given (subst (λ m. AnswersQuery before m Is given before) (sym same) (is, refl))

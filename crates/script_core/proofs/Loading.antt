@@ -1,14 +1,12 @@
 -- Records that are read one after another, each alone.
 use Rattle.std.proofs.Common.{◌≡◌, ℕ, ◌+◌, List, [], ◌∷◌, ◌++◌, drop, Some, Result, Ok, Err, sym, ap, ◌∙◌, arith, append_assoc}
 use Rattle.std.specs.List.{slice_get}
-use Rattle.std.specs.Result.{result_map_both}
-use Rattle.row_core.specs.Refusals.{result_and_then}
-use Rattle.script_core.specs.Failure.{IsFailureOf, IsRecordFailure}
+use Rattle.row_core.specs.Refusals.{and_then, map_err, map_ok}
+use Rattle.script_core.specs.Failure.{Failure, IsFailureOf, IsRecordFailure}
 use Rattle.command_core.specs.Records.{Record}
 use Rattle.command_core.specs.Refusal.{fault}
 use Rattle.script_core.specs.State.{told_by}
-use Rattle.script_core.specs.declared.failure.Failure.{Failure}
-use Rattle.script_core.specs.declared.failure.Failure.TheVariants.{Refused, NoMemory}
+use Rattle.row_core.specs.declared.failure.Failure.TheVariants.{Refused, NoMemory}
 use Rattle.command_core.specs.declared.refusal.Fault.{Fault}
 use Rattle.command_core.specs.declared.refusal.Refusal.{Refusal}
 use Rattle.command_core.proofs.Cutting.{drop-slice_get}
@@ -20,7 +18,7 @@ behind had (Err wrong) = Err wrong
 
 -- what one gives before what the others do
 abbrev then_others : {T E : Type 0} → Result T E → Result (List T) E → Result (List T) E
-then_others first others = result_and_then (λ x. result_map_both (λ more. x ∷ more) (λ e. e) others) first
+then_others first others = and_then first (λ x. map_ok (λ more. x ∷ more) others)
 
 -- one more was read
 pub behind-next : {T E : Type 0} (had : List T) (first : Result T E) (x : T) (others : Result (List T) E)
@@ -36,7 +34,7 @@ behind-refused had first wrong others bad = ap (λ r. behind had (then_others r 
 
 -- what one record gives, or its fault
 abbrev told_of : {T : Type 0} → ℕ → Result T Refusal → Result T Fault
-told_of number read = result_map_both (λ value. value) (fault number) read
+told_of number read = map_err (fault number) read
 
 next_record : {T : Type 0} (read : Record → Result T Refusal) (number place : ℕ) (lines : List Record)
     (line : Record) → slice_get lines place ≡ Some line

@@ -3,7 +3,7 @@ use Rattle.std.proofs.Common.{◌≡◌, ℕ, zero, suc, ◌+◌, ◌<◌, ◌�
 use Rattle.std.specs.Prelude.{IfOk, nat_le, nat_lt, option_map}
 use Rattle.std.proofs.lemmas.Bool.{cases_lt}
 use Rattle.std.proofs.lemmas.List.{nil_from_length}
-use Rattle.row_core.specs.Refusals.{refused_or, result_and_then}
+use Rattle.row_core.specs.Refusals.{and_then, refused_or}
 use Rattle.book_core.specs.History.{History, IsLegal, state_after}
 use Rattle.book_core.specs.History as history
 use Rattle.version_core.specs.Rows.{Pair}
@@ -36,7 +36,7 @@ use Rattle.command_core.proofs.RecordsExistence.{some_records}
 use Rattle.answer_core.specs.PrintedRecords.{IsPrintedAs, commit_records, division_records, error_record, ok_record, row_records, verdict_record, version_records}
 use Rattle.answer_core.specs.declared.answer.Answer.{Answer}
 use Rattle.answer_core.specs.declared.answer.Answer.TheVariants as answer
-use Rattle.script_core.specs.Answer.{Answers, AnswersChange, AnswersQuery, IsAnswer, IsDipOf, IsVerdictOn, IsVersions, Refuses}
+use Rattle.script_core.specs.Answer.{Answers, AnswersChange, AnswersQuery, IsAnswerTo, IsDipOf, IsVerdictOn, IsVersions, Refuses}
 use Rattle.script_core.specs.Refusal.{book_refusal}
 use Rattle.script_core.specs.Script.{AreCommandsOf, Done, Finished, IsOutput, Place, Steps, output_of, start_of}
 use Rattle.script_core.specs.State.{change_in, claim_of, columns_told, delete_in, load_in, make_in, pairs_told, rows_of, rows_on, rows_told, update_in, versions_told}
@@ -54,10 +54,10 @@ legal-one number h c legal = by_refusal (refusal_of (length h) (state_after h) c
   by_refusal (Some why) refused = tt
 
 -- what follows is legal, whatever it follows from
-legal-then : {T : Type 0} (follow : T → Result History Fault) (r : Result T Fault)
-    → ((x : T) → IfOk (follow x) IsLegal) → IfOk (result_and_then follow r) IsLegal
-legal-then follow (Ok x) each = each x
-legal-then follow (Err wrong) each = tt
+legal-then : {T : Type 0} (r : Result T Fault) (follow : T → Result History Fault)
+    → ((x : T) → IfOk (follow x) IsLegal) → IfOk (and_then r follow) IsLegal
+legal-then (Ok x) follow each = each x
+legal-then (Err wrong) follow each = tt
 
 -- ---- answers
 
@@ -147,36 +147,28 @@ none_mapped f None e = refl
 none_mapped f (Some why) e = cc e
 
 some_reply : (before : History) (number : ℕ) (meaning : Meaning) → IsLegal before
-    → Reply (IsAnswer before number meaning)
+    → Reply (IsAnswerTo before number meaning)
 some_reply before number (Refuse wrong) legal =
     record { after = before; told = refusal_told before wrong; legal = legal }
 some_reply before number (Make name columns) legal =
     some_change before (make_in number before name columns) legal
     (legal-one number before (change.Make name columns) legal)
 some_reply before number (Load name body) legal =
-    let loaded : List Draft → Result History Fault = λ rows. change_in number before (change.Load name rows) in
     some_change before (load_in number before name body) legal
-    (legal-then (λ columns. result_and_then loaded (rows_of columns (number + 1) body))
-    (columns_told number before name)
-    (λ columns. legal-then loaded (rows_of columns (number + 1) body)
-    (λ rows. legal-one number before (change.Load name rows) legal)))
+    (legal-then (columns_told number before name) _ (λ columns.
+    legal-then (rows_of columns (number + 1) body) _ (λ rows.
+    legal-one number before (change.Load name rows) legal)))
 some_reply before number (Update name portion sets conds) legal =
-    let updated : List Pair × List Pair → Result History Fault =
-    λ pairs. change_in number before (change.Update name portion pairs.0 pairs.1) in
-    let told : List Column → Result (List Pair × List Pair) Fault =
-    λ columns. both (pairs_told number columns sets) (pairs_told number columns conds) in
     some_change before (update_in number before name portion sets conds) legal
-    (legal-then (λ columns. result_and_then updated (told columns)) (columns_told number before name)
-    (λ columns. legal-then updated (told columns)
-    (λ pairs. legal-one number before (change.Update name portion pairs.0 pairs.1) legal)))
+    (legal-then (columns_told number before name) _ (λ columns.
+    legal-then (pairs_told number columns sets) _ (λ settings.
+    legal-then (pairs_told number columns conds) _ (λ conditions.
+    legal-one number before (change.Update name portion settings conditions) legal))))
 some_reply before number (Delete name portion conds) legal =
-    let deleted : List Pair → Result History Fault =
-    λ pairs. change_in number before (change.Delete name portion pairs) in
     some_change before (delete_in number before name portion conds) legal
-    (legal-then (λ columns. result_and_then deleted (pairs_told number columns conds))
-    (columns_told number before name)
-    (λ columns. legal-then deleted (pairs_told number columns conds)
-    (λ pairs. legal-one number before (change.Delete name portion pairs) legal)))
+    (legal-then (columns_told number before name) _ (λ columns.
+    legal-then (pairs_told number columns conds) _ (λ conditions.
+    legal-one number before (change.Delete name portion conditions) legal)))
 some_reply before number (Rows name asof) legal =
     some_query before (rows_told number before asof name) (λ rows given. given ≡ answer.Rows rows) legal
     (λ rows read. rows_answer rows)
@@ -217,7 +209,7 @@ some_reply before number Log legal = record {
   legal = legal;
 }
 
-answers_by : (before : History) (number : ℕ) (meaning : Meaning) (reply : Reply (IsAnswer before number meaning))
+answers_by : (before : History) (number : ℕ) (meaning : Meaning) (reply : Reply (IsAnswerTo before number meaning))
     → Answers before number meaning reply.told.records reply.after
 answers_by before number meaning reply = (reply.told.given, reply.told.is, reply.told.printed)
 
@@ -251,7 +243,7 @@ some_rest (suc n) place legal few = elim (cases_lt 0 (length place.left)) [
   | inr none ↦ record { dones = []; last = place; steps = refl; over = nil_from_length place.left (omega arith) }
   | inl some ↦
       let first : FirstCommand place.number place.left = some_meaning place.number place.left some in
-      let reply : Reply (IsAnswer place.history place.number first.meaning) =
+      let reply : Reply (IsAnswerTo place.history place.number first.meaning) =
       some_reply place.history place.number first.meaning legal in
       let next : Place =
       record { history = reply.after; number = place.number + length first.own; left = first.later } in

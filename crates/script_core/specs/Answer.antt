@@ -52,31 +52,31 @@ AnswersQuery before (Ok read) Is given after = Is read given × (after ≡ befor
 AnswersQuery before (Err wrong) Is given after = Refuses before wrong given after
 
 -- what a command, whose first record has this number, is answered after a history, and the history after it
-abbrev pub IsAnswer : History → ℕ → Meaning → Answer → History → Type 0
-IsAnswer before number (Refuse wrong) = Refuses before wrong
-IsAnswer before number (Make name columns) = AnswersChange before (make_in number before name columns)
-IsAnswer before number (Load name body) = AnswersChange before (load_in number before name body)
-IsAnswer before number (Update name portion sets conds) =
+abbrev pub IsAnswerTo : History → ℕ → Meaning → Answer → History → Type 0
+IsAnswerTo before number (Refuse wrong) = Refuses before wrong
+IsAnswerTo before number (Make name columns) = AnswersChange before (make_in number before name columns)
+IsAnswerTo before number (Load name body) = AnswersChange before (load_in number before name body)
+IsAnswerTo before number (Update name portion sets conds) =
     AnswersChange before (update_in number before name portion sets conds)
-IsAnswer before number (Delete name portion conds) = AnswersChange before (delete_in number before name portion conds)
-IsAnswer before number (Rows name asof) =
+IsAnswerTo before number (Delete name portion conds) = AnswersChange before (delete_in number before name portion conds)
+IsAnswerTo before number (Rows name asof) =
     AnswersQuery before (rows_told number before asof name) (λ rows given. given ≡ answer.Rows rows)
-IsAnswer before number (At name point asof) =
+IsAnswerTo before number (At name point asof) =
     AnswersQuery before (rows_told number before asof name) (λ rows given. given ≡ answer.Rows (rows_on point rows))
-IsAnswer before number (Between name first last) =
+IsAnswerTo before number (Between name first last) =
     AnswersQuery before (versions_told number before (nat_lt last first) name)
     (λ _. IsVersions (AreBetween before (length before) first last name))
-IsAnswer before number (FromTo name first end) =
+IsAnswerTo before number (FromTo name first end) =
     AnswersQuery before (versions_told number before (nat_le end first) name)
     (λ _. IsVersions (AreFromTo before (length before) first end name))
-IsAnswer before number (Dip name asof) =
+IsAnswerTo before number (Dip name asof) =
     AnswersQuery before (rows_told number before asof name) (λ rows. IsDipOf (items_of rows))
-IsAnswer before number (Check name parts instant asof body) =
+IsAnswerTo before number (Check name parts instant asof body) =
     AnswersQuery before (both (rows_told number before asof name) (claim_of (number + 1) body))
     (λ read. IsVerdictOn (items_of read.0) read.1 (record { parts = parts; instant = instant }))
-IsAnswer before number Log = λ given after. (given ≡ answer.Log (log_of before)) × (after ≡ before)
+IsAnswerTo before number Log = λ given after. (given ≡ answer.Log (log_of before)) × (after ≡ before)
 
 -- these records answer it
 abbrev pub Answers : History → ℕ → Meaning → List Record → History → Type 0
 Answers before number meaning records after =
-    (given : Answer) × IsAnswer before number meaning given after × IsPrintedAs given records
+    (given : Answer) × IsAnswerTo before number meaning given after × IsPrintedAs given records

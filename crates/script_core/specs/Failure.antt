@@ -1,35 +1,30 @@
 -- What a failure says of what a command should have given.
 use Rattle.std.specs.Prelude.{ℕ, ◌≡◌, Result, Err, ⊤}
-use Rattle.row_core.specs.declared.reading.RowRefused.{RowRefused}
-use Rattle.row_core.specs.declared.reading.RowRefused.TheVariants as row
-use Rattle.row_core.specs.declared.value.ValueRefused.{ValueRefused}
-use Rattle.row_core.specs.declared.value.ValueRefused.TheVariants as value
+use Rattle.row_core.specs.Refusals.{map_refused}
+use Rattle.row_core.specs.declared.failure.Failure as row
+use Rattle.row_core.specs.declared.failure.Failure.TheVariants.{Refused, NoMemory}
 use Rattle.book_core.specs.declared.refusal.BookRefused.{BookRefused}
 use Rattle.book_core.specs.declared.refusal.BookRefused.TheVariants as book
 use Rattle.book_core.specs.declared.refusal.RowsRefused.{RowsRefused}
 use Rattle.book_core.specs.declared.refusal.RowsRefused.TheVariants as rows
 use Rattle.book_core.specs.declared.refusal.VersionsRefused.{VersionsRefused}
 use Rattle.book_core.specs.declared.refusal.VersionsRefused.TheVariants as versions
-use Rattle.script_core.specs.Refusal.{book_refusal, row_refusal, rows_refusal, value_refusal, versions_refusal}
-use Rattle.script_core.specs.declared.failure.Failure.{Failure}
-use Rattle.script_core.specs.declared.failure.Failure.TheVariants.{Refused, NoMemory}
+use Rattle.script_core.specs.Refusal.{book_refusal, rows_refusal, versions_refusal}
 use Rattle.command_core.specs.Refusal.{fault}
 use Rattle.command_core.specs.declared.refusal.Fault.{Fault}
 use Rattle.command_core.specs.declared.refusal.Refusal.{Refusal}
+
+-- why a command is not done
+abbrev pub Failure : Type 0
+Failure = row.Failure Fault
 
 -- a refusal of the record of this number
 abbrev pub refused : ℕ → Refusal → Failure
 refused number refusal = Refused (fault number refusal)
 
--- a row's refusal, of the record of this number
-abbrev pub row_failure : ℕ → RowRefused → Failure
-row_failure number row.NoMemory = NoMemory
-row_failure number why = refused number (row_refusal why)
-
--- a value's refusal, of the record of this number
-abbrev pub value_failure : ℕ → ValueRefused → Failure
-value_failure number value.NoMemory = NoMemory
-value_failure number why = refused number (value_refusal why)
+-- a failure of the record of this number, its refusal by the name that a script tells
+abbrev pub failure_at : {E : Type 0} → ℕ → (E → Refusal) → row.Failure E → Failure
+failure_at number name why = map_refused (λ refusal. fault number (name refusal)) why
 
 -- a query's refusal, of the command of this number
 abbrev pub rows_failure : ℕ → RowsRefused → Failure
@@ -53,5 +48,6 @@ IsFailureOf meant NoMemory = ⊤
 
 -- the same of what one record gives
 abbrev pub IsRecordFailure : {T : Type 0} → ℕ → Result T Refusal → Failure → Type 0
-IsRecordFailure number meant (Refused wrong) = (refusal : Refusal) × (meant ≡ Err refusal) × (wrong ≡ fault number refusal)
+IsRecordFailure number meant (Refused wrong) =
+    (refusal : Refusal) × (meant ≡ Err refusal) × (wrong ≡ fault number refusal)
 IsRecordFailure number meant NoMemory = ⊤

@@ -8,10 +8,9 @@ use Rattle.book_core.specs.History.{History}
 use Rattle.command_core.specs.Meaning.{Meaning}
 use Rattle.command_core.specs.Records.{Record}
 use Rattle.command_core.specs.declared.refusal.Fault.{Fault}
-use Rattle.script_core.specs.Answer.{IsAnswer}
-use Rattle.script_core.specs.Failure.{IsFailureOf}
-use Rattle.script_core.specs.declared.failure.Failure.{Failure}
-use Rattle.script_core.specs.declared.failure.Failure.TheVariants.{Refused, NoMemory}
+use Rattle.script_core.specs.Answer.{IsAnswerTo}
+use Rattle.script_core.specs.Failure.{Failure, IsFailureOf}
+use Rattle.row_core.specs.declared.failure.Failure.TheVariants.{Refused, NoMemory}
 
 -- a value is what is asked of what may be read, and a refusal the one that applies
 abbrev pub Gives : {S T : Type 0} → Result S Fault → (S → T → Type 0) → Result T Failure → Type 0
@@ -25,8 +24,9 @@ Changes meant old new (Err failure) = IsFailureOf meant failure × (new ≡ old)
 
 -- a value is the command's answer, and so is a refusal; of want of memory nothing is said
 abbrev pub Performs : History → ℕ → Meaning → Result Answer Failure → History → Type 0
-Performs before number meaning (Ok given) after = IsAnswer before number meaning given after
-Performs before number meaning (Err (Refused fault)) after = IsAnswer before number meaning (answer.Refused fault) after
+Performs before number meaning (Ok given) after = IsAnswerTo before number meaning given after
+Performs before number meaning (Err (Refused fault)) after =
+    IsAnswerTo before number meaning (answer.Refused fault) after
 Performs before number meaning (Err NoMemory) after = ⊤
 
 -- an answer was printed, and its refusals counted

@@ -1,5 +1,5 @@
 -- The refusals of the crates below, as a script tells them. Want of memory is none of a script's; what
--- these say of it stands for nothing, since no definition applies them to it.
+-- these say of a book's stands for nothing, since no definition applies them to it.
 use Rattle.row_core.specs.declared.reading.RowRefused.{RowRefused}
 use Rattle.row_core.specs.declared.reading.RowRefused.TheVariants as row
 use Rattle.row_core.specs.declared.value.ValueRefused.{ValueRefused}
@@ -21,7 +21,6 @@ row_refusal row.BadPeriod = BadPeriod
 row_refusal row.BadNumber = BadNumber
 row_refusal row.TooLong = TooLong
 row_refusal row.BadUtf8 = BadUtf8
-row_refusal row.NoMemory = Full
 
 -- what is wrong with a change
 abbrev pub book_refusal : BookRefused → Refusal
@@ -39,7 +38,6 @@ abbrev pub value_refusal : ValueRefused → Refusal
 value_refusal value.BadNumber = BadNumber
 value_refusal value.TooLong = TooLong
 value_refusal value.BadUtf8 = BadUtf8
-value_refusal value.NoMemory = Full
 
 -- what is wrong with a commit or a table that is asked for
 abbrev pub rows_refusal : RowsRefused → Refusal

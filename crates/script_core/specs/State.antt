@@ -2,11 +2,10 @@
 use Rattle.std.specs.Prelude.{ℕ, ◌+◌, ℤ, List, [], ◌∷◌, ◌++◌, Bool, Option, Some, None, Result, Err, codes, drop, filter, length, option_map, unwrap_or, if◌then◌else◌}
 use Rattle.std.specs.List.{enumerate_from}
 use Rattle.std.specs.Option.{ok_or}
-use Rattle.std.specs.Result.{result_map_both}
 use Rattle.period_core.specs.Period.{holds_at}
 use Rattle.period_core.specs.declared.period.Period.{Period}
 use Rattle.row_core.specs.Reading as reading
-use Rattle.row_core.specs.Refusals.{read_each, refused_or, result_and_then}
+use Rattle.row_core.specs.Refusals.{and_then, map_err, map_ok, read_each, refused_or}
 use Rattle.row_core.specs.Value.{value_of}
 use Rattle.row_core.specs.declared.draft.Draft.{Draft}
 use Rattle.row_core.specs.declared.row.Row.{Row}
@@ -18,7 +17,7 @@ use Rattle.version_core.specs.Rows.{Pair}
 use Rattle.book_core.specs.State.{kind_in, refusal_of}
 use Rattle.version_core.specs.declared.change.Change.{Change}
 use Rattle.version_core.specs.declared.change.Change.TheVariants as change
-use Rattle.command_core.specs.Fields.{both, natural_in}
+use Rattle.command_core.specs.Fields.{natural_in}
 use Rattle.command_core.specs.Pairs.{TextPair}
 use Rattle.command_core.specs.Records.{Record}
 use Rattle.command_core.specs.Refusal.{fault}
@@ -47,12 +46,12 @@ columns_told number h name = ok_or (schema_in h name) (fault number NoTable)
 
 -- what records give, each read alone, the first of them of this number, or the first fault
 abbrev pub told_by : {T : Type 0} → (Record → Result T Refusal) → ℕ → List Record → Result (List T) Fault
-told_by read number lines = read_each (λ line. result_map_both (λ value. value) (fault line.0) (read line.1)) (enumerate_from number lines)
+told_by read number lines = read_each (λ line. map_err (fault line.0) (read line.1)) (enumerate_from number lines)
 
 -- the row that a record of a load gives
 abbrev pub row_of : List Column → Record → Result Draft Refusal
 row_of columns line =
-    if begins (codes "row") line then result_map_both (λ row. row) row_refusal (reading.row_of columns (drop 1 line))
+    if begins (codes "row") line then map_err row_refusal (reading.row_of columns (drop 1 line))
     else Err BadCommand
 
 -- the rows of a load's records, the first of them of this number, or the first fault
@@ -62,13 +61,13 @@ rows_of columns number lines = told_by (row_of columns) number lines
 -- the history with the rows of a load's records in a table
 abbrev pub load_in : ℕ → History → List ℕ → List Record → Result History Fault
 load_in number h name body =
-    result_and_then (λ columns. result_and_then (λ rows. change_in number h (change.Load name rows)) (rows_of columns (number + 1) body))
-    (columns_told number h name)
+    and_then (columns_told number h name) (λ columns.
+    and_then (rows_of columns (number + 1) body) (λ rows. change_in number h (change.Load name rows)))
 
 -- the value that a text is in a column of that kind, under its name
 abbrev pub value_in : List ℕ → List ℕ → Option Kind → Result Pair Refusal
 value_in name text None = Err NoColumn
-value_in name text (Some kind) = result_map_both (λ value. (name, value)) value_refusal (value_of kind text)
+value_in name text (Some kind) = map_ok (λ value. (name, value)) (map_err value_refusal (value_of kind text))
 
 abbrev pub pair_read : List Column → TextPair → Result Pair Refusal
 pair_read columns pair = value_in pair.0 pair.1 (kind_in columns pair.0)
@@ -79,20 +78,22 @@ pairs_read columns pairs = read_each (pair_read columns) pairs
 
 -- the same, with the fault of the command of this number
 abbrev pub pairs_told : ℕ → List Column → List TextPair → Result (List Pair) Fault
-pairs_told number columns pairs = result_map_both (λ values. values) (fault number) (pairs_read columns pairs)
+pairs_told number columns pairs = map_err (fault number) (pairs_read columns pairs)
 
 -- the history with a portion of a table's rows changed
 abbrev pub update_in : ℕ → History → List ℕ → Period → List TextPair → List TextPair → Result History Fault
 update_in number h name portion sets conds =
-    result_and_then (λ columns. result_and_then (λ pairs. change_in number h (change.Update name portion pairs.0 pairs.1))
-    (both (pairs_told number columns sets) (pairs_told number columns conds)))
-    (columns_told number h name)
+    and_then (columns_told number h name) (λ columns.
+    and_then (pairs_told number columns sets) (λ settings.
+    and_then (pairs_told number columns conds) (λ conditions.
+    change_in number h (change.Update name portion settings conditions))))
 
 -- the history with a portion of a table's rows taken out
 abbrev pub delete_in : ℕ → History → List ℕ → Period → List TextPair → Result History Fault
 delete_in number h name portion conds =
-    result_and_then (λ columns. result_and_then (λ pairs. change_in number h (change.Delete name portion pairs)) (pairs_told number columns conds))
-    (columns_told number h name)
+    and_then (columns_told number h name) (λ columns.
+    and_then (pairs_told number columns conds) (λ conditions.
+    change_in number h (change.Delete name portion conditions)))
 
 -- ---- queries
 
@@ -100,7 +101,8 @@ delete_in number h name portion conds =
 -- of this number
 abbrev pub rows_told : ℕ → History → Option ℕ → List ℕ → Result (List Row) Fault
 rows_told number h asof name = let n = unwrap_or asof (length h) in
-    refused_or (option_map (λ refused. fault number (rows_refusal refused)) (history.rows_refusal h n name)) (rows_at h n name)
+    refused_or (option_map (λ refused. fault number (rows_refusal refused)) (history.rows_refusal h n name))
+    (rows_at h n name)
 
 -- those that hold at a point
 abbrev pub rows_on : ℤ → List Row → List Row
@@ -110,7 +112,9 @@ rows_on point rows = filter (λ row. holds_at point row.period) rows
 -- the command of this number
 abbrev pub versions_told : ℕ → History → Bool → List ℕ → Result (Unit {0}) Fault
 versions_told number h is_bad name =
-    refused_or (option_map (λ refused. fault number (versions_refusal refused)) (history.versions_refusal h (length h) is_bad name)) tt
+    refused_or
+    (option_map (λ refused. fault number (versions_refusal refused))
+    (history.versions_refusal h (length h) is_bad name)) tt
 
 -- the numbers of fields
 abbrev pub naturals_in : Record → Result (List ℕ) Refusal

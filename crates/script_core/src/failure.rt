@@ -1,19 +1,14 @@
 //! Why a command is not done: it is refused, or memory is.
 ghost use Rattle.std.specs.Prelude.{◌≡◌};
-ghost use Rattle.script_core.specs.declared.failure.Failure.TheVariants.{NoMemory};
-ghost use Rattle.script_core.specs.Failure.{book_failure, refused, row_failure, rows_failure, value_failure, versions_failure};
+ghost use Rattle.script_core.specs.Failure.{book_failure, failure_at, refused, rows_failure, versions_failure};
+ghost use Rattle.script_core.specs.Refusal.{row_refusal, value_refusal};
 
 use book_core::{BookRefused, RowsRefused, VersionsRefused};
 use command_core::{Fault, Refusal};
 use row_core::{RowRefused, ValueRefused};
-use std::alloc::{AllocError, AllocFailed};
 
 /// Why a command is not done.
-#[derive(Clone, Copy, Debug, PartialEq, Eq)]
-pub(crate) enum Failure {
-    Refused(Fault),
-    NoMemory,
-}
+pub(crate) type Failure = row_core::Failure<Fault>;
 
 /// A refusal of the record of this number.
 pub(crate) fn refused(number: u64, refusal: Refusal) -> Failure
@@ -22,30 +17,48 @@ pub(crate) fn refused(number: u64, refusal: Refusal) -> Failure
     Failure::Refused(Fault { number, refusal })
 }
 
-/// A row's refusal, of the record of this number.
-pub(crate) fn row_failure(number: u64, why: RowRefused) -> Failure
-    ensures { result ≡ row_failure number why }
+/// What is wrong with a row.
+fn row_refusal(why: RowRefused) -> Refusal
+    ensures { result ≡ row_refusal why }
 {
     match why {
-        RowRefused::WrongWidth => refused(number, Refusal::WrongWidth),
-        RowRefused::BadPoint => refused(number, Refusal::BadPoint),
-        RowRefused::BadPeriod => refused(number, Refusal::BadPeriod),
-        RowRefused::BadNumber => refused(number, Refusal::BadNumber),
-        RowRefused::TooLong => refused(number, Refusal::TooLong),
-        RowRefused::BadUtf8 => refused(number, Refusal::BadUtf8),
-        RowRefused::NoMemory => Failure::NoMemory,
+        RowRefused::WrongWidth => Refusal::WrongWidth,
+        RowRefused::BadPoint => Refusal::BadPoint,
+        RowRefused::BadPeriod => Refusal::BadPeriod,
+        RowRefused::BadNumber => Refusal::BadNumber,
+        RowRefused::TooLong => Refusal::TooLong,
+        RowRefused::BadUtf8 => Refusal::BadUtf8,
     }
 }
 
-/// A value's refusal, of the record of this number.
-pub(crate) fn value_failure(number: u64, why: ValueRefused) -> Failure
-    ensures { result ≡ value_failure number why }
+/// What is wrong with a value.
+fn value_refusal(why: ValueRefused) -> Refusal
+    ensures { result ≡ value_refusal why }
 {
     match why {
-        ValueRefused::BadNumber => refused(number, Refusal::BadNumber),
-        ValueRefused::TooLong => refused(number, Refusal::TooLong),
-        ValueRefused::BadUtf8 => refused(number, Refusal::BadUtf8),
-        ValueRefused::NoMemory => Failure::NoMemory,
+        ValueRefused::BadNumber => Refusal::BadNumber,
+        ValueRefused::TooLong => Refusal::TooLong,
+        ValueRefused::BadUtf8 => Refusal::BadUtf8,
+    }
+}
+
+/// Why there is no row, of the record of this number.
+pub(crate) fn row_failure(number: u64, why: row_core::Failure<RowRefused>) -> Failure
+    ensures { result ≡ failure_at number row_refusal why }
+{
+    match why {
+        row_core::Failure::Refused(row) => refused(number, row_refusal(row)),
+        row_core::Failure::NoMemory => Failure::NoMemory,
+    }
+}
+
+/// Why there is no value, of the record of this number.
+pub(crate) fn value_failure(number: u64, why: row_core::Failure<ValueRefused>) -> Failure
+    ensures { result ≡ failure_at number value_refusal why }
+{
+    match why {
+        row_core::Failure::Refused(value) => refused(number, value_refusal(value)),
+        row_core::Failure::NoMemory => Failure::NoMemory,
     }
 }
 
@@ -85,21 +98,5 @@ pub(crate) fn book_failure(number: u64, why: BookRefused) -> Failure
         BookRefused::WrongKind => refused(number, Refusal::WrongKind),
         BookRefused::KeyOverlap => refused(number, Refusal::KeyOverlap),
         BookRefused::NoMemory => Failure::NoMemory,
-    }
-}
-
-impl From<AllocError> for Failure {
-    ghost from_gives = { λ _ e. e ≡ NoMemory };
-
-    fn from(_error: AllocError) -> Failure {
-        Failure::NoMemory
-    }
-}
-
-impl<T: Drop> From<AllocFailed<T>> for Failure {
-    ghost from_gives = { λ _ e. e ≡ NoMemory };
-
-    fn from(_error: AllocFailed<T>) -> Failure {
-        Failure::NoMemory
     }
 }

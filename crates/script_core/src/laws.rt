@@ -25,8 +25,8 @@ pub fn command_has_one_answer()
         → (one ≡ other) × (after ≡ later) }
 {}
 
-/// Two runs that come to their end, over one script and the same old contents, leave the same contents and tell the
-/// same numbers.
+/// Two runs that come to their end, over one script and the same old contents, leave the same contents and
+/// tell the same numbers.
 pub fn complete_runs_agree()
     ensures { (script text : List ℕ) (one one_after other other_after : Streams) (outcome told : Outcome)
         → one.reader.unread ≡ Some script → one.writer.written ≡ Some text

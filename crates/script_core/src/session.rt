@@ -6,7 +6,7 @@ ghost use Rattle.stream_core.specs.Counted.{failures_of, inner_of, sink_of};
 ghost use Rattle.stream_core.specs.FailureCount.{greatest_count};
 ghost use Rattle.stream_core.specs.Faults.{last_failures};
 ghost use Rattle.command_core.specs.Meaning.{behind_length};
-ghost use Rattle.script_core.specs.Answer.{Answers, IsAnswer};
+ghost use Rattle.script_core.specs.Answer.{Answers, IsAnswerTo};
 ghost use Rattle.script_core.specs.Performing.{Performs, Prints};
 ghost use Rattle.script_core.specs.Script.{AppendsFront, ExplainsRun, IsOutput, RunsAll, streams_of};
 ghost use Rattle.script_core.specs.Writing.{AnswersAll, ExplainsAnswering};
@@ -76,7 +76,7 @@ fn answer(
     command: Command<'_>,
 ) -> Result<Answer, NoMemory>
     requires { number + behind_length (meaning_of command) < 2 ^ 64 }
-    ensures { IfOk result (λ answer. IsAnswer book.old number (meaning_of command.entry) answer book.new) }
+    ensures { IfOk result (λ answer. IsAnswerTo book.old number (meaning_of command.entry) answer book.new) }
 {
     match perform(alloc, book, number, command) {
         Ok(answer) => Ok(answer),
@@ -163,7 +163,8 @@ pub fn run<R: Read, W: Write>(
     requires reads { failures_of reader.old < greatest_count }
     requires writes { failures_of writer.old < greatest_count }
 
-    // Of the script that the reader has, Ok wrote the output, whole and nothing else, and a fault left a front of it.
+    // Of the script that the reader has, Ok wrote the output, whole and nothing else, and a fault left a
+    // front of it.
     ensures written { (script output : List ℕ)
         → R.remaining (inner_of reader.old) ≡ Some script → IsOutput script output
         → IfOk result (λ _. Appends (W.contents (inner_of writer.old)) (W.contents (inner_of writer.new)) output) }
@@ -177,7 +178,8 @@ pub fn run<R: Read, W: Write>(
         (streams_of R.remaining reader.old W.contents writer.old)
         (streams_of R.remaining reader.new W.contents writer.new)) }
 
-    // What each fault says of its cause, and what it leaves: nothing, whole answers, or those and a front of the next.
+    // What each fault says of its cause, and what it leaves: nothing, whole answers, or those and a front
+    // of the next.
     ensures fault { IfErr result (ExplainsRun
         (streams_of R.remaining reader.old W.contents writer.old)
         (streams_of R.remaining reader.new W.contents writer.new)) }

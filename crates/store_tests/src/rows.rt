@@ -3,8 +3,8 @@
 use list_core::DeepCopy;
 use period_core::{Period, Point};
 use row_core::{
-    BadName, Draft, Drafts, Field, KeyRefused, Kind, Name, Row, RowList, RowRefused, Schema,
-    SchemaRefused, Text, TextRefused, Value, ValueRefused, Values,
+    BadName, Draft, Drafts, Failure, Field, KeyRefused, Kind, Name, Row, RowList, RowRefused,
+    Schema, SchemaRefused, Text, TextRefused, Value, ValueRefused, Values,
 };
 use std::alloc::Global;
 use std::convert::AsSlice;
@@ -47,9 +47,9 @@ fn knows_columns(rt: HostRuntime) -> Result<(), Fail> {
     assert_eq!(rt; copy.as_slice(), schema.as_slice());
     let column = (Name::parse(b"c")?, Kind::Int);
     let twice = Schema::new(rt.alloc(), &[column, column]);
-    assert_eq!(rt; twice.err(), Some(SchemaRefused::TwiceNamed));
+    assert_eq!(rt; twice.err(), Some(Failure::Refused(SchemaRefused::TwiceNamed)));
     let many = Schema::new(rt.alloc(), &[column; 17]);
-    assert_eq!(rt; many.err(), Some(SchemaRefused::TooMany));
+    assert_eq!(rt; many.err(), Some(Failure::Refused(SchemaRefused::TooMany)));
     Ok(())
 }
 
@@ -73,7 +73,7 @@ fn knows_keys(rt: HostRuntime) -> Result<(), Fail> {
         (&[c, c, e][..], KeyRefused::TwiceNamed),
     ] {
         let wrong = columns(rt.alloc())?.with_key(rt.alloc(), names);
-        assert_eq!(rt; wrong.err(), Some(refused));
+        assert_eq!(rt; wrong.err(), Some(Failure::Refused(refused)));
     }
     Ok(())
 }
@@ -96,10 +96,10 @@ fn reads_rows(rt: HostRuntime) -> Result<(), Fail> {
     assert_eq!(rt; draft.values.as_slice(), want.as_slice());
     assert!(rt; schema.fits(&draft.values));
     let narrow = schema.read_row(rt.alloc(), &fields[..3]);
-    assert_eq!(rt; narrow.err(), Some(RowRefused::WrongWidth));
+    assert_eq!(rt; narrow.err(), Some(Failure::Refused(RowRefused::WrongWidth)));
     let backwards = [&b"2024-01-02"[..], b"2024-01-01", b"x", b"y"];
     let refused = schema.read_row(rt.alloc(), &backwards);
-    assert_eq!(rt; refused.err(), Some(RowRefused::BadPeriod));
+    assert_eq!(rt; refused.err(), Some(Failure::Refused(RowRefused::BadPeriod)));
     Ok(())
 }
 
@@ -113,12 +113,12 @@ fn reads_values(rt: HostRuntime) -> Result<(), Fail> {
     assert_eq!(rt; text, Value::Text(Text::new(rt.alloc(), b"7")?));
     assert!(rt; number < text);
     let refused = schema.read_value(rt.alloc(), 0, b"y");
-    assert_eq!(rt; refused.err(), Some(ValueRefused::BadNumber));
+    assert_eq!(rt; refused.err(), Some(Failure::Refused(ValueRefused::BadNumber)));
     let long = [0xff; 4097];
     let refused = Text::new(rt.alloc(), &long);
-    assert_eq!(rt; refused.err(), Some(TextRefused::TooLong));
+    assert_eq!(rt; refused.err(), Some(Failure::Refused(TextRefused::TooLong)));
     let refused = Text::new(rt.alloc(), &long[..4096]);
-    assert_eq!(rt; refused.err(), Some(TextRefused::BadUtf8));
+    assert_eq!(rt; refused.err(), Some(Failure::Refused(TextRefused::BadUtf8)));
     Ok(())
 }
 

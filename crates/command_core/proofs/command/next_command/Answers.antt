@@ -13,9 +13,11 @@ returns-clause-behind c =
     let none = record-behind c.args.number line (verb_of line) in
     elim c.match-read_record.branch [
       | in-Ok w ↦
-          let own : behind_length (meaning_of w.in-Ok.command) ≤ 0 = subst (λ r. behind_length (told c.args.number r) ≤ 0) w.in-Ok.ensures.reads none in
+          let own : behind_length (meaning_of w.in-Ok.command) ≤ 0 =
+          subst (λ r. behind_length (told c.args.number r) ≤ 0) w.in-Ok.ensures.reads none in
           rw w.command-is (omega (arith, own, c.requires))
       | in-Err-Refused w ↦
-          let own : behind_length (meaning_of w.refused-command.result) ≤ 0 = subst (λ m. behind_length m ≤ 0) (sym w.refused-command.ensures) (omega arith) in
+          let own : behind_length (meaning_of w.refused-command.result) ≤ 0 =
+          subst (λ m. behind_length m ≤ 0) (sym w.refused-command.ensures) (omega arith) in
           rw w.command-is (omega (arith, own, c.requires))
     ]

@@ -10,7 +10,8 @@ returns-then-not-is_name_at c =
     let k = c.loop-pair.pair in
     let lt : 2 * k + 1 < length fields = omega (arith, c.loop-pair-test.true, c.len-pair-end.ensures) in
     let here = columns-here fields k c.is_name_at.result lt c.is_name_at.ensures in
-    sym (sym c.loop-pair.invariant ∙ (here ∙ ap (λ b. b && all_columns (pairs_of (drop (2 * (k + 1)) fields))) c.if-not-is_name_at.true))
+    sym (sym c.loop-pair.invariant
+    ∙ (here ∙ ap (λ b. b && all_columns (pairs_of (drop (2 * (k + 1)) fields))) c.if-not-is_name_at.true))
 
 pub loop-pair-preserved : goal.loop-pair-preserved
 loop-pair-preserved c =
@@ -18,7 +19,8 @@ loop-pair-preserved c =
     let k = c.loop-pair.pair in
     let lt : 2 * k + 1 < length fields = omega (arith, c.loop-pair-test.true, c.len-pair-end.ensures) in
     let here = columns-here fields k c.is_name_at.result lt c.is_name_at.ensures in
-    sym (here ∙ ap (λ b. b && all_columns (pairs_of (drop (2 * (k + 1)) fields))) c.if-not-is_name_at.false) ∙ c.loop-pair.invariant
+    sym (here ∙ ap (λ b. b && all_columns (pairs_of (drop (2 * (k + 1)) fields))) c.if-not-is_name_at.false)
+    ∙ c.loop-pair.invariant
 
 pub returns : goal.returns
 returns c =

@@ -2,7 +2,8 @@ use Rattle.std.proofs.Common.{◌∙◌, ap, sym}
 use Rattle.command_core.specs.Lines.{fields_in}
 use Rattle.command_core.specs.Meaning.{delete_of, if_formed}
 use Rattle.command_core.specs.Portions.{conditions_in}
-use Rattle.command_core.proofs.PortionLemmas.{behind-four, delete-four}
+use Rattle.command_core.proofs.Cutting.{rest-from}
+use Rattle.command_core.proofs.PortionLemmas.{delete-four}
 use Rattle.command_core.proofs.portions.read_delete.Goals as goal
 
 pub returns-in-Some : goal.returns-in-Some
@@ -10,7 +11,8 @@ returns-in-Some c =
     let line = fields_in c.args.line in
     let it = c.in-Some-Some-Some in
     let follow = delete_of it.name.now it.from.now it.to.now in
-    let rest = behind-four line (fields_in c.range.result) c.len.result c.len.ensures c.range.ensures in
+    let rest = rest-from line (fields_in c.range.result) c.len.result 4 c.len.ensures c.range.ensures in
     let formed = c.in-Some.ensures ∙ ap conditions_in rest in
-    let whole = delete-four line it.name.now it.from.now it.to.now (sym it.ensures) (sym it.ensures') (sym it.ensures'') in
+    let whole =
+    delete-four line it.name.now it.from.now it.to.now (sym it.ensures) (sym it.ensures') (sym it.ensures'') in
     c.delete_of.ensures ∙ (ap (if_formed follow) formed ∙ sym whole)

@@ -12,10 +12,14 @@ loop-place-preserved c =
     elim c.match-get.branch [
       | in-Some+in_ok-push_field w ↦ (
           let pushed = w.in_ok-push_field.ensures in
-          let more = take-slice_get row at w.in-Some.field.now (sym (w.in-Some.ensures.value ∙ field_at-slice_get row at)) in
+          let more = take-slice_get row at w.in-Some.field.now
+          (sym (w.in-Some.ensures.value ∙ field_at-slice_get row at)) in
           record {
             whole = rw w.fields-is pushed.partial;
-            added = rw (w.fields-is, pushed.fields, inv.whole, inv.added, more) (append_assoc (fields_of c.args.fields.now) (take at row) (w.in-Some.field.now ∷ []));
+            added = rw (w.fields-is, pushed.fields, inv.whole, inv.added, more)
+                (append_assoc (fields_of c.args.fields.now) (take at row) (w.in-Some.field.now ∷ []));
           })
-      | in_default w ↦ absurd (slice_get-there row at (omega (arith, c.loop-place-test.true, c.len-place-end.ensures)) (sym (w.in_default.ensures.value ∙ field_at-slice_get row at)))
+      | in_default w ↦
+          absurd (slice_get-there row at (omega (arith, c.loop-place-test.true, c.len-place-end.ensures))
+          (sym (w.in_default.ensures.value ∙ field_at-slice_get row at)))
     ]

@@ -32,8 +32,12 @@ unfolding Reached
 loop-fields-smaller c =
     let inv = c.loop-fields.invariant in
     let read = rw c.in-Ok-true.field-0-test at (c.in-Ok-true.ensures.reads inv.plain inv.ready) in
-    let one = rows-more (λ (s : Bor (List ℕ)). Some s.now) c.loop-fields.reader c.read_byte_record.new.self (fields_of c.read_byte_record.new.row) default_config (reader_state c.loop-fields.reader) inv.left inv.left [] inv.config inv.source (refl, refl) read in
-    rw (inv.source, one.1) (Reached-shrinks default_config (reader_state c.loop-fields.reader) (reader_state c.read_byte_record.new.self) (fields_of c.read_byte_record.new.row) inv.left one.0 one.2)
+    let one = rows-more (λ (s : Bor (List ℕ)). Some s.now) c.loop-fields.reader c.read_byte_record.new.self
+    (fields_of c.read_byte_record.new.row) default_config
+    (reader_state c.loop-fields.reader) inv.left inv.left [] inv.config inv.source (refl, refl) read in
+    rw (inv.source, one.1)
+    (Reached-shrinks default_config (reader_state c.loop-fields.reader) (reader_state c.read_byte_record.new.self)
+    (fields_of c.read_byte_record.new.row) inv.left one.0 one.2)
 
 pub loop-fields-preserved : goal.loop-fields-preserved
 loop-fields-preserved c =
@@ -42,18 +46,24 @@ loop-fields-preserved c =
     let row = fields_of c.read_byte_record.new.row in
     let ends = c.loop-fields.ends.items in
     let read = rw c.in-Ok-true.field-0-test at (c.in-Ok-true.ensures.reads inv.plain inv.ready) in
-    let more = rows-more (λ (s : Bor (List ℕ)). Some s.now) c.loop-fields.reader c.read_byte_record.new.self row default_config st.StartRecord (strip_bom c.args.script.now) inv.left (cut 0 ends before) inv.config inv.source inv.reached read in
+    let more = rows-more
+    (λ (s : Bor
+    (List ℕ)). Some s.now) c.loop-fields.reader c.read_byte_record.new.self row default_config st.StartRecord
+    (strip_bom c.args.script.now) inv.left (cut 0 ends before) inv.config inv.source inv.reached read in
     let added = c.in_ok-append-in-Ok-true.ensures in
-    let size : c.len.result ≡ length before + length row = c.len.ensures ∙ (ap length added.ok ∙ length-append before row) in
+    let size : c.len.result ≡ length before + length row =
+    c.len.ensures ∙ (ap length added.ok ∙ length-append before row) in
     let pushed = c.in_ok-push-in-Ok-true.ensures.items in
-    let cuts : cut 0 c.push.new.self.items (fields_of c.append.new.fields) ≡ cut 0 ends before ++ row ∷ [] = rw (pushed, added.ok, size) (cut-more 0 ends before row inv.ends) in
+    let cuts : cut 0 c.push.new.self.items (fields_of c.append.new.fields) ≡ cut 0 ends before ++ row ∷ [] =
+    rw (pushed, added.ok, size) (cut-more 0 ends before row inv.ends) in
     record {
       plain = read.3 ∙ inv.plain;
       ready = inl (c.in-Ok-true.ensures.ready inv.plain);
       flexible = c.in-Ok-true.ensures.flexible ∙ inv.flexible;
       config = read.2 ∙ inv.config;
       whole = added.whole;
-      ends = rw (pushed, added.ok, size, length-append before row) (EndsAt-more 0 ends (length before) (length row) inv.ends);
+      ends = rw (pushed, added.ok, size, length-append before row)
+          (EndsAt-more 0 ends (length before) (length row) inv.ends);
       left = more.0;
       source = more.1;
       reached = rw cuts more.2;
@@ -62,4 +72,7 @@ loop-fields-preserved c =
 pub not_read-requires : goal.not_read-requires
 not_read-requires c =
     let inv = c.loop-fields.invariant in
-    flexible-stops (λ (s : Bor (List ℕ)). Some s.now) c.loop-fields.reader c.read_byte_record.new.self c.in-Err.fault.kind inv.flexible (c.in-Err.ensures.why inv.ready)
+    flexible-stops
+    (λ (s : Bor
+    (List ℕ)). Some s.now) c.loop-fields.reader c.read_byte_record.new.self c.in-Err.fault.kind inv.flexible
+    (c.in-Err.ensures.why inv.ready)

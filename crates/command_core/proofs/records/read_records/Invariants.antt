@@ -19,8 +19,10 @@ invariant-loop-fields l = record {
   ends : EndsAt 0 l.ends.items (length (fields_of l.fields));
   left : List ℕ;
   source : source_of (λ s. Some s.now) l.reader ≡ Some left;
-  reached : Reached default_config st.StartRecord (strip_bom l.fn.script) (cut 0 l.ends.items (fields_of l.fields)) l.reader.state left;
+  reached : Reached default_config st.StartRecord (strip_bom l.fn.script)
+      (cut 0 l.ends.items (fields_of l.fields)) l.reader.state left;
 }
 
 abbrev pub decreases-loop-fields : goal.decreases-loop-fields
-decreases-loop-fields l = 2 * unwrap_or (option_map length (source_of (λ s. Some s.now) l.reader)) 0 + cond (ends_at_end l.reader.state) 1 0
+decreases-loop-fields l =
+    2 * unwrap_or (option_map length (source_of (λ s. Some s.now) l.reader)) 0 + cond (ends_at_end l.reader.state) 1 0

@@ -15,7 +15,8 @@ returns-in_default c =
     let raw = c.args.raw.now in
     let place = c.loop-name.name-index in
     let lt : place < length raw = omega (arith, c.loop-name-test.true, c.loop-name.auto.name-index-end) in
-    sym c.loop-name.invariant.left ∙ all_named-fails raw place no_column lt (none-named (get_or raw place no_column).0.now c.in_default.ensures)
+    sym c.loop-name.invariant.left
+    ∙ all_named-fails raw place no_column lt (none-named (get_or raw place no_column).0.now c.in_default.ensures)
 
 pub loop-name-preserved : goal.loop-name-preserved
 loop-name-preserved c =
@@ -29,5 +30,6 @@ loop-name-preserved c =
       named =
           c.in_ok-push.ensures.items
           ∙ (ap (λ l. l ++ (c.in-Ok.name, column.1) ∷ []) c.loop-name.invariant.named
-          ∙ (ap (λ name. raw_of (take place raw) ++ (name, column.1) ∷ []) named.1 ∙ raw_of-more raw place no_column lt));
+          ∙ (ap (λ name. raw_of (take place raw) ++ (name, column.1) ∷ []) named.1
+          ∙ raw_of-more raw place no_column lt));
     }

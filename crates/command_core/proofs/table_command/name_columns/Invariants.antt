@@ -7,6 +7,7 @@ use Rattle.command_core.proofs.table_command.name_columns.Given as goal
 
 abbrev pub invariant-loop-name : goal.invariant-loop-name
 invariant-loop-name l = record {
-  left : list_all (λ column. is_name column.0) (raw_of (drop l.name-index l.raw)) ≡ list_all (λ column. is_name column.0) (raw_of l.raw);
+  left : list_all (λ column. is_name column.0) (raw_of (drop l.name-index l.raw)) ≡ list_all
+      (λ column. is_name column.0) (raw_of l.raw);
   named : l.columns.items ≡ raw_of (take l.name-index l.raw);
 }

@@ -1,6 +1,7 @@
 use Rattle.std.proofs.Common.{◌∙◌, Err, Ok, ap, subst, sym}
 use Rattle.std.proofs.lemmas.Result.{err_from_is_err_and}
-use Rattle.command_core.specs.Command.{Reads, meaning_of}
+use Rattle.row_core.specs.Refusals.{Reads}
+use Rattle.command_core.specs.Command.{meaning_of}
 use Rattle.command_core.specs.Meaning.{Make, make_table, table_columns}
 use Rattle.command_core.specs.TableCommand.{form_of}
 use Rattle.command_core.proofs.NamedColumns.{make_table-unread, name_table-column, name_table-key, name_table-made, name_table-unnamed, none-named, some-named}
@@ -37,9 +38,11 @@ returns-in_err-schema c =
     name_table-made table (form_of c.args.raw.now) columns names named.0 (all.0, c.deref-2.ensures.value ∙ all.1)
     (key.0, c.deref-3.ensures.value ∙ key.1)
     in
-    let unread = make_table-unread table (table_columns (columns, names)) c.in_err-schema.field-0.0 c.in_err-schema.ensures in
+    let unread =
+    make_table-unread table (table_columns (columns, names)) c.in_err-schema.field-0.0 c.in_err-schema.ensures in
     subst (λ meant. Reads meaning_of meant result) (sym made)
-    (subst (λ r. Reads meaning_of (make_table table (table_columns (columns, names))) r) (sym (p.1 ∙ ap Err p.2)) unread)
+    (subst (λ r. Reads meaning_of (make_table table (table_columns (columns, names))) r)
+    (sym (p.1 ∙ ap Err p.2)) unread)
 
 pub returns : goal.returns
 returns c =

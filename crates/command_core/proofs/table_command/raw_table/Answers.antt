@@ -2,7 +2,8 @@ use Rattle.std.proofs.Common.{◌≤◌, ◌∙◌, ap, arith, drop, length, sym
 use Rattle.command_core.specs.Lines.{fields_in}
 use Rattle.command_core.specs.Meaning.{table_form}
 use Rattle.command_core.specs.TableCommand.{raw_column, raw_of}
-use Rattle.command_core.proofs.TableLemmas.{column-here, form_behind, raw_of-push, rest-from}
+use Rattle.command_core.proofs.Cutting.{rest-from}
+use Rattle.command_core.proofs.TableLemmas.{column-here, form_behind, raw_of-push}
 use Rattle.command_core.proofs.table_command.raw_table.Goals as goal
 
 pub loop-rest-preserved : goal.loop-rest-preserved

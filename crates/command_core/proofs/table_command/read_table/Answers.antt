@@ -1,9 +1,10 @@
 use Rattle.std.proofs.Common.{◌∙◌, ap, subst, sym}
-use Rattle.command_core.specs.Command.{Reads, meaning_of}
+use Rattle.row_core.specs.Refusals.{Reads}
+use Rattle.command_core.specs.Command.{meaning_of}
 use Rattle.command_core.specs.Lines.{fields_in}
 use Rattle.command_core.specs.Meaning.{name_table, table_form}
 use Rattle.command_core.proofs.NamedColumns.{table_meaning-named}
-use Rattle.command_core.proofs.TableLemmas.{rest-from}
+use Rattle.command_core.proofs.Cutting.{rest-from}
 use Rattle.command_core.proofs.table_command.read_table.Goals as goal
 
 pub returns : goal.returns

@@ -13,7 +13,8 @@ returns-then-not-is_plain-clause-text c = λ number fits e.
     absurd (cc)
 
 pub returns-then-not-is_plain-clause-number : goal.returns-then-not-is_plain-clause-number
-returns-then-not-is_plain-clause-number c = sym (number_of-none c.args.text.now (returns-then-not-is_plain-clause-text c))
+returns-then-not-is_plain-clause-number c =
+    sym (number_of-none c.args.text.now (returns-then-not-is_plain-clause-text c))
 
 pub returns-in_default-clause-text : goal.returns-in_default-clause-text
 returns-in_default-clause-text c = λ number fits e. c.in_default.ensures.cases.0 (rw e (number_text-utf8 number fits))
@@ -22,10 +23,13 @@ pub returns-in_default-clause-number : goal.returns-in_default-clause-number
 returns-in_default-clause-number c = sym (number_of-none c.args.text.now (returns-in_default-clause-text c))
 
 -- what is answered to a plain text
-answered : (c : goal.After-map_err) → MatchResult c.map_err.result (λ z. (c.args.text.now ≡ number_text z) × (number_of c.args.text.now ≡ Some z)) (λ e. (z : ℤ) → is_number z ≡ true → c.args.text.now ≢ number_text z)
+answered : (c : goal.After-map_err)
+    → MatchResult c.map_err.result (λ z. (c.args.text.now ≡ number_text z) × (number_of c.args.text.now ≡ Some z))
+    (λ e. (z : ℤ) → is_number z ≡ true → c.args.text.now ≢ number_text z)
 answered c =
     let plain : is_plain c.args.text.now ≡ true = sym c.is_plain.ensures ∙ c.if-not-is_plain.false in
-    number-handed_on c.args.text.now c.parse.result c.map_err.result _ plain (rw c.in-Ok.ensures.cases.0 at c.parse.ensures.value.0) c.map_err.ensures.cases c.map_err.ensures.variant
+    number-handed_on c.args.text.now c.parse.result c.map_err.result _ plain
+    (rw c.in-Ok.ensures.cases.0 at c.parse.ensures.value.0) c.map_err.ensures.cases c.map_err.ensures.variant
 
 pub returns-clause-number : goal.returns-clause-number
 returns-clause-number c = result_ok-number c.args.text.now c.map_err.result (answered c)

@@ -1,10 +1,8 @@
 use Rattle.std.proofs.Common.{◌∙◌, ◌<◌, arith, ap, sym, length, map, get_or}
 use Rattle.std.proofs.Math.ListN.{get_or-map, length-map}
 use Rattle.std.proofs.lemmas.Result.{err_from_is_err_and}
-use Rattle.row_core.specs.Reading.{field_of}
 use Rattle.row_core.specs.Value.{value_of}
-use Rattle.row_core.specs.declared.value.ValueRefused.TheVariants as value
-use Rattle.row_core.proofs.ReadingLemmas.{answer-ok, field_of-refused, values_of-push, values_of-refused}
+use Rattle.row_core.proofs.ReadingLemmas.{values_of-failed, values_of-push}
 use Rattle.row_core.proofs.reading.collect_values.Goals as goal
 
 pub returns-in_err-value : goal.returns-in_err-value
@@ -13,24 +11,26 @@ returns-in_err-value g c =
     let column = c.index-columns-i.result in
     let field = c.index-fields-i.result in
     let p = err_from_is_err_and c.from_residual-in_err-value.result c.from_residual-in_err-value.ensures.1 in
-    let at = get_or-map items c.args.fields.now c.loop-i.i field ∙ ap items (sym c.index-fields-i.is) ∙ sym c.as_slice.ensures in
-    let kind = (get_or c.args.columns.now c.loop-i.i column).kind in
-    let inside : c.loop-i.i < length (map items c.args.fields.now) = omega (arith, length-map c.args.fields.now items, c.requires) in
-    rw (p.1, p.2) (λ no_memory.
-    values_of-refused c.args.columns.now (map items c.args.fields.now) c.loop-i.i c.loop-i.values.items column (items field) _ c.loop-i-test.true inside
-    (ap (field_of kind) at
-    ∙ field_of-refused kind c.as_slice.result.now _ c.in_err-value.ensures no_memory)
-    c.loop-i.invariant)
+    let at = get_or-map items c.args.fields.now c.loop-i.i field ∙ ap items (sym c.index-fields-i.is)
+    ∙ sym c.as_slice.ensures in
+    let inside : c.loop-i.i < length (map items c.args.fields.now) =
+    omega (arith, length-map c.args.fields.now items, c.requires) in
+    rw (p.1, p.2)
+    (values_of-failed c.args.columns.now (map items c.args.fields.now) c.loop-i.i c.loop-i.values.items column
+    (items field)
+    c.as_slice.result.now _ c.loop-i-test.true inside at c.in_err-value.ensures c.loop-i.invariant)
 
 pub loop-i-preserved : goal.loop-i-preserved
 loop-i-preserved g c =
     let items = g.F.AsSlice.items in
     let column = c.index-columns-i.result in
     let field = c.index-fields-i.result in
-    let at = get_or-map items c.args.fields.now c.loop-i.i field ∙ ap items (sym c.index-fields-i.is) ∙ sym c.as_slice.ensures in
+    let at = get_or-map items c.args.fields.now c.loop-i.i field ∙ ap items (sym c.index-fields-i.is)
+    ∙ sym c.as_slice.ensures in
     let kind = (get_or c.args.columns.now c.loop-i.i column).kind in
     let same = ap (value_of kind) at in
-    let inside : c.loop-i.i < length (map items c.args.fields.now) = omega (arith, length-map c.args.fields.now items, c.requires) in
-    let read = answer-ok (value_of kind c.as_slice.result.now) value.NoMemory c.in_ok-value.value c.in_ok-value.ensures in
+    let inside : c.loop-i.i < length (map items c.args.fields.now) =
+    omega (arith, length-map c.args.fields.now items, c.requires) in
     rw c.in_ok-push.ensures.items
-    (values_of-push c.args.columns.now (map items c.args.fields.now) c.loop-i.i c.loop-i.values.items column (items field) c.in_ok-value.value c.loop-i-test.true inside (same ∙ read) c.loop-i.invariant)
+    (values_of-push c.args.columns.now (map items c.args.fields.now) c.loop-i.i c.loop-i.values.items column
+    (items field) c.in_ok-value.value c.loop-i-test.true inside (same ∙ c.in_ok-value.ensures) c.loop-i.invariant)

@@ -5,4 +5,5 @@ use Rattle.row_core.proofs.schema.key_refusal.Given as goal
 
 -- what is left decides
 abbrev pub invariant-loop-i : goal.invariant-loop-i
-invariant-loop-i l = first_of (key_tests l.columns (take l.i l.names) (drop l.i l.names)) ≡ first_of (key_tests l.columns [] l.names)
+invariant-loop-i l =
+    first_of (key_tests l.columns (take l.i l.names) (drop l.i l.names)) ≡ first_of (key_tests l.columns [] l.names)

@@ -1,6 +1,6 @@
 use Rattle.std.proofs.Common.{◌≡◌, ◌+◌, ◌++◌, ◌∷◌, ◌∙◌, [], List, Some, Ok, Err, ℕ, ap, sym, arith, drop}
 use Rattle.std.specs.List.{slice_get}
-use Rattle.std.specs.Result.{result_map_both}
+use Rattle.row_core.specs.Refusals.{map_err}
 use Rattle.std.proofs.lemmas.Result.{err_from_is_err_and}
 use Rattle.version_core.specs.Rows.{Pair}
 use Rattle.command_core.specs.Pairs.{TextPair}
@@ -9,10 +9,9 @@ use Rattle.command_core.specs.Refusal.{fault}
 use Rattle.command_core.specs.declared.refusal.Refusal.{Refusal}
 use Rattle.command_core.proofs.Cutting.{drop-slice_get, slice_get-there}
 use Rattle.row_core.specs.declared.schema.Column.{Column}
-use Rattle.script_core.specs.Failure.{IsFailureOf, IsRecordFailure}
+use Rattle.script_core.specs.Failure.{Failure, IsFailureOf, IsRecordFailure}
 use Rattle.script_core.specs.State.{pair_read, pairs_read, pairs_told}
-use Rattle.script_core.specs.declared.failure.Failure.{Failure}
-use Rattle.script_core.specs.declared.failure.Failure.TheVariants.{Refused, NoMemory}
+use Rattle.row_core.specs.declared.failure.Failure.TheVariants.{Refused, NoMemory}
 use Rattle.script_core.proofs.Loading.{behind, behind-next, behind-refused}
 use Rattle.script_core.proofs.pairs.read_pairs.Goals as goal
 use Rattle.script_core.proofs.pairs.read_pairs.Goals.{in-Some+in_ok-value+in_ok-push, in_default}
@@ -40,8 +39,7 @@ value_failed : (number : ℕ) (columns : List Column) (texts : List TextPair) (p
     → IsRecordFailure number (pair_read columns text) failure
     → IsFailureOf (pairs_told number columns texts) failure
 value_failed number columns texts place text had (Refused wrong) e is (refusal, bad, same) =
-    ap (result_map_both (λ values. values) (fault number))
-    (is ∙ no_value columns texts place text had refusal e bad) ∙ ap Err (sym same)
+    ap (map_err (fault number)) (is ∙ no_value columns texts place text had refusal e bad) ∙ ap Err (sym same)
 value_failed number columns texts place text had NoMemory e is h = tt
 
 pub returns-in_err-value : goal.returns-in_err-value

@@ -2,54 +2,52 @@ use Rattle.std.proofs.Common.{◌≡◌, ◌<◌, ℕ, List, Option, Some, None,
 use Rattle.std.specs.Prelude.{IfSome, option_map}
 use Rattle.std.specs.List.{slice_get}
 use Rattle.std.specs.Option.{option_and_then}
-use Rattle.std.specs.Result.{result_map_both}
 use Rattle.std.proofs.lemmas.Grind.{common_steps}
-use Rattle.row_core.specs.Refusals.{IsAnswerUnless}
+use Rattle.row_core.specs.Refusals.{IsAnswer, map_err, map_ok}
 use Rattle.row_core.specs.Schema.{column_of}
 use Rattle.row_core.specs.Value.{value_of}
 use Rattle.row_core.specs.declared.schema.Column.{Column}
+use Rattle.row_core.specs.declared.failure.Failure.{Failure}
+use Rattle.row_core.specs.declared.failure.Failure.TheVariants.{Refused, NoMemory}
 use Rattle.row_core.specs.declared.value.Value.{Value}
 use Rattle.row_core.specs.declared.value.ValueRefused.{ValueRefused}
-use Rattle.row_core.specs.declared.value.ValueRefused.TheVariants as refused
 use Rattle.version_core.specs.Rows.{Pair}
 use Rattle.command_core.specs.declared.refusal.Refusal.{Refusal}
 use Rattle.command_core.proofs.Cutting.{slice_get-there}
-use Rattle.script_core.specs.Failure.{IsRecordFailure, value_failure}
+use Rattle.script_core.specs.Failure.{IsRecordFailure, failure_at}
 use Rattle.script_core.specs.Refusal.{value_refusal}
 use Rattle.script_core.specs.State.{pair_read, value_in}
 use Rattle.script_core.proofs.pairs.value_named.Goals as goal
 
 -- a value that was read, or why it was not, is what a column's kind makes of the text
-abbrev IsRead : ℕ → List ℕ → Result Pair Refusal → Result Value ValueRefused → Type 0
+abbrev IsRead : ℕ → List ℕ → Result Pair Refusal → Result Value (Failure ValueRefused) → Type 0
 IsRead number name meant result =
     MatchResult result (λ value. meant ≡ Ok (name, value))
-    (λ why. IsRecordFailure number meant (value_failure number why))
+    (λ why. IsRecordFailure number meant (failure_at number value_refusal why))
 
-refused-read : (number : ℕ) (name : List ℕ) (why : ValueRefused)
-    → IsRead number name (Err (value_refusal why)) (Err why)
-refused-read number name refused.BadNumber = (value_refusal refused.BadNumber, refl, refl)
-refused-read number name refused.TooLong = (value_refusal refused.TooLong, refl, refl)
-refused-read number name refused.BadUtf8 = (value_refusal refused.BadUtf8, refl, refl)
-refused-read number name refused.NoMemory = tt
-
-value-read : (number : ℕ) (name : List ℕ) (meant result : Result Value ValueRefused)
-    → IsAnswerUnless result refused.NoMemory meant
-    → IsRead number name (result_map_both (λ value. (name, value)) value_refusal meant) result
-value-read number name (Ok value) (Ok given) same = ap (λ (v : Value). Ok (name, v)) (sym same)
-value-read number name (Ok value) (Err why) same = rw same tt
-value-read number name (Err why) result same = rw same (refused-read number name why)
+value-read : (number : ℕ) (name : List ℕ) (meant : Result Value ValueRefused)
+    (result : Result Value (Failure ValueRefused)) → IsAnswer meant result
+    → IsRead number name (map_ok (λ value. (name, value)) (map_err value_refusal meant)) result
+value-read number name meant (Ok value) same =
+    ap (λ (m : Result Value ValueRefused). map_ok (λ (v : Value). (name, v)) (map_err value_refusal m)) same
+value-read number name meant (Err (Refused why)) same = (
+  value_refusal why,
+  ap
+      (λ (m : Result Value ValueRefused). map_ok (λ (v : Value). (name, v)) (map_err value_refusal m)) same,
+  refl,
+)
+value-read number name meant (Err NoMemory) same = tt
 
 column_of-within : (columns : List Column) (name : List ℕ) (place : ℕ) → column_of columns name ≡ Some place
     → place < length columns
 column_of-within columns name place e = grind (arith, common_steps)
 
 -- what the column's kind makes of the text is what was read, where there is a column
-abbrev IsAnswerAt : Option Column → List ℕ → Result Value ValueRefused → Type 0
-IsAnswerAt found text result =
-    IfSome found (λ column. IsAnswerUnless result refused.NoMemory (value_of column.kind text))
+abbrev IsAnswerAt : Option Column → List ℕ → Result Value (Failure ValueRefused) → Type 0
+IsAnswerAt found text result = IfSome found (λ column. IsAnswer (value_of column.kind text) result)
 
 pair-read : (number : ℕ) (columns : List Column) (name text : List ℕ) (place : ℕ)
-    (result : Result Value ValueRefused) → column_of columns name ≡ Some place
+    (result : Result Value (Failure ValueRefused)) → column_of columns name ≡ Some place
     → IsAnswerAt (slice_get columns place) text result → IsRead number name (pair_read columns (name, text)) result
 pair-read number columns name text place result e h =
     subst (λ (o : Option ℕ).

@@ -7,7 +7,9 @@ pub returns-then-place-self : goal.returns-then-place-self
 returns-then-place-self c =
     let line = c.args.self in
     let fields = fields_of line.fields.now in
-    c.get.ensures.value ∙ (field_at-slice_get fields (line.from + c.args.place) ∙ sym (slice_get-part line.from line.to fields c.args.place c.if-place-self.true))
+    c.get.ensures.value
+    ∙ (field_at-slice_get fields (line.from + c.args.place)
+    ∙ sym (slice_get-part line.from line.to fields c.args.place c.if-place-self.true))
 
 pub returns-else-place-self : goal.returns-else-place-self
 returns-else-place-self c =

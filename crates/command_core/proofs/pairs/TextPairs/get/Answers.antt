@@ -10,7 +10,8 @@ use Rattle.command_core.proofs.pairs.TextPairs.get.Goals as goal
 pub returns-then-place-len : goal.returns-then-place-len
 returns-then-place-len c =
     let fields = fields_in c.args.self.fields in
-    sym (slice_get_past (pairs_of fields) c.args.place (omega (arith, length-pairs_of fields, c.if-place-len.true, c.len.ensures)))
+    sym (slice_get_past (pairs_of fields) c.args.place
+    (omega (arith, length-pairs_of fields, c.if-place-len.true, c.len.ensures)))
 
 pub returns-in_err-column : goal.returns-in_err-column
 returns-in_err-column c =

@@ -8,6 +8,7 @@ pub line_at-requires-clause-place : goal.line_at-requires-clause-place
 line_at-requires-clause-place c =
     let ends = c.self.inside.ends.items in
     let size = length-cut 0 ends (fields_of c.self.inside.fields) in
-    let same : length (cut 0 ends (fields_of c.self.inside.fields)) ≡ length c.args.self.now = ap length c.self.view_is in
+    let same : length (cut 0 ends (fields_of c.self.inside.fields)) ≡ length c.args.self.now =
+    ap length c.self.view_is in
     let count : length c.deref.result.now ≡ length ends = ap length c.deref.ensures.value in
     omega (arith, c.requires, size, same, count)

@@ -9,11 +9,15 @@ name c = sym c.is_name.ensures ∙ c.if-not-is_name.false
 
 pub invariant_of-result : goal.invariant_of-result
 invariant_of-result c = (
-  ap is_name (unpadded-kept c.args.text.now _ (name c) (ap (λ text. text ++ drop (length c.args.text.now) (replicate 32 0)) c.copy_from_slice.ensures.after)) ∙ name c,
-  padded-kept c.args.text.now _ (name c) (ap (λ text. text ++ drop (length c.args.text.now) (replicate 32 0)) c.copy_from_slice.ensures.after),
+  ap is_name
+      (unpadded-kept c.args.text.now _ (name c)
+      (ap (λ text. text ++ drop (length c.args.text.now) (replicate 32 0)) c.copy_from_slice.ensures.after)) ∙ name c,
+  padded-kept c.args.text.now _ (name c)
+      (ap (λ text. text ++ drop (length c.args.text.now) (replicate 32 0)) c.copy_from_slice.ensures.after),
 )
 
 pub returns : goal.returns
 returns c =
-    ap Some (unpadded-kept c.args.text.now _ (name c) (ap (λ text. text ++ drop (length c.args.text.now) (replicate 32 0)) c.copy_from_slice.ensures.after))
+    ap Some (unpadded-kept c.args.text.now _ (name c)
+    (ap (λ text. text ++ drop (length c.args.text.now) (replicate 32 0)) c.copy_from_slice.ensures.after))
     ∙ ap (λ b. cond b (Some c.args.text.now) None) (sym (name c))

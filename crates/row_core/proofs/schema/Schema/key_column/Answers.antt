@@ -8,7 +8,8 @@ pub unreachable-requires : goal.unreachable-requires
 unreachable-requires c =
     let lengths = ap (λ columns. length (key_of columns)) c.self.view_is in
     let is = key_place-is c.self.inside.columns.items c.args.i c.self.invariant (omega (arith, lengths)) in
-    let none = ap is_some (sym c.in-None.is ∙ c.key_place.ensures ∙ ap (λ columns. key_place columns c.args.i) c.deref.ensures.value) in
+    let none = ap is_some
+    (sym c.in-None.is ∙ c.key_place.ensures ∙ ap (λ columns. key_place columns c.args.i) c.deref.ensures.value) in
     cc (none ∙ is)
 
 pub returns : goal.returns

@@ -10,4 +10,5 @@ loop-i-preserved c =
     let bound = c.loop-i-test.true in
     let here = get_or_from_slice_get key c.loop-i.i c.key_column.result 0 c.key_column.ensures in
     c.in_ok-push.ensures.items ∙ ap (λ l. l ++ c.key_column.result ∷ []) c.loop-i.invariant
-    ∙ ap (λ n. take c.loop-i.i key ++ n ∷ []) (sym here) ∙ sym (take_more key c.loop-i.i 0 (omega (arith, c.key_len-i-end.ensures)))
+    ∙ ap (λ n. take c.loop-i.i key ++ n ∷ []) (sym here)
+    ∙ sym (take_more key c.loop-i.i 0 (omega (arith, c.key_len-i-end.ensures)))

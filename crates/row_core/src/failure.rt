@@ -1,0 +1,31 @@
+//! Why a call gives no value.
+ghost use Rattle.std.specs.Prelude.{◌≡◌};
+ghost use Rattle.row_core.specs.declared.failure.Failure.TheVariants as failure;
+
+use std::alloc::{AllocError, AllocFailed};
+
+/// Why a call gives no value: what it is asked for is refused, or memory is. What a call should answer is
+/// told without memory, so no definition speaks of the second.
+#[derive(Clone, Copy, Debug, PartialEq, Eq)]
+pub enum Failure<E> {
+    /// What is asked for is refused.
+    Refused(E),
+    /// A growth is refused.
+    NoMemory,
+}
+
+impl<E> From<AllocError> for Failure<E> {
+    ghost from_gives = { λ _ e. e ≡ failure.NoMemory };
+
+    fn from(_error: AllocError) -> Failure<E> {
+        Failure::NoMemory
+    }
+}
+
+impl<E, T: Drop> From<AllocFailed<T>> for Failure<E> {
+    ghost from_gives = { λ _ e. e ≡ failure.NoMemory };
+
+    fn from(_error: AllocFailed<T>) -> Failure<E> {
+        Failure::NoMemory
+    }
+}
