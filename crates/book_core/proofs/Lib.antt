@@ -1,6 +1,7 @@
 pub mod Accepted
 pub mod Applying
 pub mod ChangedTables
+pub mod IdLaw
 pub mod Ids
 pub mod KeyFound
 pub mod KeyLaw

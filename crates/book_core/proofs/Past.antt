@@ -14,7 +14,7 @@ use Rattle.book_core.specs.StoredTables.{StoredTable, IsNumbered, IsTimely, IsTa
 
 -- membership by recursion
 
-abbrev In : {X : Type 0} → X → List X → Type 0
+abbrev pub In : {X : Type 0} → X → List X → Type 0
 In x [] = ⊥
 In x (y ∷ ys) = (y ≡ x) ⊎ In x ys
 
@@ -23,10 +23,10 @@ in_at [] k x h e = absurd (omega arith)
 in_at (y ∷ ys) zero x h e = inl e
 in_at (y ∷ ys) (suc k) x h e = inr (in_at ys k x (omega arith) e)
 
-in_from : {X : Type 0} (xs : List X) (x : X) → Contains xs x → In x xs
+pub in_from : {X : Type 0} (xs : List X) (x : X) → Contains xs x → In x xs
 in_from xs x c = in_at xs c.0 x c.1 c.2
 
-contains_from : {X : Type 0} (xs : List X) (x : X) → In x xs → Contains xs x
+pub contains_from : {X : Type 0} (xs : List X) (x : X) → In x xs → Contains xs x
 contains_from [] x h = absurd h
 contains_from (y ∷ ys) x (inl e) = (0, omega arith, e)
 contains_from (y ∷ ys) x (inr r) = let c = contains_from ys x r in (suc c.0, (let k = c.1 in omega (arith, k)), c.2)
@@ -41,7 +41,7 @@ from_map f [] y h = absurd h
 from_map f (x ∷ xs) y (inl e) = (x, inl refl, e)
 from_map f (x ∷ xs) y (inr r) = let g = from_map f xs y r in (g.0, inr g.1, g.2)
 
-in_filtered : {X Y : Type 0} (f : X → Option Y) (xs : List X) (x : X) (y : Y) → In x xs → f x ≡ Some y
+pub in_filtered : {X Y : Type 0} (f : X → Option Y) (xs : List X) (x : X) (y : Y) → In x xs → f x ≡ Some y
     → In y (filter_map f xs)
 in_filtered f [] x y h e = absurd h
 in_filtered f (z ∷ zs) x y (inl w) e = rw (ap f w ∙ e) (inl refl)
@@ -50,7 +50,7 @@ in_filtered f (z ∷ zs) x y (inr r) e = behind (f z) (filter_map f zs) y (in_fi
   behind None ys y k = k
   behind (Some z) ys y k = inr k
 
-from_filtered : {X Y : Type 0} (f : X → Option Y) (xs : List X) (y : Y) → In y (filter_map f xs) → (x : X) × In x xs
+pub from_filtered : {X Y : Type 0} (f : X → Option Y) (xs : List X) (y : Y) → In y (filter_map f xs) → (x : X) × In x xs
     × (f x ≡ Some y)
 from_filtered f [] y h = absurd h
 from_filtered {X} {Y} f (x ∷ xs) y h = split (f x) (filter_map f xs) refl h (from_filtered f xs y) where
@@ -74,14 +74,14 @@ behind_from : (to : Option ℕ) (n : ℕ) → IsAfter to n → is_behind to n �
 behind_from None n h = refl
 behind_from (Some t) n h = lt-ltb n t h
 
-shown_when : (n : ℕ) (v : Version) → shows n v ≡ true → (v.sysfrom ≤ n) × IsAfter v.systo n
+pub shown_when : (n : ℕ) (v : Version) → shows n v ≡ true → (v.sysfrom ≤ n) × IsAfter v.systo n
 shown_when n v h =
     let p = and_parts (leb v.sysfrom n) (is_behind v.systo n) h in (leb-true v.sysfrom n p.0, after_from v.systo n p.1)
 
-when_shown : (n : ℕ) (v : Version) → v.sysfrom ≤ n → IsAfter v.systo n → shows n v ≡ true
+pub when_shown : (n : ℕ) (v : Version) → v.sysfrom ≤ n → IsAfter v.systo n → shows n v ≡ true
 when_shown n v h k = ap (λ b. b && is_behind v.systo n) (le-leb v.sysfrom n h) ∙ behind_from v.systo n k
 
-row_when : (n : ℕ) (v : Version) (r : Row) → row_shown n v ≡ Some r → (shows n v ≡ true) × (v.row ≡ r)
+pub row_when : (n : ℕ) (v : Version) (r : Row) → row_shown n v ≡ Some r → (shows n v ≡ true) × (v.row ≡ r)
 row_when n v r h = by_test (shows n v) h where
   by_test : (b : Bool) → cond b (Some v.row) None ≡ Some r → (b ≡ true) × (v.row ≡ r)
   by_test true k = (refl, cc)
@@ -94,7 +94,7 @@ above k [] u s h = absurd h
 above k (v ∷ vs) u s (inl e) = omega (arith, s.0, ap (λ (w : Version). w.row.id) e)
 above k (v ∷ vs) u s (inr r) = omega (arith, above (k + 1) vs u s.1 r)
 
-unique : (k : ℕ) (vs : List Version) (u w : Version) → IsNumbered k vs → In u vs → In w vs → u.row.id ≡ w.row.id → u ≡ w
+pub unique : (k : ℕ) (vs : List Version) (u w : Version) → IsNumbered k vs → In u vs → In w vs → u.row.id ≡ w.row.id → u ≡ w
 unique k [] u w s h g e = absurd h
 unique k (v ∷ vs) u w s (inl a) (inl b) e = sym a ∙ b
 unique k (v ∷ vs) u w s (inl a) (inr b) e =

@@ -1,7 +1,8 @@
 //! Laws of what a history shows.
 
-ghost use Rattle.std.specs.Prelude.{◌≡◌, ℕ, List, None, nat_le, nat_lt};
+ghost use Rattle.std.specs.Prelude.{◌≡◌, ◌≤◌, ℕ, List, None, Contains, nat_le, nat_lt};
 ghost use Rattle.row_core.specs.Rows.{IdsRise};
+ghost use Rattle.row_core.specs.declared.row.Row.{Row};
 ghost use Rattle.version_core.specs.declared.version.Version.{Version};
 ghost use Rattle.book_core.specs.History.{History, IsLegal, rows_at, versions_refusal};
 ghost use Rattle.book_core.specs.Versions.{AreBetween, AreFromTo};
@@ -24,4 +25,14 @@ pub fn history_has_one_list_of_versions()
 /// The rows that a commit shows are by rising id.
 pub fn rows_rise()
     ensures { (h : History) (n : ℕ) (name : List ℕ) → IdsRise (rows_at h n name) }
+{}
+
+/// No id of a table is used again: rows with the same id are the same row, whichever commits show them, and a
+/// row that a commit no longer shows does not come back.
+pub fn no_id_is_used_again()
+    ensures one { (h : History) (n m : ℕ) (name : List ℕ) (r s : Row)
+        → Contains (rows_at h n name) r → Contains (rows_at h m name) s → r.id ≡ s.id → r ≡ s }
+    ensures lasts { (h : History) (n m k : ℕ) (name : List ℕ) (r : Row) → n ≤ m → m ≤ k
+        → Contains (rows_at h n name) r → Contains (rows_at h k name) r
+        → Contains (rows_at h m name) r }
 {}

@@ -13,7 +13,7 @@ mod table;
 
 pub use book::{Book, keys_stay_apart, past_stays};
 pub use commit::Commit;
-pub use laws::{history_has_one_list_of_versions, rows_rise};
+pub use laws::{history_has_one_list_of_versions, no_id_is_used_again, rows_rise};
 pub use log::{ChangeKind, Entry, Log};
 pub use refusal::{BookRefused, NoTable, RowsRefused, VersionsRefused};
 pub use version_core::{Change, Pairs, Version, VersionList};
