@@ -38,7 +38,8 @@ IsAnswer meant (Ok value) = meant ≡ Ok value
 IsAnswer meant (Err (Refused refusal)) = meant ≡ Err refusal
 IsAnswer meant (Err NoMemory) = IsOk meant
 
--- it stands for the value that is meant, or is the refusal; of memory that is missed nothing is said
+-- a call's answer stands for the value that is meant, or is the refusal; of memory that is missed nothing is
+-- said
 abbrev pub Reads : {S T E : Type 0} → (T → S) → Result S E → Result T (Failure E) → Type 0
 Reads stands meant (Ok value) = meant ≡ Ok (stands value)
 Reads stands meant (Err (Refused refusal)) = meant ≡ Err refusal

@@ -47,7 +47,10 @@ fn knows_columns(rt: HostRuntime) -> Result<(), Fail> {
     assert_eq!(rt; copy.as_slice(), schema.as_slice());
     let column = (Name::parse(b"c")?, Kind::Int);
     let twice = Schema::new(rt.alloc(), &[column, column]);
-    assert_eq!(rt; twice.err(), Some(Failure::Refused(SchemaRefused::TwiceNamed)));
+    assert_eq!(rt;
+        twice.err(),
+        Some(Failure::Refused(SchemaRefused::TwiceNamed))
+    );
     let many = Schema::new(rt.alloc(), &[column; 17]);
     assert_eq!(rt; many.err(), Some(Failure::Refused(SchemaRefused::TooMany)));
     Ok(())
@@ -96,10 +99,16 @@ fn reads_rows(rt: HostRuntime) -> Result<(), Fail> {
     assert_eq!(rt; draft.values.as_slice(), want.as_slice());
     assert!(rt; schema.fits(&draft.values));
     let narrow = schema.read_row(rt.alloc(), &fields[..3]);
-    assert_eq!(rt; narrow.err(), Some(Failure::Refused(RowRefused::WrongWidth)));
+    assert_eq!(rt;
+        narrow.err(),
+        Some(Failure::Refused(RowRefused::WrongWidth))
+    );
     let backwards = [&b"2024-01-02"[..], b"2024-01-01", b"x", b"y"];
     let refused = schema.read_row(rt.alloc(), &backwards);
-    assert_eq!(rt; refused.err(), Some(Failure::Refused(RowRefused::BadPeriod)));
+    assert_eq!(rt;
+        refused.err(),
+        Some(Failure::Refused(RowRefused::BadPeriod))
+    );
     Ok(())
 }
 
@@ -113,7 +122,10 @@ fn reads_values(rt: HostRuntime) -> Result<(), Fail> {
     assert_eq!(rt; text, Value::Text(Text::new(rt.alloc(), b"7")?));
     assert!(rt; number < text);
     let refused = schema.read_value(rt.alloc(), 0, b"y");
-    assert_eq!(rt; refused.err(), Some(Failure::Refused(ValueRefused::BadNumber)));
+    assert_eq!(rt;
+        refused.err(),
+        Some(Failure::Refused(ValueRefused::BadNumber))
+    );
     let long = [0xff; 4097];
     let refused = Text::new(rt.alloc(), &long);
     assert_eq!(rt; refused.err(), Some(Failure::Refused(TextRefused::TooLong)));
