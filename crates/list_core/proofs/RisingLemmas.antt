@@ -57,7 +57,7 @@ rising_is_one R [] (y ∷ ys) asym one other there back = absurd (Contains-none 
 rising_is_one R (x ∷ xs) [] asym one other there back = absurd (Contains-none x (there x (Contains-head x xs)))
 rising_is_one R (x ∷ xs) (y ∷ ys) asym one other there back =
     let same : x ≡ y =
-        first_is_one R x y xs ys asym one other (there x (Contains-head x xs)) (back y (Contains-head y ys)) in
+    first_is_one R x y xs ys asym one other (there x (Contains-head x xs)) (back y (Contains-head y ys)) in
     let rest : xs ≡ ys =
     rising_is_one R xs ys asym (AllPairs-tail R x xs one) (AllPairs-tail R y ys other)
     (rest_in R x y xs ys asym one same there) (rest_in R y x ys xs asym other (sym same) back) in
