@@ -35,16 +35,16 @@ Adds-trans a b c xs ys first second =
     ∙ (append_assoc a.text (bytes_of xs) (bytes_of ys) ∙ ap (λ t. a.text ++ t) (sym all)))
 
 -- one more part behind others
-part_records-more : (k : ℕ) (classes : List (List Item)) (class : List Item)
-    → part_records k (classes ++ class ∷ []) ≡ part_records k classes ++ part_record (k + length classes) class ∷ []
-part_records-more k [] class = let same : k ≡ k + 0 = omega arith in ap (λ n. part_record n class ∷ []) same
-part_records-more k (c ∷ cs) class =
+part_records-more : (k : ℕ) (parts : List (List Item)) (part : List Item)
+    → part_records k (parts ++ part ∷ []) ≡ part_records k parts ++ part_record (k + length parts) part ∷ []
+part_records-more k [] part = let same : k ≡ k + 0 = omega arith in ap (λ n. part_record n part ∷ []) same
+part_records-more k (c ∷ cs) part =
     let same : k + 1 + length cs ≡ k + suc (length cs) = omega arith in
     ap (λ l. part_record k c ∷ l)
-    (part_records-more (k + 1) cs class ∙ ap (λ n. part_records (k + 1) cs ++ part_record n class ∷ []) same)
+    (part_records-more (k + 1) cs part ∙ ap (λ n. part_records (k + 1) cs ++ part_record n part ∷ []) same)
 
 -- parts tell of no refusal
-errors_in-part_records : (k : ℕ) (classes : List (List Item)) → errors_in (part_records k classes) ≡ 0
+errors_in-part_records : (k : ℕ) (parts : List (List Item)) → errors_in (part_records k parts) ≡ 0
 errors_in-part_records k [] = refl
 errors_in-part_records k (c ∷ cs) =
     omega (
@@ -54,32 +54,32 @@ errors_in-part_records k (c ∷ cs) =
       errors_in-part_records (k + 1) cs,
     )
 
-errors_in-division : (rows : ℕ) (classes : List (List Item)) (instant : Option ℤ)
-    → errors_in (dip_record rows (length classes) instant ∷ part_records 0 classes) ≡ 0
-errors_in-division rows classes instant =
+errors_in-division : (rows : ℕ) (parts : List (List Item)) (instant : Option ℤ)
+    → errors_in (dip_record rows (length parts) instant ∷ part_records 0 parts) ≡ 0
+errors_in-division rows parts instant =
     omega (
       arith,
       sum_by-cons (λ (line : Record). cond (begins (codes "error") line) 1 0)
-          (dip_record rows (length classes) instant) (part_records 0 classes),
-      errors_in-part_records 0 classes,
+          (dip_record rows (length parts) instant) (part_records 0 parts),
+      errors_in-part_records 0 parts,
     )
 
 -- one more part is printed
-pub Adds-part : (a b c : Unwritten) (heading : Record) (classes : List (List Item)) (k : ℕ) (items : List Item)
-    → k < length classes → items ≡ part_at classes k
-    → Adds a b (heading ∷ part_records 0 (take k classes)) → Adds b c (part_record k items ∷ [])
-    → Adds a c (heading ∷ part_records 0 (take (k + 1) classes))
-Adds-part a b c heading classes k items lt is first second =
+pub Adds-part : (a b c : Unwritten) (heading : Record) (parts : List (List Item)) (k : ℕ) (items : List Item)
+    → k < length parts → items ≡ part_at parts k
+    → Adds a b (heading ∷ part_records 0 (take k parts)) → Adds b c (part_record k items ∷ [])
+    → Adds a c (heading ∷ part_records 0 (take (k + 1) parts))
+Adds-part a b c heading parts k items lt is first second =
     let next : k + 1 ≡ suc k = omega arith in
-    let size : 0 + length (take k classes) ≡ k = omega (arith, length-take k classes) in
-    let front : take (k + 1) classes ≡ take k classes ++ items ∷ [] =
-    ap (λ n. take n classes) next ∙ (take-suc classes k [] lt ∙ ap (λ l. take k classes ++ l ∷ []) (sym is)) in
-    let parts : part_records 0 (take (k + 1) classes) ≡ part_records 0 (take k classes) ++ part_record k items ∷ [] =
+    let size : 0 + length (take k parts) ≡ k = omega (arith, length-take k parts) in
+    let front : take (k + 1) parts ≡ take k parts ++ items ∷ [] =
+    ap (λ n. take n parts) next ∙ (take-suc parts k [] lt ∙ ap (λ l. take k parts ++ l ∷ []) (sym is)) in
+    let records : part_records 0 (take (k + 1) parts) ≡ part_records 0 (take k parts) ++ part_record k items ∷ [] =
     ap (part_records 0) front
-    ∙ (part_records-more 0 (take k classes) items
-    ∙ ap (λ n. part_records 0 (take k classes) ++ part_record n items ∷ []) size) in
-    subst (Adds a c) (sym (ap (λ l. heading ∷ l) parts))
-    (Adds-trans a b c (heading ∷ part_records 0 (take k classes)) (part_record k items ∷ []) first second)
+    ∙ (part_records-more 0 (take k parts) items
+    ∙ ap (λ n. part_records 0 (take k parts) ++ part_record n items ∷ []) size) in
+    subst (Adds a c) (sym (ap (λ l. heading ∷ l) records))
+    (Adds-trans a b c (heading ∷ part_records 0 (take k parts)) (part_record k items ∷ []) first second)
 
 -- a list of records of which none tells of a refusal, and its end
 errors_in-list : {T : Type 0} (record_of : T → Record) → ((x : T) → begins (codes "error") (record_of x) ≡ false)
@@ -122,7 +122,7 @@ errors_in-printed (answer.Refused fault) other records is = absurd (other fault 
 errors_in-printed (answer.Committed commit) other records is = ap errors_in is
 errors_in-printed (answer.Rows rows) other records is = ap errors_in is ∙ errors_in-row_records rows
 errors_in-printed (answer.Versions versions) other records is = ap errors_in is ∙ errors_in-version_records versions
-errors_in-printed (answer.Division rows classes) other records (instant, of, is) =
-    ap errors_in is ∙ errors_in-division rows classes instant
+errors_in-printed (answer.Division rows parts) other records (instant, of, is) =
+    ap errors_in is ∙ errors_in-division rows parts instant
 errors_in-printed (answer.Verdict verdict) other records is = ap errors_in is ∙ errors_in-verdict verdict
 errors_in-printed (answer.Log entries) other records is = ap errors_in is ∙ errors_in-commit_records entries

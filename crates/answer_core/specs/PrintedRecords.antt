@@ -95,16 +95,16 @@ dip_record rows parts instant = codes "dip" ∷ decimal rows ∷ decimal parts �
 
 -- a part: its number, and the ids of its items
 abbrev pub part_record : ℕ → List Item → Record
-part_record k class = codes "part" ∷ decimal k ∷ map (λ item. decimal item.id) class
+part_record k part = codes "part" ∷ decimal k ∷ map (λ item. decimal item.id) part
 
--- one record for each class, numbered on from k
+-- one record for each part, numbered on from k
 abbrev pub part_records : ℕ → List (List Item) → List Record
 part_records k [] = []
-part_records k (class ∷ classes) = part_record k class ∷ part_records (k + 1) classes
+part_records k (part ∷ parts) = part_record k part ∷ part_records (k + 1) parts
 
 -- the size of a division of so many rows, and its parts
 abbrev pub division_records : ℕ → List (List Item) → Option ℤ → List Record
-division_records rows classes instant = dip_record rows (length classes) instant ∷ part_records 0 classes
+division_records rows parts instant = dip_record rows (length parts) instant ∷ part_records 0 parts
 
 -- a verdict as it is printed: `yes`, or `no`, its name and its numbers
 abbrev pub verdict_record : Verdict → Record
@@ -125,8 +125,8 @@ IsPrintedAs (answer.Refused fault) records = records ≡ error_record fault ∷ 
 IsPrintedAs (answer.Committed commit) records = records ≡ ok_record commit ∷ []
 IsPrintedAs (answer.Rows rows) records = records ≡ row_records rows
 IsPrintedAs (answer.Versions versions) records = records ≡ version_records versions
-IsPrintedAs (answer.Division rows classes) records =
-    (instant : Option ℤ) × IsInstantOf classes instant × (records ≡ division_records rows classes instant)
+IsPrintedAs (answer.Division rows parts) records =
+    (instant : Option ℤ) × IsInstantOf parts instant × (records ≡ division_records rows parts instant)
 IsPrintedAs (answer.Verdict verdict) records = records ≡ verdict_record verdict ∷ []
 IsPrintedAs (answer.Log entries) records = records ≡ commit_records entries
 

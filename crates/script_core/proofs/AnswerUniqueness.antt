@@ -31,7 +31,7 @@ use Rattle.script_core.specs.State.{claim_of, delete_in, load_in, make_in, rows_
 
 one_dip_of : (items : List Item) (one other : Answer) → IsDipOf items one → IsDipOf items other → one ≡ other
 one_dip_of items one other p q =
-    p.is ∙ (ap (answer.Division (length items)) (one_dip items p.classes q.classes p.dip q.dip) ∙ sym q.is)
+    p.is ∙ (ap (answer.Division (length items)) (one_dip items p.parts q.parts p.dip q.dip) ∙ sym q.is)
 
 one_versions : (Are : List Version → Type 0) → ((vs ws : List Version) → Are vs → Are ws → vs ≡ ws)
     → (one other : Answer) → IsVersions Are one → IsVersions Are other → one ≡ other
@@ -132,7 +132,7 @@ one_given before number Log one other f g p q = (p.0 ∙ sym q.0, p.1 ∙ sym q.
 
 -- what an answer tells as a division divides some items
 abbrev Divides : Answer → Type 0
-Divides (answer.Division rows classes) = (items : List Item) × IsDivision items classes
+Divides (answer.Division rows parts) = (items : List Item) × IsDivision items parts
 Divides given = ⊤
 
 one_print : (given : Answer) (one other : List Record) → Divides given → IsPrintedAs given one → IsPrintedAs given other
@@ -141,8 +141,8 @@ one_print (answer.Refused fault) one other divides p q = p ∙ sym q
 one_print (answer.Committed commit) one other divides p q = p ∙ sym q
 one_print (answer.Rows rows) one other divides p q = p ∙ sym q
 one_print (answer.Versions versions) one other divides p q = p ∙ sym q
-one_print (answer.Division rows classes) one other (items, division) (s, at, is) (t, at', is') =
-    is ∙ (ap (division_records rows classes) (one_instant_of items classes s t division at at') ∙ sym is')
+one_print (answer.Division rows parts) one other (items, division) (s, at, is) (t, at', is') =
+    is ∙ (ap (division_records rows parts) (one_instant_of items parts s t division at at') ∙ sym is')
 one_print (answer.Verdict verdict) one other divides p q = p ∙ sym q
 one_print (answer.Log entries) one other divides p q = p ∙ sym q
 
@@ -188,7 +188,7 @@ divides before number (FromTo name first end) given after p =
     (λ _ given is. plain given (answer.Versions is.versions) tt is.is) given after p
 divides before number (Dip name asof) given after p =
     query-divides before (rows_told number before asof name) (λ rows. IsDipOf (items_of rows))
-    (λ rows given is. plain given (answer.Division (length (items_of rows)) is.classes)
+    (λ rows given is. plain given (answer.Division (length (items_of rows)) is.parts)
     (items_of rows, is.dip.divided.division) is.is) given after p
 divides before number (Check name parts instant asof body) given after p =
     query-divides before (both (rows_told number before asof name) (claim_of (number + 1) body))

@@ -117,12 +117,12 @@ versions_answer Are (versions, are) = record {
 
 some_dip_answer : (items : List Item) → item.IdsRise items → Told (IsDipOf items)
 some_dip_answer items rise =
-    let (classes, dip) = some_dip items (HasDistinctIds-from_rising items rise) in
-    let (instant, at) = some_instant items classes dip.divided in
+    let (parts, dip) = some_dip items (HasDistinctIds-from_rising items rise) in
+    let (instant, at) = some_instant items parts dip.divided in
     record {
-      given = answer.Division (length items) classes;
-      is = record { classes = classes; dip = dip; is = refl };
-      records = division_records (length items) classes instant;
+      given = answer.Division (length items) parts;
+      is = record { parts = parts; dip = dip; is = refl };
+      records = division_records (length items) parts instant;
       printed = (instant, at, refl);
     }
 

@@ -20,9 +20,9 @@ use Rattle.script_core.specs.State.{claim_of, delete_in, load_in, make_in, rows_
 
 -- the answer is the dip of the items
 pub record IsDipOf (items : List Item) (given : Answer) : Type 0 where
-  pub classes : List (List Item)
-  pub dip : IsDip items classes
-  pub is : given ≡ answer.Division (length items) classes
+  pub parts : List (List Item)
+  pub dip : IsDip items parts
+  pub is : given ≡ answer.Division (length items) parts
 
 -- the answer is the versions that are asked for
 pub record IsVersions (Are : List Version → Type 0) (given : Answer) : Type 0 where

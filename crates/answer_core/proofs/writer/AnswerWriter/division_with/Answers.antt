@@ -15,17 +15,17 @@ part-requires-in-loop-number c = ap (λ (d : Unwritten). d.fields) c.loop-number
 
 pub loop-number-preserved : goal.loop-number-preserved
 loop-number-preserved c =
-    let classes = c.args.division.now in
-    let heading = dip_record c.args.rows (length classes) c.args.instant in
-    let below : c.loop-number.number < length classes =
+    let parts = c.args.division.now in
+    let heading = dip_record c.args.rows (length parts) c.args.instant in
+    let below : c.loop-number.number < length parts =
     omega (arith, c.loop-number-test.true, c.parts-number-end.ensures.value) in
-    Adds-part c.args.self.now c.loop-number.self c.part-in-loop-number.new.self heading classes c.loop-number.number
+    Adds-part c.args.self.now c.loop-number.self c.part-in-loop-number.new.self heading parts c.loop-number.number
     c.part.result.items.now below c.part.ensures c.loop-number.invariant c.in_ok-part.ensures
 
 pub returns : goal.returns
 returns c =
-    let classes = c.args.division.now in
-    let heading = dip_record c.args.rows (length classes) c.args.instant in
-    let all = take_all c.loop-number.number classes
+    let parts = c.args.division.now in
+    let heading = dip_record c.args.rows (length parts) c.args.instant in
+    let all = take_all c.loop-number.number parts
     (omega (arith, c.loop-number-test.false, c.parts-number-end.ensures.value)) in
     subst (λ l. Adds c.args.self.now c.loop-number.self (heading ∷ part_records 0 l)) all c.loop-number.invariant
