@@ -10,7 +10,7 @@ pub length-cut_at : (starts xs : List ℕ) → length (cut_at starts xs) ≡ len
 length-cut_at [] xs = refl
 length-cut_at (start ∷ starts) xs = ap suc (length-cut_at starts xs)
 
-pub next_start-le : (starts : List ℕ) (end : ℕ) → Rise starts end → next_start starts end ≤ end
+next_start-le : (starts : List ℕ) (end : ℕ) → Rise starts end → next_start starts end ≤ end
 next_start-le [] end rise = omega arith
 next_start-le (start ∷ starts) end (le, rise) = omega (arith, le, next_start-le starts end rise)
 

@@ -23,7 +23,7 @@ pub count-append : (xs ys : List ℕ) (i : ℕ)
 count-append xs ys i = sum_by-append (λ id. cond (id == i) 1 0) xs ys
 
 -- what is contained is counted
-pub count-contained : (xs : List ℕ) (i k : ℕ) → k < length xs → get_or xs k i ≡ i → 1 ≤ count_by (λ id. id == i) xs
+count-contained : (xs : List ℕ) (i k : ℕ) → k < length xs → get_or xs k i ≡ i → 1 ≤ count_by (λ id. id == i) xs
 count-contained [] i k h e = absurd (omega arith)
 count-contained (x ∷ xs) i zero h e =
     let split = count-cons x i xs in
@@ -34,7 +34,7 @@ count-contained (x ∷ xs) i (suc k) h e =
     let rest : 1 ≤ count_by (λ id. id == i) xs = count-contained xs i k (omega arith) e in
     omega arith
 
-pub count-missing : (xs : List ℕ) (i : ℕ) → (Contains xs i → ⊥) → count_by (λ id. id == i) xs ≡ 0
+count-missing : (xs : List ℕ) (i : ℕ) → (Contains xs i → ⊥) → count_by (λ id. id == i) xs ≡ 0
 count-missing [] i none = refl
 count-missing (x ∷ xs) i none =
     let split = count-cons x i xs in

@@ -108,12 +108,12 @@ pub All-back : {X : Type 0} (P : X → Type 0) (xs ys : List X) → All P (xs ++
 All-back P [] ys all = all
 All-back P (x ∷ xs) ys all = All-back P xs ys (All-tail P x (xs ++ ys) all)
 
-pub record AreClasses (items : List Item) (claim : List (List ℕ)) (parts : List (List Item)) : Type 0 where
+record AreParts (items : List Item) (claim : List (List ℕ)) (parts : List (List Item)) : Type 0 where
   pub claimed : map (map (λ x. x.id)) parts ≡ claim
   pub members : All (Contains items) (all_of parts)
 
 named_classes : (items : List Item) (claim : List (List ℕ)) → All (HasItem items) (ids_of claim)
-    → (parts : List (List Item)) × AreClasses items claim parts
+    → (parts : List (List Item)) × AreParts items claim parts
 named_classes items [] known = ([], record { claimed = refl; members = All-nil (Contains items) })
 named_classes items (part ∷ claim) known =
     let (xs, named) = named_items items part (All-front (HasItem items) part (ids_of claim) known) in

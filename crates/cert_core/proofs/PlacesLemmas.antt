@@ -15,7 +15,7 @@ use Rattle.cert_core.proofs.IdsLemmas.{eqb-same, count-cons, IsDistinct-tail, Is
 
 -- ---- the ids at places
 
-pub HasItem-at : (items : List Item) (p : ℕ) → p < length items → HasItem items (id_at items p)
+HasItem-at : (items : List Item) (p : ℕ) → p < length items → HasItem items (id_at items p)
 HasItem-at items p h = let (x, is, same) = item_at items p h in (p, x, h, is, sym same)
 
 -- the place of an item with the id
@@ -41,13 +41,13 @@ ArePlaces-push items ids places id p are h is = record {
 }
 
 -- what f gives of a contained number
-pub Contains-map : (f : ℕ → ℕ) (ps : List ℕ) (p : ℕ) → Contains ps p → Contains (map f ps) (f p)
+Contains-map : (f : ℕ → ℕ) (ps : List ℕ) (p : ℕ) → Contains ps p → Contains (map f ps) (f p)
 Contains-map f ps p (k, h, is) =
     let long : length (map f ps) ≡ length ps = length-map ps f in
     (k, omega arith, get_or-map f ps k p (f p) h ∙ ap f is)
 
 -- and back
-pub Contains-from_map : (f : ℕ → ℕ) (ps : List ℕ) (i : ℕ) → Contains (map f ps) i → (p : ℕ) × Contains ps p × (f p ≡ i)
+Contains-from_map : (f : ℕ → ℕ) (ps : List ℕ) (i : ℕ) → Contains (map f ps) i → (p : ℕ) × Contains ps p × (f p ≡ i)
 Contains-from_map f [] i (k, h, is) = absurd (omega arith)
 Contains-from_map f (p ∷ ps) i (zero, h, is) = (p, (0, omega arith, refl), is)
 Contains-from_map f (p ∷ ps) i (suc k, h, is) =

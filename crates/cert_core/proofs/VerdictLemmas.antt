@@ -142,7 +142,7 @@ not_crowded-first items claim certificate n rise counted filled known distinct c
 }
 
 -- where all is right, no other verdict applies
-pub passes-first : (items : List Item) (claim : List (List ℕ)) (certificate : Certificate) → IdsRise items
+passes-first : (items : List Item) (claim : List (List ℕ)) (certificate : Certificate) → IdsRise items
     → Passes items claim certificate
     → (w : Verdict) → rank w < 7 → Applies items claim certificate w → ⊥
 passes-first items claim certificate rise passes =
@@ -158,7 +158,7 @@ pub yes-first : (items : List Item) (claim : List (List ℕ)) (certificate : Cer
 yes-first items claim certificate rise passes =
     record { applies = tt; first = passes-first items claim certificate rise passes }
 
-pub rank-not_yes : (w : Verdict) → w ≢ Yes → rank w < 7
+rank-not_yes : (w : Verdict) → w ≢ Yes → rank w < 7
 rank-not_yes (WrongCount n) other = omega arith
 rank-not_yes (EmptyPart k) other = omega arith
 rank-not_yes (Unknown id) other = omega arith

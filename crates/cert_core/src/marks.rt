@@ -3,7 +3,7 @@ ghost use Rattle.cert_core.specs.Ids.{IsDistinct, IsTwice};
 ghost use Rattle.cert_core.specs.Places.{AreMarks, IsFirstUnmarked};
 
 // Marks the places, and answers the first of them that is marked already.
-pub fn first_twice(places: &[usize], marks: &mut [bool]) -> Option<usize>
+pub(crate) fn first_twice(places: &[usize], marks: &mut [bool]) -> Option<usize>
     requires within { All (λ p. p < length marks.old) places.now }
     requires none { All (λ mark. mark ≡ false) marks.old }
     ensures { MatchOption result (IsDistinct places.now × AreMarks places.now marks.new) (IsTwice places.now) }
@@ -18,7 +18,7 @@ pub fn first_twice(places: &[usize], marks: &mut [bool]) -> Option<usize>
 }
 
 // The first place without a mark.
-pub fn first_unmarked(marks: &[bool]) -> Option<usize>
+pub(crate) fn first_unmarked(marks: &[bool]) -> Option<usize>
     ensures { MatchOption result (All (λ mark. mark ≡ true) marks.now) (IsFirstUnmarked marks.now) }
 {
     marks.iter().position(|mark| !*mark)

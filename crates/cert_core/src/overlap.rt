@@ -52,7 +52,7 @@ fn overlap_of(
 }
 
 // The first overlap in the first part that has one, of which these are all ids' places.
-pub fn first_overlap(
+pub(crate) fn first_overlap(
     alloc: Global,
     items: &[Item],
     claim: &Claim,

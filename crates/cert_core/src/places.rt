@@ -28,7 +28,7 @@ fn place_by_count(items: &[Item], id: u64) -> Option<usize>
 }
 
 // Finds the place of each id's item, and answers the first id that no item has.
-pub fn find_places(
+pub(crate) fn find_places(
     items: &[Item],
     ids: &[u64],
     places: &mut Vec<usize>,

@@ -29,7 +29,7 @@ use Rattle.dip_core.proofs.StepLemmas.{ArePlaced-added, IsGreatest-added}
 -- ---- the items in their order
 
 -- a list that rises, of these items
-abbrev pub Risen : List Item → List Item → Type 0
+abbrev Risen : List Item → List Item → Type 0
 Risen items xs = IsPermutation items xs × IsRising xs
 
 insert : (x : Item) (xs : List Item) → IsRising xs → (ys : List Item) × Risen (x ∷ xs) ys

@@ -28,7 +28,7 @@ last_end_of part d e filled ends =
     let same : last_end part ≡ Some (get_or part (length part - 1) d).period.to = last_end_is part d filled in cc
 
 -- a chain's last end is its latest
-pub last_end_latest : (part : List Item) (e : ℤ) → IsChain part → 0 < length part → last_end part ≡ Some e
+last_end_latest : (part : List Item) (e : ℤ) → IsChain part → 0 < length part → last_end part ≡ Some e
     → All (λ y. y.period.to ≤ℤ e) part
 last_end_latest part e chain filled ends k d h =
     let is : e ≡ (get_or part (length part - 1) d).period.to = last_end_of part d e filled ends in
@@ -46,7 +46,7 @@ last_end_latest part e chain filled ends k d h =
     ]
 
 -- where all of a part come before x, its last end is the latest end before x
-pub latest-last_end : (part : List Item) (x : Item) (e f : ℤ) → IsChain part → 0 < length part
+latest-last_end : (part : List Item) (x : Item) (e f : ℤ) → IsChain part → 0 < length part
     → ((y : Item) → Contains part y → IsBefore y x) → last_end part ≡ Some e → IsLatestEnd part x f → f ≡ e
 latest-last_end part x e f chain filled before ends latest =
     let (k, y, h, same, (earlier, is)) = latest.0 in

@@ -21,7 +21,7 @@ use Rattle.dip_core.proofs.OrderLemmas.{not_below-trans, not_below_itself, from_
 use Rattle.dip_core.proofs.PlacedLemmas.{IsPlaced-added, last_end_is, same_or_other}
 
 -- no item placed so far is above x
-pub none_above : (parts : List (List Item)) (last : Option Item) (x : Item) → IsGreatest parts last
+none_above : (parts : List (List Item)) (last : Option Item) (x : Item) → IsGreatest parts last
     → ForSome last (λ z. IsBelow x z → ⊥) → All (λ y. IsBelow x y → ⊥) (all_of parts)
 none_above parts None x empty above =
     subst (λ ps. All (λ y. IsBelow x y → ⊥) (all_of ps)) (sym empty) (All-nil (λ y. IsBelow x y → ⊥))

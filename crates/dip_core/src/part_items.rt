@@ -8,7 +8,7 @@ use std::marker::Model;
 
 /// A part's items, at least one, with the last end at hand for placing. Contracts see their list.
 #[derive(Drop)]
-pub struct PartItems {
+pub(crate) struct PartItems {
     items: Vec<Item>,
     end: Point,
 }

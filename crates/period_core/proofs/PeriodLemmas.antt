@@ -64,7 +64,7 @@ order_prop : (a b : ℤ) → IsProp (a <ℤ b)
 order_prop a b = hlevel props
 
 -- a period is determined by its two ends
-pub Period-same : (p q : Period) → p.from ≡ q.from → p.to ≡ q.to → p ≡ q
+Period-same : (p q : Period) → p.from ≡ q.from → p.to ≡ q.to → p ≡ q
 unfolding period_of
 Period-same p q from to =
     let A : ℤ → Type 0 = λ z. (h : z <ℤ q.to) → p ≡ period_of z q.to h in
@@ -90,7 +90,7 @@ between_if-holds a b true e t = (λ h. h, λ h. h)
 between_if-holds a b false e t = (λ h. absurd h, λ h. grind (arith, ints))
 
 -- its instants
-pub between-holds : (a b t : ℤ) → HoldsIn (between a b) t ↔ ((a ≤ℤ t) × (t <ℤ b))
+between-holds : (a b t : ℤ) → HoldsIn (between a b) t ↔ ((a ≤ℤ t) × (t <ℤ b))
 between-holds a b t = between_if-holds a b (int_lt a b) refl t
 
 -- the shared instants
