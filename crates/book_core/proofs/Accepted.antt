@@ -1,12 +1,14 @@
 -- What is refused for its keys, and what is not.
 use Rattle.std.proofs.Common.{◌≡◌, ℕ, Bool, true, false, Option, Some, None, refl, ap, ◌∙◌, inl, inr}
-use Rattle.std.specs.Prelude.{Result, Err, IfNone, IfSome, IsOkUnless}
+use Rattle.std.specs.Prelude.{Result, Err, IfNone, IfSome, IsOkUnless, ◌≢◌}
+use Rattle.row_core.specs.Refusals.{map_refused}
+use Rattle.row_core.specs.declared.failure.Failure.{Failure}
+use Rattle.row_core.specs.declared.failure.Failure.TheVariants.{Refused, NoMemory}
 use Rattle.version_core.specs.declared.change.Change.{Change}
-use Rattle.version_core.specs.declared.keys.ChangeFailure.{ChangeFailure}
-use Rattle.version_core.specs.declared.keys.ChangeFailure.TheVariants as why
-use Rattle.book_core.specs.State.{State, first_refusal, leaves_overlap, or_overlap, refusal_of, table_named, table_of, IsRefusedAs, refusal_by}
+use Rattle.version_core.specs.declared.keys.KeyOverlap as keys
+use Rattle.book_core.specs.State.{State, first_refusal, leaves_overlap, or_overlap, refusal_of, table_named, table_of, IsRefusedAs, overlap_refusal}
 use Rattle.book_core.specs.declared.refusal.BookRefused.{BookRefused}
-use Rattle.book_core.specs.declared.refusal.BookRefused.TheVariants.{KeyOverlap, NoMemory}
+use Rattle.book_core.specs.declared.refusal.BookRefused.TheVariants.{KeyOverlap}
 
 first-of_none : (o : Option BookRefused) (overlap : Bool) → or_overlap o overlap ≡ None → o ≡ None
 first-of_none None overlap h = refl
@@ -39,17 +41,17 @@ overlap-refused n s c h k =
 
 -- ---- a change that is not made after those tests
 
-pub record IsFailed (refusal : Option BookRefused) (result : Result ℕ BookRefused) : Type 0 where
+pub record IsFailed (refusal : Option BookRefused) (result : Result ℕ (Failure BookRefused)) : Type 0 where
   pub refused : IfSome refusal (IsRefusedAs result)
   pub accepted : IfNone refusal (IsOkUnless result NoMemory)
 
-pub failed : (n : ℕ) (s : State) (c : Change) (failure : ChangeFailure) (result : Result ℕ BookRefused)
-    → first_refusal n s c ≡ None → result ≡ Err (refusal_by failure)
-    → (failure ≡ why.KeyOverlap → leaves_overlap c (table_of s (table_named c)) ≡ true)
+pub failed : (n : ℕ) (s : State) (c : Change) (why : Failure keys.KeyOverlap) (result : Result ℕ (Failure BookRefused))
+    → first_refusal n s c ≡ None → result ≡ Err (map_refused overlap_refusal why)
+    → (why ≢ NoMemory → leaves_overlap c (table_of s (table_named c)) ≡ true)
     → IsFailed (refusal_of n s c) result
-failed n s c why.KeyOverlap result h e overlap =
-    rw (overlap-refused n s c h (overlap refl), e) (record { refused = inl refl; accepted = tt })
-failed n s c why.NoMemory result h e overlap = by_overlap (leaves_overlap c (table_of s (table_named c))) refl where
+failed n s c (Refused key) result h e overlap =
+    rw (overlap-refused n s c h (overlap (λ same. cc)), e) (record { refused = inl refl; accepted = tt })
+failed n s c NoMemory result h e overlap = by_overlap (leaves_overlap c (table_of s (table_named c))) refl where
   by_overlap : (overlap : Bool) → leaves_overlap c (table_of s (table_named c)) ≡ overlap
       → IsFailed (refusal_of n s c) result
   by_overlap true k = rw (overlap-refused n s c h k, e) (record { refused = inr (refl, refl); accepted = tt })

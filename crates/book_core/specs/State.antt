@@ -6,6 +6,8 @@ use Rattle.row_core.specs.Name.{same_name}
 use Rattle.row_core.specs.Refusals.{first_of}
 use Rattle.row_core.specs.Schema.{fits, column_of, key_of}
 use Rattle.row_core.specs.Value.{kind_of, same_kind}
+use Rattle.row_core.specs.declared.failure.Failure.{Failure}
+use Rattle.row_core.specs.declared.failure.Failure.TheVariants.{Refused, NoMemory}
 use Rattle.row_core.specs.declared.row.Row.{Row}
 use Rattle.row_core.specs.declared.schema.Column.{Column}
 use Rattle.row_core.specs.declared.value.Kind.{Kind}
@@ -16,10 +18,9 @@ use Rattle.version_core.specs.Rows.{numbered, Pair, removes, drafts_of, unnumber
 use Rattle.version_core.specs.Keys.{break_key}
 use Rattle.version_core.specs.declared.change.Change.{Change}
 use Rattle.version_core.specs.declared.change.Change.TheVariants.{Make, Load, Update, Delete}
-use Rattle.version_core.specs.declared.keys.ChangeFailure.{ChangeFailure}
-use Rattle.version_core.specs.declared.keys.ChangeFailure.TheVariants as failure
+use Rattle.version_core.specs.declared.keys.KeyOverlap as keys
 use Rattle.book_core.specs.declared.refusal.BookRefused.{BookRefused}
-use Rattle.book_core.specs.declared.refusal.BookRefused.TheVariants.{TableExists, TooMany, Full, NoTable, NoColumn, WrongKind, KeyOverlap, NoMemory}
+use Rattle.book_core.specs.declared.refusal.BookRefused.TheVariants.{TableExists, TooMany, Full, NoTable, NoColumn, WrongKind, KeyOverlap}
 
 -- a table: its columns, how many ids it has used, and its current rows by rising id
 pub record Table : Type 0 where
@@ -133,11 +134,10 @@ or_overlap None overlap = if overlap then Some KeyOverlap else None
 abbrev pub refusal_of : ℕ → State → Change → Option BookRefused
 refusal_of n s c = or_overlap (first_refusal n s c) (leaves_overlap c (table_of s (table_named c)))
 
--- why a change is not made, as the book says it
-abbrev pub refusal_by : ChangeFailure → BookRefused
-refusal_by failure.KeyOverlap = KeyOverlap
-refusal_by failure.NoMemory = NoMemory
+-- what is wrong with a change whose rows' keys overlap
+abbrev pub overlap_refusal : keys.KeyOverlap → BookRefused
+overlap_refusal overlap = KeyOverlap
 
 -- the refusal by that name; for rows whose keys overlap also the one of a test that was refused memory
-abbrev pub IsRefusedAs : {T : Type 0} → Result T BookRefused → BookRefused → Type 0
-IsRefusedAs result name = (result ≡ Err name) ⊎ ((name ≡ KeyOverlap) × (result ≡ Err NoMemory))
+abbrev pub IsRefusedAs : {T : Type 0} → Result T (Failure BookRefused) → BookRefused → Type 0
+IsRefusedAs result name = (result ≡ Err (Refused name)) ⊎ ((name ≡ KeyOverlap) × (result ≡ Err NoMemory))

@@ -1,9 +1,10 @@
 //! Tests a change of a table, and makes it.
 
-ghost use Rattle.std.specs.Prelude.{◌≡◌, ◌+◌, ◌≤◌, ◌<◌, [], ◌∷◌, ◌++◌, ◌||◌, true, false, length, flat_map, IfSome, IfOk, IfErr, OnErr, OnOk, nat_le, nat_lt};
+ghost use Rattle.std.specs.Prelude.{◌≡◌, ◌≢◌, ◌+◌, ◌≤◌, ◌<◌, [], ◌∷◌, ◌++◌, ◌||◌, true, false, length, flat_map, IfSome, IfOk, IfErr, OnErr, OnOk, nat_le, nat_lt};
 ghost use Rattle.std.specs.List.{list_all, AllByRecursion};
 ghost use Rattle.row_core.specs.Refusals.{first_of};
 ghost use Rattle.row_core.specs.Schema.{fits};
+ghost use Rattle.row_core.specs.declared.failure.Failure.TheVariants.{NoMemory};
 ghost use Rattle.version_core.specs.Limits.{version_limit};
 ghost use Rattle.version_core.specs.Rows.{parts_in};
 ghost use Rattle.version_core.specs.Shown.{shown};
@@ -15,9 +16,9 @@ use crate::pairs::pairs_refusal;
 use crate::refusal::BookRefused;
 use crate::table::{Table, place_of};
 use list_core::DeepCopy;
-use row_core::{Draft, Name, NoMemory, Schema, Value};
+use row_core::{Draft, Failure, Name, NoMemory, Schema, Value};
 use std::alloc::Global;
-use version_core::{Change, ChangeFailure, VERSION_LIMIT, VersionCounts, Versions};
+use version_core::{Change, KeyOverlap, VERSION_LIMIT, VersionCounts, Versions};
 
 /// The most commits of a book.
 pub(crate) const COMMIT_LIMIT: usize = 1_000_000;
@@ -124,7 +125,7 @@ pub(crate) fn change_tables(
     tables: &mut Vec<Table>,
     commits: u64,
     change: &Change,
-) -> Result<VersionCounts, ChangeFailure>
+) -> Result<VersionCounts, Failure<KeyOverlap>>
     requires few { commits < commit_limit }
     requires room { HasRoom commits change.now tables.old.items }
     requires well { IfSome (kept_table (table_named change.now) tables.old.items)
@@ -137,7 +138,7 @@ pub(crate) fn change_tables(
         ≡ closed_in commits change.now (kept_table (table_named change.now) tables.old.items)) }
     ensures apart { OnOk result (overlap_in commits change.now
         (kept_table (table_named change.now) tables.old.items) ≡ false) }
-    ensures overlap { IfErr result (λ failure. failure ≡ ChangeFailure.KeyOverlap
+    ensures overlap { IfErr result (λ failure. failure ≢ NoMemory
         → overlap_in commits change.now
         (kept_table (table_named change.now) tables.old.items) ≡ true) }
     ensures err { OnErr result (tables.new.items ≡ tables.old.items) }
@@ -181,7 +182,7 @@ fn change_table(
     commits: u64,
     name: Name,
     change: &Change,
-) -> Result<VersionCounts, ChangeFailure>
+) -> Result<VersionCounts, Failure<KeyOverlap>>
     requires few { commits < commit_limit }
     requires room { IfSome (kept_table name tables.old.items)
         (λ t. (changed change.now (table_at commits t)).used ≤ version_limit) }
@@ -195,7 +196,7 @@ fn change_table(
         ≡ closed_in commits change.now (kept_table name tables.old.items)) }
     ensures apart { OnOk result
         (overlap_in commits change.now (kept_table name tables.old.items) ≡ false) }
-    ensures overlap { IfErr result (λ failure. failure ≡ ChangeFailure.KeyOverlap
+    ensures overlap { IfErr result (λ failure. failure ≢ NoMemory
         → overlap_in commits change.now (kept_table name tables.old.items) ≡ true) }
     ensures err { OnErr result (tables.new.items ≡ tables.old.items) }
 {

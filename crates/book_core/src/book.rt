@@ -3,6 +3,7 @@
 ghost use Rattle.std.specs.Prelude.{◌≡◌, ◌+◌, ◌≤◌, ℕ, List, [], ◌∷◌, ◌++◌, length, map, take, All, IfOk, IsTrue, IfSome, IfNone, OnOk, OnErr, IsOkUnless, nat_lt, nat_le};
 ghost use Rattle.row_core.specs.Rows.{IdsRise};
 ghost use Rattle.row_core.specs.Schema.{fits};
+ghost use Rattle.row_core.specs.declared.failure.Failure.TheVariants.{NoMemory, Refused};
 ghost use Rattle.version_core.specs.Limits.{version_limit};
 ghost use Rattle.book_core.specs.History.{History, IsLegal, state_after, rows_at, rows_refusal, versions_refusal, schema_in};
 ghost use Rattle.book_core.specs.Limits.{commit_limit};
@@ -13,10 +14,10 @@ ghost use Rattle.book_core.specs.Versions.{AreBetween, AreFromTo, log_of};
 use crate::apply::{COMMIT_LIMIT, change_tables, refusal_in};
 use crate::commit::Commit;
 use crate::log::{Entry, Log, entry_of};
-use crate::refusal::{BookRefused, NoTable, RowsRefused, VersionsRefused};
+use crate::refusal::{BookRefused, NoTable, RowsRefused, VersionsRefused, overlap_failure};
 use crate::table::{Table, find_table};
 use list_core::copy_each;
-use row_core::{Name, NoMemory, RowList, Schema};
+use row_core::{Failure, Name, NoMemory, RowList, Schema};
 use std::alloc::Global;
 use std::marker::Model;
 use version_core::{Change, VersionList, rows_shown, versions_seen};
@@ -89,25 +90,28 @@ impl Book {
     /// portion: `NoTable`; for each pair, settings before conditions, `NoColumn` and then `WrongKind`; `Full`;
     /// of an update `KeyOverlap`. `NoMemory` comes last, and in place of `KeyOverlap` where its test is
     /// refused memory. After a refusal the book is unchanged, and the change is dropped.
-    pub fn apply(&mut self, by: u32, change: Change) -> Result<u64, BookRefused>
+    pub fn apply(&mut self, by: u32, change: Change) -> Result<u64, Failure<BookRefused>>
         // It is refused by name exactly where the state says so; where rows of one key would overlap,
         // `NoMemory` may come in place of that name.
         ensures refused { IfSome (refusal_of (length self.old) (state_after self.old) change)
             (IsRefusedAs result) }
         ensures accepted { IfNone (refusal_of (length self.old) (state_after self.old) change)
-            (IsOkUnless result BookRefused.NoMemory) }
+            (IsOkUnless result NoMemory) }
 
         ensures number { IfOk result (λ number. number ≡ length self.old + 1) }
         ensures ok { OnOk result (self.new ≡ self.old ++ record { by = by; change = change } ∷ []) }
         ensures err { OnErr result (self.new ≡ self.old) }
     {
         if let Some(refused) = self.refusal(&change) {
-            return Err(refused);
+            return Err(Failure::Refused(refused));
         }
         self.history.reserve(1)?;
         self.log.reserve(1)?;
         let commits = self.history.len() as u64;
-        let counts = change_tables(self.alloc, &mut self.tables, commits, &change)?;
+        let counts = match change_tables(self.alloc, &mut self.tables, commits, &change) {
+            Ok(counts) => counts,
+            Err(why) => return Err(overlap_failure(why)),
+        };
         let entry = entry_of(commits, by, &change, counts);
         match self.log.push(entry) {
             Ok(()) => match self.history.push(Commit { by, change }) {
@@ -170,10 +174,10 @@ impl Book {
     }
 
     /// The rows of a table that commit n shows, by rising id.
-    pub fn rows_at(&self, n: u64, name: Name) -> Result<RowList, RowsRefused>
-        ensures refused { IfSome (rows_refusal self.now n name) (λ name. result ≡ Err name) }
+    pub fn rows_at(&self, n: u64, name: Name) -> Result<RowList, Failure<RowsRefused>>
+        ensures refused { IfSome (rows_refusal self.now n name) (λ refused. result ≡ Err (Refused refused)) }
         ensures given { IfNone (rows_refusal self.now n name)
-            (IsOkUnless result RowsRefused.NoMemory) }
+            (IsOkUnless result NoMemory) }
         ensures rows { IfOk result (λ rows. rows ≡ rows_at self.now n name) }
 
         // They are at most 1,000,000, and each fits the table's columns.
@@ -183,10 +187,10 @@ impl Book {
             (λ columns. All (λ row. IsTrue (fits columns row.values)) rows)) }
     {
         if n > self.commits() {
-            return Err(RowsRefused::Future);
+            return Err(Failure::Refused(RowsRefused::Future));
         }
         match self.table(name) {
-            None => Err(RowsRefused::NoTable),
+            None => Err(Failure::Refused(RowsRefused::NoTable)),
             Some(table) => Ok(rows_shown(self.alloc, table.versions.as_slice(), n)?),
         }
     }
@@ -204,11 +208,11 @@ impl Book {
         m: u64,
         n: u64,
         name: Name,
-    ) -> Result<VersionList, VersionsRefused>
+    ) -> Result<VersionList, Failure<VersionsRefused>>
         ensures refused { IfSome (versions_refusal self.now at (nat_lt n m) name)
-            (λ name. result ≡ Err name) }
+            (λ refused. result ≡ Err (Refused refused)) }
         ensures given { IfNone (versions_refusal self.now at (nat_lt n m) name)
-            (IsOkUnless result VersionsRefused.NoMemory) }
+            (IsOkUnless result NoMemory) }
         ensures versions { IfOk result (λ versions. AreBetween self.now at m n name versions) }
 
         // At one commit they are those whose rows it shows.
@@ -216,13 +220,13 @@ impl Book {
             → IfOk result (λ versions. map (λ v. v.row) versions ≡ rows_at self.now n name) }
     {
         if at > self.commits() {
-            return Err(VersionsRefused::Future);
+            return Err(Failure::Refused(VersionsRefused::Future));
         }
         if m > n {
-            return Err(VersionsRefused::BadPeriod);
+            return Err(Failure::Refused(VersionsRefused::BadPeriod));
         }
         match self.table(name) {
-            None => Err(VersionsRefused::NoTable),
+            None => Err(Failure::Refused(VersionsRefused::NoTable)),
             Some(table) => Ok(versions_seen(self.alloc, table.versions.as_slice(), at, m, n)?),
         }
     }
@@ -240,21 +244,21 @@ impl Book {
         m: u64,
         n: u64,
         name: Name,
-    ) -> Result<VersionList, VersionsRefused>
+    ) -> Result<VersionList, Failure<VersionsRefused>>
         ensures refused { IfSome (versions_refusal self.now at (nat_le n m) name)
-            (λ name. result ≡ Err name) }
+            (λ refused. result ≡ Err (Refused refused)) }
         ensures given { IfNone (versions_refusal self.now at (nat_le n m) name)
-            (IsOkUnless result VersionsRefused.NoMemory) }
+            (IsOkUnless result NoMemory) }
         ensures versions { IfOk result (λ versions. AreFromTo self.now at m n name versions) }
     {
         if at > self.commits() {
-            return Err(VersionsRefused::Future);
+            return Err(Failure::Refused(VersionsRefused::Future));
         }
         if m >= n {
-            return Err(VersionsRefused::BadPeriod);
+            return Err(Failure::Refused(VersionsRefused::BadPeriod));
         }
         match self.table(name) {
-            None => Err(VersionsRefused::NoTable),
+            None => Err(Failure::Refused(VersionsRefused::NoTable)),
             Some(table) => Ok(versions_seen(self.alloc, table.versions.as_slice(), at, m, n - 1)?),
         }
     }

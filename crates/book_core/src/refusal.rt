@@ -1,7 +1,11 @@
 //! Why a change is not made, and why rows and versions are not given.
 
-use row_core::NoMemory;
-use version_core::ChangeFailure;
+ghost use Rattle.std.specs.Prelude.{◌≡◌};
+ghost use Rattle.row_core.specs.Refusals.{map_refused};
+ghost use Rattle.book_core.specs.State.{overlap_refusal};
+
+use row_core::Failure;
+use version_core::KeyOverlap;
 
 /// Why a change is not made, in the order of the tests; of pairs, each is tested for both of its names
 /// before the next one.
@@ -21,31 +25,15 @@ pub enum BookRefused {
     Full,
     /// The table has a key, and two of its rows would be equal in each column of it and share an instant.
     KeyOverlap,
-    NoMemory,
 }
 
-impl From<ChangeFailure> for BookRefused {
-    ghost use Rattle.std.specs.Prelude.{◌≡◌};
-    ghost use Rattle.book_core.specs.State.{refusal_by};
-
-    ghost from_gives = { λ failure refused. refused ≡ refusal_by failure };
-
-    fn from(failure: ChangeFailure) -> BookRefused {
-        match failure {
-            ChangeFailure::KeyOverlap => BookRefused::KeyOverlap,
-            ChangeFailure::NoMemory => BookRefused::NoMemory,
-        }
-    }
-}
-
-impl From<NoMemory> for BookRefused {
-    ghost use Rattle.std.specs.Prelude.{◌≡◌};
-    ghost use Rattle.book_core.specs.declared.refusal.BookRefused.TheVariants as refused;
-
-    ghost from_gives = { λ _ e. e ≡ refused.NoMemory };
-
-    fn from(_error: NoMemory) -> BookRefused {
-        BookRefused::NoMemory
+/// Why a change is not made that only the test of its rows' keys can refuse.
+pub(crate) fn overlap_failure(why: Failure<KeyOverlap>) -> Failure<BookRefused>
+    ensures { result ≡ map_refused overlap_refusal why }
+{
+    match why {
+        Failure::Refused(KeyOverlap) => Failure::Refused(BookRefused::KeyOverlap),
+        Failure::NoMemory => Failure::NoMemory,
     }
 }
 
@@ -56,18 +44,6 @@ pub enum RowsRefused {
     Future,
     /// No table of that name is there.
     NoTable,
-    NoMemory,
-}
-
-impl From<NoMemory> for RowsRefused {
-    ghost use Rattle.std.specs.Prelude.{◌≡◌};
-    ghost use Rattle.book_core.specs.declared.refusal.RowsRefused.TheVariants as refused;
-
-    ghost from_gives = { λ _ e. e ≡ refused.NoMemory };
-
-    fn from(_error: NoMemory) -> RowsRefused {
-        RowsRefused::NoMemory
-    }
 }
 
 /// Why the versions of a table are not given, in the order of the tests.
@@ -79,18 +55,6 @@ pub enum VersionsRefused {
     BadPeriod,
     /// No table of that name is there.
     NoTable,
-    NoMemory,
-}
-
-impl From<NoMemory> for VersionsRefused {
-    ghost use Rattle.std.specs.Prelude.{◌≡◌};
-    ghost use Rattle.book_core.specs.declared.refusal.VersionsRefused.TheVariants as refused;
-
-    ghost from_gives = { λ _ e. e ≡ refused.NoMemory };
-
-    fn from(_error: NoMemory) -> VersionsRefused {
-        VersionsRefused::NoMemory
-    }
 }
 
 /// No table has that name.

@@ -6,7 +6,6 @@ use Rattle.std.proofs.lemmas.List.{nil_from_length}
 use Rattle.row_core.specs.Refusals.{and_then, refused_or}
 use Rattle.book_core.specs.History.{History, IsLegal, state_after}
 use Rattle.book_core.specs.History as history
-use Rattle.version_core.specs.Rows.{Pair}
 use Rattle.book_core.specs.State.{refusal_of}
 use Rattle.book_core.specs.Versions.{AreBetween, AreFromTo, log_of}
 use Rattle.book_core.specs.declared.refusal.BookRefused.{BookRefused}
@@ -15,9 +14,7 @@ use Rattle.version_core.specs.declared.version.Version.{Version}
 use Rattle.version_core.specs.declared.change.Change.TheVariants as change
 use Rattle.book_core.proofs.Applying.{IsLegal-push}
 use Rattle.book_core.proofs.VersionsExistence.{some_between, some_from_to}
-use Rattle.row_core.specs.declared.draft.Draft.{Draft}
 use Rattle.row_core.specs.declared.row.Row.{Row}
-use Rattle.row_core.specs.declared.schema.Column.{Column}
 use Rattle.dip_core.specs.declared.item.Item.{Item}
 use Rattle.dip_core.specs.Item as item
 use Rattle.dip_core.proofs.DipExistence.{some_dip, some_instant}

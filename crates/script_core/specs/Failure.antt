@@ -3,13 +3,6 @@ use Rattle.std.specs.Prelude.{ℕ, ◌≡◌, Result, Err, ⊤}
 use Rattle.row_core.specs.Refusals.{map_refused}
 use Rattle.row_core.specs.declared.failure.Failure as row
 use Rattle.row_core.specs.declared.failure.Failure.TheVariants.{Refused, NoMemory}
-use Rattle.book_core.specs.declared.refusal.BookRefused.{BookRefused}
-use Rattle.book_core.specs.declared.refusal.BookRefused.TheVariants as book
-use Rattle.book_core.specs.declared.refusal.RowsRefused.{RowsRefused}
-use Rattle.book_core.specs.declared.refusal.RowsRefused.TheVariants as rows
-use Rattle.book_core.specs.declared.refusal.VersionsRefused.{VersionsRefused}
-use Rattle.book_core.specs.declared.refusal.VersionsRefused.TheVariants as versions
-use Rattle.script_core.specs.Refusal.{book_refusal, rows_refusal, versions_refusal}
 use Rattle.command_core.specs.Refusal.{fault}
 use Rattle.command_core.specs.declared.refusal.Fault.{Fault}
 use Rattle.command_core.specs.declared.refusal.Refusal.{Refusal}
@@ -25,21 +18,6 @@ refused number refusal = Refused (fault number refusal)
 -- a failure of the record of this number, its refusal by the name that a script tells
 abbrev pub failure_at : {E : Type 0} → ℕ → (E → Refusal) → row.Failure E → Failure
 failure_at number name why = map_refused (λ refusal. fault number (name refusal)) why
-
--- a query's refusal, of the command of this number
-abbrev pub rows_failure : ℕ → RowsRefused → Failure
-rows_failure number rows.NoMemory = NoMemory
-rows_failure number why = refused number (rows_refusal why)
-
--- the refusal of versions, of the command of this number
-abbrev pub versions_failure : ℕ → VersionsRefused → Failure
-versions_failure number versions.NoMemory = NoMemory
-versions_failure number why = refused number (versions_refusal why)
-
--- a change's refusal, of the command of this number
-abbrev pub book_failure : ℕ → BookRefused → Failure
-book_failure number book.NoMemory = NoMemory
-book_failure number why = refused number (book_refusal why)
 
 -- a refusal is the one that applies; of want of memory nothing is said
 abbrev pub IsFailureOf : {T : Type 0} → Result T Fault → Failure → Type 0

@@ -1,5 +1,4 @@
--- The refusals of the crates below, as a script tells them. Want of memory is none of a script's; what
--- these say of a book's stands for nothing, since no definition applies them to it.
+-- The refusals of the crates below, as a script tells them.
 use Rattle.row_core.specs.declared.reading.RowRefused.{RowRefused}
 use Rattle.row_core.specs.declared.reading.RowRefused.TheVariants as row
 use Rattle.row_core.specs.declared.value.ValueRefused.{ValueRefused}
@@ -31,7 +30,6 @@ book_refusal book.NoTable = NoTable
 book_refusal book.NoColumn = NoColumn
 book_refusal book.WrongKind = WrongKind
 book_refusal book.KeyOverlap = KeyOverlap
-book_refusal book.NoMemory = Full
 
 -- what is wrong with a value
 abbrev pub value_refusal : ValueRefused → Refusal
@@ -43,11 +41,9 @@ value_refusal value.BadUtf8 = BadUtf8
 abbrev pub rows_refusal : RowsRefused → Refusal
 rows_refusal rows.Future = Future
 rows_refusal rows.NoTable = NoTable
-rows_refusal rows.NoMemory = Full
 
 -- what is wrong with versions that are asked for
 abbrev pub versions_refusal : VersionsRefused → Refusal
 versions_refusal versions.Future = Future
 versions_refusal versions.BadPeriod = BadPeriod
 versions_refusal versions.NoTable = NoTable
-versions_refusal versions.NoMemory = Full

@@ -5,7 +5,7 @@ ghost use Rattle.command_core.specs.Lines.{lines_in};
 ghost use Rattle.command_core.specs.PairsIn.{pairs_in};
 ghost use Rattle.script_core.specs.State.{change_in, delete_in, load_in, make_in, update_in};
 
-use crate::failure::{Failure, book_failure, refused};
+use crate::failure::{Failure, failure_at, refused};
 use crate::pairs::read_pairs;
 use crate::rows::rows_of;
 use answer_core::Answer;
@@ -24,7 +24,7 @@ fn apply(book: &mut Book, number: u64, change: Change) -> Result<Answer, Failure
 {
     match book.apply(PASS, change) {
         Ok(commit) => Ok(Answer::Committed(commit)),
-        Err(why) => Err(book_failure(number, why)),
+        Err(why) => Err(failure_at(number, why)),
     }
 }
 

@@ -4,7 +4,7 @@ ghost use Rattle.command_core.specs.PairsIn.{pairs_in};
 ghost use Rattle.script_core.specs.Failure.{IsFailureOf, IsRecordFailure};
 ghost use Rattle.script_core.specs.State.{pair_read, pairs_told};
 
-use crate::failure::{Failure, refused, value_failure};
+use crate::failure::{Failure, failure_at, refused};
 use book_core::Pairs;
 use command_core::{Refusal, TextPairs};
 use row_core::{Name, Schema, Value};
@@ -27,7 +27,7 @@ fn value_named(
     };
     match schema.read_value(alloc, place, text) {
         Ok(value) => Ok(value),
-        Err(why) => Err(value_failure(number, why)),
+        Err(why) => Err(failure_at(number, why)),
     }
 }
 

@@ -13,7 +13,7 @@ ghost use Rattle.script_core.specs.State.{claim_of, rows_on, rows_told, versions
 ghost use Rattle.answer_core.specs.declared.answer.Answer.TheVariants.{Log, Rows};
 
 use crate::claims::read_claim;
-use crate::failure::{Failure, refused, rows_failure, versions_failure};
+use crate::failure::{Failure, failure_at, refused};
 use answer_core::Answer;
 use book_core::Book;
 use cert_core::{Certificate, check_division};
@@ -38,7 +38,7 @@ fn shown_table<'a>(
 {
     let rows = match book.rows_at(asof.unwrap_or(book.commits()), table) {
         Ok(rows) => rows,
-        Err(why) => return Err(rows_failure(number, why)),
+        Err(why) => return Err(failure_at(number, why)),
     };
     match book.schema(table) {
         Ok(schema) => Ok((schema, rows)),
@@ -133,7 +133,7 @@ pub(crate) fn between(
 {
     match book.between(book.commits(), first, last, table) {
         Ok(versions) => Ok(Answer::Versions(versions)),
-        Err(why) => Err(versions_failure(number, why)),
+        Err(why) => Err(failure_at(number, why)),
     }
 }
 
@@ -150,7 +150,7 @@ pub(crate) fn from_to(
 {
     match book.from_to(book.commits(), first, end, table) {
         Ok(versions) => Ok(Answer::Versions(versions)),
-        Err(why) => Err(versions_failure(number, why)),
+        Err(why) => Err(failure_at(number, why)),
     }
 }
 

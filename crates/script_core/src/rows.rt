@@ -4,7 +4,7 @@ ghost use Rattle.script_core.specs.Failure.{IsFailureOf, IsRecordFailure};
 ghost use Rattle.command_core.specs.Lines.{fields_in, lines_in};
 ghost use Rattle.script_core.specs.State.{row_of, rows_of};
 
-use crate::failure::{Failure, refused, row_failure};
+use crate::failure::{Failure, failure_at, refused};
 use command_core::{Line, Lines, Refusal, begins};
 use row_core::{Draft, Drafts, Schema};
 use std::alloc::{AllocError, Global};
@@ -34,7 +34,7 @@ fn row_of(alloc: Global, schema: &Schema, line: Line<'_>, number: u64) -> Result
     let fields = fields_behind(alloc, line)?;
     schema
         .read_row(alloc, &fields)
-        .map_err(|why| row_failure(number, why))
+        .map_err(|why| failure_at(number, why))
 }
 
 /// The rows of a load's records, the first of them of this number.

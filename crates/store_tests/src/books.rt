@@ -3,7 +3,7 @@
 use book_core::{Book, BookRefused, Change, RowsRefused};
 use list_core::DeepCopy;
 use period_core::{Period, Point};
-use row_core::{Draft, Drafts, Kind, Name, Row, Schema, Value, Values};
+use row_core::{Draft, Drafts, Failure, Kind, Name, Row, Schema, Value, Values};
 use std::alloc::Global;
 use std::test::Fail;
 
@@ -42,12 +42,12 @@ fn shows_each_commit(rt: HostRuntime) -> Result<(), Fail> {
     let mut book = Book::new(rt.alloc());
     assert_eq!(rt;
         book.apply(1, load(rt.alloc(), 1)?),
-        Err(BookRefused::NoTable)
+        Err(Failure::Refused(BookRefused::NoTable))
     );
     assert_eq!(rt; book.apply(1, make(rt.alloc(), b"t")?), Ok(1));
     assert_eq!(rt;
         book.apply(2, make(rt.alloc(), b"t")?),
-        Err(BookRefused::TableExists)
+        Err(Failure::Refused(BookRefused::TableExists))
     );
     assert_eq!(rt; book.apply(1, load(rt.alloc(), 2)?), Ok(2));
     assert_eq!(rt; book.apply(1, load(rt.alloc(), 1)?), Ok(3));
@@ -57,8 +57,14 @@ fn shows_each_commit(rt: HostRuntime) -> Result<(), Fail> {
         assert_eq!(rt; ids(rt.alloc(), rows.as_slice())?.as_slice(), want);
     }
     let other = Name::parse(b"u")?;
-    assert_eq!(rt; book.rows_at(4, other).err(), Some(RowsRefused::Future));
-    assert_eq!(rt; book.rows_at(3, other).err(), Some(RowsRefused::NoTable));
+    assert_eq!(rt;
+        book.rows_at(4, other).err(),
+        Some(Failure::Refused(RowsRefused::Future))
+    );
+    assert_eq!(rt;
+        book.rows_at(3, other).err(),
+        Some(Failure::Refused(RowsRefused::NoTable))
+    );
     assert!(rt; book.schema(other).is_err());
     assert_eq!(rt; book.schema(table)?.width(), 0);
     Ok(())
@@ -78,7 +84,7 @@ fn refuses_values_of_another_kind(rt: HostRuntime) -> Result<(), Fail> {
     let mut rows = Drafts::new(rt.alloc());
     rows.push(Draft { period, values })?;
     let refused = book.apply(1, Change::Load { table, rows });
-    assert_eq!(rt; refused, Err(BookRefused::WrongKind));
+    assert_eq!(rt; refused, Err(Failure::Refused(BookRefused::WrongKind)));
     assert_eq!(rt; book.commits(), 1);
     assert!(rt; book.rows_at(1, table)?.is_empty());
     Ok(())
@@ -120,11 +126,11 @@ fn has_sixty_four_tables(rt: HostRuntime) -> Result<(), Fail> {
     assert_eq!(rt; book.commits(), 64);
     assert_eq!(rt;
         book.apply(1, make(rt.alloc(), b"i")?),
-        Err(BookRefused::TooMany)
+        Err(Failure::Refused(BookRefused::TooMany))
     );
     assert_eq!(rt;
         book.apply(1, make(rt.alloc(), b"aa")?),
-        Err(BookRefused::TableExists)
+        Err(Failure::Refused(BookRefused::TableExists))
     );
     assert_eq!(rt; book.commits(), 64);
     Ok(())
@@ -137,11 +143,14 @@ fn a_table_has_a_million_rows(rt: HostRuntime) -> Result<(), Fail> {
     assert_eq!(rt; book.apply(1, make(rt.alloc(), b"t")?), Ok(1));
     assert_eq!(rt;
         book.apply(1, load(rt.alloc(), 1_000_001)?),
-        Err(BookRefused::Full)
+        Err(Failure::Refused(BookRefused::Full))
     );
     assert!(rt; book.rows_at(1, table)?.is_empty());
     assert_eq!(rt; book.apply(1, load(rt.alloc(), 1_000_000)?), Ok(2));
-    assert_eq!(rt; book.apply(1, load(rt.alloc(), 1)?), Err(BookRefused::Full));
+    assert_eq!(rt;
+        book.apply(1, load(rt.alloc(), 1)?),
+        Err(Failure::Refused(BookRefused::Full))
+    );
     assert_eq!(rt; book.apply(1, load(rt.alloc(), 0)?), Ok(3));
     let rows = book.rows_at(3, table)?;
     assert_eq!(rt; rows.len(), 1_000_000);
@@ -158,10 +167,13 @@ fn has_a_million_commits(rt: HostRuntime) -> Result<(), Fail> {
         book.apply(1, load(rt.alloc(), 1)?)?;
     }
     assert_eq!(rt; book.commits(), 1_000_000);
-    assert_eq!(rt; book.apply(1, load(rt.alloc(), 0)?), Err(BookRefused::Full));
+    assert_eq!(rt;
+        book.apply(1, load(rt.alloc(), 0)?),
+        Err(Failure::Refused(BookRefused::Full))
+    );
     assert_eq!(rt;
         book.apply(1, make(rt.alloc(), b"u")?),
-        Err(BookRefused::Full)
+        Err(Failure::Refused(BookRefused::Full))
     );
     assert_eq!(rt; book.rows_at(1_000_000, table)?.len(), 999_999);
     assert_eq!(rt; book.rows_at(2, table)?.len(), 1);

@@ -3,7 +3,7 @@
 use book_core::{Book, BookRefused, Change, ChangeKind, Entry, Pairs, Version, VersionsRefused};
 use list_core::DeepCopy;
 use period_core::{Period, Point};
-use row_core::{Draft, Drafts, Kind, Name, Row, Schema, Text, Value, Values};
+use row_core::{Draft, Drafts, Failure, Kind, Name, Row, Schema, Text, Value, Values};
 use std::alloc::Global;
 use std::test::Fail;
 
@@ -161,7 +161,7 @@ fn refuses_versions(rt: HostRuntime) -> Result<(), Fail> {
         (book.between(3, 3, 3, other), VersionsRefused::NoTable),
         (book.from_to(3, 3, 4, other), VersionsRefused::NoTable),
     ] {
-        assert_eq!(rt; refused.err(), Some(want));
+        assert_eq!(rt; refused.err(), Some(Failure::Refused(want)));
     }
     assert!(rt; book.rows_at(4, table).is_err());
     Ok(())
@@ -220,22 +220,34 @@ fn refuses_settings_before_conditions(rt: HostRuntime) -> Result<(), Fail> {
     let portion = period(b"2024-01-04", b"2024-01-06")?;
     let mut book = updated_book(rt.alloc())?;
     let absent = update(rt.alloc(), pair(rt.alloc(), b"w", Value::Int(1))?)?;
-    assert_eq!(rt; book.apply(1, absent), Err(BookRefused::NoColumn));
+    assert_eq!(rt;
+        book.apply(1, absent),
+        Err(Failure::Refused(BookRefused::NoColumn))
+    );
     let number = update(rt.alloc(), pair(rt.alloc(), b"v", Value::Int(1))?)?;
-    assert_eq!(rt; book.apply(1, number), Err(BookRefused::WrongKind));
+    assert_eq!(rt;
+        book.apply(1, number),
+        Err(Failure::Refused(BookRefused::WrongKind))
+    );
     let both = Change::Update {
         table,
         portion,
         sets: pair(rt.alloc(), b"v", Value::Int(1))?,
         conds: pair(rt.alloc(), b"w", Value::Int(1))?,
     };
-    assert_eq!(rt; book.apply(1, both), Err(BookRefused::WrongKind));
+    assert_eq!(rt;
+        book.apply(1, both),
+        Err(Failure::Refused(BookRefused::WrongKind))
+    );
     let delete = Change::Delete {
         table,
         portion,
         conds: pair(rt.alloc(), b"w", Value::Int(1))?,
     };
-    assert_eq!(rt; book.apply(1, delete), Err(BookRefused::NoColumn));
+    assert_eq!(rt;
+        book.apply(1, delete),
+        Err(Failure::Refused(BookRefused::NoColumn))
+    );
     assert_eq!(rt; book.commits(), 3);
     Ok(())
 }

@@ -19,24 +19,9 @@ use key_core::{KeyedRow, collide, have_collision};
 use row_core::{Name, NoMemory, Schema, Value};
 use std::alloc::{AllocError, Global};
 
-/// Why a change is not made that nothing else refuses.
+/// Two rows of one key would share an instant.
 #[derive(Clone, Copy, Debug, PartialEq, Eq)]
-pub enum ChangeFailure {
-    /// Two rows of one key would share an instant.
-    KeyOverlap,
-    NoMemory,
-}
-
-impl From<NoMemory> for ChangeFailure {
-    ghost use Rattle.std.specs.Prelude.{◌≡◌};
-    ghost use Rattle.version_core.specs.declared.keys.ChangeFailure.TheVariants as failure;
-
-    ghost from_gives = { λ _ e. e ≡ failure.NoMemory };
-
-    fn from(_error: NoMemory) -> ChangeFailure {
-        ChangeFailure::NoMemory
-    }
-}
+pub struct KeyOverlap;
 
 /// Whether the change can leave rows of one key that share an instant, where none do before it. A load
 /// can; an update only where it sets a column of the key, since what it leaves of a row holds where the

@@ -12,6 +12,6 @@ mod version;
 mod versions;
 
 pub use change::{Change, Pairs};
-pub use keys::ChangeFailure;
+pub use keys::KeyOverlap;
 pub use version::{Version, VersionList, rows_shown, versions_seen};
 pub use versions::{VERSION_LIMIT, VersionCounts, Versions};

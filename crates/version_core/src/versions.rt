@@ -1,9 +1,10 @@
 //! All versions of a table, with the places of the open ones.
 
-ghost use Rattle.std.specs.Prelude.{◌≡◌, ◌+◌, ◌≤◌, ◌<◌, ◌++◌, List, [], true, false, length, map, fold, count_by, All, IfOk, IfErr, IfSome, OnErr, OnOk};
+ghost use Rattle.std.specs.Prelude.{◌≡◌, ◌≢◌, ◌+◌, ◌≤◌, ◌<◌, ◌++◌, List, [], true, false, length, map, fold, count_by, All, IfOk, IfErr, IfSome, OnErr, OnOk};
 ghost use Rattle.std.specs.List.{list_any, range_with_len};
 ghost use Rattle.key_core.specs.Keys.{collide, have_collision};
 ghost use Rattle.row_core.specs.Schema.{key_of};
+ghost use Rattle.row_core.specs.declared.failure.Failure.TheVariants.{NoMemory};
 ghost use Rattle.row_core.specs.declared.schema.Column.{Column};
 ghost use Rattle.version_core.specs.Finding.{AreCandidates, IsIndex, IsLookupOf, AreSought};
 ghost use Rattle.version_core.specs.Keys.{is_column_of, overlap_after, rows_left, break_key};
@@ -18,13 +19,13 @@ use crate::index::{
     Index, Lookup, candidates, drop_closed_at, extend_indexes, index_near, lookup_of, make_indexes,
     make_key_indexes, sweep_indexes,
 };
-use crate::keys::{ChangeFailure, any_collides, collide_among, collide_among_all, may_overlap};
+use crate::keys::{KeyOverlap, any_collides, collide_among, collide_among_all, may_overlap};
 use crate::making::{NewVersions, versions_of};
 use crate::places::Places;
 use crate::portion::{SOUGHT_LIMIT, columns_sought, count_of, is_removed, push_parts};
 use crate::version::Version;
 use list_core::{DeepCopy, copy_each};
-use row_core::{NoMemory, Schema};
+use row_core::{Failure, NoMemory, Schema};
 use std::alloc::Global;
 use std::marker::Model;
 
@@ -128,7 +129,7 @@ impl Versions {
         schema: &Schema,
         commit: u64,
         change: &Change,
-    ) -> Result<VersionCounts, ChangeFailure>
+    ) -> Result<VersionCounts, Failure<KeyOverlap>>
         requires room { length self.old
             + length (drafts_of change.now schema.now (current self.old)) ≤ version_limit }
         requires unbroken { break_key (key_of schema.now) (map unnumbered (current self.old)) ≡ false }
@@ -137,7 +138,7 @@ impl Versions {
             (counts.added ≡ length (drafts_of change.now schema.now (current self.old)))
             × (counts.closed ≡ count_by (removes change.now schema.now) (current self.old))) }
         ensures apart { OnOk result (overlap_after change.now schema.now self.old ≡ false) }
-        ensures overlap { IfErr result (λ failure. failure ≡ ChangeFailure.KeyOverlap
+        ensures overlap { IfErr result (λ failure. failure ≢ NoMemory
             → overlap_after change.now schema.now self.old ≡ true) }
         ensures err { OnErr result (self.new ≡ self.old) }
     {
@@ -187,7 +188,7 @@ impl Versions {
         commit: u64,
         change: &Change,
         lookup: Option<Lookup>,
-    ) -> Result<VersionCounts, ChangeFailure>
+    ) -> Result<VersionCounts, Failure<KeyOverlap>>
         requires columns { columns.now ≡ key_of schema.now }
         requires room { length self.old
             + length (drafts_of change.now schema.now (current self.old)) ≤ version_limit }
@@ -199,7 +200,7 @@ impl Versions {
             (counts.added ≡ length (drafts_of change.now schema.now (current self.old)))
             × (counts.closed ≡ count_by (removes change.now schema.now) (current self.old))) }
         ensures apart { OnOk result (overlap_after change.now schema.now self.old ≡ false) }
-        ensures overlap { IfErr result (λ failure. failure ≡ ChangeFailure.KeyOverlap
+        ensures overlap { IfErr result (λ failure. failure ≢ NoMemory
             → overlap_after change.now schema.now self.old ≡ true) }
         ensures err { OnErr result (self.new ≡ self.old) }
     {
@@ -207,7 +208,7 @@ impl Versions {
         let places = candidates(self.open_at.as_slice(), &self.indexes, lookup);
         let plan = plan_change(alloc, schema, &self.items, places, commit, change)?;
         if self.leaves_overlap(alloc, schema, columns, change, &plan.new)? {
-            return Err(ChangeFailure::KeyOverlap);
+            return Err(Failure::Refused(KeyOverlap));
         }
         let Plan { new, taken } = plan;
         let counts = VersionCounts {

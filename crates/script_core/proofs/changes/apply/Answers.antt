@@ -14,6 +14,6 @@ returns-in-Err c =
     let told = failure-of c.args.number next refusal c.in-Err.why c.in-Err.ensures.refused
     c.in-Err.ensures.accepted in (
       subst (λ failure. IsFailureOf (change_in c.args.number h c.args.change) failure)
-          (sym c.book_failure.ensures) told,
+          (sym c.failure_at.ensures) told,
       c.in-Err.ensures.err,
     )

@@ -71,4 +71,4 @@ pub returns-in-Err : goal.returns-in-Err
 returns-in-Err c =
     let read = pair-read c.args.number c.args.schema.now c.args.name c.args.text.now c.in-Some.place
     c.read_value.result (sym c.in-Some.ensures) c.read_value.ensures in
-    rw c.value_failure.ensures (rw c.in-Err.is at read)
+    rw c.failure_at.ensures (rw c.in-Err.is at read)

@@ -1,5 +1,4 @@
 use Rattle.std.proofs.Common.{◌≡◌, ◌∷◌, ◌++◌, [], sym, ◌∙◌, ap, length, arith, Err, None}
-use Rattle.std.proofs.lemmas.Result.{err_from_is_err_and}
 use Rattle.book_core.specs.State.{first_refusal, refusal_of, table_named}
 use Rattle.book_core.specs.History.{state_after}
 use Rattle.book_core.specs.StoredTables.{kept_tables_after}
@@ -10,6 +9,7 @@ use Rattle.book_core.proofs.Tables.{well_named}
 use Rattle.book_core.proofs.Logging.{entry_same, log-push, new_entry}
 use Rattle.book_core.proofs.KeyFound.{overlap-named, unbroken-named}
 use Rattle.book_core.proofs.book.Book.apply.Goals as goal
+use Rattle.book_core.proofs.book.Book.apply.Goals.{In-Ok-push-2}
 
 pub change_tables-requires-clause-few : goal.change_tables-requires-clause-few
 change_tables-requires-clause-few c =
@@ -62,28 +62,26 @@ change_tables-requires-clause-unbroken c =
 -- a failure is told as it is
 failure : (c : goal.Joined-change-4)
     → IsFailed
-    (refusal_of (length c.args.self.now)
-    (state_after c.args.self.now) c.args.change) c.from_residual-in_err-counts.result
+    (refusal_of (length c.args.self.now) (state_after c.args.self.now) c.args.change) (Err c.overlap_failure.result)
 failure c =
     let commits : c.len-commits.result ≡ length c.self.inside.history.items =
     omega (arith, c.self.inside.history.ok.0) in
-    let p = err_from_is_err_and c.from_residual-in_err-counts.result c.from_residual-in_err-counts.ensures.1 in
     failed (length c.args.self.now)
-    (state_after c.args.self.now) c.args.change c.in_err-counts.field-0.0 c.from_residual-in_err-counts.result
+    (state_after c.args.self.now) c.args.change c.in-Err.why (Err c.overlap_failure.result)
     (sym c.refusal.ensures ∙ c.in_default.is)
-    (p.1 ∙ ap Err p.2)
+    (ap Err c.overlap_failure.ensures)
     (λ is. sym
     (overlap-named c.self.inside.history.items c.args.self.now c.self.inside.tables.items c.args.change
-    c.len-commits.result c.self.invariant.kept c.self.view_is commits) ∙ c.in_err-counts.ensures.overlap is)
+    c.len-commits.result c.self.invariant.kept c.self.view_is commits) ∙ c.in-Err.ensures.overlap is)
 
-pub returns-in_err-counts-clause-refused : goal.returns-in_err-counts-clause-refused
-returns-in_err-counts-clause-refused c = (failure c).refused
+pub returns-in-Err-clause-refused : goal.returns-in-Err-clause-refused
+returns-in-Err-clause-refused c = (failure c).refused
 
-pub returns-in_err-counts-clause-accepted : goal.returns-in_err-counts-clause-accepted
-returns-in_err-counts-clause-accepted c = (failure c).accepted
+pub returns-in-Err-clause-accepted : goal.returns-in-Err-clause-accepted
+returns-in-Err-clause-accepted c = (failure c).accepted
 
 -- the change is accepted
-accepted : (c : goal.In-Ok-push)
+accepted : (c : In-Ok-push-2)
     → refusal_of (length c.args.self.now) (state_after c.args.self.now) c.args.change ≡ None
 accepted c =
     let commits : c.len-commits.result ≡ length c.self.inside.history.items =
@@ -91,32 +89,32 @@ accepted c =
     accepted-both (length c.args.self.now) (state_after c.args.self.now) c.args.change
     (sym c.refusal.ensures ∙ c.in_default.is)
     (sym (overlap-named c.self.inside.history.items c.args.self.now c.self.inside.tables.items c.args.change
-    c.len-commits.result c.self.invariant.kept c.self.view_is commits) ∙ c.in_ok-counts.ensures.apart)
+    c.len-commits.result c.self.invariant.kept c.self.view_is commits) ∙ c.in-Ok.ensures.apart)
 
 pub returns-clause-refused : goal.returns-clause-refused
 returns-clause-refused c = rw (accepted c) tt
 
-pub invariant_of-self-in-Ok : goal.invariant_of-self-in-Ok
-invariant_of-self-in-Ok c =
+pub invariant_of-self-in-Ok-push : goal.invariant_of-self-in-Ok-push
+invariant_of-self-in-Ok-push c =
     let commits : c.len-commits.result ≡ length c.self.inside.history.items =
     omega (arith, c.self.inside.history.ok.0) in
     let commit : Commit = record { by = c.args.by; change = c.args.change } in
-    let grown = c.in-Ok-push.ensures.items ∙ ap (λ l. l ++ commit ∷ []) c.reserve.ensures.items in
+    let grown = c.in-Ok-push-2.ensures.items ∙ ap (λ l. l ++ commit ∷ []) c.reserve.ensures.items in
     let entry : c.entry_of-entry.result ≡ new_entry
     (length c.self.inside.history.items) c.args.by c.args.change c.self.inside.tables.items =
     entry_same c.len-commits.result
-    (length c.self.inside.history.items) c.args.by c.in_ok-counts.counts.added c.in_ok-counts.counts.closed
-    c.args.change c.self.inside.tables.items c.entry_of-entry.result commits c.in_ok-counts.ensures.added
-    c.in_ok-counts.ensures.closed c.entry_of-entry.ensures in
+    (length c.self.inside.history.items) c.args.by c.in-Ok.counts.added c.in-Ok.counts.closed
+    c.args.change c.self.inside.tables.items c.entry_of-entry.result commits c.in-Ok.ensures.added
+    c.in-Ok.ensures.closed c.entry_of-entry.ensures in
     record {
-      kept = AreKept-push c.self.inside.history.items c.args.self.now c.push-in-Ok.new.self.items
+      kept = AreKept-push c.self.inside.history.items c.args.self.now c.push-in-Ok-push.new.self.items
           c.self.inside.tables.items c.change_tables.new.tables.items commit c.self.invariant.kept c.self.view_is
           (accepted c)
-          (c.in_ok-counts.ensures.ok ∙ ap (λ m. kept_tables_after m c.self.inside.tables.items c.args.change) commits)
+          (c.in-Ok.ensures.ok ∙ ap (λ m. kept_tables_after m c.self.inside.tables.items c.args.change) commits)
           grown;
-      logged = log-push c.self.inside.history.items c.args.self.now c.push-in-Ok.new.self.items
+      logged = log-push c.self.inside.history.items c.args.self.now c.push-in-Ok-push.new.self.items
           c.self.inside.tables.items c.self.inside.log.items c.push.new.self.items commit c.self.invariant
           c.self.view_is (accepted c) grown
-          (c.in-Ok.ensures.items ∙ ap (λ l. l ++ c.entry_of-entry.result ∷ []) c.reserve-2.ensures.items
+          (c.in-Ok-push.ensures.items ∙ ap (λ l. l ++ c.entry_of-entry.result ∷ []) c.reserve-2.ensures.items
           ∙ ap (λ e. c.self.inside.log.items ++ e ∷ []) entry);
     }
