@@ -11,7 +11,7 @@ use Rattle.row_core.specs.declared.row.Row.{Row}
 use Rattle.version_core.specs.Rows.{numbered, drafts_of, removes}
 use Rattle.version_core.specs.Shown.{shows, shown}
 use Rattle.version_core.specs.Made.{made}
-use Rattle.version_core.specs.Open.{closed}
+use Rattle.version_core.specs.OpenVersions.{closed}
 use Rattle.version_core.specs.declared.change.Change.{Change}
 use Rattle.version_core.specs.declared.change.Change.TheVariants.{Make, Load, Update, Delete}
 use Rattle.version_core.specs.declared.version.Version.{Version}

@@ -10,7 +10,7 @@ use Rattle.row_core.specs.declared.row.Row.{Row}
 use Rattle.row_core.specs.declared.schema.Column.{Column}
 use Rattle.key_core.proofs.Replaced.{append-all}
 use Rattle.version_core.specs.Rows.{drafts_of, numbered, removes}
-use Rattle.version_core.specs.Open.{closed, current, is_open}
+use Rattle.version_core.specs.OpenVersions.{closed, current, is_open}
 use Rattle.version_core.specs.Made.{made}
 use Rattle.version_core.specs.Shown.{row_shown, shown, shows}
 use Rattle.version_core.specs.declared.change.Change.{Change}

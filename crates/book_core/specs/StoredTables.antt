@@ -8,7 +8,7 @@ use Rattle.version_core.specs.Limits.{version_limit}
 use Rattle.version_core.specs.Rows.{numbered, drafts_of, removes, unnumbered}
 use Rattle.version_core.specs.Shown.{shown}
 use Rattle.version_core.specs.Made.{made}
-use Rattle.version_core.specs.Open.{closed, current}
+use Rattle.version_core.specs.OpenVersions.{closed, current}
 use Rattle.version_core.specs.Keys.{break_key}
 use Rattle.version_core.specs.declared.change.Change.{Change}
 use Rattle.version_core.specs.declared.change.Change.TheVariants.{Make, Load, Update, Delete}

@@ -25,7 +25,7 @@ use Rattle.answer_core.specs.PrintedRecords.{IsPrintedAs, division_records}
 use Rattle.answer_core.specs.declared.answer.Answer.{Answer}
 use Rattle.answer_core.specs.declared.answer.Answer.TheVariants as answer
 use Rattle.script_core.specs.Answer.{Answers, AnswersChange, AnswersQuery, IsAnswerTo, IsDipOf, IsVerdictOn, IsVersions, Refuses}
-use Rattle.script_core.specs.State.{claim_of, delete_in, load_in, make_in, rows_on, rows_told, update_in, versions_told}
+use Rattle.script_core.specs.Effects.{claim_of, delete_in, load_in, make_in, rows_on, rows_told, update_in, versions_told}
 
 -- ---- what queries are answered
 

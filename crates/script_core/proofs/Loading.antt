@@ -5,7 +5,7 @@ use Rattle.row_core.specs.Refusals.{and_then, map_err, map_ok}
 use Rattle.script_core.specs.Failure.{Failure, IsFailureOf, IsRecordFailure}
 use Rattle.command_core.specs.Records.{Record}
 use Rattle.command_core.specs.Refusal.{fault}
-use Rattle.script_core.specs.State.{told_by}
+use Rattle.script_core.specs.Effects.{told_by}
 use Rattle.row_core.specs.declared.failure.Failure.TheVariants.{Refused, NoMemory}
 use Rattle.command_core.specs.declared.refusal.Fault.{Fault}
 use Rattle.command_core.specs.declared.refusal.Refusal.{Refusal}

@@ -36,7 +36,7 @@ use Rattle.answer_core.specs.declared.answer.Answer.TheVariants as answer
 use Rattle.script_core.specs.Answer.{Answers, AnswersChange, AnswersQuery, IsAnswerTo, IsDipOf, IsVerdictOn, IsVersions, Refuses}
 use Rattle.script_core.specs.Refusal.{book_refusal}
 use Rattle.script_core.specs.Script.{AreCommandsOf, Done, Finished, IsOutput, Place, Steps, output_of, start_of}
-use Rattle.script_core.specs.State.{change_in, claim_of, columns_told, delete_in, load_in, make_in, pairs_told, rows_of, rows_on, rows_told, update_in, versions_told}
+use Rattle.script_core.specs.Effects.{change_in, claim_of, columns_told, delete_in, load_in, make_in, pairs_told, rows_of, rows_on, rows_told, update_in, versions_told}
 use Rattle.script_core.proofs.AnswerUniqueness.{both-first, not_Ok, rise-told}
 use Rattle.script_core.proofs.OutputUniqueness.{takes_one}
 

@@ -16,7 +16,7 @@ use Rattle.command_core.specs.declared.refusal.Fault.{Fault}
 use Rattle.answer_core.specs.PrintedRecords.{IsPrintedAs}
 use Rattle.answer_core.specs.declared.answer.Answer.{Answer}
 use Rattle.answer_core.specs.declared.answer.Answer.TheVariants as answer
-use Rattle.script_core.specs.State.{claim_of, delete_in, load_in, make_in, rows_on, rows_told, update_in, versions_told}
+use Rattle.script_core.specs.Effects.{claim_of, delete_in, load_in, make_in, rows_on, rows_told, update_in, versions_told}
 
 -- the answer is the dip of the items
 pub record IsDipOf (items : List Item) (given : Answer) : Type 0 where

@@ -3,5 +3,5 @@ pub mod Failure
 pub mod Performing
 pub mod Refusal
 pub mod Script
-pub mod State
+pub mod Effects
 pub mod Writing

@@ -3,7 +3,7 @@ ghost use Rattle.std.specs.Prelude.{◌≡◌, ◌+◌, ◌<◌, ◌^◌, length
 ghost use Rattle.script_core.specs.Performing.{Changes};
 ghost use Rattle.command_core.specs.Lines.{lines_in};
 ghost use Rattle.command_core.specs.PairsIn.{pairs_in};
-ghost use Rattle.script_core.specs.State.{change_in, delete_in, load_in, make_in, update_in};
+ghost use Rattle.script_core.specs.Effects.{change_in, delete_in, load_in, make_in, update_in};
 
 use crate::failure::{Failure, failure_at, refused};
 use crate::pairs::read_pairs;

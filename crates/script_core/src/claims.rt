@@ -2,7 +2,7 @@
 ghost use Rattle.std.specs.Prelude.{◌≡◌, ◌+◌, ◌<◌, ◌^◌, ◌∷◌, ◌++◌, ℕ, List, [], Ok, MatchResult, length};
 ghost use Rattle.command_core.specs.Lines.{fields_in, lines_in};
 ghost use Rattle.script_core.specs.Failure.{IsFailureOf, IsRecordFailure};
-ghost use Rattle.script_core.specs.State.{claim_of, part_of};
+ghost use Rattle.script_core.specs.Effects.{claim_of, part_of};
 
 use crate::failure::{Failure, refused};
 use cert_core::Claim;

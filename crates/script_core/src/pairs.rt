@@ -2,7 +2,7 @@
 ghost use Rattle.std.specs.Prelude.{◌≡◌, Ok, MatchResult};
 ghost use Rattle.command_core.specs.PairsIn.{pairs_in};
 ghost use Rattle.script_core.specs.Failure.{IsFailureOf, IsRecordFailure};
-ghost use Rattle.script_core.specs.State.{pair_read, pairs_told};
+ghost use Rattle.script_core.specs.Effects.{pair_read, pairs_told};
 
 use crate::failure::{Failure, failure_at, refused};
 use book_core::Pairs;

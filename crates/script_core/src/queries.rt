@@ -9,7 +9,7 @@ ghost use Rattle.row_core.specs.Schema.{fits};
 ghost use Rattle.script_core.specs.Answer.{IsDipOf, IsVerdictOn, IsVersions};
 ghost use Rattle.script_core.specs.Performing.{Gives};
 ghost use Rattle.row_core.specs.declared.failure.Failure.TheVariants.{NoMemory};
-ghost use Rattle.script_core.specs.State.{claim_of, rows_on, rows_told, versions_told};
+ghost use Rattle.script_core.specs.Effects.{claim_of, rows_on, rows_told, versions_told};
 ghost use Rattle.answer_core.specs.declared.answer.Answer.TheVariants.{Log, Rows};
 
 use crate::claims::read_claim;

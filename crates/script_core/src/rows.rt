@@ -2,7 +2,7 @@
 ghost use Rattle.std.specs.Prelude.{◌≡◌, ◌+◌, ◌<◌, ◌^◌, IfOk, Ok, MatchResult, drop, length, map};
 ghost use Rattle.script_core.specs.Failure.{IsFailureOf, IsRecordFailure};
 ghost use Rattle.command_core.specs.Lines.{fields_in, lines_in};
-ghost use Rattle.script_core.specs.State.{row_of, rows_of};
+ghost use Rattle.script_core.specs.Effects.{row_of, rows_of};
 
 use crate::failure::{Failure, failure_at, refused};
 use command_core::{Line, Lines, Refusal, begins};

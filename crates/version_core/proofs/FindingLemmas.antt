@@ -12,7 +12,7 @@ use Rattle.row_core.specs.declared.schema.Column.{Column}
 use Rattle.key_core.specs.Keys.{collide}
 use Rattle.version_core.specs.Finding.{AreCandidates, ListsOpen, any_row, passes}
 use Rattle.version_core.specs.Keys.{AreNear}
-use Rattle.version_core.specs.Open.{closed, closed_at, current, is_open, is_taken, places_from, versions_after}
+use Rattle.version_core.specs.OpenVersions.{closed, closed_at, current, is_open, is_taken, places_from, versions_after}
 use Rattle.version_core.specs.Made.{made, draft_of}
 use Rattle.version_core.specs.Rows.{drafts_of, numbered, parts_in, removes}
 use Rattle.version_core.specs.Limits.{version_limit}

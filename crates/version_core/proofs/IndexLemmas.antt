@@ -20,7 +20,7 @@ use Rattle.row_core.specs.declared.value.Value.TheVariants.{Int, Text}
 use Rattle.key_core.specs.Keys.{same_key, same_maybe, same_value}
 use Rattle.version_core.specs.Keys.{AreNear, is_column_of}
 use Rattle.version_core.specs.Finding.{AreCandidates, AreFound, IsIndex, IsLookupOf, ListsOpen, any_row, bucket_in, bucket_of, bucket_of_bytes, falls_into, passes}
-use Rattle.version_core.specs.Open.{closed, is_open}
+use Rattle.version_core.specs.OpenVersions.{closed, is_open}
 use Rattle.version_core.specs.Rows.{Pair, is_equal_at}
 use Rattle.version_core.specs.Limits.{bucket_count}
 use Rattle.version_core.specs.declared.change.Change.{Change}

@@ -16,7 +16,7 @@ use Rattle.key_core.proofs.Pairs.{have_pair-map}
 use Rattle.version_core.specs.Keys.{collides_left, is_left, rows_left, break_key}
 use Rattle.version_core.specs.Finding.{ListsOpen, any_row, passes}
 use Rattle.version_core.specs.Made.{made, draft_of}
-use Rattle.version_core.specs.Open.{current, is_open}
+use Rattle.version_core.specs.OpenVersions.{current, is_open}
 use Rattle.version_core.specs.Rows.{numbered, removes, unnumbered}
 use Rattle.version_core.specs.declared.change.Change.{Change}
 use Rattle.version_core.specs.declared.version.Version.{Version}

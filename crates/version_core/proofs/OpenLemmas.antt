@@ -17,7 +17,7 @@ use Rattle.row_core.specs.declared.draft.Draft.{Draft}
 use Rattle.row_core.specs.declared.schema.Column.{Column}
 use Rattle.version_core.specs.Rows.{drafts_of, numbered, part, parts_in, parts_of, removes, set_at}
 use Rattle.version_core.specs.Finding.{passes}
-use Rattle.version_core.specs.Open.{closed, closed_at, current, is_open, is_taken, places_from, versions_after}
+use Rattle.version_core.specs.OpenVersions.{closed, closed_at, current, is_open, is_taken, places_from, versions_after}
 use Rattle.version_core.specs.Made.{made, AddsDrafts, Making, made_of}
 use Rattle.version_core.specs.declared.change.Change.{Change}
 use Rattle.version_core.specs.declared.change.Change.TheVariants.{Make, Load, Update, Delete}

@@ -7,7 +7,7 @@ use Rattle.row_core.specs.declared.value.Value.{Value}
 use Rattle.row_core.specs.declared.value.Value.TheVariants.{Int, Text}
 use Rattle.version_core.specs.Limits.{bucket_count, sought_limit}
 use Rattle.version_core.specs.Rows.{Pair, removes}
-use Rattle.version_core.specs.Open.{is_open, places_from, is_taken}
+use Rattle.version_core.specs.OpenVersions.{is_open, places_from, is_taken}
 use Rattle.version_core.specs.declared.change.Change.{Change}
 use Rattle.version_core.specs.declared.version.Version.{Version}
 use Rattle.version_core.specs.declared.index.Index.{Index}

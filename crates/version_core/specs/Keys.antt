@@ -9,7 +9,7 @@ use Rattle.row_core.specs.declared.schema.Column.{Column}
 use Rattle.key_core.specs.Keys.{have_collision, collide}
 use Rattle.version_core.specs.Rows.{Pair, removes, drafts_of, unnumbered}
 use Rattle.version_core.specs.Finding.{passes}
-use Rattle.version_core.specs.Open.{current, is_open}
+use Rattle.version_core.specs.OpenVersions.{current, is_open}
 use Rattle.version_core.specs.Made.{draft_of}
 use Rattle.version_core.specs.declared.change.Change.{Change}
 use Rattle.version_core.specs.declared.version.Version.{Version}

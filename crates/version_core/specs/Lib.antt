@@ -2,6 +2,6 @@ pub mod Finding
 pub mod Keys
 pub mod Limits
 pub mod Made
-pub mod Open
+pub mod OpenVersions
 pub mod Rows
 pub mod Shown

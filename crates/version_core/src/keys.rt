@@ -8,7 +8,7 @@ ghost use Rattle.row_core.specs.Schema.{key_of};
 ghost use Rattle.version_core.specs.Finding.{ListsOpen, any_row, AreSought};
 ghost use Rattle.version_core.specs.Keys.{AreNear, collides_left, is_column_of, is_left, overlap_after, rows_left, sets_key, break_key};
 ghost use Rattle.version_core.specs.Made.{draft_of};
-ghost use Rattle.version_core.specs.Open.{current};
+ghost use Rattle.version_core.specs.OpenVersions.{current};
 ghost use Rattle.version_core.specs.Rows.{conds_of, unnumbered};
 ghost use Rattle.version_core.specs.declared.version.Version.{Version};
 

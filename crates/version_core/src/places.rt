@@ -3,7 +3,7 @@
 ghost use Rattle.std.specs.Prelude.{◌≡◌, ◌+◌, ◌<◌, ◌^◌, ◌++◌, [], ◌∷◌, length, filter, take, IfOk, OnErr, OnOk};
 ghost use Rattle.std.specs.List.{range_with_len};
 ghost use Rattle.version_core.specs.Finding.{passes};
-ghost use Rattle.version_core.specs.Open.{is_open};
+ghost use Rattle.version_core.specs.OpenVersions.{is_open};
 
 use crate::version::Version;
 use row_core::NoMemory;

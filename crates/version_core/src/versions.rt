@@ -10,7 +10,7 @@ ghost use Rattle.version_core.specs.Finding.{AreCandidates, IsIndex, IsLookupOf,
 ghost use Rattle.version_core.specs.Keys.{is_column_of, overlap_after, rows_left, break_key};
 ghost use Rattle.version_core.specs.Limits.{bucket_count, version_limit};
 ghost use Rattle.version_core.specs.Made.{made, draft_of};
-ghost use Rattle.version_core.specs.Open.{closed_at, current, is_taken, places_from, versions_after};
+ghost use Rattle.version_core.specs.OpenVersions.{closed_at, current, is_taken, places_from, versions_after};
 ghost use Rattle.version_core.specs.Rows.{conds_of, drafts_of, numbered, parts_in, removes, unnumbered};
 ghost use Rattle.version_core.specs.declared.change.Change.{Change};
 

@@ -4,7 +4,7 @@ use Rattle.std.proofs.lemmas.Result.{IfErr-weaker, IfOk-weaker, on_ok_weaker}
 use Rattle.row_core.specs.Name.{same_name}
 use Rattle.version_core.specs.Limits.{version_limit}
 use Rattle.version_core.specs.Keys.{overlap_after}
-use Rattle.version_core.specs.Open.{current, versions_after}
+use Rattle.version_core.specs.OpenVersions.{current, versions_after}
 use Rattle.version_core.specs.Rows.{drafts_of, removes}
 use Rattle.version_core.specs.declared.version.Version.{Version}
 use Rattle.book_core.specs.StoredTables.{IsUnbroken, overlap_in, IsWellKept, StoredTable, added_in, closed_in, kept_table_after, kept_table, table_at}

@@ -2,7 +2,7 @@ use Rattle.std.proofs.Common.{◌++◌, ◌∷◌, [], length, subst, sym}
 use Rattle.book_core.specs.History.{state_after}
 use Rattle.book_core.specs.State.{refusal_of}
 use Rattle.script_core.specs.Failure.{IsFailureOf}
-use Rattle.script_core.specs.State.{change_in}
+use Rattle.script_core.specs.Effects.{change_in}
 use Rattle.script_core.proofs.Changing.{failure-of}
 use Rattle.script_core.proofs.changes.apply.Goals as goal
 

@@ -8,7 +8,7 @@ use Rattle.command_core.specs.Words.{begins}
 use Rattle.command_core.specs.declared.refusal.Refusal.{Refusal}
 use Rattle.command_core.specs.declared.refusal.Refusal.TheVariants.{BadCommand}
 use Rattle.command_core.proofs.Cutting.{drop-slice_get, slice_get-there}
-use Rattle.script_core.specs.State.{naturals_in, part_of}
+use Rattle.script_core.specs.Effects.{naturals_in, part_of}
 use Rattle.script_core.proofs.Loading.{behind, behind-next, behind-refused}
 use Rattle.script_core.proofs.claims.push_part.Goals as goal
 use Rattle.script_core.proofs.claims.push_part.Goals.{in-Some+in-Ok+in_ok-push-in-Ok, in_default}

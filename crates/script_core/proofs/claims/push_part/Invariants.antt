@@ -1,7 +1,7 @@
 -- The claim is the old one with a last part, whose ids are those of the fields before this place.
 use Rattle.std.proofs.Common.{◌≡◌, ℕ, List, [], ◌∷◌, ◌++◌, drop}
 use Rattle.command_core.specs.Lines.{fields_in}
-use Rattle.script_core.specs.State.{naturals_in}
+use Rattle.script_core.specs.Effects.{naturals_in}
 use Rattle.script_core.proofs.Loading.{behind}
 use Rattle.script_core.proofs.claims.push_part.Given as goal
 

@@ -1,7 +1,7 @@
 use Rattle.std.proofs.Common.{◌∙◌}
 use Rattle.std.proofs.lemmas.Result.{err_from_is_err_and}
 use Rattle.command_core.specs.Lines.{fields_in, lines_in}
-use Rattle.script_core.specs.State.{claim_of, part_of}
+use Rattle.script_core.specs.Effects.{claim_of, part_of}
 use Rattle.script_core.proofs.Loading.{behind-failed, behind-more}
 use Rattle.script_core.proofs.claims.read_claim.Goals as goal
 

@@ -1,7 +1,7 @@
 -- The parts so far are those of the records before this place.
 use Rattle.std.proofs.Common.{◌≡◌, ◌+◌, drop}
 use Rattle.command_core.specs.Lines.{lines_in}
-use Rattle.script_core.specs.State.{claim_of}
+use Rattle.script_core.specs.Effects.{claim_of}
 use Rattle.script_core.proofs.Loading.{behind}
 use Rattle.script_core.proofs.claims.read_claim.Given as goal
 

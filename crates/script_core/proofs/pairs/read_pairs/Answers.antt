@@ -10,7 +10,7 @@ use Rattle.command_core.specs.declared.refusal.Refusal.{Refusal}
 use Rattle.command_core.proofs.Cutting.{drop-slice_get, slice_get-there}
 use Rattle.row_core.specs.declared.schema.Column.{Column}
 use Rattle.script_core.specs.Failure.{Failure, IsFailureOf, IsRecordFailure}
-use Rattle.script_core.specs.State.{pair_read, pairs_read, pairs_told}
+use Rattle.script_core.specs.Effects.{pair_read, pairs_read, pairs_told}
 use Rattle.row_core.specs.declared.failure.Failure.TheVariants.{Refused, NoMemory}
 use Rattle.script_core.proofs.Loading.{behind, behind-next, behind-refused}
 use Rattle.script_core.proofs.pairs.read_pairs.Goals as goal

@@ -1,7 +1,7 @@
 -- The values so far are those of the pairs before this place.
 use Rattle.std.proofs.Common.{◌≡◌, drop}
 use Rattle.command_core.specs.PairsIn.{pairs_in}
-use Rattle.script_core.specs.State.{pairs_read}
+use Rattle.script_core.specs.Effects.{pairs_read}
 use Rattle.script_core.proofs.Loading.{behind}
 use Rattle.script_core.proofs.pairs.read_pairs.Given as goal
 

@@ -16,7 +16,7 @@ use Rattle.command_core.specs.declared.refusal.Refusal.{Refusal}
 use Rattle.command_core.proofs.Cutting.{slice_get-there}
 use Rattle.script_core.specs.Failure.{IsRecordFailure, failure_at}
 use Rattle.script_core.specs.Refusal.{value_refusal}
-use Rattle.script_core.specs.State.{pair_read, value_in}
+use Rattle.script_core.specs.Effects.{pair_read, value_in}
 use Rattle.script_core.proofs.pairs.value_named.Goals as goal
 
 -- a value that was read, or why it was not, is what a column's kind makes of the text

@@ -6,7 +6,7 @@ use Rattle.query_core.specs.Query.{items_of}
 use Rattle.query_core.proofs.Ids.{IdsRise-items_of}
 use Rattle.command_core.specs.Fields.{both}
 use Rattle.command_core.specs.Lines.{lines_in}
-use Rattle.script_core.specs.State.{claim_of, rows_told}
+use Rattle.script_core.specs.Effects.{claim_of, rows_told}
 use Rattle.script_core.proofs.queries.check.Goals as goal
 
 both-Ok : {S T E : Type 0} (one : Result S E) (other : Result T E) (x : S) (y : T) → one ≡ Ok x → other ≡ Ok y

@@ -1,7 +1,7 @@
 -- The rows so far are those of the records before this place.
 use Rattle.std.proofs.Common.{◌≡◌, ◌+◌, drop}
 use Rattle.command_core.specs.Lines.{lines_in}
-use Rattle.script_core.specs.State.{rows_of}
+use Rattle.script_core.specs.Effects.{rows_of}
 use Rattle.script_core.proofs.Loading.{behind}
 use Rattle.script_core.proofs.rows.rows_of.Given as goal
 

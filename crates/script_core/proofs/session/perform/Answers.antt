@@ -9,7 +9,7 @@ use Rattle.command_core.specs.Meaning.{At, Between, Check, Delete, Dip, FromTo, 
 use Rattle.command_core.specs.PairsIn.{pairs_in}
 use Rattle.answer_core.specs.declared.answer.Answer.TheVariants as answer
 use Rattle.script_core.specs.Answer.{IsDipOf, IsVerdictOn, IsVersions}
-use Rattle.script_core.specs.State.{claim_of, delete_in, load_in, make_in, rows_on, rows_told, update_in, versions_told}
+use Rattle.script_core.specs.Effects.{claim_of, delete_in, load_in, make_in, rows_on, rows_told, update_in, versions_told}
 use Rattle.script_core.proofs.Answering.{change-answered, query-answered}
 use Rattle.script_core.proofs.session.perform.Goals as goal
 

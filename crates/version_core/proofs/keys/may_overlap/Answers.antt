@@ -1,7 +1,7 @@
 use Rattle.std.proofs.Common.{◌∙◌, ap, sym}
 use Rattle.std.specs.List.{list_any}
 use Rattle.version_core.specs.Keys.{sets_key}
-use Rattle.version_core.specs.Open.{current}
+use Rattle.version_core.specs.OpenVersions.{current}
 use Rattle.version_core.proofs.Unbroken.{delete-unbroken, make-unbroken, update-unbroken}
 use Rattle.version_core.proofs.keys.may_overlap.Goals as goal
 

@@ -1,6 +1,6 @@
 use Rattle.std.proofs.Common.{◌≡◌, take}
 use Rattle.std.specs.Prelude.{fold}
-use Rattle.version_core.specs.Open.{closed_at}
+use Rattle.version_core.specs.OpenVersions.{closed_at}
 use Rattle.version_core.proofs.versions.close_all.Given as goal
 
 -- those at the first places are closed

@@ -2,7 +2,7 @@ use Rattle.std.proofs.Common.{◌<◌, ◌++◌, ◌∷◌, [], ◌∙◌, ap, s
 use Rattle.std.specs.Prelude.{filter}
 use Rattle.std.proofs.lemmas.List.{take_all}
 use Rattle.version_core.specs.Finding.{passes}
-use Rattle.version_core.specs.Open.{is_taken}
+use Rattle.version_core.specs.OpenVersions.{is_taken}
 use Rattle.version_core.specs.Rows.{parts_of}
 use Rattle.version_core.proofs.OpenLemmas.{parts_at, parts_at-push, parts_at-taken, place-no, place-yes}
 use Rattle.version_core.proofs.versions.count_parts.Goals as goal

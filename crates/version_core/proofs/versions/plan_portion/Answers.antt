@@ -2,7 +2,7 @@ use Rattle.std.proofs.Common.{◌≡◌, ◌<◌, ◌∙◌, ap, sym, length, ge
 use Rattle.std.specs.Prelude.{filter}
 use Rattle.std.proofs.lemmas.List.{take_all}
 use Rattle.version_core.specs.Finding.{passes}
-use Rattle.version_core.specs.Open.{is_taken, places_from}
+use Rattle.version_core.specs.OpenVersions.{is_taken, places_from}
 use Rattle.version_core.proofs.OpenLemmas.{made-all, made-push, made_so_far, place-no, place-yes}
 use Rattle.version_core.proofs.versions.plan_portion.Goals as goal
 use Rattle.version_core.proofs.versions.plan_portion.Goals.{then-is_taken+in_ok-push_parts+in_ok-push, else-is_taken}

@@ -1,7 +1,7 @@
 use Rattle.std.proofs.Common.{◌≡◌, take, length}
 use Rattle.std.specs.Prelude.{filter}
 use Rattle.version_core.specs.Finding.{passes}
-use Rattle.version_core.specs.Open.{is_taken}
+use Rattle.version_core.specs.OpenVersions.{is_taken}
 use Rattle.version_core.proofs.OpenLemmas.{made_so_far}
 use Rattle.version_core.proofs.versions.plan_portion.Given as goal
 

@@ -1,7 +1,7 @@
 use Rattle.std.proofs.Common.{refl, arith}
 use Rattle.std.specs.Prelude.{filter}
 use Rattle.version_core.specs.Finding.{passes}
-use Rattle.version_core.specs.Open.{is_open}
+use Rattle.version_core.specs.OpenVersions.{is_open}
 use Rattle.version_core.proofs.IndexLemmas.{index-swept, index-written}
 use Rattle.version_core.proofs.index.Index.drop_closed.Goals as goal
 

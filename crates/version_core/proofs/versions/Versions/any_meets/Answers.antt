@@ -5,7 +5,7 @@ use Rattle.row_core.specs.declared.draft.Draft.{Draft}
 use Rattle.key_core.specs.Keys.{collide}
 use Rattle.key_core.proofs.Pairs.{list_any-map}
 use Rattle.version_core.specs.Keys.{rows_left}
-use Rattle.version_core.specs.Open.{current}
+use Rattle.version_core.specs.OpenVersions.{current}
 use Rattle.version_core.specs.Made.{draft_of}
 use Rattle.version_core.specs.declared.version.Version.{Version}
 use Rattle.version_core.proofs.versions.Versions.any_meets.Goals as goal

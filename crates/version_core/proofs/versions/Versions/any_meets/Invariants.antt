@@ -2,7 +2,7 @@ use Rattle.std.proofs.Common.{◌≡◌, false, take, map}
 use Rattle.std.specs.List.{list_any}
 use Rattle.key_core.specs.Keys.{collide}
 use Rattle.version_core.specs.Keys.{rows_left}
-use Rattle.version_core.specs.Open.{current}
+use Rattle.version_core.specs.OpenVersions.{current}
 use Rattle.version_core.specs.Made.{draft_of}
 use Rattle.version_core.proofs.versions.Versions.any_meets.Given as goal
 

@@ -1,7 +1,7 @@
 use Rattle.std.proofs.Common.{◌≡◌, ◌∙◌, ◌<◌, ◌++◌, ap, length, length-append, map, take, drop, refl, arith}
 use Rattle.std.specs.Prelude.{All, count_by}
 use Rattle.version_core.specs.Finding.{AreFound}
-use Rattle.version_core.specs.Open.{current, is_taken, places_from, versions_after}
+use Rattle.version_core.specs.OpenVersions.{current, is_taken, places_from, versions_after}
 use Rattle.version_core.specs.Made.{draft_of}
 use Rattle.version_core.specs.Rows.{drafts_of, removes}
 use Rattle.version_core.proofs.FindingLemmas.{all-versions_after, versions_after-few, versions_after-front, versions_after-written}

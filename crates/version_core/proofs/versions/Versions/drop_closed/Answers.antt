@@ -1,7 +1,7 @@
 use Rattle.std.proofs.Common.{◌∙◌, ap}
 use Rattle.std.specs.Prelude.{filter}
 use Rattle.version_core.specs.Finding.{any_row, passes}
-use Rattle.version_core.specs.Open.{is_open}
+use Rattle.version_core.specs.OpenVersions.{is_open}
 use Rattle.version_core.proofs.FindingLemmas.{ListsOpen-swept}
 use Rattle.version_core.proofs.versions.Versions.drop_closed.Goals as goal
 

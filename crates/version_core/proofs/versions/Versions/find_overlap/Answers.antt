@@ -6,7 +6,7 @@ use Rattle.key_core.specs.Keys.{collide, have_collision}
 use Rattle.key_core.proofs.Added.{have_meeting, pairs-added}
 use Rattle.version_core.specs.Finding.{IsIndex}
 use Rattle.version_core.specs.Keys.{is_column_of, rows_left}
-use Rattle.version_core.specs.Open.{current}
+use Rattle.version_core.specs.OpenVersions.{current}
 use Rattle.version_core.specs.Made.{draft_of}
 use Rattle.version_core.specs.declared.index.Index.{Index}
 use Rattle.version_core.proofs.ListLemmas.{at_some}

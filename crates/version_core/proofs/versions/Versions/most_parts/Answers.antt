@@ -1,5 +1,5 @@
 use Rattle.std.proofs.Common.{ap, length, arith}
-use Rattle.version_core.specs.Open.{current}
+use Rattle.version_core.specs.OpenVersions.{current}
 use Rattle.version_core.specs.Rows.{parts_in}
 use Rattle.version_core.proofs.FindingLemmas.{parts-listed}
 use Rattle.version_core.proofs.versions.Versions.most_parts.Goals as goal
