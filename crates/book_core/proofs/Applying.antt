@@ -1,11 +1,10 @@
 -- Lemmas for the functions that change a book.
 use Rattle.std.proofs.Common.{◌≡◌, ℕ, ◌+◌, ◌<◌, ◌≤◌, List, [], ◌∷◌, ◌++◌, length, map, Bool, true, false, ◌||◌, not, cond, Option, Some, None, refl, ap, sym, ◌∙◌, inl, inr, subst, arith, ltb, leb, get_or, set, zero, suc}
-use Rattle.std.specs.Prelude.{IfSome, is_none, option_map, slice_get, flat_map, position}
+use Rattle.std.specs.Prelude.{IfSome, is_none, option_map, slice_get, flat_map, position, bytes_eq}
 use Rattle.std.specs.List.{position_from, AllByRecursion, list_all}
 use Rattle.std.proofs.lemmas.Bool.{or_parts, leb-false, ltb-false, cases_lt}
 use Rattle.std.proofs.lemmas.List.{take-append-le, take_all}
 use Rattle.std.proofs.lemmas.Iterator.Adapters.{position_from-zero}
-use Rattle.row_core.specs.Name.{same_name}
 use Rattle.row_core.specs.Schema.{fits}
 use Rattle.row_core.specs.Refusals.{first_of}
 use Rattle.version_core.specs.Limits.{version_limit}
@@ -30,12 +29,12 @@ pub record Found (o : Option StoredTable) (g : (StoredTable → StoredTable) →
   pub changes : (f : StoredTable → StoredTable) (d : StoredTable) → g f ≡ set ts j (f (get_or ts j d))
 
 found_from : (name : List ℕ) (ts : List StoredTable) (i k : ℕ)
-    → position_from (λ t. same_name t.name name) i ts ≡ Some k → (j : ℕ) × (k ≡ i + j)
+    → position_from (λ t. bytes_eq t.name name) i ts ≡ Some k → (j : ℕ) × (k ≡ i + j)
     × Found (kept_table name ts) (λ f. at_kept name f ts) ts j
 found_from name [] i k = λ h. absurd (cc)
 found_from name (t ∷ ts) i k =
-    elim (same_name t.name name) as
-    (λ b. cond b (Some i) (position_from (λ t. same_name t.name name) (i + 1) ts) ≡ Some k → (j : ℕ) × (k ≡ i + j)
+    elim (bytes_eq t.name name) as
+    (λ b. cond b (Some i) (position_from (λ t. bytes_eq t.name name) (i + 1) ts) ≡ Some k → (j : ℕ) × (k ≡ i + j)
     × Found (cond b (Some t) (kept_table name ts)) (λ f. cond b (f t ∷ ts) (t ∷ at_kept name f ts)) (t ∷ ts) j) [
       | true ↦ λ h. (
         0,
@@ -58,11 +57,11 @@ found_from name (t ∷ ts) i k =
     ]
 
 pub absent_from : (name : List ℕ) (f : StoredTable → StoredTable) (ts : List StoredTable) (i : ℕ)
-    → position_from (λ t. same_name t.name name) i ts ≡ None → at_kept name f ts ≡ ts
+    → position_from (λ t. bytes_eq t.name name) i ts ≡ None → at_kept name f ts ≡ ts
 absent_from name f [] i = λ h. refl
 absent_from name f (t ∷ ts) i =
-    elim (same_name t.name name) as
-    (λ b. cond b (Some i) (position_from (λ t. same_name t.name name) (i + 1) ts) ≡ None
+    elim (bytes_eq t.name name) as
+    (λ b. cond b (Some i) (position_from (λ t. bytes_eq t.name name) (i + 1) ts) ≡ None
     → cond b (f t ∷ ts) (t ∷ at_kept name f ts) ≡ t ∷ ts) [
       | true ↦ λ h. absurd (cc)
       | false ↦ λ h. ap (λ l. t ∷ l) (absent_from name f ts (i + 1) h)
@@ -139,10 +138,10 @@ room n s ts (Delete name portion conds) e h =
 
 -- a place
 
-pub place : (name : List ℕ) (ts : List StoredTable) (at : ℕ) → position (λ t. same_name t.name name) ts ≡ Some at
+pub place : (name : List ℕ) (ts : List StoredTable) (at : ℕ) → position (λ t. bytes_eq t.name name) ts ≡ Some at
     → Found (kept_table name ts) (λ f. at_kept name f ts) ts at
 place name ts at e =
-    let r = found_from name ts 0 at (sym (position_from-zero (λ t. same_name t.name name) ts) ∙ e) in
+    let r = found_from name ts 0 at (sym (position_from-zero (λ t. bytes_eq t.name name) ts) ∙ e) in
     let same : r.0 ≡ at = omega (arith, r.1) in
     subst (λ j. Found (kept_table name ts) (λ f. at_kept name f ts) ts j) same r.2
 

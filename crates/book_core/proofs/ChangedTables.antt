@@ -1,9 +1,8 @@
 -- One commit in the tables.
 use Rattle.std.proofs.Common.{◌≡◌, ℕ, ◌+◌, ◌≤◌, List, [], ◌∷◌, ◌++◌, true, false, cond, Option, Some, None, length, map, get_or, set, refl, ap, sym, ◌∙◌, arith}
-use Rattle.std.specs.Prelude.{position, count_by, IfSome}
+use Rattle.std.specs.Prelude.{position, count_by, IfSome, bytes_eq}
 use Rattle.std.specs.List.{position_from}
 use Rattle.std.proofs.lemmas.Iterator.Adapters.{position_from-zero}
-use Rattle.row_core.specs.Name.{same_name}
 use Rattle.row_core.specs.declared.row.Row.{Row}
 use Rattle.row_core.specs.declared.schema.Column.{Column}
 use Rattle.version_core.specs.Limits.{version_limit}
@@ -20,40 +19,40 @@ use Rattle.book_core.proofs.Applying.{absent_from, place}
 use Rattle.book_core.proofs.Shown.{shown-current}
 
 find-absent_from : (name : List ℕ) (ts : List StoredTable) (i : ℕ)
-    → position_from (λ t. same_name t.name name) i ts ≡ None → kept_table name ts ≡ None
+    → position_from (λ t. bytes_eq t.name name) i ts ≡ None → kept_table name ts ≡ None
 find-absent_from name [] i = λ h. refl
 find-absent_from name (t ∷ ts) i =
-    elim (same_name t.name name) as
-    (λ b. cond b (Some i) (position_from (λ t. same_name t.name name) (i + 1) ts) ≡ None
+    elim (bytes_eq t.name name) as
+    (λ b. cond b (Some i) (position_from (λ t. bytes_eq t.name name) (i + 1) ts) ≡ None
     → cond b (Some t) (kept_table name ts) ≡ None) [
       | true ↦ λ h. absurd (cc)
       | false ↦ λ h. find-absent_from name ts (i + 1) h
     ]
 
 -- without a place there is no table
-pub find-absent : (name : List ℕ) (ts : List StoredTable) → position (λ t. same_name t.name name) ts ≡ None
+pub find-absent : (name : List ℕ) (ts : List StoredTable) → position (λ t. bytes_eq t.name name) ts ≡ None
     → kept_table name ts ≡ None
-find-absent name ts e = find-absent_from name ts 0 (sym (position_from-zero (λ t. same_name t.name name) ts) ∙ e)
+find-absent name ts e = find-absent_from name ts 0 (sym (position_from-zero (λ t. bytes_eq t.name name) ts) ∙ e)
 
 -- and nothing changes
 pub at_kept-absent : (name : List ℕ) (f : StoredTable → StoredTable) (ts : List StoredTable)
-    → position (λ t. same_name t.name name) ts ≡ None → ts ≡ at_kept name f ts
+    → position (λ t. bytes_eq t.name name) ts ≡ None → ts ≡ at_kept name f ts
 at_kept-absent name f ts e =
-    sym (absent_from name f ts 0 (sym (position_from-zero (λ t. same_name t.name name) ts) ∙ e))
+    sym (absent_from name f ts 0 (sym (position_from-zero (λ t. bytes_eq t.name name) ts) ∙ e))
 
 -- the table at the place is the one that is found
 pub find-place : (name : List ℕ) (ts : List StoredTable) (at : ℕ) (t : StoredTable)
-    → position (λ t. same_name t.name name) ts ≡ Some at → t ≡ get_or ts at t → kept_table name ts ≡ Some t
+    → position (λ t. bytes_eq t.name name) ts ≡ Some at → t ≡ get_or ts at t → kept_table name ts ≡ Some t
 find-place name ts at t e g = (place name ts at e).found t ∙ ap Some (sym g)
 
 -- what holds of the table of that name
 pub holds-place : (P : StoredTable → Type 0) (name : List ℕ) (ts : List StoredTable) (at : ℕ) (t : StoredTable)
-    → position (λ t. same_name t.name name) ts ≡ Some at → t ≡ get_or ts at t → IfSome (kept_table name ts) P → P t
+    → position (λ t. bytes_eq t.name name) ts ≡ Some at → t ≡ get_or ts at t → IfSome (kept_table name ts) P → P t
 holds-place P name ts at t e g h = at_some P (kept_table name ts) t (find-place name ts at t e g) h
 
 -- a table that is written in its place
 pub at_kept-place : (name : List ℕ) (f : StoredTable → StoredTable) (ts : List StoredTable) (at : ℕ)
-    (t new : StoredTable) → position (λ t. same_name t.name name) ts ≡ Some at → t ≡ get_or ts at t → new ≡ f t
+    (t new : StoredTable) → position (λ t. bytes_eq t.name name) ts ≡ Some at → t ≡ get_or ts at t → new ≡ f t
     → set ts at new ≡ at_kept name f ts
 at_kept-place name f ts at t new e g h = ap (set ts at) (h ∙ ap f g) ∙ sym ((place name ts at e).changes f t)
 

@@ -1,11 +1,10 @@
 -- The ids of versions and rows, and the times of versions.
 use Rattle.std.proofs.Common.{◌≡◌, ℕ, ◌+◌, ◌<◌, ◌≤◌, List, [], ◌∷◌, ◌++◌, length, map, Bool, true, false, ◌&&◌, ◌||◌, not, cond, Option, Some, None, refl, ap, sym, ◌∙◌, arith, suc, subst}
-use Rattle.std.specs.Prelude.{filter, count_by, is_none, IfSome, nat_eq}
+use Rattle.std.specs.Prelude.{filter, count_by, is_none, IfSome, nat_eq, bytes_eq}
 use Rattle.std.specs.List.{cons_option, list_any, AllByRecursion}
 use Rattle.std.proofs.lemmas.Bool.{eq-eqb, ne_eqb}
 use Rattle.std.proofs.lemmas.List.{length-map}
 use Rattle.std.proofs.lemmas.List.Folds.{list_any-append}
-use Rattle.row_core.specs.Name.{same_name}
 use Rattle.row_core.specs.declared.draft.Draft.{Draft}
 use Rattle.row_core.specs.declared.row.Row.{Row}
 use Rattle.version_core.specs.Rows.{numbered, drafts_of, removes}
@@ -285,7 +284,7 @@ all_at_kept : (n : ℕ) (c : Change) (name : List ℕ) (ts : List StoredTable) �
     → AllByRecursion (IsWellKept (n + 1)) (at_kept name (kept_table_after n c) ts)
 all_at_kept n c name [] h = tt
 all_at_kept n c name (t ∷ ts) h =
-    elim (same_name t.name name) as
+    elim (bytes_eq t.name name) as
     (λ b. AllByRecursion (IsWellKept (n + 1))
     (cond b (kept_table_after n c t ∷ ts) (t ∷ at_kept name (kept_table_after n c) ts))) [
       | true ↦ (well_changed n c t h.0, all_next n ts h.1)
@@ -324,7 +323,7 @@ pub found_well : (n : ℕ) (name : List ℕ) (ts : List StoredTable) → AllByRe
     → IfSome (kept_table name ts) (IsWellKept n)
 found_well n name [] h = tt
 found_well n name (t ∷ ts) h =
-    elim (same_name t.name name) as
+    elim (bytes_eq t.name name) as
     (λ b. IfSome (cond b (Some t) (kept_table name ts)) (IsWellKept n)) [
       | true ↦ h.0
       | false ↦

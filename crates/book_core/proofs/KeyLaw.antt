@@ -1,11 +1,10 @@
 -- No state of a legal history has rows of one key that share an instant.
 use Rattle.std.proofs.Common.{◌≡◌, ℕ, ◌+◌, List, [], ◌∷◌, ◌++◌, map, take, zero, suc, Bool, true, false, not, cond, Option, Some, None, refl, ap, ◌∙◌, arith}
-use Rattle.std.specs.Prelude.{◌≢◌, All, IfSome, filter, fold}
+use Rattle.std.specs.Prelude.{◌≢◌, All, IfSome, filter, fold, bytes_eq}
 use Rattle.std.specs.List.{AllByRecursion}
 use Rattle.std.proofs.lemmas.List.{map-append}
 use Rattle.std.proofs.lemmas.List.Elements.{All-from_recursion}
 use Rattle.period_core.specs.declared.period.Period.{Period}
-use Rattle.row_core.specs.Name.{same_name}
 use Rattle.row_core.specs.Schema.{key_of}
 use Rattle.row_core.specs.declared.draft.Draft.{Draft}
 use Rattle.key_core.specs.Keys.{have_collision}
@@ -42,7 +41,7 @@ at-unbroken : (name : List ℕ) (f : Table → Table) (s : State) → AllByRecur
     → IfSome (table_of s name) (λ t. breaks_key (f t) ≡ false)
     → AllByRecursion (λ (t : Table). breaks_key t ≡ false) (at_table name f s)
 at-unbroken name f [] h k = tt
-at-unbroken name f (t ∷ ts) h k = by_test (λ l. at-unbroken name f ts h.1 l) (same_name t.name name) k where
+at-unbroken name f (t ∷ ts) h k = by_test (λ l. at-unbroken name f ts h.1 l) (bytes_eq t.name name) k where
   by_test :
       (IfSome (table_of ts name) (λ t. breaks_key (f t) ≡ false)
       → AllByRecursion (λ (t : Table). breaks_key t ≡ false) (at_table name f ts)) → (b : Bool)
@@ -55,7 +54,7 @@ pub found-unbroken : (name : List ℕ) (s : State) → AllByRecursion (λ (t : T
     → IfSome (table_of s name) (λ t. breaks_key t ≡ false)
 found-unbroken name [] h = tt
 found-unbroken name (t ∷ ts) h =
-    elim (same_name t.name name) as
+    elim (bytes_eq t.name name) as
     (λ b. IfSome (cond b (Some t) (table_of ts name)) (λ t. breaks_key t ≡ false)) [
       | true ↦ h.0
       | false ↦

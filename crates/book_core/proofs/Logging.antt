@@ -1,9 +1,8 @@
 -- The log of a history with one more commit.
 use Rattle.std.proofs.Common.{◌≡◌, ℕ, ◌+◌, ◌<◌, ◌≤◌, List, [], ◌∷◌, ◌++◌, length, map, Bool, true, false, not, cond, Option, Some, None, refl, ap, sym, ◌∙◌, arith, suc, leb, length-append}
-use Rattle.std.specs.Prelude.{option_map, unwrap_or, IfSome, is_none}
+use Rattle.std.specs.Prelude.{option_map, unwrap_or, IfSome, is_none, bytes_eq}
 use Rattle.std.proofs.lemmas.List.{take_all}
 use Rattle.std.proofs.lemmas.List.Sums.{fold-append}
-use Rattle.row_core.specs.Name.{same_name}
 use Rattle.row_core.specs.declared.schema.Column.{Column}
 use Rattle.book_core.specs.Limits.{commit_limit, table_limit}
 use Rattle.version_core.specs.Rows.{removes, drafts_of}
@@ -74,9 +73,9 @@ log_of-push h c =
 rows-at_table : (name : List ℕ) (c : Change) (s : State)
     → rows_of (at_table name (changed c) s) name ≡ unwrap_or (option_map (λ t. (changed c t).rows) (table_of s name)) []
 rows-at_table name c [] = refl
-rows-at_table name c (t ∷ ts) = by_test (rows-at_table name c ts) (same_name t.name name) refl where
+rows-at_table name c (t ∷ ts) = by_test (rows-at_table name c ts) (bytes_eq t.name name) refl where
   by_test : rows_of (at_table name (changed c) ts) name ≡ unwrap_or
-      (option_map (λ u. (changed c u).rows) (table_of ts name)) [] → (b : Bool) → same_name t.name name ≡ b
+      (option_map (λ u. (changed c u).rows) (table_of ts name)) [] → (b : Bool) → bytes_eq t.name name ≡ b
       → rows_of (cond b (changed c t ∷ ts) (t ∷ at_table name (changed c) ts)) name ≡ unwrap_or
       (option_map (λ u. (changed c u).rows) (cond b (Some t) (table_of ts name))) []
   by_test rest true e =
@@ -145,7 +144,7 @@ no_rows (Some t) h = absurd (cc)
 rows-made : (name : List ℕ) (schema : List Column) (s : State)
     → rows_of (s ++ record { name = name; schema = schema; used = 0; rows = [] } ∷ []) name ≡ rows_of s name
 rows-made name schema [] =
-    elim (same_name name name) as
+    elim (bytes_eq name name) as
     (λ b. unwrap_or
     (option_map (λ (u : Table). u.rows)
     (cond b (Some (record { name = name; schema = schema; used = 0; rows = [] })) None)) [] ≡ []) [
@@ -154,7 +153,7 @@ rows-made name schema [] =
       | false ↦ refl
     ]
 rows-made name schema (t ∷ ts) =
-    elim (same_name t.name name) as
+    elim (bytes_eq t.name name) as
     (λ b. unwrap_or
     (option_map (λ (u : Table). u.rows)
     (cond b (Some t)

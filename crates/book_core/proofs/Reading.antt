@@ -1,9 +1,8 @@
 -- Lemmas for the functions that read a book.
 use Rattle.std.proofs.Common.{◌≡◌, ℕ, ◌≤◌, List, [], ◌∷◌, ◌++◌, length, map, true, false, cond, Option, Some, None, refl, ap, sym, ◌∙◌}
-use Rattle.std.specs.Prelude.{option_map, unwrap_or, IfNone, option_copied}
+use Rattle.std.specs.Prelude.{option_map, unwrap_or, IfNone, option_copied, bytes_eq}
 use Rattle.std.specs.Borrow.{Bor}
 use Rattle.std.proofs.lemmas.List.{take-append-le}
-use Rattle.row_core.specs.Name.{same_name}
 use Rattle.version_core.specs.Shown.{shown}
 use Rattle.book_core.specs.State.{table_of, rows_of}
 use Rattle.book_core.specs.History.{History, state_after, rows_at}
@@ -15,7 +14,7 @@ pub table_of-map : (n : ℕ) (ts : List StoredTable) (name : List ℕ)
     → table_of (map (table_at n) ts) name ≡ option_map (table_at n) (kept_table name ts)
 table_of-map n [] name = refl
 table_of-map n (t ∷ ts) name =
-    elim (same_name t.name name) as
+    elim (bytes_eq t.name name) as
     (λ b. cond b (Some (table_at n t)) (table_of (map (table_at n) ts) name) ≡ option_map (table_at n)
     (cond b (Some t) (kept_table name ts))) [ true ↦ refl | false ↦ table_of-map n ts name ]
 

@@ -1,8 +1,7 @@
 -- The rows of every state are by rising id, whatever the changes were.
 use Rattle.std.proofs.Common.{ℕ, ◌+◌, ◌≤◌, List, [], ◌∷◌, ◌++◌, length, take, true, false, not, cond, Some, arith}
-use Rattle.std.specs.Prelude.{filter, fold, option_map, unwrap_or}
+use Rattle.std.specs.Prelude.{filter, fold, option_map, unwrap_or, bytes_eq}
 use Rattle.std.specs.List.{AllByRecursion}
-use Rattle.row_core.specs.Name.{same_name}
 use Rattle.row_core.specs.Rows.{IdsRise}
 use Rattle.row_core.specs.declared.row.Row.{Row}
 use Rattle.version_core.specs.Rows.{drafts_of, numbered, removes}
@@ -36,7 +35,7 @@ Rises-at_table : (name : List ℕ) (c : Change) (s : State) → AllByRecursion R
     → AllByRecursion Rises (at_table name (changed c) s)
 Rises-at_table name c [] all = tt
 Rises-at_table name c (t ∷ ts) all =
-    elim (same_name t.name name) as
+    elim (bytes_eq t.name name) as
     (λ b. AllByRecursion Rises (cond b (changed c t ∷ ts) (t ∷ at_table name (changed c) ts))) [
       | true ↦ (Rises-changed c t all.0, all.1)
       | false ↦ (all.0, Rises-at_table name c ts all.1)
@@ -64,7 +63,7 @@ none_rises k d h = absurd (omega arith)
 IdsRise-named : (name : List ℕ) (s : State) → AllByRecursion Rises s → IdsRise (rows_of s name)
 IdsRise-named name [] all = none_rises
 IdsRise-named name (t ∷ ts) all =
-    elim (same_name t.name name) as
+    elim (bytes_eq t.name name) as
     (λ b. IdsRise (unwrap_or (option_map (λ (u : Table). u.rows) (cond b (Some t) (table_of ts name))) [])) [
       | true ↦ rising-rows 0 t.used t.rows all.0
       | false ↦ IdsRise-named name ts all.1

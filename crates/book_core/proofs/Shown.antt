@@ -1,11 +1,10 @@
 -- What the kept versions show is what the states of the history have.
 use Rattle.std.proofs.Common.{◌≡◌, ℕ, ◌+◌, ◌<◌, ◌≤◌, List, [], ◌∷◌, ◌++◌, Bool, true, false, ◌&&◌, cond, Option, Some, None, length, map, take, zero, suc, refl, ap, sym, ◌∙◌, arith, length-append, leb, not, add-zero}
-use Rattle.std.specs.Prelude.{filter, fold, unwrap_or, option_map, is_none, IfSome}
+use Rattle.std.specs.Prelude.{filter, fold, unwrap_or, option_map, is_none, IfSome, bytes_eq}
 use Rattle.std.specs.List.{cons_option, AllByRecursion}
 use Rattle.std.proofs.lemmas.Bool.{le-leb, le-ltb, lt-ltb, lt-leb}
 use Rattle.std.proofs.lemmas.List.{append-nil, length-map, map-append}
 use Rattle.std.proofs.lemmas.List.Elements.{filter_map-append}
-use Rattle.row_core.specs.Name.{same_name}
 use Rattle.row_core.specs.declared.row.Row.{Row}
 use Rattle.row_core.specs.declared.schema.Column.{Column}
 use Rattle.key_core.proofs.Replaced.{append-all}
@@ -218,7 +217,7 @@ tables_at-at_kept : (n : ℕ) (c : Change) (name : List ℕ) (ts : List StoredTa
 unfolding AllInTime
 tables_at-at_kept n c name [] h = refl
 tables_at-at_kept n c name (t ∷ ts) h =
-    elim (same_name t.name name) as
+    elim (bytes_eq t.name name) as
     (λ b. map (table_at (n + 1))
     (cond b (kept_table_after n c t ∷ ts) (t ∷ at_kept name (kept_table_after n c) ts)) ≡ cond b
     (changed c (table_at n t) ∷ map (table_at n) ts) (table_at n t ∷ at_table name (changed c) (map (table_at n) ts))) [
@@ -283,7 +282,7 @@ at_kept_in_time : (n : ℕ) (c : Change) (name : List ℕ) (ts : List StoredTabl
 unfolding AllInTime
 at_kept_in_time n c name [] h = tt
 at_kept_in_time n c name (t ∷ ts) h =
-    elim (same_name t.name name) as
+    elim (bytes_eq t.name name) as
     (λ b. AllInTime (n + 1) (cond b (kept_table_after n c t ∷ ts) (t ∷ at_kept name (kept_table_after n c) ts))) [
       | true ↦ (
         append-all (InTime (n + 1)) _ _ (closed_in_time n (removes c t.schema) t.versions h.0)
@@ -310,12 +309,12 @@ rows_at-at_kept_later : (n m : ℕ) (c : Change) (name asked : List ℕ) (ts : L
     → rows_of (map (table_at n) (at_kept name (kept_table_after m c) ts)) asked ≡ rows_of (map (table_at n) ts) asked
 rows_at-at_kept_later n m c name asked [] h = refl
 rows_at-at_kept_later n m c name asked (t ∷ ts) h =
-    elim (same_name t.name name) as
+    elim (bytes_eq t.name name) as
     (λ b. rows_of
     (map (table_at n)
     (cond b (kept_table_after m c t ∷ ts) (t ∷ at_kept name (kept_table_after m c) ts))) asked ≡ rows_of
     (map (table_at n) (t ∷ ts)) asked) [
-      | true ↦ elim (same_name t.name asked) as
+      | true ↦ elim (bytes_eq t.name asked) as
           (λ b. unwrap_or
           (option_map (λ u. u.rows)
           (cond b (Some (table_at n (kept_table_after m c t))) (table_of (map (table_at n) ts) asked))) [] ≡ unwrap_or
@@ -323,7 +322,7 @@ rows_at-at_kept_later n m c name asked (t ∷ ts) h =
             | true ↦ shown-kept_table_after_later n m c t h
             | false ↦ refl
           ]
-      | false ↦ elim (same_name t.name asked) as
+      | false ↦ elim (bytes_eq t.name asked) as
           (λ b. unwrap_or
           (option_map (λ u. u.rows)
           (cond b (Some (table_at n t))
@@ -338,7 +337,7 @@ pub rows_at-make : (n : ℕ) (name : List ℕ) (schema : List Column) (asked : L
     → rows_of (map (table_at n) (ts ++ record { name = name; schema = schema; versions = [] } ∷ [])) asked ≡ rows_of
     (map (table_at n) ts) asked
 rows_at-make n name schema asked [] =
-    elim (same_name name asked) as
+    elim (bytes_eq name asked) as
     (λ b. unwrap_or
     (option_map (λ (u : Table). u.rows)
     (cond b (Some (record { name = name; schema = schema; used = 0; rows = [] })) None)) [] ≡ []) [
@@ -347,7 +346,7 @@ rows_at-make n name schema asked [] =
       | false ↦ refl
     ]
 rows_at-make n name schema asked (t ∷ ts) =
-    elim (same_name t.name asked) as
+    elim (bytes_eq t.name asked) as
     (λ b. unwrap_or
     (option_map (λ u. u.rows)
     (cond b (Some (table_at n t))

@@ -1,13 +1,12 @@
 -- Rows fit their table's columns and are at most a million, since each change was accepted.
 use Rattle.std.proofs.Common.{◌≡◌, ℕ, ◌+◌, ◌≤◌, List, [], ◌∷◌, ◌++◌, length, map, Bool, true, false, ◌&&◌, ◌||◌, not, cond, Option, Some, None, refl, ap, ◌∙◌, arith, zero, suc, take, get_or, leb, ltb}
-use Rattle.std.specs.Prelude.{All, IfSome, IsTrue, filter, flat_map, fold, is_none, option_map, option_and_then, slice_get, slice_set, unwrap_or}
+use Rattle.std.specs.Prelude.{All, IfSome, IsTrue, filter, flat_map, fold, is_none, option_map, option_and_then, slice_get, slice_set, unwrap_or, bytes_eq}
 use Rattle.std.specs.List.{AllByRecursion, cons_option, list_all}
 use Rattle.std.proofs.lemmas.Bool.{and_parts, ltb-false, or_parts}
 use Rattle.std.proofs.lemmas.List.Elements.{All-from_recursion}
 use Rattle.std.proofs.lemmas.Option.{slice_get-get_or}
 use Rattle.period_core.specs.Period.{before, meet, after as later}
 use Rattle.period_core.specs.declared.period.Period.{Period}
-use Rattle.row_core.specs.Name.{same_name}
 use Rattle.row_core.specs.Refusals.{first_of}
 use Rattle.row_core.specs.Rows.{IdsRise}
 use Rattle.row_core.specs.Schema.{column_of, fits}
@@ -225,7 +224,7 @@ sound_at_kept : (n : ℕ) (c : Change) (name : List ℕ) (ts : List StoredTable)
     → with_table (table_of (map (table_at n) ts) name) (λ t. first_of (tests_of n c t)) ≡ None
     → AllByRecursion IsSound ts → AllByRecursion IsSound (at_kept name (kept_table_after n c) ts)
 sound_at_kept n c name [] h s = tt
-sound_at_kept n c name (t ∷ ts) h s = by_test (λ k. sound_at_kept n c name ts k s.1) (same_name t.name name) h where
+sound_at_kept n c name (t ∷ ts) h s = by_test (λ k. sound_at_kept n c name ts k s.1) (bytes_eq t.name name) h where
   by_test :
       (with_table (table_of (map (table_at n) ts) name) (λ t. first_of (tests_of n c t)) ≡ None
       → AllByRecursion IsSound (at_kept name (kept_table_after n c) ts)) → (b : Bool)
@@ -295,7 +294,7 @@ pub found_sound : (name : List ℕ) (ts : List StoredTable) → AllByRecursion I
     → IfSome (kept_table name ts) IsSound
 found_sound name [] h = tt
 found_sound name (t ∷ ts) h =
-    elim (same_name t.name name) as
+    elim (bytes_eq t.name name) as
     (λ b. IfSome (cond b (Some t) (kept_table name ts)) IsSound) [ true ↦ h.0 | false ↦ found_sound name ts h.1 ]
 
 few_shown : (n : ℕ) (vs : List Version) → length (shown n vs) ≤ length vs

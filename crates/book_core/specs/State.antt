@@ -1,8 +1,7 @@
 -- What a book shows: its tables with their current rows, and what a change makes of them. No
 -- commit number and no system period occurs in a state.
-use Rattle.std.specs.Prelude.{◌≢◌, ℕ, ◌+◌, List, [], ◌∷◌, ◌++◌, length, map, filter, find, Bool, false, ◌||◌, not, if◌then◌else◌, Option, Some, None, is_none, option_map, option_and_then, slice_get, flat_map, nat_le, nat_lt, unwrap_or, ◌≡◌, ◌⊎◌, Result, Err}
+use Rattle.std.specs.Prelude.{◌≢◌, ℕ, ◌+◌, List, [], ◌∷◌, ◌++◌, length, map, filter, find, Bool, false, ◌||◌, not, if◌then◌else◌, Option, Some, None, is_none, option_map, option_and_then, slice_get, flat_map, nat_le, nat_lt, unwrap_or, ◌≡◌, ◌⊎◌, Result, Err, bytes_eq}
 use Rattle.std.specs.List.{list_all}
-use Rattle.row_core.specs.Name.{same_name}
 use Rattle.row_core.specs.Refusals.{first_of}
 use Rattle.row_core.specs.Schema.{fits, column_of, key_of}
 use Rattle.row_core.specs.Value.{kind_of, same_kind}
@@ -35,7 +34,7 @@ State = List Table
 
 -- the table of that name
 abbrev pub table_of : State → List ℕ → Option Table
-table_of s name = find (λ t. same_name t.name name) s
+table_of s name = find (λ t. bytes_eq t.name name) s
 
 -- the rows of the table of that name, and none where there is no such table
 abbrev pub rows_of : State → List ℕ → List Row
@@ -44,7 +43,7 @@ rows_of s name = unwrap_or (option_map (λ t. t.rows) (table_of s name)) []
 -- the state with another table in place of the one of that name
 abbrev pub at_table : List ℕ → (Table → Table) → State → State
 at_table name f [] = []
-at_table name f (t ∷ ts) = if same_name t.name name then f t ∷ ts else t ∷ at_table name f ts
+at_table name f (t ∷ ts) = if bytes_eq t.name name then f t ∷ ts else t ∷ at_table name f ts
 
 -- a table after a change of its rows
 abbrev pub changed : Change → Table → Table

@@ -1,7 +1,6 @@
 -- How the book keeps its tables: all versions of their rows.
-use Rattle.std.specs.Prelude.{◌≡◌, ℕ, ◌+◌, ◌≤◌, ◌<◌, List, [], ◌∷◌, ◌++◌, length, map, Bool, true, if◌then◌else◌, Option, Some, None, find, IfSome, count_by, false, option_map}
+use Rattle.std.specs.Prelude.{◌≡◌, ℕ, ◌+◌, ◌≤◌, ◌<◌, List, [], ◌∷◌, ◌++◌, length, map, Bool, true, if◌then◌else◌, Option, Some, None, find, IfSome, count_by, false, option_map, bytes_eq}
 use Rattle.std.specs.List.{AllByRecursion}
-use Rattle.row_core.specs.Name.{same_name}
 use Rattle.row_core.specs.Schema.{fits, key_of}
 use Rattle.row_core.specs.declared.schema.Column.{Column}
 use Rattle.version_core.specs.Limits.{version_limit}
@@ -26,7 +25,7 @@ pub record StoredTable : Type 0 where
 
 -- the table of that name, as it is kept
 abbrev pub kept_table : List ℕ → List StoredTable → Option StoredTable
-kept_table name ts = find (λ t. same_name t.name name) ts
+kept_table name ts = find (λ t. bytes_eq t.name name) ts
 
 -- a table as commit n shows it
 abbrev pub table_at : ℕ → StoredTable → Table
@@ -44,7 +43,7 @@ kept_table_after n c t = record {
 -- the tables with another in place of the first of that name
 abbrev pub at_kept : List ℕ → (StoredTable → StoredTable) → List StoredTable → List StoredTable
 at_kept name f [] = []
-at_kept name f (t ∷ ts) = if same_name t.name name then f t ∷ ts else t ∷ at_kept name f ts
+at_kept name f (t ∷ ts) = if bytes_eq t.name name then f t ∷ ts else t ∷ at_kept name f ts
 
 -- the tables after commit n + 1
 abbrev pub kept_tables_after : ℕ → List StoredTable → Change → List StoredTable

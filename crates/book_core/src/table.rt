@@ -1,8 +1,7 @@
 //! A table as the book keeps it, and the look-up of one by its name.
 
-ghost use Rattle.std.specs.Prelude.{◌≡◌, position};
+ghost use Rattle.std.specs.Prelude.{◌≡◌, position, bytes_eq};
 ghost use Rattle.std.specs.Option.{option_copied};
-ghost use Rattle.row_core.specs.Name.{same_name};
 ghost use Rattle.book_core.specs.StoredTables.{kept_table};
 
 use list_core::DeepCopy;
@@ -36,14 +35,14 @@ pub(crate) fn find_table(tables: &[Table], name: Name) -> Option<&Table>
 
 /// The place of the table of that name.
 pub(crate) fn place_of(tables: &[Table], name: Name) -> Option<usize>
-    ensures { result ≡ position (λ t. same_name t.name name) tables.now }
+    ensures { result ≡ position (λ t. bytes_eq t.name name) tables.now }
 {
     tables.iter().position(|table| is_named(table, name))
 }
 
 /// Whether a look-up of the name finds the table.
 fn is_named(table: &Table, name: Name) -> bool
-    ensures { result ≡ same_name table.now.name name }
+    ensures { result ≡ bytes_eq table.now.name name }
 {
     table.name == name
 }

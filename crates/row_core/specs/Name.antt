@@ -3,10 +3,6 @@ use Rattle.std.specs.Prelude.{ℕ, ◌-◌, List, [], ◌∷◌, ◌++◌, lengt
 use Rattle.std.specs.List.{list_all, list_any}
 use Rattle.row_core.specs.Limits.{name_limit}
 
--- two names are one
-abbrev pub same_name : List ℕ → List ℕ → Bool
-same_name a b = bytes_eq a b
-
 -- a letter from a to z
 abbrev pub is_letter : ℕ → Bool
 is_letter byte = nat_le 97 byte && nat_le byte 122

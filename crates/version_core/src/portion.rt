@@ -1,10 +1,9 @@
 //! Changes of a portion of time: which rows they take out, and what comes in the place of each.
 
-ghost use Rattle.std.specs.Prelude.{◌≡◌, ◌+◌, ◌≤◌, ◌<◌, ◌++◌, ◌&&◌, List, false, length, fold, flat_map, is_some, option_map, option_and_then, slice_get, slice_set, unwrap_or, if◌then◌else◌, IfOk, IfSome, OnOk};
+ghost use Rattle.std.specs.Prelude.{◌≡◌, ◌+◌, ◌≤◌, ◌<◌, ◌++◌, ◌&&◌, List, false, length, fold, flat_map, is_some, option_map, option_and_then, slice_get, slice_set, unwrap_or, if◌then◌else◌, IfOk, IfSome, OnOk, bytes_eq};
 ghost use Rattle.std.specs.List.{list_all};
 ghost use Rattle.period_core.specs.Period.{before, meet, after as later};
 ghost use Rattle.key_core.specs.Keys.{same_value};
-ghost use Rattle.row_core.specs.Name.{same_name};
 ghost use Rattle.row_core.specs.Schema.{column_of};
 ghost use Rattle.row_core.specs.declared.schema.Column.{Column};
 ghost use Rattle.version_core.specs.Finding.{AreSought};
@@ -311,7 +310,7 @@ fn is_same(a: &Value, b: &Value) -> bool
 /// Whether both are one text. It stands apart, as `look_up` does.
 #[inline(never)]
 fn is_same_text(a: &Text, b: &Text) -> bool
-    ensures { result ≡ same_name a.now b.now }
+    ensures { result ≡ bytes_eq a.now b.now }
 {
     *a == *b
 }

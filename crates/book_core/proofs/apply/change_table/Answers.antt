@@ -1,7 +1,6 @@
 use Rattle.std.proofs.Common.{◌≡◌, ◌≤◌, ◌+◌, ◌∙◌, ap, sym, subst, length, None, Some, List}
-use Rattle.std.specs.Prelude.{position, count_by}
+use Rattle.std.specs.Prelude.{position, count_by, bytes_eq}
 use Rattle.std.proofs.lemmas.Result.{IfErr-weaker, IfOk-weaker, on_ok_weaker}
-use Rattle.row_core.specs.Name.{same_name}
 use Rattle.version_core.specs.Limits.{version_limit}
 use Rattle.version_core.specs.Keys.{overlap_after}
 use Rattle.version_core.specs.OpenVersions.{current, versions_after}
@@ -14,8 +13,8 @@ use Rattle.book_core.proofs.KeyFound.{overlap-in}
 use Rattle.book_core.proofs.apply.change_table.Goals as goal
 
 -- no table has the name
-absent : (c : goal.In_default) → position (λ t. same_name t.name c.args.name) c.args.tables.now.items ≡ None
-absent c = sym (c.place_of.ensures ∙ ap (position (λ t. same_name t.name c.args.name)) c.deref.ensures.value)
+absent : (c : goal.In_default) → position (λ t. bytes_eq t.name c.args.name) c.args.tables.now.items ≡ None
+absent c = sym (c.place_of.ensures ∙ ap (position (λ t. bytes_eq t.name c.args.name)) c.deref.ensures.value)
     ∙ c.in_default.is
 
 pub returns-in_default-clause-ok : goal.returns-in_default-clause-ok
@@ -35,8 +34,8 @@ returns-in_default-clause-apart c =
 
 -- the table that is found, as the commits before leave it
 module _ (c : goal.After-tables-1) where
-  at : position (λ t. same_name t.name c.args.name) c.args.tables.now.items ≡ Some c.in-Some.at
-  at = sym (c.place_of.ensures ∙ ap (position (λ t. same_name t.name c.args.name)) c.deref.ensures.value) ∙ c.in-Some.is
+  at : position (λ t. bytes_eq t.name c.args.name) c.args.tables.now.items ≡ Some c.in-Some.at
+  at = sym (c.place_of.ensures ∙ ap (position (λ t. bytes_eq t.name c.args.name)) c.deref.ensures.value) ∙ c.in-Some.is
 
   well : IsWellKept c.args.commits c.index_mut-table.result.now
   well = holds-place
@@ -60,7 +59,7 @@ module _ (c : goal.After-tables-1) where
 pub apply-requires-clause-room : goal.apply-requires-clause-room
 apply-requires-clause-room c =
     let change = c.args.change.now in
-    let at = sym (c.place_of.ensures ∙ ap (position (λ t. same_name t.name c.args.name)) c.deref.ensures.value)
+    let at = sym (c.place_of.ensures ∙ ap (position (λ t. bytes_eq t.name c.args.name)) c.deref.ensures.value)
     ∙ c.in-Some.is in
     let t = c.index_mut-table.result.now in
     let well = holds-place
@@ -75,7 +74,7 @@ apply-requires-clause-room c =
 
 pub apply-requires-clause-unbroken : goal.apply-requires-clause-unbroken
 apply-requires-clause-unbroken c =
-    let at = sym (c.place_of.ensures ∙ ap (position (λ t. same_name t.name c.args.name)) c.deref.ensures.value)
+    let at = sym (c.place_of.ensures ∙ ap (position (λ t. bytes_eq t.name c.args.name)) c.deref.ensures.value)
     ∙ c.in-Some.is in
     subst IsUnbroken (sym c.table.view_is)
     (holds-place IsUnbroken c.args.name c.args.tables.now.items c.in-Some.at c.index_mut-table.result.now at
