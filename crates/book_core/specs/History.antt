@@ -1,6 +1,6 @@
 -- Histories: what was accepted, oldest first, and what it shows.
-use Rattle.std.specs.Prelude.{◌≡◌, ℕ, List, [], ◌∷◌, length, fold, take, Bool, Option, Some, None, is_none, option_map, slice_get, nat_lt}
-use Rattle.row_core.specs.Refusals.{first_of}
+use Rattle.std.specs.Prelude.{◌≡◌, ℕ, List, [], ◌∷◌, length, fold, take, Bool, Option, Some, None, is_none, option_map, slice_get, nat_lt, Result}
+use Rattle.row_core.specs.Refusals.{first_of, refused_or}
 use Rattle.row_core.specs.declared.row.Row.{Row}
 use Rattle.row_core.specs.declared.schema.Column.{Column}
 use Rattle.book_core.specs.State.{State, after, table_of, rows_of, refusal_of}
@@ -30,10 +30,11 @@ rows_at h n name = rows_of (state_after (take n h)) name
 abbrev pub schema_in : History → List ℕ → Option (List Column)
 schema_in h name = option_map (λ t. t.schema) (table_of (state_after h) name)
 
--- why rows are not given, if they are not
-abbrev pub rows_refusal : History → ℕ → List ℕ → Option RowsRefused
-rows_refusal h n name =
-    first_of ((nat_lt (length h) n, Future) ∷ (is_none (table_of (state_after h) name), NoTable) ∷ [])
+-- the rows of a table that commit n shows, or why they are not given
+abbrev pub rows_given : History → ℕ → List ℕ → Result (List Row) RowsRefused
+rows_given h n name =
+    refused_or (first_of ((nat_lt (length h) n, Future) ∷ (is_none (table_of (state_after h) name), NoTable) ∷ []))
+    (rows_at h n name)
 
 -- why versions are not given, if they are not
 abbrev pub versions_refusal : History → ℕ → Bool → List ℕ → Option VersionsRefused

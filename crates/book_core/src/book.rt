@@ -1,11 +1,12 @@
 //! Books: the history of accepted changes, what refuses one more, and what each commit shows.
 
 ghost use Rattle.std.specs.Prelude.{◌≡◌, ◌+◌, ◌≤◌, ℕ, List, [], ◌∷◌, ◌++◌, length, map, take, All, IfOk, IsTrue, IfSome, IfNone, OnOk, OnErr, IsOkUnless, nat_lt, nat_le};
+ghost use Rattle.row_core.specs.Refusals.{IsAnswer};
 ghost use Rattle.row_core.specs.Rows.{IdsRise};
 ghost use Rattle.row_core.specs.Schema.{fits};
 ghost use Rattle.row_core.specs.declared.failure.Failure.TheVariants.{NoMemory, Refused};
 ghost use Rattle.version_core.specs.Limits.{version_limit};
-ghost use Rattle.book_core.specs.History.{History, IsLegal, state_after, rows_at, rows_refusal, versions_refusal, schema_in};
+ghost use Rattle.book_core.specs.History.{History, IsLegal, state_after, rows_at, rows_given, versions_refusal, schema_in};
 ghost use Rattle.book_core.specs.Limits.{commit_limit};
 ghost use Rattle.book_core.specs.State.{KeyHolds, first_refusal, refusal_of, table_of, IsRefusedAs};
 ghost use Rattle.book_core.specs.StoredTables.{IsTableOf};
@@ -174,11 +175,12 @@ impl Book {
     }
 
     /// The rows of a table that commit n shows, by rising id.
+    ///
+    /// # Errors
+    ///
+    /// `Future` where there are fewer than n commits; `NoTable`; `NoMemory`, in this order.
     pub fn rows_at(&self, n: u64, name: Name) -> Result<RowList, Failure<RowsRefused>>
-        ensures refused { IfSome (rows_refusal self.now n name) (λ refused. result ≡ Err (Refused refused)) }
-        ensures given { IfNone (rows_refusal self.now n name)
-            (IsOkUnless result NoMemory) }
-        ensures rows { IfOk result (λ rows. rows ≡ rows_at self.now n name) }
+        ensures given { IsAnswer (rows_given self.now n name) result }
 
         // They are at most 1,000,000, and each fits the table's columns.
         ensures few { IfOk result (λ rows. length rows ≤ version_limit) }

@@ -1,7 +1,7 @@
 -- A command has one answer.
 use Rattle.std.proofs.Common.{◌≡◌, ℕ, ◌+◌, List, Option, Some, None, Result, Ok, Err, length, refl, sym, ap, ◌∙◌, subst}
 use Rattle.std.specs.Prelude.{⊤, nat_le, nat_lt, unwrap_or}
-use Rattle.row_core.specs.Refusals.{refused_or}
+use Rattle.row_core.specs.Refusals.{map_err, refused_or}
 use Rattle.row_core.specs.Rows.{IdsRise}
 use Rattle.row_core.specs.declared.row.Row.{Row}
 use Rattle.book_core.specs.History.{History, rows_at}
@@ -53,9 +53,10 @@ same_Ok x y e = cc
 pub not_Ok : {T E : Type 0} (x : T) (why : E) → ◌≡◌ {A = Result T E} (Err why) (Ok x) → ⊥
 not_Ok x why e = cc e
 
-refused_or-ok : {T E : Type 0} (refusal : Option E) (x y : T) → refused_or refusal x ≡ Ok y → x ≡ y
-refused_or-ok {T} {E} None x y e = same_Ok {T = T} {E = E} x y e
-refused_or-ok (Some why) x y e = absurd (not_Ok y why e)
+given-ok : {S E F : Type 0} (rename : E → F) (refusal : Option E) (x y : S)
+    → map_err rename (refused_or refusal x) ≡ Ok y → x ≡ y
+given-ok {S} {E} {F} rename None x y e = same_Ok {T = S} {E = F} x y e
+given-ok rename (Some why) x y e = absurd (not_Ok y (rename why) e)
 
 pub both-first : {S T E : Type 0} (r : Result S E) (q : Result T E) (x : S) (y : T) → both r q ≡ Ok (x, y) → r ≡ Ok x
 both-first (Err why) q x y e = absurd (not_Ok (x, y) why e)
@@ -65,7 +66,7 @@ both-first {S} {T} {E} (Ok v) (Ok w) x y e = ap (λ (p : S × T). Ok p.0) (same_
 pub rise-told : (number : ℕ) (h : History) (asof : Option ℕ) (name : List ℕ) (rows : List Row)
     → rows_told number h asof name ≡ Ok rows → IdsRise rows
 rise-told number h asof name rows e =
-    subst IdsRise (refused_or-ok _ (rows_at h (unwrap_or asof (length h)) name) rows e)
+    subst IdsRise (given-ok _ _ (rows_at h (unwrap_or asof (length h)) name) rows e)
     (IdsRise-rows_at h (unwrap_or asof (length h)) name)
 
 -- ---- answers

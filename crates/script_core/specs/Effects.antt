@@ -11,7 +11,7 @@ use Rattle.row_core.specs.declared.draft.Draft.{Draft}
 use Rattle.row_core.specs.declared.row.Row.{Row}
 use Rattle.row_core.specs.declared.schema.Column.{Column}
 use Rattle.row_core.specs.declared.value.Kind.{Kind}
-use Rattle.book_core.specs.History.{History, rows_at, schema_in, state_after}
+use Rattle.book_core.specs.History.{History, rows_given, schema_in, state_after}
 use Rattle.book_core.specs.History as history
 use Rattle.version_core.specs.Rows.{Pair}
 use Rattle.book_core.specs.State.{kind_in, refusal_of}
@@ -100,9 +100,8 @@ delete_in number h name portion conds =
 -- the rows of a table that a commit shows, the newest where none is told, or the fault of the command
 -- of this number
 abbrev pub rows_told : ℕ → History → Option ℕ → List ℕ → Result (List Row) Fault
-rows_told number h asof name = let n = unwrap_or asof (length h) in
-    refused_or (option_map (λ refused. fault number (rows_refusal refused)) (history.rows_refusal h n name))
-    (rows_at h n name)
+rows_told number h asof name =
+    map_err (λ refused. fault number (rows_refusal refused)) (rows_given h (unwrap_or asof (length h)) name)
 
 -- those that hold at a point
 abbrev pub rows_on : ℤ → List Row → List Row
