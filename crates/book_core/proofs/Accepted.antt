@@ -34,7 +34,7 @@ accepted-both n s c h k =
     ap (λ o. or_overlap o (leaves_overlap c (table_of s (table_named c)))) h ∙ ap (or_overlap None) k
 
 -- rows of one key overlap
-pub overlap-refused : (n : ℕ) (s : State) (c : Change) → first_refusal n s c ≡ None
+overlap-refused : (n : ℕ) (s : State) (c : Change) → first_refusal n s c ≡ None
     → leaves_overlap c (table_of s (table_named c)) ≡ true → refusal_of n s c ≡ Some KeyOverlap
 overlap-refused n s c h k =
     ap (λ o. or_overlap o (leaves_overlap c (table_of s (table_named c)))) h ∙ ap (or_overlap None) k

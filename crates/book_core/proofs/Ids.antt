@@ -47,7 +47,7 @@ numbered_rise used (d ∷ ds) =
     )
 
 -- what is shown of numbered versions
-pub shown_rise : (n k : ℕ) (vs : List Version) → IsNumbered k vs → RiseIn k (k + length vs) (shown n vs)
+shown_rise : (n k : ℕ) (vs : List Version) → IsNumbered k vs → RiseIn k (k + length vs) (shown n vs)
 shown_rise n k [] s = tt
 shown_rise n k (v ∷ vs) s =
     let e : k + 1 + length vs ≡ k + suc (length vs) = omega arith in

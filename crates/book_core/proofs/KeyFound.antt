@@ -32,7 +32,7 @@ after-found n c t well =
     (sym (shown-current n t.versions well.times))
 
 -- what is tested tells whether the change leaves rows of one key that share an instant
-pub overlap-found : (n : ℕ) (c : Change) (t : StoredTable) → IsWellKept n t → IsUnbroken t
+overlap-found : (n : ℕ) (c : Change) (t : StoredTable) → IsWellKept n t → IsUnbroken t
     → overlap_after c t.schema t.versions ≡ leaves_overlap c (Some (table_at n t))
 unfolding tested
 overlap-found n (Make name schema) t well none = make-unbroken name schema t.schema (current t.versions) none

@@ -21,7 +21,7 @@ use Rattle.book_core.proofs.Accepted.{overlap-none}
 use Rattle.book_core.proofs.Sound.{LegalFrom, legal_from}
 
 -- new rows without their ids
-pub unnumbered-numbered : (used : ℕ) (ds : List Draft) → map unnumbered (numbered used ds) ≡ ds
+unnumbered-numbered : (used : ℕ) (ds : List Draft) → map unnumbered (numbered used ds) ≡ ds
 unnumbered-numbered used [] = refl
 unnumbered-numbered used (d ∷ ds) = ap (λ l. d ∷ l) (unnumbered-numbered (used + 1) ds)
 

@@ -94,7 +94,8 @@ above k [] u s h = absurd h
 above k (v ∷ vs) u s (inl e) = omega (arith, s.0, ap (λ (w : Version). w.row.id) e)
 above k (v ∷ vs) u s (inr r) = omega (arith, above (k + 1) vs u s.1 r)
 
-pub unique : (k : ℕ) (vs : List Version) (u w : Version) → IsNumbered k vs → In u vs → In w vs → u.row.id ≡ w.row.id → u ≡ w
+pub unique : (k : ℕ) (vs : List Version) (u w : Version) → IsNumbered k vs → In u vs → In w vs → u.row.id ≡ w.row.id
+    → u ≡ w
 unique k [] u w s h g e = absurd h
 unique k (v ∷ vs) u w s (inl a) (inl b) e = sym a ∙ b
 unique k (v ∷ vs) u w s (inl a) (inr b) e =

@@ -26,12 +26,12 @@ first_of-some_then [] b e h = absurd (cc)
 first_of-some_then ((true, x) ∷ a) b e h = h
 first_of-some_then ((false, x) ∷ a) b e h = first_of-some_then a b e h
 
-pub first_of-some_or : {E : Type 0} (a b : List (Bool × E)) (o : Option E) → o ≡ first_of a → is_some o ≡ true
+first_of-some_or : {E : Type 0} (a b : List (Bool × E)) (o : Option E) → o ≡ first_of a → is_some o ≡ true
     → o ≡ first_of (a ++ b)
 first_of-some_or a b None e h = absurd (cc)
 first_of-some_or a b (Some x) e h = sym (first_of-some_then a b x (sym e))
 
-pub first_of-none_or : {E : Type 0} (a b : List (Bool × E)) (o : Option E) → o ≡ first_of a → is_some o ≡ false
+first_of-none_or : {E : Type 0} (a b : List (Bool × E)) (o : Option E) → o ≡ first_of a → is_some o ≡ false
     → first_of (a ++ b) ≡ first_of b
 first_of-none_or a b None e h = first_of-none_then a b (sym e)
 first_of-none_or a b (Some x) e h = absurd (cc)

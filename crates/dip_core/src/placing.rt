@@ -70,7 +70,11 @@ fn open_part(alloc: Global, parts: &mut Vec<PartItems>, item: &Item) -> Result<u
 }
 
 /// Adds the item where the placing rule says, and answers the number of that part.
-pub(crate) fn place_item(alloc: Global, parts: &mut Vec<PartItems>, item: &Item) -> Result<usize, NoMemory>
+pub(crate) fn place_item(
+    alloc: Global,
+    parts: &mut Vec<PartItems>,
+    item: &Item,
+) -> Result<usize, NoMemory>
     ensures place { IfOk result (IsPlaceFor parts.old.items item.now.period.from) }
     ensures added { IfOk result (λ k. parts.new.items ≡ added parts.old.items k item.now) }
     ensures err { OnErr result (parts.new.items ≡ parts.old.items) }

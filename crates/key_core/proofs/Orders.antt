@@ -16,7 +16,7 @@ use Rattle.key_core.specs.declared.keys.KeyedRow.{KeyedRow}
 use Rattle.key_core.specs.Keys.{same_key, same_maybe, same_value}
 use Rattle.key_core.specs.Order.{value_cmp, maybe_cmp, key_cmp, row_cmp}
 
-pub value_total : IsTotalOrder value_cmp
+value_total : IsTotalOrder value_cmp
 value_total = record {
   antisymm = antisymm;
   trans = trans;

@@ -78,7 +78,7 @@ AreDistinct [] = Unit {0}
 AreDistinct (name ∷ names) = AllByRecursion (λ other. bytes_eq name other ≡ false) names × AreDistinct names
 
 -- each name is a column's, none stands twice, and none is among the others
-pub record AreNew (columns : List Column) (others names : List (List ℕ)) : Type 0 where
+record AreNew (columns : List Column) (others names : List (List ℕ)) : Type 0 where
   pub found : AllByRecursion (λ name. is_some (column_of columns name) ≡ true) names
   pub fresh : AllByRecursion (λ name. among others name ≡ false) names
   pub distinct : AreDistinct names

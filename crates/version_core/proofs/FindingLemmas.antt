@@ -316,7 +316,7 @@ true_and : (b : Bool) → (true && b) ≡ (b && true)
 true_and true = refl
 true_and false = refl
 
-pub ListsOpen-grown : (vs us : List Version) (places : List ℕ) (before count : ℕ) → before ≡ length vs
+ListsOpen-grown : (vs us : List Version) (places : List ℕ) (before count : ℕ) → before ≡ length vs
     → count ≡ length us → ListsOpen vs any_row places
     → ListsOpen (vs ++ us) any_row (places ++ range_with_len before count)
 ListsOpen-grown vs us places before count at many h =

@@ -28,7 +28,7 @@ drafts-made n used [] = refl
 drafts-made n used (d ∷ ds) = ap (λ l. d ∷ l) (drafts-made n (used + 1) ds)
 
 -- the rows that are left, found among the versions
-pub left-current : (c : Change) (schema : List Column) (vs : List Version)
+left-current : (c : Change) (schema : List Column) (vs : List Version)
     → map draft_of (filter (is_left c schema) vs) ≡ rows_left c schema (current vs)
 left-current c schema [] = refl
 left-current c schema (v ∷ vs) = by_open (left-current c schema vs) (is_none v.systo) where

@@ -6,7 +6,7 @@ use Rattle.version_core.specs.Rows.{numbered}
 use Rattle.version_core.specs.Made.{made, draft_of, made_of}
 use Rattle.version_core.specs.declared.version.Version.{Version}
 
-pub numbered-push : (used : ℕ) (ds : List Draft) (d : Draft)
+numbered-push : (used : ℕ) (ds : List Draft) (d : Draft)
     → numbered used
     (ds ++ d ∷ []) ≡ numbered used ds ++ record { id = used + length ds + 1; period = d.period; values = d.values } ∷ []
 numbered-push used [] d =

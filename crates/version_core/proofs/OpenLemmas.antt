@@ -152,7 +152,7 @@ closed-behind n test done (v ∷ vs) us =
     ]
 
 -- closing what a change takes, with others behind
-pub closed-taken : (n : ℕ) (c : Change) (schema : List Column) (vs us : List Version)
+closed-taken : (n : ℕ) (c : Change) (schema : List Column) (vs us : List Version)
     → fold (closed_at n) (vs ++ us) (places_from (is_taken c schema) 0 vs) ≡ map (closed n (removes c schema)) vs ++ us
 closed-taken n c schema vs us = closed-behind n (is_taken c schema) [] vs us
 
@@ -420,7 +420,7 @@ versions_after-by n c schema vs fresh grown new taken t f g e =
     ∙ closed-taken n c schema vs fresh
     ∙ ap (λ l. map (closed n (removes c schema)) vs ++ l) f
 
-pub length-fresh : (n before : ℕ) (ds : List Draft) → length (made n (numbered before ds)) ≡ length ds
+length-fresh : (n before : ℕ) (ds : List Draft) → length (made n (numbered before ds)) ≡ length ds
 length-fresh n before ds = length-map (numbered before ds) _ ∙ length-numbered before ds
 
 pub fresh-count : (n : ℕ) (c : Change) (schema : List Column) (vs fresh : List Version)

@@ -33,7 +33,7 @@ seen-same at m last i vs v us h e t k =
     ∙ ap (λ b. seen at m last (take i vs) ++ cons_option
     (cond b (Some (record { row = v.row; sysfrom = v.sysfrom; systo = end_at at v.systo })) None) []) t ∙ append-nil _)
 
-pub shown-take_more : (n i : ℕ) (vs : List Version) (v : Version) → i < length vs → v ≡ get_or vs i v
+shown-take_more : (n i : ℕ) (vs : List Version) (v : Version) → i < length vs → v ≡ get_or vs i v
     → shown n (take (i + 1) vs) ≡ shown n (take i vs) ++ cons_option (row_shown n v) []
 shown-take_more n i vs v h e =
     ap (shown n) (take_more vs i v h) ∙ filter_map-append (row_shown n) (take i vs) (get_or vs i v ∷ [])

@@ -26,7 +26,7 @@ slice_get-set_below (y ∷ ys) (suc i) zero x h = refl
 slice_get-set_below (y ∷ ys) (suc i) (suc k) x h = slice_get-set_below ys i k x (omega arith)
 
 -- the place of the column that a pair names
-abbrev pub column_named : List Column → Pair → Option ℕ
+abbrev column_named : List Column → Pair → Option ℕ
 column_named schema pair = column_of schema pair.0
 
 pub sought-more : (schema : List Column) (conds : List Pair) (columns : List (Option ℕ)) (i : ℕ) (pair : Pair)

@@ -24,7 +24,7 @@ use Rattle.version_core.specs.declared.change.Change.{Change}
 use Rattle.version_core.specs.declared.change.Change.TheVariants.{Make, Update, Delete}
 
 -- what is shown of each key with a column holds of each key
-pub lift : (key : List ℕ) (xs ys : List Draft) → (have_collision key xs ≡ false → have_collision key ys ≡ false)
+lift : (key : List ℕ) (xs ys : List Draft) → (have_collision key xs ≡ false → have_collision key ys ≡ false)
     → break_key key xs ≡ false → break_key key ys ≡ false
 lift [] xs ys f h = refl
 lift (column ∷ columns) xs ys f h = f h
