@@ -1,0 +1,5 @@
+pub mod Counting
+pub mod Handed
+pub mod Places
+pub mod Rule
+pub mod ViewSums

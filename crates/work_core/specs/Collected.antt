@@ -1,0 +1,45 @@
+-- A job with the values of those of its pairs that are there.
+use Rattle.std.specs.Prelude.{◌≡◌, ℕ, ◌<◌, List, length, Option, Some, None, IsSome, slice_index_or, slice_set, replicate}
+use Rattle.work_core.specs.declared.name.PairName.{PairName}
+use Rattle.work_core.specs.declared.job.PairWork as PairWork
+use Rattle.work_core.specs.Jobs.{Gives}
+
+-- a job, and a place for each of its pairs by number, which is empty or has that pair's value
+pub record Collected (W Out : Type 0) : Type 0 where
+  pub job : W
+  pub places : List (Option Out)
+
+-- the least number of a place that is empty
+pub record IsFirstGap {T : Type 0} (places : List (Option T)) (i : ℕ) : Type 0 where
+  pub inside : i < length places
+  pub gap : slice_index_or places i None ≡ None
+  pub least : (k : ℕ) → k < i → IsSome (slice_index_or places k None)
+
+module _ {W Out : Type 0} (g : PairWork.Ghosts W Out) where
+  -- a job of which no pair's value is there yet
+  abbrev pub nothing_of : W → Collected W Out
+  nothing_of w = record { job = w; places = replicate (g.pairs w) None }
+
+  -- a place for each pair of the job, which is empty or has a value of that pair
+  pub record ArePlaces (w : W) (places : List (Option Out)) : Type 0 where
+    pub len : length places ≡ g.pairs w
+    pub each : (i : ℕ) (o : Out) → slice_index_or places i None ≡ Some o → Gives g w (g.name_of w i) o
+
+  -- the pair's place was empty, has the value o afterwards, and nothing else is changed
+  pub record Fills (p : PairName) (o : Out) (old new : Collected W Out) : Type 0 where
+    pub number : ℕ
+    pub number_is : g.place_of old.job p ≡ Some number
+    pub was_empty : slice_index_or old.places number None ≡ None
+    pub new_is : new ≡ record { job = old.job; places = slice_set old.places number (Some o) }
+
+  -- the pair's value is there
+  pub record IsThere (p : PairName) (c : Collected W Out) : Type 0 where
+    pub number : ℕ
+    pub number_is : g.place_of c.job p ≡ Some number
+    pub full : IsSome (slice_index_or c.places number None)
+
+  -- the pair whose value is not there, of these the one with the least number
+  pub record IsFirstMissing (c : Collected W Out) (p : PairName) : Type 0 where
+    pub number : ℕ
+    pub name_is : p ≡ g.name_of c.job number
+    pub first : IsFirstGap c.places number

@@ -1,0 +1,6 @@
+pub mod Claims
+pub mod Collected
+pub mod Counting
+pub mod Jobs
+pub mod Limits
+pub mod Workers

@@ -1,0 +1,15 @@
+//! What a seat knows of the draws.
+
+use std::collections::LinkedList;
+
+/// What a worker's seat knows of the numbers drawn. It stands in proofs alone: no value of it is made.
+pub(crate) struct ClaimView {
+    /// How many parts it has of the right to know all draws.
+    pub parts: u64,
+    /// How many draws it may still make.
+    pub room: u64,
+    /// A number that the word has reached.
+    pub least: u64,
+    /// The numbers that it drew.
+    pub drawn: LinkedList<u64>,
+}

@@ -1,0 +1,171 @@
+//! Puts the pieces of a job in order, whatever the order in which they come.
+
+ghost use Rattle.std.specs.Prelude.{◌≡◌, ◌+◌, ◌≤◌, IfOk, IfErr, OnOk, OnErr, IfSome, IfNone, Some, None, All, [], IsSome, map, replicate, vec_len, vec_capacity};
+ghost use Rattle.work_core.specs.Jobs.{Shares, AreValues};
+ghost use Rattle.work_core.specs.Collected.{Collected, nothing_of, Fills, IsThere, IsFirstGap, IsFirstMissing};
+
+use crate::job::PairWork;
+use crate::name::PairName;
+use crate::piece::Piece;
+use list_core::List;
+use std::alloc::{AllocError, Global};
+use std::marker::Model;
+
+/// The values of a job's pairs, by pair number.
+pub type Outs<T> = List<T>;
+
+/// The pieces of a job that are there. Contracts see the job, and the values by pair number.
+///
+/// It takes all its memory when it is made: `accept` and `finish` need none.
+#[derive(Drop)]
+pub struct Collector<'j, W: PairWork> {
+    job: &'j W,
+    places: Vec<Option<W::Out>>,
+    outs: Vec<W::Out>,
+}
+
+impl<'j, W: PairWork> Model for Collector<'j, W> {
+    ghost use Rattle.std.specs.Prelude.{◌≡◌, ◌≤◌, vec_capacity, []};
+    ghost use Rattle.work_core.specs.Collected.{Collected, ArePlaces};
+
+    ghost Value = { Collected W W.Out };
+
+    ghost view = { λ c. record { job = c.job.now; places = c.places.items } };
+
+    ghost invariant = { λ c. ArePlaces W.PairWork c.job.now c.places.items
+        × (c.outs.items ≡ []) × (W.pairs c.job.now ≤ vec_capacity c.outs) };
+}
+
+/// Why a piece was refused.
+#[derive(Clone, Copy, PartialEq, Eq, Debug)]
+pub enum Why {
+    /// The collector's job doesn't have the pair, or has it with other inputs.
+    Stranger,
+    /// The pair's piece is there.
+    Double,
+}
+
+/// A piece that was refused, and why.
+#[derive(Drop)]
+pub struct Refused<'j, W: PairWork> {
+    /// The piece, as it was handed in.
+    pub piece: Piece<'j, W>,
+    /// Why it was refused.
+    pub why: Why,
+}
+
+/// A collector that lacks a piece.
+#[derive(Drop)]
+pub struct Unfinished<'j, W: PairWork> {
+    /// The collector, as it was.
+    pub collector: Collector<'j, W>,
+    /// The pair whose piece is missing; of several, the one with the least number.
+    pub first: PairName,
+}
+
+impl<'j, W: PairWork> Collector<'j, W> {
+    /// A collector for the pieces of the job, of which none is there.
+    pub fn new(alloc: Global, job: &'j W) -> Result<Collector<'j, W>, AllocError>
+        ensures { IfOk result (λ c. c ≡ nothing_of W.PairWork job.entry.now) }
+    {
+        let count = job.count() as usize;
+        let places = empty_places(alloc, count)?;
+        let outs = Vec::with_capacity(alloc, count)?;
+        Ok(Collector { job, places, outs })
+    }
+
+    /// Puts the piece's value at its pair's place: of this job, or of another that has the pair with equal
+    /// inputs. A refused piece is handed back.
+    pub fn accept(&mut self, piece: Piece<'j, W>) -> Result<(), Refused<'j, W>>
+        ensures shares { OnOk result (Shares W.PairWork self.old.job piece.entry.job.now piece.entry.name) }
+        ensures fills { OnOk result (Fills W.PairWork piece.entry.name piece.entry.out self.old self.new) }
+        ensures stranger { IfErr result (λ r. r.why ≡ Why.Stranger
+            → ¬ Shares W.PairWork self.old.job piece.entry.job.now piece.entry.name) }
+        ensures double { IfErr result (λ r. r.why ≡ Why.Double
+            → Shares W.PairWork self.old.job piece.entry.job.now piece.entry.name
+            × IsThere W.PairWork piece.entry.name self.old) }
+        ensures back { IfErr result (λ r. r.piece ≡ piece.entry) }
+        ensures unchanged { OnErr result (self.new ≡ self.old) }
+    {
+        if !self.job.same(piece.job, piece.name) {
+            return Err(Refused {
+                piece,
+                why: Why::Stranger,
+            });
+        }
+        let Some(number) = self.job.place(piece.name) else {
+            unreachable!()
+        };
+        let number = number as usize;
+        if self.places[number].is_some() {
+            return Err(Refused {
+                piece,
+                why: Why::Double,
+            });
+        }
+        let Piece {
+            job: _,
+            name: _,
+            out,
+        } = piece;
+        self.places[number] = Some(out);
+        Ok(())
+    }
+
+    /// The values by pair number, if each pair's piece is there.
+    pub fn finish(self) -> Result<Outs<W::Out>, Unfinished<'j, W>>
+        ensures values { IfOk result (AreValues W.PairWork self.entry.job) }
+        ensures accepted { IfOk result (λ outs. self.entry.places ≡ map Some outs) }
+        ensures back { IfErr result (λ u. u.collector ≡ self.entry) }
+        ensures first { IfErr result (λ u. IsFirstMissing W.PairWork self.entry u.first) }
+    {
+        if let Some(i) = first_gap(&self.places) {
+            let first = self.job.name(i as u64);
+            return Err(Unfinished {
+                collector: self,
+                first,
+            });
+        }
+        let Collector {
+            job: _,
+            places,
+            outs,
+        } = self;
+        Ok(List::from(move_all(places, outs)))
+    }
+}
+
+// So many places without a value.
+fn empty_places<T: Drop>(alloc: Global, count: usize) -> Result<Vec<Option<T>>, AllocError>
+    ensures { IfOk result (λ v. v.items ≡ replicate count None) }
+{
+    let mut places = Vec::with_capacity(alloc, count)?;
+    for _ in 0..count {
+        places.push_reserved(None);
+    }
+    Ok(places)
+}
+
+// The least place without a value.
+fn first_gap<T>(places: &[Option<T>]) -> Option<usize>
+    ensures some { IfSome result (IsFirstGap places.now) }
+    ensures none { IfNone result (All IsSome places.now) }
+{
+    places.iter().position(|place| place.is_none())
+}
+
+// Moves the values into `outs`, in their order.
+fn move_all<T: Drop>(places: Vec<Option<T>>, mut outs: Vec<T>) -> Vec<T>
+    requires all { All IsSome places.items }
+    requires room { vec_len outs + vec_len places ≤ vec_capacity outs }
+    requires empty { outs.items ≡ [] }
+    ensures { places.items ≡ map Some result.items }
+{
+    for place in places {
+        match place {
+            Some(out) => outs.push_reserved(out),
+            None => unreachable!(),
+        }
+    }
+    outs
+}

@@ -1,0 +1,26 @@
+#![tactic(auto)]
+
+//! Runs the pairs of a job on 1 to 64 workers, each pair once, and gives their values by pair number.
+//!
+//! A job (`PairWork`) is a numbered list of pairs, each of which can be run by itself. The workers draw the
+//! numbers of pairs from one word, so none waits for another, and whichever is free takes the next pair. A
+//! `Piece` is a value that can't be taken for that of another pair or another job, and a `Collector` puts
+//! pieces in order, whatever the order in which they come.
+
+mod claim_view;
+mod claims;
+mod collector;
+mod gate;
+mod job;
+mod name;
+mod numbered;
+mod piece;
+mod run;
+mod worker;
+
+pub use collector::{Collector, Outs, Refused, Unfinished, Why};
+pub use gate::{Gate, OpenGate};
+pub use job::PairWork;
+pub use name::PairName;
+pub use piece::Piece;
+pub use run::run_pairs;

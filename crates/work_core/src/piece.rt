@@ -1,0 +1,61 @@
+//! Pieces: values that know which pair of which job they are of.
+
+ghost use Rattle.std.specs.Prelude.{◌≡◌, ◌<◌, IfOk, IsSome};
+ghost use Rattle.work_core.specs.declared.name.PairName.{PairName};
+
+use crate::job::PairWork;
+use crate::name::PairName;
+use std::alloc::{AllocError, Global};
+
+/// A value of its own pair of its own job, which its type keeps.
+#[derive(Drop)]
+pub struct Piece<'j, W: PairWork> {
+    /// The job.
+    pub job: &'j W,
+    /// The name of a pair that the job has.
+    pub name: PairName,
+    /// That pair's value.
+    pub out: W::Out,
+    pub ghost has_pair: { IsSome (W.place_of job.now name) },
+    pub ghost is_value: { ∥ W.IsValue (W.inputs_of job.now name) out ∥₁ },
+}
+
+impl<'j, W: PairWork> Piece<'j, W> {
+    /// Runs a pair that the job has.
+    pub fn make(alloc: Global, job: &'j W, name: PairName) -> Result<Piece<'j, W>, AllocError>
+        requires { IsSome (W.place_of job.now name) }
+        ensures { IfOk result (λ piece. (piece.job.now ≡ job.entry.now) × (piece.name ≡ name)) }
+    {
+        let out = job.run(alloc, name)?;
+        Ok(Piece { job, name, out })
+    }
+
+    // The piece of a value that is known.
+    pub(crate) fn of(job: &'j W, number: u64, out: W::Out) -> Piece<'j, W>
+        requires inside { number < W.pairs job.now }
+        requires value { ∥ W.IsValue (W.inputs_of job.now (W.name_of job.now number)) out ∥₁ }
+        ensures job { result.job.now ≡ job.entry.now }
+        ensures name { result.name ≡ W.name_of job.entry.now number }
+        ensures out { result.out ≡ out }
+    {
+        Piece {
+            job,
+            name: job.name(number),
+            out,
+        }
+    }
+
+    /// The name of its pair.
+    pub fn name(&self) -> PairName
+        ensures { result ≡ self.now.name }
+    {
+        self.name
+    }
+
+    /// Its job.
+    pub fn job(&self) -> &'j W
+        ensures { result.now ≡ self.now.job.now }
+    {
+        self.job
+    }
+}

@@ -1,0 +1,184 @@
+//! Runs of jobs on some workers: their values, and which pairs the gate saw.
+
+use crate::sums::Sums;
+use std::process::Abort;
+use std::sync::atomic::{AtomicU64, Ordering};
+use std::test::Fail;
+use work_core::{Gate, OpenGate, PairName, run_pairs};
+
+// Seven numbers, each a pair with the number 10.
+const SEVEN: &[u32] = &[1, 2, 3, 4, 5, 6, 7];
+
+const TEN: &[u32] = &[10];
+
+// Counts how often it was entered and left: `entered` and `left` by the pair's left half.
+#[derive(Drop)]
+struct Counts {
+    entered: [AtomicU64; 7],
+    left: [AtomicU64; 7],
+}
+
+fn zeros() -> [AtomicU64; 7] {
+    [
+        AtomicU64::new(0),
+        AtomicU64::new(0),
+        AtomicU64::new(0),
+        AtomicU64::new(0),
+        AtomicU64::new(0),
+        AtomicU64::new(0),
+        AtomicU64::new(0),
+    ]
+}
+
+fn count(counts: &[AtomicU64; 7], pair: PairName) {
+    if let Some(count) = counts.get(pair.left as usize) {
+        count.fetch_add(1, Ordering::SeqCst);
+    }
+}
+
+// How often each pair was counted.
+fn check_counts(rt: &impl Abort, counts: &[AtomicU64; 7], want: [u64; 7]) {
+    for (count, want) in counts.iter().zip(want) {
+        assert_eq!(rt; count.load(Ordering::SeqCst), want);
+    }
+}
+
+impl Gate for Counts {
+    fn enter(&self, pair: PairName) {
+        count(&self.entered, pair);
+    }
+
+    fn leave(&self, pair: PairName) {
+        count(&self.left, pair);
+    }
+}
+
+// Holds one pair until so many others have left, for a while.
+#[derive(Drop)]
+struct Holds {
+    held: PairName,
+    others: u64,
+    left: AtomicU64,
+    turns: u64,
+    failed: AtomicU64,
+}
+
+impl Gate for Holds {
+    fn enter(&self, pair: PairName) {
+        if pair != self.held {
+            return;
+        }
+        for _ in 0..self.turns {
+            if self.left.load(Ordering::SeqCst) == self.others {
+                return;
+            }
+            std::thread::yield_now();
+        }
+        self.failed.store(1, Ordering::SeqCst);
+    }
+
+    fn leave(&self, pair: PairName) {
+        if pair != self.held {
+            self.left.fetch_add(1, Ordering::SeqCst);
+        }
+    }
+}
+
+#[test]
+fn runs_each_pair_once_and_gives_its_value_by_number(rt: HostRuntime) -> Result<(), Fail> {
+    let job = Sums {
+        left: SEVEN,
+        right: TEN,
+        refused: None,
+    };
+    for workers in [1, 2, 7, 64] {
+        let gate = Counts {
+            entered: zeros(),
+            left: zeros(),
+        };
+        let outs = run_pairs(&rt, rt.alloc(), &job, workers, &gate)?;
+        assert_eq!(rt;
+            outs.as_slice(),
+            [11, 12, 13, 14, 15, 16, 17].as_slice(),
+            "with {workers} workers"
+        );
+        check_counts(&rt, &gate.entered, [1, 1, 1, 1, 1, 1, 1]);
+        check_counts(&rt, &gate.left, [1, 1, 1, 1, 1, 1, 1]);
+    }
+    Ok(())
+}
+
+#[test]
+fn numbers_pairs_row_by_row(rt: HostRuntime) -> Result<(), Fail> {
+    let job = Sums {
+        left: &[1, 2],
+        right: &[10, 20, 30],
+        refused: None,
+    };
+    let outs = run_pairs(&rt, rt.alloc(), &job, 3, &OpenGate)?;
+    assert_eq!(rt; outs.as_slice(), [11, 21, 31, 12, 22, 32].as_slice());
+    Ok(())
+}
+
+// A worker that is held up keeps no other pair from being run, so pairs have no worker of their own.
+#[test]
+fn any_pair_may_wait_for_the_others(rt: HostRuntime) -> Result<(), Fail> {
+    let job = Sums {
+        left: SEVEN,
+        right: TEN,
+        refused: None,
+    };
+    for held in 0..7 {
+        let gate = Holds {
+            held: PairName {
+                left: held,
+                right: 0,
+            },
+            others: 6,
+            left: AtomicU64::new(0),
+            turns: 10_000_000,
+            failed: AtomicU64::new(0),
+        };
+        let outs = run_pairs(&rt, rt.alloc(), &job, 2, &gate)?;
+        assert_eq!(rt;
+            outs.as_slice(),
+            [11, 12, 13, 14, 15, 16, 17].as_slice(),
+            "with {held} held"
+        );
+        assert_eq!(rt; gate.failed.load(Ordering::SeqCst), 0, "with {held} held");
+    }
+    Ok(())
+}
+
+#[test]
+fn no_pairs_give_no_values(rt: HostRuntime) -> Result<(), Fail> {
+    let job = Sums {
+        left: &[],
+        right: TEN,
+        refused: None,
+    };
+    for workers in [1, 64] {
+        assert!(rt; run_pairs(&rt, rt.alloc(), &job, workers, &OpenGate)?.is_empty());
+    }
+    Ok(())
+}
+
+// After a refused run its worker runs no further pair, and the call is out of memory.
+#[test]
+fn a_refused_run_is_out_of_memory(rt: HostRuntime) {
+    let job = Sums {
+        left: SEVEN,
+        right: TEN,
+        refused: Some(PairName { left: 2, right: 0 }),
+    };
+    for workers in [2, 7, 64] {
+        assert!(rt; run_pairs(&rt, rt.alloc(), &job, workers, &OpenGate).is_err());
+    }
+    let gate = Counts {
+        entered: zeros(),
+        left: zeros(),
+    };
+    assert!(rt; run_pairs(&rt, rt.alloc(), &job, 1, &gate).is_err());
+    check_counts(&rt, &gate.entered, [1, 1, 1, 0, 0, 0, 0]);
+    check_counts(&rt, &gate.left, [1, 1, 1, 0, 0, 0, 0]);
+}
