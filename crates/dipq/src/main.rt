@@ -1,24 +1,26 @@
-//! Answers a script on standard input with the records that its commands give.
+//! Does what the program's words ask for: answers the script on standard input with the records that its
+//! commands give, or prints the help page.
 #![tactic(auto)]
 
-ghost use Rattle.std.specs.Prelude.{◌≡◌};
+ghost use Rattle.std.specs.Prelude.{◌≡◌, IfOk};
 ghost use Rattle.dipq.specs.Ending.{status_of};
+ghost use Rattle.words_core.specs.Words.{IsRunnable, IsWorkers};
 
+mod help;
+
+use help::{HELP, USAGE};
 use script_core::{Counted, Outcome, RunFault, run};
 use std::alloc::Global;
 use std::env::{self, Env};
-use std::io::{self, BufWriter, Write};
+use std::io::{self, BufWriter, ErrorKind, Write};
 use std::process::ExitCode;
-
-/// The number of workers where no word gives another.
-const WORKERS: u32 = 4;
-
-const USAGE: &str = "dipq: usage: dipq [--workers N]";
+use words_core::{Words, WordsRefused, read_words};
 
 /// How the program ends.
 #[derive(Clone, Copy, Debug, PartialEq, Eq)]
 enum Ending {
     Answered(Outcome),
+    Helped,
     Usage,
     Fault(RunFault),
 }
@@ -30,20 +32,23 @@ impl Ending {
     {
         match self {
             Ending::Answered(outcome) => if outcome.errors == 0 { 0 } else { 1 },
+            Ending::Helped => 0,
             Ending::Usage => 2,
             Ending::Fault(_) => 3,
         }
     }
 }
 
-/// Runs the script on standard input, and flushes what was written.
-fn answer(rt: &(impl Input + Print + Alloc<A = Global>)) -> Ending {
+/// Runs the script on standard input with so many workers, and flushes what was written.
+fn answer(rt: &(impl Input + Print + Alloc<A = Global>), workers: u32) -> Ending
+    requires { IsWorkers workers }
+{
     let Ok(output) = BufWriter::new(rt.alloc(), io::writer(rt)) else {
         return Ending::Fault(RunFault::NoMemory);
     };
     let mut reader = Counted::new(rt.reader());
     let mut writer = Counted::new(output);
-    let outcome = run(rt.alloc(), &mut reader, &mut writer, WORKERS);
+    let outcome = run(rt.alloc(), &mut reader, &mut writer, workers);
     let flushed = writer.into_inner().flush();
     match (outcome, flushed) {
         (Ok(outcome), Ok(())) => Ending::Answered(outcome),
@@ -52,23 +57,43 @@ fn answer(rt: &(impl Input + Print + Alloc<A = Global>)) -> Ending {
     }
 }
 
-/// Reads the program's words, of which there may be none behind its name, and runs.
-fn session(rt: &(impl Input + Print + Env + Alloc<A = Global>)) -> Ending {
-    let Ok(mut words) = env::args(rt) else {
-        return Ending::Fault(RunFault::NoMemory);
-    };
-    let _name = words.next();
-    if words.next().is_some() {
-        return Ending::Usage;
+/// Prints the help page.
+fn show_help(rt: &impl Print) -> Ending {
+    match print!(rt; "{HELP}") {
+        Ok(()) => Ending::Helped,
+        Err(_) => Ending::Fault(RunFault::WriteFault),
     }
-    answer(rt)
+}
+
+/// What the program's words ask for. A word that is no UTF-8 is none that the program takes.
+fn asked(rt: &(impl Env + Alloc<A = Global>)) -> Result<Words, WordsRefused>
+    ensures { IfOk result IsRunnable }
+{
+    let args = env::args(rt).map_err(|error| match error.kind() {
+        ErrorKind::OutOfMemory => WordsRefused::NoMemory,
+        _ => WordsRefused::Usage,
+    })?;
+    let texts: Vec<String> = args.collect(rt.alloc())?;
+    let words: Vec<&str> = texts.iter().map(|text| text.as_str()).collect(rt.alloc())?;
+    read_words(rt.alloc(), &words)
+}
+
+/// Does what the program's words ask for.
+fn session(rt: &(impl Input + Print + Env + Alloc<A = Global>)) -> Ending {
+    match asked(rt) {
+        Ok(Words::Run(workers)) => answer(rt, workers),
+        Ok(Words::Help) => show_help(rt),
+        Err(WordsRefused::Usage) => Ending::Usage,
+        Err(WordsRefused::NoMemory) => Ending::Fault(RunFault::NoMemory),
+    }
 }
 
 fn main(rt: HostRuntime) -> ExitCode {
     let ending = session(&rt);
     let _ = match ending {
         Ending::Answered(_) => Ok(()),
-        Ending::Usage => eprintln!(rt; "{USAGE}"),
+        Ending::Helped => Ok(()),
+        Ending::Usage => eprintln!(rt; "dipq: {USAGE}"),
         Ending::Fault(fault) => eprintln!(rt; "dipq: {fault}"),
     };
     ExitCode::from(ending.status())

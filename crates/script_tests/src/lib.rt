@@ -1,4 +1,4 @@
-//! Tests from outside of runs of scripts, and of their readers and writers.
+//! Tests from outside of runs of scripts, of their readers and writers, and of the program's words.
 #![tactic(auto)]
 
 #[cfg(test)]
@@ -7,3 +7,5 @@ mod damages;
 mod scripts;
 #[cfg(test)]
 mod streams;
+#[cfg(test)]
+mod words;

@@ -1,0 +1,99 @@
+//! What the words of the command line ask for.
+ghost use Rattle.std.specs.Prelude.{◌≡◌, ℕ, List, [], ◌∷◌, map, codes, IfOk, Ok, Err};
+ghost use Rattle.std.specs.Fmt.{decimal};
+ghost use Rattle.clap.specs.Words.{app_of};
+ghost use Rattle.words_core.specs.Words.{AsksFor, IsAnswer, IsRunnable, IsToldBy, IsPlainWord, IsWorkers};
+ghost use Rattle.words_core.specs.Words.{TellsWorkers, default_workers, program_app};
+
+use crate::WordsRefused;
+use clap::error::ErrorKind;
+use clap::{Arg, Command};
+use std::alloc::{AllocError, Global};
+
+/// The most workers that may be asked for.
+const MAX_WORKERS: u32 = 64;
+
+/// How many workers there are where no word tells, as a word would tell it.
+const DEFAULT_WORKERS: &str = "4";
+
+/// What the words of the command line ask for.
+#[derive(Clone, Copy, Debug, PartialEq, Eq)]
+pub enum Words {
+    /// A run of the script on standard input, with so many workers, 1 to 64.
+    Run(u32),
+    /// The help page.
+    Help,
+}
+
+/// The words that the program takes: `--workers` with a value, and `--help`, which `clap` adds.
+fn command<'a>(alloc: Global) -> Result<Command<'a>, AllocError>
+    ensures { IfOk result (λ command. app_of command ≡ program_app) }
+{
+    let workers = Arg::new(alloc, "workers")
+        .long("workers")
+        .default_value(DEFAULT_WORKERS);
+    Command::new(alloc, "dipq").arg(workers)
+}
+
+/// A run with as many workers as the text tells.
+fn run_with(text: &str) -> Result<Words, WordsRefused>
+    ensures bounded { IfOk result IsRunnable }
+    ensures told { (n : ℕ) → TellsWorkers text.now n → result ≡ Ok (Words.Run n) }
+    ensures only { IfOk result (IsToldBy text.now) }
+    ensures untold { ((n : ℕ) → TellsWorkers text.now n → ⊥) → result ≡ Err WordsRefused.Usage }
+{
+    match text.parse::<u32>() {
+        Ok(n) if n >= 1 && n <= MAX_WORKERS => Ok(Words::Run(n)),
+        _ => Err(WordsRefused::Usage),
+    }
+}
+
+/// What is done where `clap` gives no matches: it answers a call for help so too.
+fn unmatched(kind: ErrorKind) -> Result<Words, WordsRefused>
+    ensures bounded { IfOk result IsRunnable }
+    ensures only { IfOk result (λ words. (words ≡ Words.Help) × (kind ≡ ErrorKind.DisplayHelp)) }
+    ensures help { kind ≡ ErrorKind.DisplayHelp → result ≡ Ok Words.Help }
+    ensures memory { kind ≡ ErrorKind.OutOfMemory → result ≡ Err WordsRefused.NoMemory }
+    ensures unknown { kind ≡ ErrorKind.UnknownArgument → result ≡ Err WordsRefused.Usage }
+{
+    match kind {
+        ErrorKind::DisplayHelp => Ok(Words::Help),
+        ErrorKind::OutOfMemory => Err(WordsRefused::NoMemory),
+        _ => Err(WordsRefused::Usage),
+    }
+}
+
+/// Reads the program's words, its name first.
+///
+/// # Errors
+///
+/// `Usage` where the program doesn't take them, `NoMemory` where there is no memory to read them.
+pub fn read_words(alloc: Global, words: &[&str]) -> Result<Words, WordsRefused>
+    ensures bounded { IfOk result IsRunnable }
+    ensures asked { IfOk result (AsksFor (map (λ word. word.now) words.entry.now)) }
+    ensures granted { (n : ℕ) → AsksFor (map (λ word. word.now) words.entry.now) (Words.Run n)
+        → IsAnswer (Ok (Words.Run n)) result }
+    ensures alone { (name : List ℕ) → map (λ word. word.now) words.entry.now ≡ name ∷ []
+        → IsAnswer (Ok (Words.Run default_workers)) result }
+    ensures workers { (name : List ℕ) (n : ℕ) → IsWorkers n
+        → map (λ word. word.now) words.entry.now ≡ name ∷ codes "--workers" ∷ decimal n ∷ []
+        → IsAnswer (Ok (Words.Run n)) result }
+    ensures wrong_number { (name text : List ℕ) → IsPlainWord text → ((n : ℕ) → TellsWorkers text n → ⊥)
+        → map (λ word. word.now) words.entry.now ≡ name ∷ codes "--workers" ∷ text ∷ []
+        → IsAnswer (Err WordsRefused.Usage) result }
+    ensures stray { (name word : List ℕ) → IsPlainWord word
+        → map (λ word. word.now) words.entry.now ≡ name ∷ word ∷ []
+        → IsAnswer (Err WordsRefused.Usage) result }
+    ensures help { (name : List ℕ) → map (λ word. word.now) words.entry.now ≡ name ∷ codes "--help" ∷ []
+        → IsAnswer (Ok Words.Help) result }
+{
+    let command = command(alloc)?;
+    let matches = match command.try_get_matches_from(words) {
+        Ok(matches) => matches,
+        Err(error) => return unmatched(error.kind()),
+    };
+    match matches.get_str("workers") {
+        Some(text) => run_with(text),
+        None => Err(WordsRefused::Usage),
+    }
+}
