@@ -8,6 +8,7 @@ ghost use Rattle.work_core.specs.Limits.{draw_limit};
 use crate::claim_view::ClaimView;
 use atomic_table::{Join, Play, Seat, Split, Table, TableRule};
 use std::alloc::{AllocError, Global};
+use std::marker::Model;
 
 // The rule of the word: the numbers drawn are all those below it, each once.
 pub(crate) struct EachOnce;
@@ -43,17 +44,27 @@ impl Join<ClaimView> for Merge {
 /// The right to draw, with what its holder knows of the draws.
 pub(crate) type ClaimSeat = Seat<(), ClaimView>;
 
-/// The word, which counts the numbers drawn.
+/// The word, which counts the numbers drawn. Contracts see which table it is of: a seat at that table may draw.
 #[derive(Drop)]
 pub(crate) struct Claims {
     table: Table<(), ClaimView, (), EachOnce, Global>,
-    ghost one_word: { (table.shared.table_id.words ≡ 1) × (table.shared.table_id.slots ≡ 0) },
+}
+
+impl Model for Claims {
+    ghost use Rattle.std.specs.Prelude.{◌≡◌};
+    ghost use Rattle.atomic_table.specs.Seated.{TableId};
+
+    ghost Value = { TableId };
+
+    ghost view = { λ c. c.table.shared.table_id };
+
+    ghost invariant = { λ c. (c.table.shared.table_id.words ≡ 1) × (c.table.shared.table_id.slots ≡ 0) };
 }
 
 impl Claims {
     /// A word of which nothing is drawn, with the seat that has all parts.
     pub(crate) fn new(alloc: Global) -> Result<(Claims, ClaimSeat), AllocError>
-        ensures { IfOk result (λ r. (r.1.table_id ≡ r.0.table.shared.table_id) × (r.1.me ≡ (first_view, []))) }
+        ensures { IfOk result (λ r. (r.1.table_id ≡ r.0) × (r.1.me ≡ (first_view, []))) }
     {
         let (table, seat) = Table::of_words(alloc, &[0], &())?;
         Ok((Claims { table }, seat))
@@ -61,7 +72,7 @@ impl Claims {
 
     /// A worker's seat, cut off this one.
     pub(crate) fn split(&self, seat: &mut ClaimSeat) -> ClaimSeat
-        requires table { seat.old.table_id ≡ self.now.table.shared.table_id }
+        requires table { seat.old.table_id ≡ self.now }
         requires part { 1 < seat.old.me.0.parts }
         requires room { draw_limit ≤ seat.old.me.0.room }
         ensures table { (seat.new.table_id ≡ seat.old.table_id) × (result.table_id ≡ seat.old.table_id) }
@@ -73,7 +84,7 @@ impl Claims {
 
     /// Draws the next number, in one step.
     pub(crate) fn draw(&self, seat: &mut ClaimSeat) -> u64
-        requires table { seat.old.table_id ≡ self.now.table.shared.table_id }
+        requires table { seat.old.table_id ≡ self.now }
         requires part { 0 < seat.old.me.0.parts }
         requires room { 0 < seat.old.me.0.room }
         ensures table { seat.new.table_id ≡ seat.old.table_id }
@@ -86,8 +97,8 @@ impl Claims {
 
     /// Adds to one seat what another knows.
     pub(crate) fn join(&self, seat: &mut ClaimSeat, other: ClaimSeat)
-        requires table { seat.old.table_id ≡ self.now.table.shared.table_id }
-        requires other { other.table_id ≡ self.now.table.shared.table_id }
+        requires table { seat.old.table_id ≡ self.now }
+        requires other { other.table_id ≡ self.now }
         requires free { other.me.1 ≡ [] }
         ensures table { seat.new.table_id ≡ seat.old.table_id }
         ensures both { seat.new.me ≡ (joined_view seat.old.me.0 other.me.0, seat.old.me.1) }
@@ -97,7 +108,7 @@ impl Claims {
 
     /// Tells who has all parts that each number below its bound was drawn once.
     pub(crate) fn close(self, seat: ClaimSeat)
-        requires table { seat.table_id ≡ self.table.shared.table_id }
+        requires table { seat.table_id ≡ self }
         requires all { seat.me.0.parts ≡ all_parts }
         ensures { (x : ℕ) → x < seat.me.0.least → times x seat.me.0.drawn ≡ 1 }
     {

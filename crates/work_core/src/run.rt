@@ -25,7 +25,7 @@ fn deal(
     seat: &mut ClaimSeat,
     workers: u32,
 ) -> Result<Vec<ClaimSeat>, AllocError>
-    requires table { seat.old.table_id ≡ claims.now.table.shared.table_id }
+    requires table { seat.old.table_id ≡ claims.now }
     requires first { seat.old.me ≡ (first_view, []) }
     requires few { workers ≤ worker_limit }
     ensures table { seat.new.table_id ≡ seat.old.table_id }
@@ -49,7 +49,7 @@ fn gather<W: PairWork>(
     mut seat: ClaimSeat,
     answers: Vec<WorkerAnswer<W::Out>>,
 ) -> Result<Vec<Numbered<W::Out>>, AllocError>
-    requires table { seat.table_id ≡ claims.table.shared.table_id }
+    requires table { seat.table_id ≡ claims }
     requires seat { (seat.me.0.parts + vec_len answers ≡ all_parts)
         × (seat.me.0.drawn ≡ []) × (seat.me.1 ≡ []) }
     requires some { 0 < vec_len answers }
@@ -126,8 +126,8 @@ pub fn run_pairs<R: Threads + Sync, W: PairWork, G: Gate>(
         rt,
         seats,
         &|seat: ClaimSeat| -> WorkerAnswer<W::Out>
-            requires { IsFreshSeat claims.table.shared.table_id seat }
-            ensures { IsWorkerAnswer W.PairWork job.entry.now claims.table.shared.table_id result }
+            requires { IsFreshSeat claims seat }
+            ensures { IsWorkerAnswer W.PairWork job.entry.now claims result }
         { work(alloc, job, gate, &claims, seat) },
     )?;
     let values = gather(alloc, job, claims, seat, answers)?;

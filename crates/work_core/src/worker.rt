@@ -67,8 +67,8 @@ pub(crate) fn work<W: PairWork, G: Gate>(
     claims: &Claims,
     mut seat: ClaimSeat,
 ) -> WorkerAnswer<W::Out>
-    requires { IsFreshSeat claims.now.table.shared.table_id seat }
-    ensures { IsWorkerAnswer W.PairWork job.now claims.now.table.shared.table_id result }
+    requires { IsFreshSeat claims.now seat }
+    ensures { IsWorkerAnswer W.PairWork job.now claims.now result }
 {
     let count = job.count();
     let mut values = Ok(Vec::new(alloc));
