@@ -47,8 +47,8 @@ loop-fields-preserved c =
     let ends = c.loop-fields.ends.items in
     let read = rw c.in-Ok-true.field-0-test at (c.in-Ok-true.ensures.reads inv.plain inv.ready) in
     let more = rows-more
-    (λ (s : Bor
-    (List ℕ)). Some s.now) c.loop-fields.reader c.read_byte_record.new.self row default_config st.StartRecord
+    (λ (s : Bor (List ℕ)). Some s.now) c.loop-fields.reader c.read_byte_record.new.self row default_config
+    st.StartRecord
     (strip_bom c.args.script.now) inv.left (cut 0 ends before) inv.config inv.source inv.reached read in
     let added = c.in_ok-append-in-Ok-true.ensures in
     let size : c.len.result ≡ length before + length row =
@@ -73,6 +73,6 @@ pub not_read-requires : goal.not_read-requires
 not_read-requires c =
     let inv = c.loop-fields.invariant in
     flexible-stops
-    (λ (s : Bor
-    (List ℕ)). Some s.now) c.loop-fields.reader c.read_byte_record.new.self c.in-Err.fault.kind inv.flexible
+    (λ (s : Bor (List ℕ)). Some s.now) c.loop-fields.reader c.read_byte_record.new.self c.in-Err.fault.kind
+    inv.flexible
     (c.in-Err.ensures.why inv.ready)
