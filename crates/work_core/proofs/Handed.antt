@@ -50,7 +50,8 @@ module _ {W Out : Type 0} (g : PairWork.Ghosts W Out) (w : W) where
 
   -- a number past the pairs was drawn last, so nothing is to be run
   pub drawn_past : {E : Type 0} (drawn : List ℕ) (n : ℕ) (answer : Result (Vec (Numbered Out)) E) → g.pairs w ≤ n
-      → IfOk answer (λ vs. AreOfDrawn g w drawn (n ∷ []) vs.items) → IfOk answer (λ vs. AreOfDrawn g w drawn [] vs.items)
+      → IfOk answer (λ vs. AreOfDrawn g w drawn (n ∷ []) vs.items)
+      → IfOk answer (λ vs. AreOfDrawn g w drawn [] vs.items)
   drawn_past drawn n (Ok vs) past was = record {
     of_pairs = was.of_pairs;
     times_drawn = λ x below.

@@ -62,6 +62,11 @@ module _ {W Out : Type 0} (g : PairWork.Ghosts W Out) where
   abbrev pub Named : W → Type 0
   Named w = (p : PairName) (i : ℕ) → g.place_of w p ≡ Some i → (i < g.pairs w) × (g.name_of w i ≡ p)
 
+  -- the place of a pair is one of the places
+  pub place_inside : (w : W) (p : PairName) (i : ℕ) (places : List (Option Out)) → Named w → g.place_of w p ≡ Some i
+      → ArePlaces g w places → i < length places
+  place_inside w p i places named at are = let here = named p i at in omega (arith, here.0, are.len)
+
   -- a value of the pair in one job is one of the pair in a job that shares it
   pub shared_value : ((x : g.Inputs) (o : Out) → IsProp (g.IsValue x o)) → (v w : W) (p : PairName) (o : Out)
       → Shares g w v p → ∥ g.IsValue (g.inputs_of v p) o ∥₁ → Gives g w p o
@@ -72,7 +77,7 @@ module _ {W Out : Type 0} (g : PairWork.Ghosts W Out) where
       → g.place_of w p ≡ Some i → Gives g w p o → ArePlaces g w places → ArePlaces g w (slice_set places i (Some o))
   places-set w p i o places named at gives are =
       let here = named p i at in
-      let inside : i < length places = omega (arith, here.0, are.len) in
+      let inside : i < length places = place_inside w p i places named at are in
       record {
         len = length-set places i (Some o) ∙ are.len;
         each = λ k x read. ⊎_elim

@@ -116,7 +116,8 @@ all-known word id v views all at c x below =
 
 module _ {S : Type 0} where
   pub may_draw : (slots id : ℕ) (me : Me S ClaimView) → 0 < me.0.parts → 0 < me.0.room
-      → Allows {S = S} {V = ClaimView} IsClaimed slots id me 0 (λ n. (n + 1) % 2 ^ 64) (Draws (step slots 0 1 0 none) me)
+      → Allows {S = S} {V = ClaimView} IsClaimed slots id me 0 (λ n. (n + 1) % 2 ^ 64)
+      (Draws (step slots 0 1 0 none) me)
   may_draw slots id me part room s claimed homes at fits =
       let word = slice_index s.words 0 in
       let next = (word + 1) % 2 ^ 64 in

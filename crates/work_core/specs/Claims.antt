@@ -7,7 +7,7 @@ use Rattle.work_core.specs.Counting.{times, times_below}
 use Rattle.work_core.specs.Limits.{worker_limit, draw_limit, word_limit}
 use Rattle.work_core.specs.declared.claim_view.ClaimView.{ClaimView}
 
--- a view of so many parts and so many draws that are left, with a number that the word has reached, and the numbers drawn
+-- a view with so many parts, so many draws left, a number that the word has reached, and the numbers drawn
 abbrev pub view_of : ℕ → ℕ → ℕ → List ℕ → ClaimView
 view_of parts room least drawn = record { parts = parts; room = room; least = least; drawn = drawn }
 

@@ -45,7 +45,7 @@ module _ {W Out : Type 0} (g : PairWork.Ghosts W Out) (w : W) where
     pub of_pairs : All IsOfItsPair values
     pub once : (x : ℕ) → x < g.pairs w → times x (numbers_of values) ≡ 1
 
-  -- a worker drew until a number was past the pairs; its values, if no run was refused, are those of the numbers that it drew
+  -- a worker drew until a number was past the pairs, and its values, if no run was refused, are of the numbers drawn
   pub record IsWorkerAnswer (table : TableId) (answer : WorkerAnswer Out) : Type 0 where
     pub table_is : answer.seat.table_id ≡ table
     pub free : answer.seat.me.1 ≡ []

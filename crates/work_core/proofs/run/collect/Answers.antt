@@ -50,7 +50,7 @@ loop-numbered-preserved g c =
     record {
       may_next = tt;
       ends = tt;
-      job_is = job_after g.W.PairWork c.args.job.now c.of.result.name c.of.result.out old c.accept.new.self was.job_is fills;
+      job_is = job_after g.W.PairWork _ c.of.result.name c.of.result.out old c.accept.new.self was.job_is fills;
       len = length-places_after g.W.PairWork _ c.of.result.name c.of.result.out old c.accept.new.self was.len fills;
       rest = All-rest IsOwn next rest _ step was.rest;
       once = λ x below.
@@ -73,7 +73,8 @@ unreachable-requires g c =
     let placed = laws.placed c.args.job.now n own.inside in
     let old = c.loop-numbered.collector in
     let piece = c.of.result in
-    let shares = shares_itself g.W.PairWork old.job piece.job.now piece.name (was.job_is ∙ sym c.of.ensures.job) piece.has_pair in
+    let same = was.job_is ∙ sym c.of.ensures.job in
+    let shares = shares_itself g.W.PairWork old.job piece.job.now piece.name same piece.has_pair in
     ⊎_elim
     (λ e. c.in_default.ensures.stranger e shares)
     (λ e. not_there g.W.PairWork c.args.job.now piece.name n old (numbers_of rest) was.job_is c.of.ensures.name placed

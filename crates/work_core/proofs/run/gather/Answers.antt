@@ -18,7 +18,8 @@ loop-answer-preserved g c =
     let is : P next = All-first P next rest _ step.0 was.rest in
     let m = joined_me c.loop-answer.seat.me next.seat.me c.join.new.seat.me c.join.ensures.both in
     let values = c.in_ok-values.values in
-    let made = values_of g.W.PairWork c.args.job.now next.seat.me.0.drawn next.values values c.in_ok-values.was is.values in
+    let drawn = next.seat.me.0.drawn in
+    let made = values_of g.W.PairWork c.args.job.now drawn next.values values c.in_ok-values.was is.values in
     record {
       may_next = tt;
       ends = tt;

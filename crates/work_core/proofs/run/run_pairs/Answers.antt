@@ -7,5 +7,5 @@ pub gather-requires-clause-answers : goal.gather-requires-clause-answers
 gather-requires-clause-answers g c κs within k d inside =
     let table = c.deal.ensures.table ∙ c.in_ok-claims.ensures.0 in
     let got = c.in_ok-answers.ensures.each k d (omega (arith, inside, c.in_ok-answers.ensures.len)) in
-    subst (λ (t : TableId). IsWorkerAnswer g.W.PairWork c.args.job.now t (slice_index_or c.in_ok-answers.answers.items k d))
-    (sym table) got.1.call.met
+    let answer = slice_index_or c.in_ok-answers.answers.items k d in
+    subst (λ (t : TableId). IsWorkerAnswer g.W.PairWork c.args.job.now t answer) (sym table) got.1.call.met

@@ -1,34 +1,56 @@
-use Rattle.std.proofs.Common.{arith, sym, refl}
+use Rattle.std.proofs.Common.{arith, ◌≡◌, ◌<◌, sym, refl, length, slice_index_or, None}
 use Rattle.work_core.specs.Jobs.{Shares}
-use Rattle.work_core.proofs.Places.{place_read, shared_value, places-set}
+use Rattle.work_core.proofs.Places.{place_read, place_inside, shared_value, places-set}
 use Rattle.work_core.proofs.collector.Collector.accept.Goals as goal
 
 pub index-requires : goal.index-requires
 index-requires g c =
     let laws = g.met.W.PairWork g.world.𝓛 g.world.𝓜 g.world.𝓡 ((λ s x. x), (λ x. x), (λ x. x), λ x. x) in
-    let here = laws.named c.self.inside.job.now c.args.piece.name c.in-Some.number (sym c.in-Some.ensures) in
-    omega (arith, here.0, c.self.invariant.0.len)
+    let job = c.self.inside.job.now in
+    let places = c.self.inside.places.items in
+    let inside : c.in-Some.number < length places =
+    place_inside g.W.PairWork job c.args.piece.name c.in-Some.number places (laws.named job) (sym c.in-Some.ensures)
+    c.self.invariant.0 in
+    omega (arith, inside)
 
 pub returns-then-is_some-clause-double : goal.returns-then-is_some-clause-double
 returns-then-is_some-clause-double g c e =
     let laws = g.met.W.PairWork g.world.𝓛 g.world.𝓜 g.world.𝓡 ((λ s x. x), (λ x. x), (λ x. x), λ x. x) in
-    let shares : Shares g.W.PairWork c.self.inside.job.now c.args.piece.job.now c.args.piece.name = c.if-not-same.ensures.0 refl in
-    let here = laws.named c.self.inside.job.now c.args.piece.name c.in-Some.number (sym c.in-Some.ensures) in
-    let read = place_read c.self.inside.places.items c.in-Some.number c.index.result.now (omega (arith, here.0, c.self.invariant.0.len)) c.index.ensures in
-    rw (← c.self.view_is) (shares, record { number = c.in-Some.number; number_is = sym c.in-Some.ensures; full = rw read (sym c.if-is_some.ensures) })
+    let job = c.self.inside.job.now in
+    let piece = c.args.piece in
+    let number = c.in-Some.number in
+    let places = c.self.inside.places.items in
+    let shares : Shares g.W.PairWork job piece.job.now piece.name = c.if-not-same.ensures.0 refl in
+    let inside : number < length places =
+    place_inside g.W.PairWork job piece.name number places (laws.named job) (sym c.in-Some.ensures)
+    c.self.invariant.0 in
+    let read : slice_index_or places number None ≡ c.index.result.now =
+    place_read places number c.index.result.now inside c.index.ensures in
+    rw (← c.self.view_is) (
+      shares,
+      record { number = number; number_is = sym c.in-Some.ensures; full = rw read (sym c.if-is_some.ensures) },
+    )
 
 pub index_mut-requires : goal.index_mut-requires
 index_mut-requires g c =
     let laws = g.met.W.PairWork g.world.𝓛 g.world.𝓜 g.world.𝓡 ((λ s x. x), (λ x. x), (λ x. x), λ x. x) in
-    let here = laws.named c.self.inside.job.now c.args.piece.name c.in-Some.number (sym c.in-Some.ensures) in
-    omega (arith, here.0, c.self.invariant.0.len)
+    let job = c.self.inside.job.now in
+    let places = c.self.inside.places.items in
+    let inside : c.in-Some.number < length places =
+    place_inside g.W.PairWork job c.args.piece.name c.in-Some.number places (laws.named job) (sym c.in-Some.ensures)
+    c.self.invariant.0 in
+    omega (arith, inside)
 
 pub invariant_of-self : goal.invariant_of-self
 invariant_of-self g c =
     let laws = g.met.W.PairWork g.world.𝓛 g.world.𝓜 g.world.𝓡 ((λ s x. x), (λ x. x), (λ x. x), λ x. x) in
-    let shares : Shares g.W.PairWork c.self.inside.job.now c.args.piece.job.now c.args.piece.name = c.if-not-same.ensures.0 refl in
-    let gives = shared_value g.W.PairWork laws.value_prop c.args.piece.job.now c.self.inside.job.now c.args.piece.name c.args.piece.out shares c.args.piece.is_value in (
-      places-set g.W.PairWork c.self.inside.job.now c.args.piece.name c.in-Some.number c.args.piece.out c.self.inside.places.items (laws.named c.self.inside.job.now) (sym c.in-Some.ensures) gives c.self.invariant.0,
+    let job = c.self.inside.job.now in
+    let piece = c.args.piece in
+    let shares : Shares g.W.PairWork job piece.job.now piece.name = c.if-not-same.ensures.0 refl in
+    let value = piece.is_value in
+    let gives = shared_value g.W.PairWork laws.value_prop piece.job.now job piece.name piece.out shares value in (
+      places-set g.W.PairWork job piece.name c.in-Some.number piece.out c.self.inside.places.items (laws.named job)
+          (sym c.in-Some.ensures) gives c.self.invariant.0,
       c.self.invariant.1,
       c.self.invariant.2,
     )
