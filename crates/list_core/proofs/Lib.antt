@@ -1,1 +1,2 @@
 pub mod RisingLemmas
+pub mod WantedLemmas

@@ -16,7 +16,7 @@ Contains-cons_cases x xs z (suc k, h, e) = inr (k, omega arith, e)
 pub Contains-none : {X : Type 0} (z : X) → Contains [] z → ⊥
 Contains-none z (k, h, e) = omega arith
 
-AllPairs-head : {X : Type 0} (R : X → X → Type 0) (x : X) (xs : List X) (z : X) → AllPairs R (x ∷ xs)
+pub AllPairs-head : {X : Type 0} (R : X → X → Type 0) (x : X) (xs : List X) (z : X) → AllPairs R (x ∷ xs)
     → Contains xs z → R x z
 AllPairs-head R x xs z rises (k, h, e) = subst (λ w. R x w) e (rises 0 (suc k) z (omega arith) (omega arith))
 
