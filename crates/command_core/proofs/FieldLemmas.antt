@@ -2,9 +2,13 @@
 use Rattle.std.proofs.Common.{◌≡◌, ◌+◌, ℕ, zero, suc, List, [], ◌∷◌, true, false, drop, length, take, Some, None, refl, ap, arith}
 use Rattle.std.specs.Prelude.{codes}
 use Rattle.std.specs.List.{slice_get}
-use Rattle.command_core.specs.Fields.{both, claimed, dated, field_before, instant_in, name_in, named, natural_in, point_in, spanned, split_asof}
+use Rattle.std.specs.Option.{ok_or}
+use Rattle.row_core.specs.Refusals.{and_then, map_ok}
+use Rattle.command_core.specs.Fields.{both, claimed, compared, dated, field_before, instant_in, name_in, named, natural_in, point_in, spanned, split_asof}
+use Rattle.command_core.specs.Pairs.{compared_by, name_pairs, paired_behind}
 use Rattle.command_core.specs.Records.{Record}
 use Rattle.command_core.specs.Words.{begins}
+use Rattle.command_core.specs.declared.refusal.Refusal.TheVariants.{BadCommand}
 
 pub named-two : (line : Record) (name : List ℕ) → slice_get line 1 ≡ Some name → slice_get line 2 ≡ None
     → named line ≡ name_in name
@@ -55,6 +59,18 @@ claimed-four line name parts instant one two three four =
     three_behind
     (λ l. claimed l ≡ both (name_in name)
     (both (natural_in parts) (instant_in instant))) line name parts instant one two three four (λ word. refl)
+
+-- the two names of a record, and the fields behind them
+pub compared-two : (line : Record) (left right : List ℕ) → slice_get line 1 ≡ Some left → slice_get line 2 ≡ Some right
+    → compared line ≡ and_then (ok_or (paired_behind (codes "on") (drop 3 line)) BadCommand)
+    (λ names. map_ok compared_by (both (both (name_in left) (name_in right)) (name_pairs names)))
+compared-two [] left right one two = absurd (cc one)
+compared-two (word ∷ []) left right one two = absurd (cc one)
+compared-two (word ∷ l ∷ []) left right one two = absurd (cc two)
+compared-two (word ∷ l ∷ r ∷ rest) left right one two =
+    let first : l ≡ left = cc in
+    let second : r ≡ right = cc in
+    rw (first, second) refl
 
 -- ---- the suffix
 

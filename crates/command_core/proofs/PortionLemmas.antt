@@ -1,7 +1,7 @@
 -- The fields of a portion's settings and conditions.
 use Rattle.std.proofs.Common.{◌≡◌, ℕ, zero, suc, ◌+◌, ◌*◌, ◌%◌, ◌/◌, ◌<◌, ◌≤◌, ◌==◌, ◌&&◌, Bool, true, false, List, [], ◌∷◌, length, drop, take, Option, Some, None, refl, sym, ap, ◌∙◌, arith, subst}
 use Rattle.std.specs.Prelude.{codes, option_map}
-use Rattle.std.specs.List.{slice_get}
+use Rattle.std.specs.List.{list_all, slice_get}
 use Rattle.std.specs.Option.{IfSome}
 use Rattle.row_core.specs.Name.{is_name}
 use Rattle.command_core.specs.Meaning.{delete_meaning, delete_of, if_formed, update_meaning, update_of}
@@ -158,6 +158,38 @@ columns-here (c ∷ t ∷ fields) (suc k) b lt e =
     rw (double k, next)
     (columns-here fields k b (omega arith)
     (subst (λ n. IfSome (slice_get (c ∷ t ∷ fields) n) (λ column. b ≡ is_name column)) (double k) e))
+
+-- the field at a place is a name, and so are those behind it
+pub names-here : (fields : Record) (k : ℕ) (b : Bool) → k < length fields
+    → IfSome (slice_get fields k) (λ field. b ≡ is_name field)
+    → list_all is_name (drop k fields) ≡ (b && list_all is_name (drop (k + 1) fields))
+names-here [] k b lt e = absurd (omega arith)
+names-here (field ∷ fields) zero b lt e = ap (λ x. x && list_all is_name fields) (sym e)
+names-here (field ∷ fields) (suc k) b lt e =
+    let next : suc k + 1 ≡ suc (k + 1) = omega arith in
+    rw next (names-here fields k b (omega arith) e)
+
+-- with no field left all are names
+pub names-over : (fields : Record) (k : ℕ) → length fields ≤ k
+    → list_all is_name (drop k fields) ≡ list_all is_name fields → true ≡ list_all is_name fields
+names-over [] k short e = refl
+names-over (field ∷ fields) zero short e = absurd (omega arith)
+names-over (field ∷ fields) (suc k) short e = ap (list_all is_name) (sym (none-left fields k (omega arith))) ∙ e
+  where
+    none-left : (rest : Record) (n : ℕ) → length rest ≤ n → drop n rest ≡ []
+    none-left [] zero h = refl
+    none-left [] (suc n) h = refl
+    none-left (r ∷ rest) zero h = absurd (omega arith)
+    none-left (r ∷ rest) (suc n) h = none-left rest n (omega arith)
+
+-- each field is a name, where all are
+pub names-get : (fields : Record) (k : ℕ) (field : List ℕ) → list_all is_name fields ≡ true
+    → slice_get fields k ≡ Some field → is_name field ≡ true
+names-get [] k field all e = absurd (cc e)
+names-get (f ∷ fields) zero field all e =
+    let same : f ≡ field = cc in
+    ap is_name (sym same) ∙ both-left (is_name f) (list_all is_name fields) all
+names-get (f ∷ fields) (suc k) field all e = names-get fields k field (both-right (is_name f) (list_all is_name fields) all) e
 
 -- ---- whole records
 

@@ -4,9 +4,9 @@ use Rattle.row_core.specs.Refusals.{map_ok}
 use Rattle.command_core.specs.Lines.{lines_in}
 use Rattle.command_core.specs.Meaning.{Meaning}
 use Rattle.command_core.specs.Meaning as M
-use Rattle.command_core.specs.PairsIn.{pairs_in}
+use Rattle.command_core.specs.PairsIn.{compared_in, pairs_in}
 use Rattle.command_core.specs.declared.command.Command.{Command}
-use Rattle.command_core.specs.declared.command.Command.TheVariants.{Refused, Make, Load, Update, Delete, Rows, At, Between, FromTo, Dip, Check, Log}
+use Rattle.command_core.specs.declared.command.Command.TheVariants.{Refused, Make, Load, Update, Delete, Rows, At, Between, FromTo, Dip, Join, Check, Log}
 use Rattle.command_core.specs.declared.refusal.Refusal.{Refusal}
 
 abbrev pub meaning_of : Command → Meaning
@@ -20,6 +20,7 @@ meaning_of (At table point asof) = M.At table point asof
 meaning_of (Between table first last) = M.Between table first last
 meaning_of (FromTo table first end) = M.FromTo table first end
 meaning_of (Dip table asof) = M.Dip table asof
+meaning_of (Join tables asof) = M.Join (compared_in tables) asof
 meaning_of (Check table parts instant asof body) = M.Check table parts instant asof (lines_in body)
 meaning_of Log = M.Log
 

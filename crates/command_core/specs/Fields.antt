@@ -6,7 +6,8 @@ use Rattle.period_core.specs.declared.period.Period.{Period}
 use Rattle.row_core.specs.Name.{name_of}
 use Rattle.row_core.specs.Number.{number_of}
 use Rattle.row_core.specs.Reading.{period_by}
-use Rattle.row_core.specs.Refusals.{map_ok}
+use Rattle.row_core.specs.Refusals.{and_then, map_ok}
+use Rattle.command_core.specs.Pairs.{Compared, compared_by, name_pairs, paired_behind}
 use Rattle.command_core.specs.Records.{Record}
 use Rattle.command_core.specs.declared.refusal.Refusal.{Refusal}
 use Rattle.command_core.specs.declared.refusal.Refusal.TheVariants.{BadCommand, BadName, BadNumber, BadPeriod, BadPoint}
@@ -64,6 +65,13 @@ spanned line = Err BadCommand
 abbrev pub claimed : Record → Result (List ℕ × (ℕ × Option ℤ)) Refusal
 claimed (word ∷ name ∷ parts ∷ instant ∷ []) = both (name_in name) (both (natural_in parts) (instant_in instant))
 claimed line = Err BadCommand
+
+-- two tables, and the pairs of their columns that are told behind `on`, if there are any
+abbrev pub compared : Record → Result Compared Refusal
+compared (word ∷ left ∷ right ∷ fields) =
+    and_then (ok_or (paired_behind (codes "on") fields) BadCommand)
+    (λ names. map_ok compared_by (both (both (name_in left) (name_in right)) (name_pairs names)))
+compared line = Err BadCommand
 
 -- a field before the others of a record, and the text of its suffix
 abbrev pub field_before : List ℕ → Record × Option (List ℕ) → Record × Option (List ℕ)

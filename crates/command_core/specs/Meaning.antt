@@ -8,8 +8,8 @@ use Rattle.row_core.specs.Schema.{keyed_of, schema_of}
 use Rattle.row_core.specs.declared.schema.Column.{Column}
 use Rattle.row_core.specs.declared.value.Kind.{Kind}
 use Rattle.row_core.specs.declared.value.Kind.TheVariants as kind
-use Rattle.command_core.specs.Fields.{claimed, dated, name_in, named, period_in, spanned, with_asof}
-use Rattle.command_core.specs.Pairs.{TextPair, named_pairs}
+use Rattle.command_core.specs.Fields.{claimed, compared, dated, name_in, named, period_in, spanned, with_asof}
+use Rattle.command_core.specs.Pairs.{Compared, TextPair, named_pairs}
 use Rattle.command_core.specs.Portions.{conditions_in, settings_in}
 use Rattle.command_core.specs.Records.{Record}
 use Rattle.command_core.specs.Refusal.{fault, key_refusal, schema_refusal}
@@ -32,6 +32,7 @@ pub data Meaning : Type 0 where
   Between : List ℕ → ℕ → ℕ → Meaning
   FromTo : List ℕ → ℕ → ℕ → Meaning
   Dip : List ℕ → Option ℕ → Meaning
+  Join : Compared → Option ℕ → Meaning
   Check : List ℕ → ℕ → Option ℤ → Option ℕ → List Record → Meaning
   Log : Meaning
 
@@ -140,6 +141,9 @@ between_meaning line = map_ok (λ r. Between r.0 r.1.0 r.1.1) (spanned line)
 abbrev pub from_to_meaning : Record → Result Meaning Refusal
 from_to_meaning line = map_ok (λ r. FromTo r.0 r.1.0 r.1.1) (spanned line)
 
+abbrev pub join_meaning : Record → Result Meaning Refusal
+join_meaning line = map_ok (λ r. Join r.0 r.1) (with_asof compared line)
+
 abbrev pub log_meaning : Record → Result Meaning Refusal
 log_meaning (word ∷ []) = Ok Log
 log_meaning line = Err BadCommand
@@ -157,6 +161,7 @@ verb_meaning line (Some verb.At) = at_meaning line
 verb_meaning line (Some verb.Between) = between_meaning line
 verb_meaning line (Some verb.FromTo) = from_to_meaning line
 verb_meaning line (Some verb.Dip) = dip_meaning line
+verb_meaning line (Some verb.Join) = join_meaning line
 verb_meaning line (Some verb.Log) = log_meaning line
 
 abbrev pub record_meaning : Record → Result Meaning Refusal

@@ -1,5 +1,5 @@
--- Fields two by two: a column's name, and the text of a value.
-use Rattle.std.specs.Prelude.{ℕ, List, [], ◌∷◌, Bool, true, false, Result, Ok, Err, if◌then◌else◌}
+-- Fields two by two: a column's name and the text of a value, or the names of two columns.
+use Rattle.std.specs.Prelude.{ℕ, List, [], ◌∷◌, ◌&&◌, Bool, true, false, Option, Some, None, Result, Ok, Err, bytes_eq, if◌then◌else◌}
 use Rattle.std.specs.List.{list_all}
 use Rattle.row_core.specs.Name.{is_name}
 use Rattle.command_core.specs.Records.{Record}
@@ -23,6 +23,11 @@ are_pairs (column ∷ []) = false
 are_pairs (column ∷ text ∷ []) = true
 are_pairs (column ∷ text ∷ third ∷ fields) = are_pairs (third ∷ fields)
 
+-- the fields behind this word, where they are pairs; where there is no field at all, none
+abbrev pub paired_behind : List ℕ → Record → Option Record
+paired_behind word [] = Some []
+paired_behind word (first ∷ fields) = if bytes_eq first word && are_pairs fields then Some fields else None
+
 -- all columns have names that are names
 abbrev pub all_columns : List TextPair → Bool
 all_columns pairs = list_all (λ pair. is_name pair.0) pairs
@@ -30,3 +35,20 @@ all_columns pairs = list_all (λ pair. is_name pair.0) pairs
 -- the pairs, where they do
 abbrev pub named_pairs : List TextPair → Result (List TextPair) Refusal
 named_pairs pairs = if all_columns pairs then Ok pairs else Err BadName
+
+-- the names of two columns, of which one is of a left table and one of a right
+abbrev pub NamePair : Type 0
+NamePair = List ℕ × List ℕ
+
+-- the pairs of names that fields are, where all of them are names
+abbrev pub name_pairs : Record → Result (List NamePair) Refusal
+name_pairs fields = if list_all is_name fields then Ok (pairs_of fields) else Err BadName
+
+-- two tables whose rows are compared, and the pairs of columns by which they are
+pub record Compared : Type 0 where
+  pub left : List ℕ
+  pub right : List ℕ
+  pub on : List NamePair
+
+abbrev pub compared_by : (List ℕ × List ℕ) × List NamePair → Compared
+compared_by told = record { left = told.0.0; right = told.0.1; on = told.1 }

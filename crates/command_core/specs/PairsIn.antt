@@ -1,8 +1,16 @@
--- The pairs that fields in memory stand for.
+-- What pairs of fields in memory stand for.
 use Rattle.std.specs.Prelude.{List}
 use Rattle.command_core.specs.Lines.{fields_in}
-use Rattle.command_core.specs.Pairs.{TextPair, pairs_of}
+use Rattle.command_core.specs.Pairs.{Compared, NamePair, TextPair, pairs_of}
+use Rattle.command_core.specs.declared.pairs.NamePairs.{NamePairs}
 use Rattle.command_core.specs.declared.pairs.TextPairs.{TextPairs}
+use Rattle.command_core.specs.declared.pairs.TwoTables.{TwoTables}
 
 abbrev pub pairs_in : TextPairs → List TextPair
 pairs_in pairs = pairs_of (fields_in pairs.fields)
+
+abbrev pub name_pairs_in : NamePairs → List NamePair
+name_pairs_in pairs = pairs_of (fields_in pairs.fields)
+
+abbrev pub compared_in : TwoTables → Compared
+compared_in tables = record { left = tables.left; right = tables.right; on = name_pairs_in tables.on }

@@ -1,14 +1,12 @@
 -- The settings and the conditions of a portion, as the fields behind its ends tell them.
-use Rattle.std.specs.Prelude.{List, [], ◌∷◌, ◌&&◌, Option, Some, None, bytes_eq, codes, option_map, if◌then◌else◌}
+use Rattle.std.specs.Prelude.{List, [], ◌∷◌, Option, Some, None, bytes_eq, codes, option_map, if◌then◌else◌}
 use Rattle.std.specs.Option.{option_and_then}
-use Rattle.command_core.specs.Pairs.{TextPair, are_pairs, pairs_of}
+use Rattle.command_core.specs.Pairs.{TextPair, paired_behind, pairs_of}
 use Rattle.command_core.specs.Records.{Record}
 
 -- the conditions that fields tell: none where there is no field, or pairs behind `where`
 abbrev pub conditions_in : Record → Option (List TextPair)
-conditions_in [] = Some []
-conditions_in (word ∷ fields) =
-    if bytes_eq word (codes "where") && are_pairs fields then Some (pairs_of fields) else None
+conditions_in fields = option_map pairs_of (paired_behind (codes "where") fields)
 
 -- a setting before other settings, and the conditions behind them
 abbrev pub set_before : TextPair → List TextPair × List TextPair → List TextPair × List TextPair

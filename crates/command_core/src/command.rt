@@ -36,9 +36,11 @@ ghost use Rattle.command_core.specs.Words.{begins, is_end, opens_block};
 
 use crate::fields::{claimed, commit_told, named, split_asof};
 use crate::lines::{Line, Lines};
-use crate::pairs::TextPairs;
+use crate::pairs::{TextPairs, TwoTables};
 use crate::portions::{read_delete, read_update};
-use crate::queries::{read_at, read_between, read_dip, read_from_to, read_log, read_rows};
+use crate::queries::{
+    read_at, read_between, read_dip, read_from_to, read_join, read_log, read_rows,
+};
 use crate::refusal::{Fault, Refusal};
 use crate::table_command::read_table;
 use crate::words::{Verb, begins, is_end, opens_block, verb_of};
@@ -103,6 +105,11 @@ pub enum Command<'a> {
         table: Name,
         asof: Option<u64>,
     },
+    /// The rows of two tables that are equal in each pair of columns and held together.
+    Join {
+        tables: TwoTables<'a>,
+        asof: Option<u64>,
+    },
     /// A check of a division: its number of parts, its instant, and in the body its parts.
     Check {
         table: Name,
@@ -145,6 +152,7 @@ fn read_record<'a>(alloc: Global, line: Line<'a>) -> Result<Command<'a>, Failure
         Some(Verb::Between) => Ok(read_between(line)?),
         Some(Verb::FromTo) => Ok(read_from_to(line)?),
         Some(Verb::Dip) => Ok(read_dip(line)?),
+        Some(Verb::Join) => Ok(read_join(line)?),
         Some(Verb::Log) => Ok(read_log(line)?),
         None => Err(Failure::Refused(Refusal::BadCommand)),
     }

@@ -4,6 +4,7 @@ ghost use Rattle.command_core.specs.Fields.{
   both,
   claimed,
   commit_told,
+  compared,
   dated,
   instant_in,
   name_in,
@@ -15,8 +16,12 @@ ghost use Rattle.command_core.specs.Fields.{
   split_asof,
 };
 ghost use Rattle.command_core.specs.Lines.{fields_in};
+ghost use Rattle.command_core.specs.Pairs.{compared_by, name_pairs};
+ghost use Rattle.command_core.specs.PairsIn.{compared_in};
+ghost use Rattle.row_core.specs.Refusals.{map_ok};
 
 use crate::lines::Line;
+use crate::pairs::{TwoTables, name_pairs, paired_behind};
 use crate::refusal::Refusal;
 use crate::words::begins;
 use period_core::{Period, Point};
@@ -135,6 +140,34 @@ pub(crate) fn claimed(line: Line<'_>) -> Result<(Name, (u64, Option<Point>)), Re
     match (line.get(1), line.get(2), line.get(3), line.get(4)) {
         (Some(name), Some(parts), Some(instant), None) => name_and_claim(name, parts, instant),
         _ => Err(Refusal::BadCommand),
+    }
+}
+
+/// The two tables whose names texts are, and the pairs of names that fields are.
+fn names_and_pairs<'a>(
+    left: &[u8],
+    right: &[u8],
+    fields: Line<'a>,
+) -> Result<TwoTables<'a>, Refusal>
+    ensures { map_ok compared_in result ≡ map_ok compared_by
+        (both (both (name_in left.now) (name_in right.now)) (name_pairs (fields_in fields.entry))) }
+{
+    let left = name_in(left)?;
+    let right = name_in(right)?;
+    let on = name_pairs(fields)?;
+    Ok(TwoTables { left, right, on })
+}
+
+/// Two tables, and the pairs of their columns that are told behind `on`, if there are any.
+pub(crate) fn compared<'a>(line: Line<'a>) -> Result<TwoTables<'a>, Refusal>
+    ensures { map_ok compared_in result ≡ compared (fields_in line.entry) }
+{
+    let (Some(left), Some(right)) = (line.get(1), line.get(2)) else {
+        return Err(Refusal::BadCommand);
+    };
+    match paired_behind(b"on", line.range(3, line.len())) {
+        Some(names) => names_and_pairs(left, right, names),
+        None => Err(Refusal::BadCommand),
     }
 }
 

@@ -17,7 +17,7 @@ pub use command::{Command, Cut, next_command};
 pub use fields::natural_in;
 pub use laws::{records_have_one_first_command, script_has_one_list_of_records};
 pub use lines::{Line, Lines};
-pub use pairs::TextPairs;
+pub use pairs::{NamePairs, TextPairs, TwoTables};
 pub use records::{Records, read_records};
 pub use refusal::{Fault, Refusal};
 pub use words::begins;

@@ -1,13 +1,14 @@
-//! Fields two by two: a column's name, and the text of a value.
+//! Fields two by two: a column's name and the text of a value, or the names of two columns.
 ghost use Rattle.std.specs.Prelude.{◌≡◌, ◌+◌, ◌*◌, ◌/◌, ◌<◌, IfSome, IsTrue, length, option_map, slice_get};
 ghost use Rattle.std.specs.List.{list_all};
 ghost use Rattle.row_core.specs.Name.{is_name};
 ghost use Rattle.row_core.specs.Refusals.{map_ok};
 ghost use Rattle.command_core.specs.Lines.{fields_in};
-ghost use Rattle.command_core.specs.Pairs.{all_columns, are_pairs, named_pairs, pairs_of};
+ghost use Rattle.command_core.specs.Pairs.{all_columns, are_pairs, name_pairs, named_pairs, paired_behind, pairs_of};
 
 use crate::lines::Line;
 use crate::refusal::Refusal;
+use crate::words::begins;
 use row_core::Name;
 
 /// Pairs of a column's name and the text of a value, as fields tell them in turn.
@@ -25,7 +26,7 @@ impl<'a> TextPairs<'a> {
     pub fn len(self) -> usize
         ensures { result ≡ length (pairs_in self.entry) }
     {
-        self.fields.len() / 2
+        pair_count(self.fields)
     }
 
     /// The pair at that place, from 0; None exactly past the last.
@@ -44,11 +45,81 @@ impl<'a> TextPairs<'a> {
     }
 }
 
+/// Pairs of the names of two columns, as fields tell them in turn.
+#[derive(Clone, Copy)]
+pub struct NamePairs<'a> {
+    /// The fields, which are the names.
+    pub fields: Line<'a>,
+    pub ghost named: { IsTrue (list_all is_name (fields_in fields)) },
+}
+
+impl<'a> NamePairs<'a> {
+    ghost use Rattle.command_core.specs.PairsIn.{name_pairs_in};
+
+    /// How many there are.
+    pub fn len(self) -> usize
+        ensures { result ≡ length (name_pairs_in self.entry) }
+    {
+        pair_count(self.fields)
+    }
+
+    /// The pair at that place, from 0; None exactly past the last.
+    pub fn get(self, place: usize) -> Option<(Name, Name)>
+        ensures { result ≡ slice_get (name_pairs_in self.entry) place }
+    {
+        if place >= self.fields.len() / 2 {
+            return None;
+        }
+        let one = self.fields.get(2 * place)?;
+        let other = self.fields.get(2 * place + 1)?;
+        let Ok(one) = Name::parse(one) else {
+            unreachable!()
+        };
+        let Ok(other) = Name::parse(other) else {
+            unreachable!()
+        };
+        Some((one, other))
+    }
+}
+
+/// Two tables whose rows are compared, and the pairs of columns by which they are.
+#[derive(Clone, Copy)]
+pub struct TwoTables<'a> {
+    /// The left table's name.
+    pub left: Name,
+    /// The right table's.
+    pub right: Name,
+    /// The pairs of columns, of the left table and of the right.
+    pub on: NamePairs<'a>,
+}
+
+/// How many pairs the fields are.
+fn pair_count(line: Line<'_>) -> usize
+    ensures { result ≡ length (pairs_of (fields_in line.entry)) }
+{
+    line.len() / 2
+}
+
 /// Whether there are pairs of fields, and none is left over.
-pub(crate) fn are_pairs(line: Line<'_>) -> bool
+fn are_pairs(line: Line<'_>) -> bool
     ensures { result ≡ are_pairs (fields_in line.entry) }
 {
     line.len() > 0 && line.len() % 2 == 0
+}
+
+/// The fields behind this word, where they are pairs; where there is no field at all, none.
+pub(crate) fn paired_behind<'a>(word: &[u8], line: Line<'a>) -> Option<Line<'a>>
+    ensures { option_map fields_in result ≡ paired_behind word.now (fields_in line.entry) }
+{
+    if line.len() == 0 {
+        return Some(line);
+    }
+    let fields = line.range(1, line.len());
+    if begins(line, word) && are_pairs(fields) {
+        Some(fields)
+    } else {
+        None
+    }
 }
 
 /// Whether the field at that place is a name.
@@ -81,6 +152,29 @@ pub(crate) fn named_pairs<'a>(fields: Line<'a>) -> Result<TextPairs<'a>, Refusal
 {
     if all_columns(fields) {
         Ok(TextPairs { fields })
+    } else {
+        Err(Refusal::BadName)
+    }
+}
+
+/// Whether each field is a name.
+fn are_names(line: Line<'_>) -> bool
+    ensures { result ≡ list_all is_name (fields_in line.entry) }
+{
+    for place in 0..line.len() {
+        if !is_name_at(line, place) {
+            return false;
+        }
+    }
+    true
+}
+
+/// The pairs of names that fields are, where all of them are names.
+pub(crate) fn name_pairs<'a>(fields: Line<'a>) -> Result<NamePairs<'a>, Refusal>
+    ensures { map_ok (λ pairs. pairs_of (fields_in pairs.fields)) result ≡ name_pairs (fields_in fields.entry) }
+{
+    if are_names(fields) {
+        Ok(NamePairs { fields })
     } else {
         Err(Refusal::BadName)
     }

@@ -9,7 +9,7 @@ ghost use Rattle.command_core.specs.Portions.{conditions_in, parts_in, settings_
 use crate::command::Command;
 use crate::fields::{name_in, period_in};
 use crate::lines::Line;
-use crate::pairs::{are_pairs, named_pairs};
+use crate::pairs::{named_pairs, paired_behind};
 use crate::refusal::Refusal;
 use crate::words::begins;
 
@@ -17,15 +17,7 @@ use crate::words::begins;
 fn conditions_in<'a>(line: Line<'a>) -> Option<Line<'a>>
     ensures { option_map (λ conds. pairs_of (fields_in conds)) result ≡ conditions_in (fields_in line.entry) }
 {
-    if line.len() == 0 {
-        return Some(line);
-    }
-    let fields = line.range(1, line.len());
-    if begins(line, b"where") && are_pairs(fields) {
-        Some(fields)
-    } else {
-        None
-    }
+    paired_behind(b"where", line)
 }
 
 /// The fields of the settings, up to the first `where` in a column's place, and those of the conditions.

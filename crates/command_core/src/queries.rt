@@ -7,12 +7,13 @@ ghost use Rattle.command_core.specs.Meaning.{
   between_meaning,
   dip_meaning,
   from_to_meaning,
+  join_meaning,
   log_meaning,
   rows_meaning,
 };
 
 use crate::command::Command;
-use crate::fields::{commit_told, dated, named, spanned, split_asof};
+use crate::fields::{commit_told, compared, dated, named, spanned, split_asof};
 use crate::lines::Line;
 use crate::refusal::Refusal;
 
@@ -44,6 +45,20 @@ pub(crate) fn read_dip<'a>(line: Line<'a>) -> Result<Command<'a>, Refusal>
     let table = named(front)?;
     let asof = commit_told(asof)?;
     Ok(Command::Dip { table, asof })
+}
+
+/// What a record means whose word is `join`.
+pub(crate) fn read_join<'a>(line: Line<'a>) -> Result<Command<'a>, Refusal>
+    ensures { meant_by result ≡ join_meaning (fields_in line.entry) }
+{
+    let (front, asof) = split_asof(line);
+    match compared(front) {
+        Ok(tables) => Ok(Command::Join {
+            tables,
+            asof: commit_told(asof)?,
+        }),
+        Err(refusal) => Err(refusal),
+    }
 }
 
 /// What a record means whose word is `between`.

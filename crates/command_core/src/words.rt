@@ -16,6 +16,7 @@ pub(crate) enum Verb {
     Between,
     FromTo,
     Dip,
+    Join,
     Log,
 }
 
@@ -49,6 +50,8 @@ pub(crate) fn verb_of(line: Line<'_>) -> Option<Verb>
         Some(Verb::FromTo)
     } else if begins(line, b"dip") {
         Some(Verb::Dip)
+    } else if begins(line, b"join") {
+        Some(Verb::Join)
     } else if begins(line, b"log") {
         Some(Verb::Log)
     } else {
