@@ -1,10 +1,9 @@
 -- What a change of a portion makes of the versions.
-use Rattle.std.proofs.Common.{◌≡◌, ℕ, ◌+◌, ◌<◌, List, [], ◌∷◌, ◌++◌, length, Bool, true, false, cond, Option, Some, None, refl, ap, sym, ◌∙◌, drop, get_or, append_assoc, ◌||◌, ltb, leb}
-use Rattle.std.specs.Prelude.{flat_map, is_some}
-use Rattle.std.proofs.lemmas.List.{drop_more}
-use Rattle.std.proofs.lemmas.List.Concat.{flat_map-cons}
+use Rattle.std.proofs.Common.{◌≡◌, ℕ, List, ◌++◌, Bool, cond, Option, Some, None, ap, sym, ◌∙◌, append_assoc, ◌||◌, ltb, leb}
+use Rattle.std.specs.Prelude.{flat_map}
 use Rattle.std.proofs.lemmas.Grind.{flat_map-append}
 use Rattle.period_core.specs.declared.period.Period.{Period}
+use Rattle.row_core.proofs.RefusalLemmas.{first_of-none_then, first_of-some_then}
 use Rattle.row_core.specs.Refusals.{first_of}
 use Rattle.version_core.specs.Limits.{version_limit}
 use Rattle.book_core.specs.Limits.{commit_limit}
@@ -13,48 +12,6 @@ use Rattle.version_core.specs.declared.change.Change.TheVariants.{Update}
 use Rattle.book_core.specs.State.{Table, tests_of, full_tests, pair_tests, changed}
 use Rattle.book_core.specs.declared.refusal.BookRefused.{BookRefused}
 use Rattle.book_core.specs.declared.refusal.BookRefused.TheVariants.{Full}
-
--- the first test that applies
-
-first_of-none_then : {E : Type 0} (a b : List (Bool × E)) → first_of a ≡ None → first_of (a ++ b) ≡ first_of b
-first_of-none_then [] b h = refl
-first_of-none_then ((true, e) ∷ a) b h = absurd (cc)
-first_of-none_then ((false, e) ∷ a) b h = first_of-none_then a b h
-
-first_of-some_then : {E : Type 0} (a b : List (Bool × E)) (e : E) → first_of a ≡ Some e → first_of (a ++ b) ≡ Some e
-first_of-some_then [] b e h = absurd (cc)
-first_of-some_then ((true, x) ∷ a) b e h = h
-first_of-some_then ((false, x) ∷ a) b e h = first_of-some_then a b e h
-
-first_of-some_or : {E : Type 0} (a b : List (Bool × E)) (o : Option E) → o ≡ first_of a → is_some o ≡ true
-    → o ≡ first_of (a ++ b)
-first_of-some_or a b None e h = absurd (cc)
-first_of-some_or a b (Some x) e h = sym (first_of-some_then a b x (sym e))
-
-first_of-none_or : {E : Type 0} (a b : List (Bool × E)) (o : Option E) → o ≡ first_of a → is_some o ≡ false
-    → first_of (a ++ b) ≡ first_of b
-first_of-none_or a b None e h = first_of-none_then a b (sym e)
-first_of-none_or a b (Some x) e h = absurd (cc)
-
-left_more : {X E : Type 0} (f : X → List (Bool × E)) (xs : List X) (i : ℕ) (x : X) → i < length xs → x ≡ get_or xs i x
-    → flat_map f (drop i xs) ≡ f x ++ flat_map f (drop (i + 1) xs)
-left_more f xs i x h e =
-    ap (flat_map f) (drop_more xs i x h) ∙ flat_map-cons f (get_or xs i x) (drop (i + 1) xs)
-    ∙ ap (λ y. f y ++ flat_map f (drop (i + 1) xs)) (sym e)
-
--- one that is refused decides
-pub refused_here : {X E : Type 0} (f : X → List (Bool × E)) (xs : List X) (i : ℕ) (x : X) (o all : Option E)
-    → i < length xs → x ≡ get_or xs i x → o ≡ first_of (f x) → is_some o ≡ true
-    → first_of (flat_map f (drop i xs)) ≡ all → o ≡ all
-refused_here f xs i x o all h e r s k =
-    first_of-some_or (f x) (flat_map f (drop (i + 1) xs)) o r s ∙ ap first_of (sym (left_more f xs i x h e)) ∙ k
-
--- one that is allowed does not
-pub allowed_here : {X E : Type 0} (f : X → List (Bool × E)) (xs : List X) (i : ℕ) (x : X) (o all : Option E)
-    → i < length xs → x ≡ get_or xs i x → o ≡ first_of (f x) → is_some o ≡ false
-    → first_of (flat_map f (drop i xs)) ≡ all → first_of (flat_map f (drop (i + 1) xs)) ≡ all
-allowed_here f xs i x o all h e r s k =
-    sym (first_of-none_or (f x) (flat_map f (drop (i + 1) xs)) o r s) ∙ ap first_of (sym (left_more f xs i x h e)) ∙ k
 
 -- the refusals
 

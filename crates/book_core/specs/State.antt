@@ -1,15 +1,14 @@
 -- What a book shows: its tables with their current rows, and what a change makes of them. No
 -- commit number and no system period occurs in a state.
-use Rattle.std.specs.Prelude.{◌≢◌, ℕ, ◌+◌, List, [], ◌∷◌, ◌++◌, length, map, filter, find, Bool, false, ◌||◌, not, if◌then◌else◌, Option, Some, None, is_none, option_map, option_and_then, slice_get, flat_map, nat_le, nat_lt, unwrap_or, ◌≡◌, ◌⊎◌, Result, Err, bytes_eq}
+use Rattle.std.specs.Prelude.{◌≢◌, ℕ, ◌+◌, List, [], ◌∷◌, ◌++◌, length, map, filter, find, Bool, false, ◌||◌, not, if◌then◌else◌, Option, Some, None, is_none, option_map, flat_map, nat_le, nat_lt, unwrap_or, ◌≡◌, ◌⊎◌, Result, Err, bytes_eq}
 use Rattle.std.specs.List.{list_all}
 use Rattle.row_core.specs.Refusals.{first_of}
-use Rattle.row_core.specs.Schema.{fits, column_of, key_of}
+use Rattle.row_core.specs.Schema.{fits, key_of, kind_in}
 use Rattle.row_core.specs.Value.{kind_of, same_kind}
 use Rattle.row_core.specs.declared.failure.Failure.{Failure}
 use Rattle.row_core.specs.declared.failure.Failure.TheVariants.{Refused, NoMemory}
 use Rattle.row_core.specs.declared.row.Row.{Row}
 use Rattle.row_core.specs.declared.schema.Column.{Column}
-use Rattle.row_core.specs.declared.value.Kind.{Kind}
 use Rattle.key_core.specs.Keys.{AreWithoutOverlaps}
 use Rattle.version_core.specs.Limits.{version_limit}
 use Rattle.book_core.specs.Limits.{commit_limit, table_limit}
@@ -65,10 +64,6 @@ table_named (Delete table portion conds) = table
 abbrev pub after : State → Change → State
 after s (Make table schema) = s ++ record { name = table; schema = schema; used = 0; rows = [] } ∷ []
 after s c = at_table (table_named c) (changed c) s
-
--- the kind of the column of that name
-abbrev pub kind_in : List Column → List ℕ → Option Kind
-kind_in schema name = option_map (λ c. c.kind) (option_and_then (slice_get schema) (column_of schema name))
 
 -- the value is of the kind of the column of that name
 abbrev pub is_of_kind : List Column → Pair → Bool

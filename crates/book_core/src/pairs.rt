@@ -2,7 +2,8 @@
 
 ghost use Rattle.std.specs.Prelude.{◌≡◌, flat_map};
 ghost use Rattle.row_core.specs.Refusals.{first_of};
-ghost use Rattle.book_core.specs.State.{kind_in, pair_tests};
+ghost use Rattle.row_core.specs.Schema.{kind_in};
+ghost use Rattle.book_core.specs.State.{pair_tests};
 
 use crate::refusal::BookRefused;
 use row_core::{Kind, Name, Schema, Value};

@@ -1,1 +1,1 @@
-pub mod Ids
+pub mod FoundRows

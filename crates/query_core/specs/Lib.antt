@@ -1,1 +1,1 @@
-pub mod Query
+pub mod Places

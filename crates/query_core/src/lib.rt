@@ -1,10 +1,11 @@
 #![tactic(auto)]
 
-//! Queries over the rows of tables: what held at a point, and the division of a table's rows.
+//! Queries over the rows of tables: what held at a point, the division of a table's rows, and rows by their ids.
 
 mod query;
-mod side;
+mod rows_by_id;
 
+pub use match_core::{Side, items};
 pub use period_core::NoMemory;
-pub use query::{at, dip, items};
-pub use side::Side;
+pub use query::{at, dip};
+pub use rows_by_id::RowsById;

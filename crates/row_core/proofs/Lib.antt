@@ -5,3 +5,4 @@ pub mod FitsLemmas
 pub mod ReadingLemmas
 pub mod KeyLemmas
 pub mod SchemaLemmas
+pub mod RefusalLemmas

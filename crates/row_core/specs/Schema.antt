@@ -1,5 +1,5 @@
 -- The columns of a table, and what fits them.
-use Rattle.std.specs.Prelude.{bytes_eq, ◌≢◌, ◌≤◌, ◌<◌, ℕ, List, [], ◌∷◌, ◌++◌, length, map, count_by, Bool, false, ◌||◌, Option, Some, None, IsSome, is_none, is_some, Result, position, nat_eq, nat_lt, AllPairs}
+use Rattle.std.specs.Prelude.{bytes_eq, ◌≢◌, ◌≤◌, ◌<◌, ℕ, List, [], ◌∷◌, ◌++◌, length, map, count_by, Bool, false, ◌||◌, Option, Some, None, IsSome, is_none, is_some, option_map, option_and_then, slice_get, Result, position, nat_eq, nat_lt, AllPairs}
 use Rattle.std.specs.Cmp.Lexicographic.{pointwise}
 use Rattle.std.specs.List.{filter_map, list_any, range_with_len}
 use Rattle.std.specs.Option.{option_eq}
@@ -54,6 +54,10 @@ fits columns values = pointwise (λ column value. same_kind column.kind (kind_of
 -- the place of the column of that name
 abbrev pub column_of : List Column → List ℕ → Option ℕ
 column_of columns name = position (λ column. bytes_eq column.name name) columns
+
+-- the kind of the column of that name
+abbrev pub kind_in : List Column → List ℕ → Option Kind
+kind_in columns name = option_map (λ column. column.kind) (option_and_then (slice_get columns) (column_of columns name))
 
 -- the column with its place among the names of a key, if it is among them
 abbrev pub in_key : List (List ℕ) → Column → Column

@@ -15,8 +15,8 @@ use Rattle.dip_core.proofs.DipUniqueness.{one_dip, one_instant_of}
 use Rattle.cert_core.specs.declared.verdict.Certificate.{Certificate}
 use Rattle.dip_core.specs.Item as item
 use Rattle.cert_core.proofs.VerdictUniqueness.{one_verdict}
-use Rattle.query_core.specs.Query.{items_of}
-use Rattle.query_core.proofs.Ids.{IdsRise-items_of}
+use Rattle.match_core.specs.Items.{items_of}
+use Rattle.match_core.proofs.ItemIds.{IdsRise-items_of}
 use Rattle.command_core.specs.Fields.{both}
 use Rattle.command_core.specs.Meaning.{Meaning, Refuse, Make, Load, Update, Delete, Rows, At, Between, FromTo, Dip, Check, Log}
 use Rattle.command_core.specs.Records.{Record}

@@ -21,8 +21,8 @@ use Rattle.dip_core.proofs.DipExistence.{some_dip, some_instant}
 use Rattle.dip_core.proofs.IdsLemmas.{HasDistinctIds-from_rising}
 use Rattle.cert_core.specs.declared.verdict.Certificate.{Certificate}
 use Rattle.cert_core.proofs.VerdictExistence.{some_verdict}
-use Rattle.query_core.specs.Query.{items_of}
-use Rattle.query_core.proofs.Ids.{IdsRise-items_of}
+use Rattle.match_core.specs.Items.{items_of}
+use Rattle.match_core.proofs.ItemIds.{IdsRise-items_of}
 use Rattle.command_core.specs.Fields.{both}
 use Rattle.command_core.specs.Meaning.{FirstCommand, Meaning, Means, Refuse, Make, Load, Update, Delete, Rows, At, Between, FromTo, Dip, Check, Log}
 use Rattle.command_core.specs.Records.{Record}

@@ -8,7 +8,7 @@ use Rattle.cert_core.specs.declared.verdict.Certificate.{Certificate}
 use Rattle.cert_core.specs.declared.verdict.Verdict.{Verdict}
 use Rattle.dip_core.specs.Division.{IsDip}
 use Rattle.dip_core.specs.declared.item.Item.{Item}
-use Rattle.query_core.specs.Query.{items_of}
+use Rattle.match_core.specs.Items.{items_of}
 use Rattle.command_core.specs.Fields.{both}
 use Rattle.command_core.specs.Meaning.{Meaning, Refuse, Make, Load, Update, Delete, Rows, At, Between, FromTo, Dip, Check, Log}
 use Rattle.command_core.specs.Records.{Record}

@@ -6,6 +6,7 @@ use Rattle.period_core.specs.Period.{holds_at}
 use Rattle.period_core.specs.declared.period.Period.{Period}
 use Rattle.row_core.specs.Reading as reading
 use Rattle.row_core.specs.Refusals.{and_then, map_err, map_ok, read_each, refused_or}
+use Rattle.row_core.specs.Schema.{kind_in}
 use Rattle.row_core.specs.Value.{value_of}
 use Rattle.row_core.specs.declared.draft.Draft.{Draft}
 use Rattle.row_core.specs.declared.row.Row.{Row}
@@ -14,7 +15,7 @@ use Rattle.row_core.specs.declared.value.Kind.{Kind}
 use Rattle.book_core.specs.History.{History, rows_given, schema_in, state_after}
 use Rattle.book_core.specs.History as history
 use Rattle.version_core.specs.Rows.{Pair}
-use Rattle.book_core.specs.State.{kind_in, refusal_of}
+use Rattle.book_core.specs.State.{refusal_of}
 use Rattle.version_core.specs.declared.change.Change.{Change}
 use Rattle.version_core.specs.declared.change.Change.TheVariants as change
 use Rattle.command_core.specs.Fields.{natural_in}

@@ -3,7 +3,7 @@ ghost use Rattle.std.specs.Prelude.{◌≡◌, ◌+◌, ◌<◌, ◌≤◌, ◌^
 ghost use Rattle.book_core.specs.Versions.{AreBetween, AreFromTo, log_of};
 ghost use Rattle.command_core.specs.Fields.{both};
 ghost use Rattle.command_core.specs.Lines.{lines_in};
-ghost use Rattle.query_core.specs.Query.{items_of};
+ghost use Rattle.match_core.specs.Items.{items_of};
 ghost use Rattle.row_core.specs.Rows.{IdsRise};
 ghost use Rattle.row_core.specs.Schema.{fits};
 ghost use Rattle.script_core.specs.Answer.{IsDipOf, IsVerdictOn, IsVersions};

@@ -1,6 +1,6 @@
 use Rattle.std.proofs.Common.{sym, ◌∙◌}
 use Rattle.book_core.specs.State.{pair_tests}
-use Rattle.book_core.proofs.Portions.{refused_here, allowed_here}
+use Rattle.row_core.proofs.RefusalLemmas.{refused_here, allowed_here}
 use Rattle.book_core.proofs.pairs.pairs_refusal.Goals as goal
 
 pub returns-then-is_some : goal.returns-then-is_some

@@ -2,8 +2,8 @@ use Rattle.std.proofs.Common.{◌≡◌, ◌+◌, ◌∙◌, List, Result, Ok, a
 use Rattle.cert_core.specs.Verdict.{IsVerdict}
 use Rattle.dip_core.specs.Item.{IdsRise}
 use Rattle.dip_core.specs.declared.item.Item.{Item}
-use Rattle.query_core.specs.Query.{items_of}
-use Rattle.query_core.proofs.Ids.{IdsRise-items_of}
+use Rattle.match_core.specs.Items.{items_of}
+use Rattle.match_core.proofs.ItemIds.{IdsRise-items_of}
 use Rattle.command_core.specs.Fields.{both}
 use Rattle.command_core.specs.Lines.{lines_in}
 use Rattle.script_core.specs.Effects.{claim_of, rows_told}

@@ -2,7 +2,7 @@ use Rattle.std.proofs.Common.{◌≡◌, ◌+◌, length}
 use Rattle.std.specs.Prelude.{nat_le, nat_lt}
 use Rattle.book_core.specs.Versions.{AreBetween, AreFromTo}
 use Rattle.cert_core.specs.declared.verdict.Certificate.{Certificate}
-use Rattle.query_core.specs.Query.{items_of}
+use Rattle.match_core.specs.Items.{items_of}
 use Rattle.command_core.specs.Fields.{both}
 use Rattle.command_core.specs.Lines.{lines_in}
 use Rattle.command_core.specs.Meaning.{At, Between, Check, Delete, Dip, FromTo, Load, Make, Rows, Update}

@@ -1,0 +1,118 @@
+-- Rows and their items.
+use Rattle.std.proofs.Common.{◌≡◌, ◌<◌, ◌≤◌, ℕ, zero, suc, ◌+◌, List, length, [], ◌∷◌, get_or, take, ◌++◌, Some, refl, subst, ap, ◌∙◌, inl, inr, arith}
+use Rattle.std.specs.Prelude.{slice_get, AllPairs, Contains}
+use Rattle.row_core.specs.Rows.{IdsRise}
+use Rattle.row_core.specs.declared.row.Row.{Row}
+use Rattle.dip_core.specs.declared.item.Item.{Item}
+use Rattle.list_core.proofs.RisingLemmas.{AllPairs-head, Contains-cons, Contains-cons_cases, Contains-head, Contains-none}
+use Rattle.list_core.proofs.WantedLemmas.{AllPairs-before}
+use Rattle.match_core.specs.Items.{item_with, items_with}
+
+-- a row and its item at one place
+pub record IsItemAt (rows : List Row) (classes : List ℕ) (r : Row) (x : Item) : Type 0 where
+  pub place : ℕ
+  pub row_at : slice_get rows place ≡ Some r
+  pub class_at : x.class ≡ get_or classes place 0
+  pub row_in : Contains rows r
+  pub item_in : Contains (items_with rows classes) x
+  pub id : x.id ≡ r.id
+  pub period : x.period ≡ r.period
+
+-- a row and its item behind another row
+later_place : (q : Row) (c : ℕ) (rows : List Row) (classes : List ℕ) (r : Row) (x : Item) → IsItemAt rows classes r x
+    → IsItemAt (q ∷ rows) (c ∷ classes) r x
+later_place q c rows classes r x a = record {
+  place = suc a.place;
+  row_at = a.row_at;
+  class_at = a.class_at;
+  row_in = Contains-cons q rows r a.row_in;
+  item_in = Contains-cons (item_with q c) (items_with rows classes) x a.item_in;
+  id = a.id;
+  period = a.period;
+}
+
+-- the first row and its item
+first_place : (q : Row) (c : ℕ) (rows : List Row) (classes : List ℕ)
+    → IsItemAt (q ∷ rows) (c ∷ classes) q (item_with q c)
+first_place q c rows classes = record {
+  place = 0;
+  row_at = refl;
+  class_at = refl;
+  row_in = Contains-head q rows;
+  item_in = Contains-head (item_with q c) (items_with rows classes);
+  id = refl;
+  period = refl;
+}
+
+-- the row of an item
+pub row_of_item : (rows : List Row) (classes : List ℕ) (x : Item) → Contains (items_with rows classes) x
+    → (r : Row) × IsItemAt rows classes r x
+row_of_item [] classes x h = absurd (Contains-none x h)
+row_of_item (q ∷ rows) [] x h = absurd (Contains-none x h)
+row_of_item (q ∷ rows) (c ∷ classes) x h =
+    elim (Contains-cons_cases (item_with q c) (items_with rows classes) x h) [
+      | inl e ↦ (q, subst (IsItemAt (q ∷ rows) (c ∷ classes) q) e (first_place q c rows classes))
+      | inr k ↦ (let a = row_of_item rows classes x k in (a.0, later_place q c rows classes a.0 x a.1))
+    ]
+
+-- the item of a row
+pub item_of_row : (rows : List Row) (classes : List ℕ) (r : Row) → length rows ≤ length classes → Contains rows r
+    → (x : Item) × IsItemAt rows classes r x
+item_of_row [] classes r enough h = absurd (Contains-none r h)
+item_of_row (q ∷ rows) [] r enough h = absurd (omega arith)
+item_of_row (q ∷ rows) (c ∷ classes) r enough h =
+    elim (Contains-cons_cases q rows r h) [
+      | inl e ↦ (
+        item_with q c,
+        subst (λ z. IsItemAt (q ∷ rows) (c ∷ classes) z (item_with q c)) e (first_place q c rows classes),
+      )
+      | inr k ↦ (let a = item_of_row rows classes r (omega arith) k in (a.0, later_place q c rows classes r a.0 a.1))
+    ]
+
+-- rising ids are ids that differ
+pub ids_rise : (rows : List Row) → IdsRise rows → AllPairs (λ x y. x.id < y.id) rows
+ids_rise [] rise = λ i j d less h. absurd (omega arith)
+ids_rise (x ∷ []) rise = λ i j d less h. absurd (omega arith)
+ids_rise (x ∷ (y ∷ ys)) rise =
+    let rest : AllPairs (λ (x : Row) (y : Row). x.id < y.id) (y ∷ ys) =
+    ids_rise (y ∷ ys)
+    (λ i d h. let e : suc i + 1 ≡ suc (i + 1) = omega arith in rw e at (rise (suc i) d (omega arith))) in
+    let first : x.id < y.id = rise 0 x (omega arith) in
+    AllPairs-before (λ (x : Row) (y : Row). x.id < y.id) x (y ∷ ys)
+    (λ z h.
+    elim (Contains-cons_cases y ys z h) [
+      | inl e ↦ subst (λ (v : Row). x.id < v.id) e first
+      | inr k ↦ (let after : y.id < z.id = AllPairs-head (λ (x : Row) (y : Row). x.id < y.id) y ys z rest k in
+          omega arith)
+    ])
+    rest
+
+-- there are as many items as rows
+pub length-items_with : (rows : List Row) (classes : List ℕ) → length rows ≤ length classes
+    → length (items_with rows classes) ≡ length rows
+length-items_with [] classes enough = refl
+length-items_with (r ∷ rows) [] enough = absurd (omega arith)
+length-items_with (r ∷ rows) (c ∷ classes) enough = let e = length-items_with rows classes (omega arith) in
+    omega (arith, e)
+
+-- one more row, and its item
+pub items_with-more : (rows : List Row) (classes : List ℕ) (i : ℕ) (r : Row) → i < length rows → i < length classes
+    → items_with (take (i + 1) rows) (take (i + 1) classes) ≡ items_with (take i rows) (take i classes) ++ item_with
+    (get_or rows i r) (get_or classes i 0) ∷ []
+items_with-more [] classes i r h k = absurd (omega arith)
+items_with-more (q ∷ rows) [] i r h k = absurd (omega arith)
+items_with-more (q ∷ rows) (c ∷ classes) zero r h k = refl
+items_with-more (q ∷ rows) (c ∷ classes) (suc i) r h k =
+    let e : suc i + 1 ≡ suc (i + 1) = omega arith in
+    ap (λ n. items_with (take n (q ∷ rows)) (take n (c ∷ classes))) e
+    ∙ ap (λ l. item_with q c ∷ l) (items_with-more rows classes i r (omega arith) (omega arith))
+
+-- the first rows, where they are all
+pub items_with-front : (rows : List Row) (classes : List ℕ) (n : ℕ) → length rows ≤ n → length rows ≤ length classes
+    → items_with (take n rows) (take n classes) ≡ items_with rows classes
+items_with-front [] classes zero h enough = refl
+items_with-front [] classes (suc n) h enough = refl
+items_with-front (r ∷ rows) [] n h enough = absurd (omega arith)
+items_with-front (r ∷ rows) (c ∷ classes) zero h enough = absurd (omega arith)
+items_with-front (r ∷ rows) (c ∷ classes) (suc n) h enough =
+    ap (λ l. item_with r c ∷ l) (items_with-front rows classes n (omega arith) (omega arith))

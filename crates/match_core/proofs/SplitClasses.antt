@@ -1,0 +1,188 @@
+-- Classes that are split by one pair of columns after another.
+use Rattle.std.proofs.Common.{◌≡◌, ℕ, zero, suc, ◌+◌, ◌<◌, List, [], ◌∷◌, ◌++◌, length, map, take, drop, get_or, replicate, Bool, true, false, not, Option, Some, None, refl, sym, subst, ap, ◌∙◌, arith}
+use Rattle.std.specs.Prelude.{All, ◌&&◌, is_none, option_map, option_and_then, slice_get, IsTrue}
+use Rattle.std.proofs.lemmas.List.{append-nil, take_all, drop_all, get_or-replicate, length-replicate, get_or_append_left, length_push, get_or_push}
+use Rattle.std.proofs.lemmas.List.Elements.{All-push, All-append, All-map}
+use Rattle.row_core.specs.Refusals.{first_of}
+use Rattle.row_core.specs.Schema.{column_of, fits, kind_in}
+use Rattle.row_core.specs.Value.{kind_of, same_kind}
+use Rattle.row_core.specs.declared.row.Row.{Row}
+use Rattle.row_core.specs.declared.schema.Column.{Column}
+use Rattle.row_core.specs.declared.value.Kind.{Kind}
+use Rattle.row_core.specs.declared.value.Kind.TheVariants as kind
+use Rattle.row_core.specs.declared.value.Value.{Value}
+use Rattle.match_core.specs.Columns.{Names, value_under, kinds_differ, tests_of_names}
+use Rattle.match_core.specs.Classes.{AreClasses, values_under}
+use Rattle.match_core.specs.Cells.{AreOneKind, IsOfKind, Refines, values_at}
+
+-- ---- one pair more
+
+-- without columns all are of one class
+pub no_columns : (left right : List Column) (lefts rights : List Row) (n : ℕ) → n ≡ length lefts + length rights
+    → AreClasses left right lefts rights [] (replicate n 0)
+no_columns left right lefts rights n e = record {
+  count = length-replicate {A = ℕ} n 0 ∙ e;
+  tell = λ i j hi hj. (
+    (λ same k d lt. absurd (omega arith)),
+    (λ same. let len = length-replicate {A = ℕ} n 0 in
+        let a : get_or {A = ℕ} (replicate n 0) i 0 ≡ 0 = get_or-replicate {A = ℕ} n i 0 0 (omega (arith, len)) in
+        let b : get_or {A = ℕ} (replicate n 0) j 0 ≡ 0 = get_or-replicate {A = ℕ} n j 0 0 (omega (arith, len)) in
+        a ∙ sym b),
+  );
+}
+
+-- one more pair of columns splits the classes
+pub one_more : (left right : List Column) (lefts rights : List Row) (on : List Names) (pair : Names) (old new : List ℕ)
+    → AreClasses left right lefts rights on old → length new ≡ length old
+    → Refines old (values_under left right lefts rights pair) new
+    → AreClasses left right lefts rights (on ++ pair ∷ []) new
+one_more left right lefts rights on pair old new are len refines = record {
+  count = len ∙ are.count;
+  tell = λ i j hi hj. (
+      let a : i < length old = omega (arith, len) in
+      let b : j < length old = omega (arith, len) in
+      let step = refines i j a b in
+      let was = are.tell i j a b in
+      let P : Names → Type 0 =
+      λ p. slice_get (values_under left right lefts rights p) i ≡ slice_get
+      (values_under left right lefts rights p) j in (
+        λ e. (let s = step.0 e in All-push P on pair (was.0 s.0) s.1),
+        λ all. step.1 (
+          was.1 (λ k d lt. (
+              let here : get_or (on ++ pair ∷ []) k d ≡ get_or on k d = get_or_append_left on (pair ∷ []) d k lt in
+              subst P here (all k d (let n = length_push on pair in omega (arith, n))))),
+          (let n = length_push on pair in
+              let h : get_or (on ++ pair ∷ []) (length on) pair ≡ pair = get_or_push on pair pair (length on) refl in
+              subst P h (all (length on) pair (omega (arith, n)))),
+        ),
+      ));
+}
+
+-- ---- the pair's columns
+
+-- the first of three tests that do not apply
+three_pass : {E : Type 0} (a b c : Bool) (d e f : E) → first_of ((a, d) ∷ (b, e) ∷ (c, f) ∷ []) ≡ None
+    → (a ≡ false) × ((b ≡ false) × (c ≡ false))
+three_pass true b c d e f h = absurd (cc)
+three_pass false true c d e f h = absurd (cc)
+three_pass false false true d e f h = absurd (cc)
+three_pass false false false d e f h = (refl, (refl, refl))
+
+-- what is not missing is there
+some_from : {X : Type 0} (o : Option X) → is_none o ≡ false → (x : X) × (o ≡ Some x)
+some_from None h = absurd (cc)
+some_from (Some x) h = (x, refl)
+
+-- kinds that do not differ are one
+same_kinds : (k l : Kind) → not (same_kind k l) ≡ false → k ≡ l
+same_kinds kind.Int kind.Int h = refl
+same_kinds kind.Int kind.Text h = absurd (cc)
+same_kinds kind.Text kind.Int h = absurd (cc)
+same_kinds kind.Text kind.Text h = refl
+
+-- kinds that are the same are one
+kind_is : (k l : Kind) → same_kind k l ≡ true → k ≡ l
+kind_is kind.Int kind.Int h = refl
+kind_is kind.Int kind.Text h = absurd (cc)
+kind_is kind.Text kind.Int h = absurd (cc)
+kind_is kind.Text kind.Text h = refl
+
+-- the kind of both columns of an allowed pair
+pub record IsAllowed (left right : List Column) (pair : Names) : Type 0 where
+  pub kind : Kind
+  pub one : kind_in left pair.0 ≡ Some kind
+  pub other : kind_in right pair.1 ≡ Some kind
+
+-- the columns of a pair that no test refuses have one kind
+pub allowed : (left right : List Column) (pair : Names) → first_of (tests_of_names left right pair) ≡ None
+    → IsAllowed left right pair
+allowed left right pair h =
+    let pass = three_pass (is_none (kind_in left pair.0)) (is_none (kind_in right pair.1))
+    (kinds_differ (kind_in left pair.0) (kind_in right pair.1)) _ _ _ h in
+    let k = some_from (kind_in left pair.0) pass.0 in
+    let l = some_from (kind_in right pair.1) pass.1.0 in
+    let e : kinds_differ (Some k.0) (Some l.0) ≡ false = ap (λ o. kinds_differ o (Some l.0)) (sym k.1)
+    ∙ ap (kinds_differ (kind_in left pair.0)) (sym l.1) ∙ pass.1.1 in
+    let same : k.0 ≡ l.0 = same_kinds k.0 l.0 e in
+    record { kind = k.0; one = k.1; other = l.1 ∙ ap (λ x. Some x) (sym same) }
+
+-- a column that is there
+column_there : (columns : List Column) (name : List ℕ) (k : Kind) → kind_in columns name ≡ Some k
+    → (place : ℕ) × (c : Column) × (column_of columns name ≡ Some place) × (slice_get columns place ≡ Some c)
+    × (c.kind ≡ k)
+column_there columns name k h = from (column_of columns name) refl h
+  where
+    at : (place : ℕ) (o : Option Column) → column_of columns name ≡ Some place → slice_get columns place ≡ o
+        → option_map (λ (c : Column). c.kind) o ≡ Some k
+        → (place : ℕ) × (c : Column) × (column_of columns name ≡ Some place) × (slice_get columns place ≡ Some c)
+        × (c.kind ≡ k)
+    at place None e f h = absurd (cc)
+    at place (Some c) e f h = (place, c, e, f, cc)
+
+    from : (o : Option ℕ) → column_of columns name ≡ o
+        → option_map (λ (c : Column). c.kind) (option_and_then (slice_get columns) o) ≡ Some k
+        → (place : ℕ) × (c : Column) × (column_of columns name ≡ Some place) × (slice_get columns place ≡ Some c)
+        × (c.kind ≡ k)
+    from None e h = absurd (cc)
+    from (Some place) e h = at place (slice_get columns place) e refl h
+
+-- both of two that hold together
+and_both : (a b : Bool) → (a && b) ≡ true → (a ≡ true) × (b ≡ true)
+and_both true b h = (refl, h)
+and_both false b h = absurd (cc)
+
+-- a row that fits has a value of the column's kind
+value_there : (columns : List Column) (values : List Value) (place : ℕ) (c : Column) → fits columns values ≡ true
+    → slice_get columns place ≡ Some c
+    → IsOfKind c.kind (slice_get values place)
+value_there [] values place c h e = absurd (cc)
+value_there (b ∷ columns) [] place c h e = absurd (cc)
+value_there (b ∷ columns) (v ∷ values) zero c h e =
+    let same : b ≡ c = cc in
+    let k = (and_both (same_kind b.kind (kind_of v)) (fits columns values) h).0 in
+    sym (ap (λ (x : Column). x.kind) (sym same) ∙ kind_is b.kind (kind_of v) k)
+value_there (b ∷ columns) (v ∷ values) (suc place) c h e =
+    value_there columns values place c (and_both (same_kind b.kind (kind_of v)) (fits columns values) h).1 e
+
+-- the values of rows that fit are of the kind of their column
+named_kind : (columns : List Column) (rows : List Row) (name : List ℕ) (k : Kind) → kind_in columns name ≡ Some k
+    → All (λ (row : Row). IsTrue (fits columns row.values)) rows
+    → All (IsOfKind k) (map (value_under columns name) rows)
+named_kind columns rows name k h fit =
+    let there = column_there columns name k h in
+    All-map (IsOfKind k) (value_under columns name) rows (λ i d lt. (
+    let row = get_or rows i d in
+    let v : IsOfKind there.1.kind (slice_get row.values there.0) =
+    value_there columns row.values there.0 there.1 (fit i d lt) there.3 in
+    let w : IsOfKind k (slice_get row.values there.0) =
+    subst (λ z. IsOfKind z (slice_get row.values there.0)) there.4 v in
+    subst (λ o. IsOfKind k (option_and_then (slice_get row.values) o)) (sym there.2) w))
+
+-- the values of both columns of an allowed pair are of one kind
+pub columns_one_kind : (left right : List Column) (lefts rights : List Row) (pair : Names) → IsAllowed left right pair
+    → All (λ (row : Row). IsTrue (fits left row.values)) lefts
+    → All (λ (row : Row). IsTrue (fits right row.values)) rights
+    → AreOneKind (values_under left right lefts rights pair)
+columns_one_kind left right lefts rights pair a fl fr = (
+  a.kind,
+  All-append (IsOfKind a.kind) (map (value_under left pair.0) lefts) (map (value_under right pair.1) rights)
+      (named_kind left lefts pair.0 a.kind a.one fl) (named_kind right rights pair.1 a.kind a.other fr),
+)
+
+-- the columns by their places
+pub values_under-places : (left right : List Column) (lefts rights : List Row) (pair : Names) (l r : ℕ)
+    → column_of left pair.0 ≡ Some l → column_of right pair.1 ≡ Some r
+    → values_under left right lefts rights pair ≡ values_at l r lefts rights
+values_under-places left right lefts rights pair l r e f =
+    ap (λ o. map (λ (row : Row). option_and_then (slice_get row.values) o) lefts ++ map
+    (value_under right pair.1) rights) e
+    ∙ ap (λ o. map (λ (row : Row). slice_get row.values l) lefts ++ map
+    (λ (row : Row). option_and_then (slice_get row.values) o) rights) f
+
+-- a vector's items, after they were written through a slice
+pub written_back : (old new : List ℕ) (n : ℕ) → length new ≡ length old → length old ≡ n
+    → take n (new ++ drop (length new) old) ≡ new
+written_back old new n e f =
+    let rest : new ++ drop (length new) old ≡ new = ap (λ l. new ++ l) (drop_all (length new) old (omega (arith, e)))
+    ∙ append-nil new in
+    ap (take n) rest ∙ take_all n new (omega (arith, e, f))

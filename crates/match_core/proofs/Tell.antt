@@ -1,0 +1,97 @@
+-- What classes tell of a left and a right row.
+use Rattle.std.proofs.Common.{◌≡◌, ◌↔◌, ℕ, zero, suc, ◌+◌, ◌<◌, List, [], ◌∷◌, ◌++◌, length, map, take, drop, get_or, Option, Some, sym, ap, ◌∙◌, arith, get_or-take, get_or-drop}
+use Rattle.std.proofs.lemmas.List.{length-map}
+use Rattle.std.specs.Prelude.{slice_get}
+use Rattle.row_core.specs.declared.row.Row.{Row}
+use Rattle.row_core.specs.declared.schema.Column.{Column}
+use Rattle.match_core.specs.Columns.{Names, value_under, MatchesOn}
+use Rattle.match_core.specs.Classes.{AreClasses, AreSameOn, values_under}
+
+-- what is mapped stands at its old place
+pub slice_get-map : {X Y : Type 0} (f : X → Y) (xs : List X) (i : ℕ) (x : X) → slice_get xs i ≡ Some x
+    → slice_get (map f xs) i ≡ Some (f x)
+slice_get-map f [] i x h = cc
+slice_get-map f (y ∷ xs) zero x h = let e : y ≡ x = cc in ap (λ z. Some (f z)) e
+slice_get-map f (y ∷ xs) (suc i) x h = slice_get-map f xs i x h
+
+-- what stands in front of other elements keeps its place
+pub slice_get-append_left : {X : Type 0} (xs ys : List X) (i : ℕ) (x : X) → slice_get xs i ≡ Some x
+    → slice_get (xs ++ ys) i ≡ Some x
+slice_get-append_left [] ys i x h = cc
+slice_get-append_left (y ∷ xs) ys zero x h = h
+slice_get-append_left (y ∷ xs) ys (suc i) x h = slice_get-append_left xs ys i x h
+
+-- what stands behind others stands as much later as there are
+pub slice_get-append_right : {X : Type 0} (xs ys : List X) (i : ℕ)
+    → slice_get (xs ++ ys) (length xs + i) ≡ slice_get ys i
+slice_get-append_right [] ys i = let e : 0 + i ≡ i = omega arith in ap (slice_get ys) e
+slice_get-append_right (x ∷ xs) ys i =
+    let e : length (x ∷ xs) + i ≡ suc (length xs + i) = omega arith in
+    ap (slice_get (x ∷ (xs ++ ys))) e ∙ slice_get-append_right xs ys i
+
+-- a place at which something stands lies within
+pub slice_get-within : {X : Type 0} (xs : List X) (i : ℕ) (x : X) → slice_get xs i ≡ Some x → i < length xs
+slice_get-within [] i x h = cc
+slice_get-within (y ∷ xs) zero x h = omega arith
+slice_get-within (y ∷ xs) (suc i) x h = let r = slice_get-within xs i x h in omega (arith, r)
+
+-- the value of a left row
+pub values_under-left : (left right : List Column) (lefts rights : List Row) (pair : Names) (i : ℕ) (x : Row)
+    → slice_get lefts i ≡ Some x
+    → slice_get (values_under left right lefts rights pair) i ≡ Some (value_under left pair.0 x)
+values_under-left left right lefts rights pair i x h =
+    slice_get-append_left (map (value_under left pair.0) lefts) (map (value_under right pair.1) rights) i
+    (value_under left pair.0 x)
+    (slice_get-map (value_under left pair.0) lefts i x h)
+
+-- the value of a right row, behind those of the left ones
+pub values_under-right : (left right : List Column) (lefts rights : List Row) (pair : Names) (j : ℕ) (y : Row)
+    → slice_get rights j ≡ Some y
+    → slice_get (values_under left right lefts rights pair) (length lefts + j) ≡ Some (value_under right pair.1 y)
+values_under-right left right lefts rights pair j y h =
+    let e : length (map (value_under left pair.0) lefts) + j ≡ length lefts + j =
+    ap (λ n. n + j) (length-map lefts (value_under left pair.0)) in
+    ap (slice_get (values_under left right lefts rights pair)) (sym e)
+    ∙ slice_get-append_right (map (value_under left pair.0) lefts) (map (value_under right pair.1) rights) j
+    ∙ slice_get-map (value_under right pair.1) rights j y h
+
+-- what is there on both sides of an equation is one
+some_same : {X : Type 0} (a b : X) → ◌≡◌ {A = Option X} (Some a) (Some b) → a ≡ b
+some_same a b h = cc
+
+-- a left row and a right one are the same where they match
+pub same_matches : (left right : List Column) (lefts rights : List Row) (on : List Names) (i j : ℕ) (x y : Row)
+    → slice_get lefts i ≡ Some x → slice_get rights j ≡ Some y
+    → AreSameOn left right lefts rights on i (length lefts + j) ↔ MatchesOn left right on x y
+same_matches left right lefts rights on i j x y h k = (
+  λ same n d lt. (let pair = get_or on n d in
+      some_same _ _ (sym (values_under-left left right lefts rights pair i x h) ∙ same n d lt
+      ∙ values_under-right left right lefts rights pair j y k)),
+  λ match n d lt. (let pair = get_or on n d in
+      values_under-left left right lefts rights pair i x h ∙ ap (λ v. Some v) (match n d lt)
+      ∙ sym (values_under-right left right lefts rights pair j y k)),
+)
+
+-- the left classes and the right ones tell which rows match
+abbrev pub ClassesTell : (Row → Row → Type 0) → List Row → List ℕ → List Row → List ℕ → Type 0
+ClassesTell Matches left lefts right rights =
+    (i j : ℕ) (x y : Row) → slice_get left i ≡ Some x → slice_get right j ≡ Some y
+    → Matches x y ↔ (get_or lefts i 0 ≡ get_or rights j 0)
+
+-- classes, split between the sides, tell which rows match
+pub classes_tell : (left right : List Column) (lefts rights : List Row) (on : List Names) (classes : List ℕ)
+    → AreClasses left right lefts rights on classes
+    → ClassesTell (MatchesOn left right on) lefts (take (length lefts) classes) rights (drop (length lefts) classes)
+classes_tell left right lefts rights on classes are i j x y h k =
+    let within : i < length lefts = slice_get-within lefts i x h in
+    let inside : j < length rights = slice_get-within rights j y k in
+    let count = are.count in
+    let tell = are.tell i (length lefts + j) (omega (arith, count)) (omega (arith, count)) in
+    let match = same_matches left right lefts rights on i j x y h k in
+    let one : get_or (take (length lefts) classes) i 0 ≡ get_or classes i 0 =
+    get_or-take (length lefts) classes i 0 within in
+    let other : get_or (drop (length lefts) classes) j 0 ≡ get_or classes (length lefts + j) 0 =
+    get_or-drop (length lefts) classes j 0 in (
+      λ m. one ∙ tell.1 (match.1 m) ∙ sym other,
+      λ e. match.0 (tell.0 (sym one ∙ e ∙ other)),
+    )

@@ -1,0 +1,84 @@
+-- The values of a column of two tables, with the classes of their rows so far.
+use Rattle.std.specs.Prelude.{◌≡◌, ◌↔◌, ℕ, zero, suc, ◌+◌, ◌/◌, ◌<◌, ℤ, pos, List, [], ◌++◌, length, map, All, Bool, ◌&&◌, if◌then◌else◌, Option, Some, None, nat_eq, slice_get, slice_index, slice_index_or}
+use Rattle.std.specs.Cmp.Lexicographic.{pointwise}
+use Rattle.std.specs.Hash.FoldHasher.{initial, write, finish}
+use Rattle.std.specs.Ordering.{int_eq}
+use Rattle.row_core.specs.Value.{kind_of}
+use Rattle.row_core.specs.declared.row.Row.{Row}
+use Rattle.row_core.specs.declared.value.Kind.{Kind}
+use Rattle.row_core.specs.declared.value.Value.{Value}
+use Rattle.row_core.specs.declared.value.Value.TheVariants.{Int, Text}
+use Rattle.match_core.specs.declared.cells.Cell.{Cell}
+
+-- the values at one place of the left rows, and then those at another place of the right ones
+abbrev pub values_at : ℕ → ℕ → List Row → List Row → List (Option Value)
+values_at left_place right_place lefts rights =
+    map (λ row. slice_get row.values left_place) lefts ++ map (λ row. slice_get row.values right_place) rights
+
+-- a value of the kind is there
+abbrev pub IsOfKind : Kind → Option Value → Type 0
+IsOfKind kind None = ⊥
+IsOfKind kind (Some value) = kind_of value ≡ kind
+
+-- each value is there, and all are of one kind
+abbrev pub AreOneKind : List (Option Value) → Type 0
+AreOneKind column = (kind : Kind) × All (IsOfKind kind) column
+
+-- a hash of a text
+abbrev pub hash_of : List ℕ → ℕ
+hash_of text = finish (write initial text)
+
+-- a number, and half the hash of a text
+abbrev pub number_in : Value → ℤ
+number_in (Int number) = number
+number_in (Text text) = pos (hash_of text / 2)
+
+-- a text, and the empty one for a number
+abbrev pub text_in : Value → List ℕ
+text_in (Int number) = []
+text_in (Text text) = text
+
+-- the cell of that value, of the row at that place, whose class so far is this
+pub record IsCell (class : ℕ) (value : Value) (place : ℕ) (cell : Cell) : Type 0 where
+  pub class_is : cell.class ≡ class
+  pub number_is : cell.number ≡ number_in value
+  pub text_is : cell.text.now ≡ text_in value
+  pub place_is : cell.place ≡ place
+
+-- the cell of the row at that place, of its class so far and its value in the column
+pub record IsCellAt (classes : List ℕ) (column : List (Option Value)) (place : ℕ) (cell : Cell) : Type 0 where
+  pub value : Value
+  pub there : slice_get column place ≡ Some (Some value)
+  pub made : IsCell (slice_index classes place) value place cell
+
+-- the cells of the first rows, in their order
+abbrev pub AreCells : List ℕ → List (Option Value) → List Cell → Type 0
+AreCells classes column cells =
+    (k : ℕ) (d : Cell) → k < length cells → IsCellAt classes column k (slice_index_or cells k d)
+
+-- the rows of both cells have one class so far, and one value
+abbrev pub same_cell : Cell → Cell → Bool
+same_cell a b = nat_eq a.class b.class && (int_eq a.number b.number && pointwise nat_eq a.text.now b.text.now)
+
+-- how many runs of cells that are the same have ended before place i
+abbrev pub runs_before : Cell → List Cell → ℕ → ℕ
+runs_before d cells zero = 0
+runs_before d cells (suc i) =
+    runs_before d cells i + (if same_cell (slice_index_or cells i d) (slice_index_or cells (suc i) d) then 0 else 1)
+
+-- cells of one row stand in one run
+abbrev pub AgreeOnPlaces : List Cell → Type 0
+AgreeOnPlaces cells = (i j : ℕ) (d : Cell) → i < length cells → j < length cells
+    → (slice_index_or cells i d).place ≡ (slice_index_or cells j d).place
+    → runs_before d cells i ≡ runs_before d cells j
+
+-- the rows of the first n cells have the numbers of their runs as classes
+abbrev pub AreNumbered : List Cell → ℕ → List ℕ → Type 0
+AreNumbered cells n classes = (k : ℕ) (d : Cell) → k < n
+    → slice_index classes (slice_index_or cells k d).place ≡ runs_before d cells k
+
+-- two rows have one class exactly where they had one before and have one value
+abbrev pub Refines : List ℕ → List (Option Value) → List ℕ → Type 0
+Refines old column new = (i j : ℕ) → i < length old → j < length old
+    → (slice_index new i ≡ slice_index new j)
+    ↔ ((slice_index old i ≡ slice_index old j) × (slice_get column i ≡ slice_get column j))

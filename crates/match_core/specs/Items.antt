@@ -1,0 +1,26 @@
+-- Rows as items, which are divided and merged.
+use Rattle.std.specs.Prelude.{ℕ, List, [], ◌∷◌, map, pos}
+use Rattle.row_core.specs.declared.row.Row.{Row}
+use Rattle.dip_core.specs.declared.item.Item.{Item}
+
+-- a row as an item of a division, in the one class of all rows
+abbrev pub item_of : Row → Item
+item_of row = record { period = row.period; id = row.id; class = 0; amount = pos 0 }
+
+-- rows as such items
+abbrev pub items_of : List Row → List Item
+items_of rows = map item_of rows
+
+-- a row as an item of that class
+abbrev pub item_with : Row → ℕ → Item
+item_with row class = record { period = row.period; id = row.id; class = class; amount = pos 0 }
+
+-- rows as items, each of its class
+abbrev pub items_with : List Row → List ℕ → List Item
+items_with [] classes = []
+items_with (row ∷ rows) [] = []
+items_with (row ∷ rows) (class ∷ classes) = item_with row class ∷ items_with rows classes
+
+-- an item in the one class of all
+abbrev pub unclassed : Item → Item
+unclassed x = record { period = x.period; id = x.id; class = 0; amount = pos 0 }

@@ -1,0 +1,4 @@
+pub mod Columns
+pub mod Classes
+pub mod Items
+pub mod Cells

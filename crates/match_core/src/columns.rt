@@ -1,0 +1,77 @@
+//! Why columns can't be compared.
+
+ghost use Rattle.std.specs.Prelude.{◌≡◌};
+ghost use Rattle.row_core.specs.Refusals.{first_of};
+ghost use Rattle.row_core.specs.Schema.{kind_in};
+ghost use Rattle.row_core.specs.Value.{same_kind};
+ghost use Rattle.match_core.specs.Columns.{columns_refusal, tests_of_names};
+
+use row_core::{Kind, Name, Schema};
+
+/// Why a query's columns can't be compared, in the order of the tests; of pairs of names, each is tested for
+/// all before the next one.
+#[derive(Clone, Copy, Debug, PartialEq, Eq)]
+pub enum QueryRefused {
+    /// The left side has no column of the one name, or the right side none of the other.
+    NoColumn,
+    /// The two columns are of two kinds.
+    WrongKind,
+}
+
+/// Why the rows of the left side can't be compared with those of the right one by these pairs of a left
+/// column's name and a right one's: the first pair that is refused decides. None where they can.
+pub fn refusal_of_pairs(left: &Schema, right: &Schema, on: &[(Name, Name)]) -> Option<QueryRefused>
+    ensures { result ≡ columns_refusal left.now right.now on.now }
+{
+    for pair in on {
+        let refused = refusal_of_pair(left, right, pair);
+        if refused.is_some() {
+            return refused;
+        }
+    }
+    None
+}
+
+// What refuses a pair of names: a column is missing, or they are of two kinds.
+fn refusal_of_pair(left: &Schema, right: &Schema, pair: &(Name, Name)) -> Option<QueryRefused>
+    ensures { result ≡ first_of (tests_of_names left.now right.now pair.now) }
+{
+    match column_kind(left, pair.0) {
+        None => Some(QueryRefused::NoColumn),
+        Some(one) => match column_kind(right, pair.1) {
+            None => Some(QueryRefused::NoColumn),
+            Some(other) => {
+                if is_same_kind(one, other) {
+                    None
+                } else {
+                    Some(QueryRefused::WrongKind)
+                }
+            }
+        },
+    }
+}
+
+fn is_same_kind(one: Kind, other: Kind) -> bool
+    ensures { result ≡ same_kind one other }
+{
+    match one {
+        Kind::Int => matches!(other, Kind::Int),
+        Kind::Text => matches!(other, Kind::Text),
+    }
+}
+
+/// The kind of the column of that name.
+pub fn column_kind(schema: &Schema, name: Name) -> Option<Kind>
+    ensures { result ≡ kind_in schema.now name }
+{
+    match schema.column(name) {
+        None => None,
+        Some(i) => {
+            if i < schema.width() {
+                Some(schema.kind(i))
+            } else {
+                None
+            }
+        }
+    }
+}

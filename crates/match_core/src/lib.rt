@@ -1,0 +1,16 @@
+#![tactic(auto)]
+
+//! Which rows of two tables match: the columns that they are compared by, and a class for each row, so that
+//! two rows match exactly where they have one class.
+
+mod cells;
+mod classes;
+mod columns;
+mod row_items;
+mod side;
+
+pub use classes::classes_of;
+pub use columns::{QueryRefused, column_kind, refusal_of_pairs};
+pub use period_core::NoMemory;
+pub use row_items::{items, items_with};
+pub use side::Side;
