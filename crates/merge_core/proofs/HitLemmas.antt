@@ -1,0 +1,158 @@
+-- Hits as what a merge of two parts makes.
+use Rattle.std.proofs.Common.{◌≡◌, ℕ, ◌+◌, ◌≤◌, List, [], ◌∷◌, ◌⊎◌, inl, inr, length, drop, sym, subst, ap, ◌∙◌, arith}
+use Rattle.std.specs.Prelude.{◌≤ℤ◌, Contains}
+use Rattle.period_core.specs.declared.period.Period.{Period}
+use Rattle.dip_core.specs.declared.item.Item.{Item}
+use Rattle.dip_core.specs.Item.{IsChain}
+use Rattle.list_core.specs.Wanted.{IsListOf, AddsAll}
+use Rattle.list_core.proofs.RisingLemmas.{Contains-head}
+use Rattle.list_core.proofs.WantedLemmas.{IsListOf-same, IsListOf-one}
+use Rattle.merge_core.specs.declared.hit.Hit.{Hit}
+use Rattle.merge_core.specs.Hits.{IsShared, IsHit, HitStartsBefore, AreAdvances}
+use Rattle.merge_core.proofs.SharedLemmas.{shared_once}
+use Rattle.merge_core.proofs.PartLemmas.{AllPairs-from_chain}
+use Rattle.merge_core.proofs.MergeLemmas.{Contains-only, IsMade, IsMerging, merging_start, merging_left, merging_right, merging_end}
+
+-- the hit of two items
+abbrev pub IsHitOf : Item → Item → Hit → Type 0
+IsHitOf x y hit = IsHit (x ∷ []) (y ∷ []) hit
+
+abbrev period_of : Item → Period
+period_of x = x.period
+
+abbrev shared_of : Hit → Period
+shared_of hit = hit.period
+
+-- the merge of two parts that makes hits
+abbrev pub IsMergingHits : (P Q p q : List Item) → (old now : List Hit) → Type 0
+IsMergingHits P Q p q old now =
+    IsMerging period_of period_of shared_of IsHitOf P Q p q old now
+
+hit_shares : (x y : Item) (h : Hit) → IsHitOf x y h → IsShared x.period y.period h.period
+hit_shares x y h i =
+    subst (λ (v : Item). IsShared x.period v.period h.period) (sym (Contains-only y h.right i.right_in))
+    (subst (λ (u : Item). IsShared u.period h.right.period h.period) (sym (Contains-only x h.left i.left_in)) i.shared)
+
+made_from_hit : (p q : List Item) (h : Hit) → IsHit p q h → IsMade IsHitOf p q h
+made_from_hit p q h i =
+    record {
+      x = h.left;
+      y = h.right;
+      x_in = i.left_in;
+      y_in = i.right_in;
+      made = record {
+        left_in = Contains-head h.left [];
+        right_in = Contains-head h.right [];
+        matches = i.matches;
+        shared = i.shared;
+      };
+    }
+
+hit_from_made : (p q : List Item) (h : Hit) → IsMade IsHitOf p q h → IsHit p q h
+hit_from_made p q h m =
+    record {
+      left_in = subst (Contains p) (Contains-only m.x h.left m.made.left_in) m.x_in;
+      right_in = subst (Contains q) (Contains-only m.y h.right m.made.right_in) m.y_in;
+      matches = m.made.matches;
+      shared = m.made.shared;
+    }
+
+hit_made : Item → Item → Period → Hit
+hit_made l r p = record { left = l; right = r; period = p }
+
+-- a hit is determined by its two items and its period
+Hit-same : (h k : Hit) → h.left ≡ k.left → h.right ≡ k.right → h.period ≡ k.period → h ≡ k
+unfolding hit_made
+Hit-same h k e f g =
+    ap (λ l. hit_made l h.right h.period) e ∙ ap (λ r. hit_made k.left r h.period) f
+    ∙ ap (λ p. hit_made k.left k.right p) g
+
+-- two items have one hit at most
+pub hit_alone : (x y : Item) (h : Hit) → IsHitOf x y h → IsListOf HitStartsBefore (IsHitOf x y) (h ∷ [])
+hit_alone x y h i =
+    IsListOf-one HitStartsBefore (IsHitOf x y) h i
+    (λ k j.
+    Hit-same h k
+    (sym (Contains-only x h.left i.left_in) ∙ Contains-only x k.left j.left_in)
+    (sym (Contains-only y h.right i.right_in) ∙ Contains-only y k.right j.right_in)
+    (shared_once x.period y.period h.period k.period (hit_shares x y h i) (hit_shares x y k j)))
+
+-- the hits of P and Q that are there when p and q are left, after n advances
+pub record IsJoining (P Q p q : List Item) (old now : List Hit) (n : ℕ) : Type 0 where
+  pub merging : IsMergingHits P Q p q old now
+  pub count : n + (length p + length q) ≡ length P + length Q
+  pub left_shorter : length p ≤ length P
+  pub right_shorter : length q ≤ length Q
+
+pub joining_start : (P Q : List Item) (old : List Hit) → IsChain P → IsChain Q → IsJoining P Q P Q old old 0
+joining_start P Q old left right =
+    record {
+      merging = merging_start period_of period_of shared_of IsHitOf hit_shares
+          P Q old (AllPairs-from_chain P left) (AllPairs-from_chain Q right);
+      count = omega arith;
+      left_shorter = omega arith;
+      right_shorter = omega arith;
+    }
+
+pub joining_left : (P Q : List Item) (x : Item) (p : List Item) (y : Item) (q : List Item) (old mid now : List Hit)
+    (n : ℕ) → p ≡ x ∷ drop 1 p → q ≡ y ∷ drop 1 q → x.period.to ≤ℤ y.period.to
+    → AddsAll HitStartsBefore (IsHitOf x y) mid now
+    → IsJoining P Q p q old mid n → IsJoining P Q (drop 1 p) q old now (n + 1)
+joining_left P Q x p y q old mid now n e f first a j =
+    let size : length p ≡ length (x ∷ drop 1 p) = ap length e in
+    record {
+      merging = merging_left period_of period_of shared_of IsHitOf hit_shares
+          P Q x p y q old mid now e f first a j.merging;
+      count = omega (arith, j.count);
+      left_shorter = omega (arith, j.left_shorter);
+      right_shorter = j.right_shorter;
+    }
+
+pub joining_right : (P Q : List Item) (x : Item) (p : List Item) (y : Item) (q : List Item) (old mid now : List Hit)
+    (n : ℕ) → p ≡ x ∷ drop 1 p → q ≡ y ∷ drop 1 q → y.period.to ≤ℤ x.period.to
+    → AddsAll HitStartsBefore (IsHitOf x y) mid now
+    → IsJoining P Q p q old mid n → IsJoining P Q p (drop 1 q) old now (n + 1)
+joining_right P Q x p y q old mid now n e f first a j =
+    let size : length q ≡ length (y ∷ drop 1 q) = ap length f in
+    record {
+      merging = merging_right period_of period_of shared_of IsHitOf hit_shares
+          P Q x p y q old mid now e f first a j.merging;
+      count = omega (arith, j.count);
+      left_shorter = j.left_shorter;
+      right_shorter = omega (arith, j.right_shorter);
+    }
+
+-- where one part is used up, all hits are there
+pub joining_end : (P Q p q : List Item) (old now : List Hit) (n : ℕ) → (p ≡ []) ⊎ (q ≡ []) → IsJoining P Q p q old now n
+    → AddsAll HitStartsBefore (IsHit P Q) old now
+joining_end P Q p q old now n over j =
+    let all = merging_end period_of period_of shared_of IsHitOf hit_shares
+    P Q p q old now over j.merging in
+    record {
+      added = all.added;
+      split = all.split;
+      all = IsListOf-same HitStartsBefore (IsMade IsHitOf P Q) (IsHit P Q) all.added
+          (hit_from_made P Q) (made_from_hit P Q) all.all;
+    }
+
+pub joining_advances : (P Q p q : List Item) (old now : List Hit) (n : ℕ) → (p ≡ []) ⊎ (q ≡ [])
+    → IsJoining P Q p q old now n → AreAdvances P Q n
+joining_advances P Q p q old now n (inl e) j =
+    let size : length p ≡ 0 = ap length e in
+    record { at_least = omega (arith, j.count, j.right_shorter); at_most = omega (arith, j.count) }
+joining_advances P Q p q old now n (inr e) j =
+    let size : length q ≡ 0 = ap length e in
+    record { at_least = omega (arith, j.count, j.left_shorter); at_most = omega (arith, j.count) }
+
+-- the hit of two items that are next is one of all
+pub joining_hit : (P Q p q : List Item) (x y : Item) (old now : List Hit) (n : ℕ) (h : Hit) → p ≡ x ∷ drop 1 p
+    → q ≡ y ∷ drop 1 q → IsHitOf x y h → IsJoining P Q p q old now n → IsHit P Q h
+joining_hit P Q p q x y old now n h e f i j =
+    hit_from_made P Q h
+    (record {
+      x = x;
+      y = y;
+      x_in = j.merging.left_within x (subst (λ z. Contains z x) (sym e) (Contains-head x (drop 1 p)));
+      y_in = j.merging.right_within y (subst (λ z. Contains z y) (sym f) (Contains-head y (drop 1 q)));
+      made = i;
+    })

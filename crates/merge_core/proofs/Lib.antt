@@ -1,0 +1,9 @@
+pub mod SharedLemmas
+pub mod PartLemmas
+pub mod MergeLemmas
+pub mod HitLemmas
+pub mod SweepLemmas
+pub mod GapLemmas
+pub mod WholeLemmas
+pub mod MeetLemmas
+pub mod BothLemmas

@@ -1,0 +1,14 @@
+use Rattle.std.proofs.Common.{arith, ◌+◌, ◌≡◌}
+use Rattle.merge_core.proofs.GapLemmas.{gapped_more, gapped_end}
+use Rattle.merge_core.proofs.gaps.merge_gaps.Goals as goal
+
+pub loop-x-preserved : goal.loop-x-preserved
+loop-x-preserved c =
+    let e : c.loop-x.advances + (c.in-Ok.passed + 1) ≡ c.loop-x.advances + c.in-Ok.passed + 1 = omega arith in
+    rw (c.advance.ensures, e)
+    (gapped_more c.args.left c.args.right c.in-Some.x c.loop-x.left c.loop-x.right c.gaps_of.new.right
+    c.args.gaps.now.items c.loop-x.gaps.items c.gaps_of.new.gaps.items c.loop-x.advances c.in-Ok.passed
+    c.in-Some.ensures.next c.in-Some.ensures.chain c.in-Ok.ensures.gaps c.in-Ok.ensures.passes c.loop-x.invariant)
+
+pub returns-clause-gaps : goal.returns-clause-gaps
+returns-clause-gaps c = gapped_end _ _ _ _ _ _ _ c.in_default.ensures.next c.loop-x.invariant

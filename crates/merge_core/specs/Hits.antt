@@ -1,0 +1,26 @@
+-- What items of equal class of two parts share, and how often a cursor advances to find it.
+use Rattle.std.specs.Prelude.{◌≡◌, ◌↔◌, ◌+◌, ◌≤◌, ◌<ℤ◌, ℕ, ℤ, List, length, min, Contains}
+use Rattle.period_core.specs.declared.period.Period.{Period}
+use Rattle.period_core.specs.Period.{Holds}
+use Rattle.dip_core.specs.declared.item.Item.{Item}
+use Rattle.merge_core.specs.declared.hit.Hit.{Hit}
+
+-- the instants of p are those that both a and b hold
+abbrev pub IsShared : Period → Period → Period → Type 0
+IsShared a b p = (t : ℤ) → Holds p t ↔ (Holds a t × Holds b t)
+
+-- a left item, a right item of equal class, and what they share
+pub record IsHit (left right : List Item) (hit : Hit) : Type 0 where
+  pub left_in : Contains left hit.left
+  pub right_in : Contains right hit.right
+  pub matches : hit.left.class ≡ hit.right.class
+  pub shared : IsShared hit.left.period hit.right.period hit.period
+
+-- the order of hits, by start
+abbrev pub HitStartsBefore : Hit → Hit → Type 0
+HitStartsBefore a b = a.period.from <ℤ b.period.from
+
+-- n advances: at least as many as the shorter part has items, and at most as many as both have
+pub record AreAdvances (left right : List Item) (n : ℕ) : Type 0 where
+  pub at_least : min (length left) (length right) ≤ n
+  pub at_most : n ≤ length left + length right

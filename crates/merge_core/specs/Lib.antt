@@ -1,0 +1,4 @@
+pub mod Hits
+pub mod Gaps
+pub mod Sweep
+pub mod Meets

@@ -1,0 +1,91 @@
+//! The gaps of the items of a part.
+
+ghost use Rattle.std.specs.Prelude.{◌≡◌, ℤ, ◌<ℤ◌, IfOk, OnOk, OnErr};
+ghost use Rattle.list_core.specs.Wanted.{AddsAll};
+ghost use Rattle.merge_core.specs.Gaps.{IsGap, GapStartsBefore, AreGapAdvances};
+ghost use Rattle.merge_core.specs.Sweep.{IsGapOf, IsBetween, Covers, PassesWithin, Keeps};
+
+use crate::ends::{ends_before, follows, later};
+use crate::{Cursor, Gap};
+use dip_core::Item;
+use period_core::{NoMemory, Period, Point};
+
+/// Adds the gap of `x` from one point on and before another, where there is an instant between.
+fn push_gap(x: &Item, from: Point, to: Point, gaps: &mut Vec<Gap>) -> Result<(), NoMemory>
+    ensures ok { OnOk result (AddsAll GapStartsBefore (IsBetween x.now from to) gaps.old.items gaps.new.items) }
+    ensures err { OnErr result (gaps.new.items ≡ gaps.old.items) }
+{
+    if let Ok(period) = Period::new(from, to) {
+        gaps.push(Gap { left: *x, period })?;
+    }
+    Ok(())
+}
+
+/// Takes `y` from what is uncovered of `x` from `at` on, and answers where the rest starts.
+fn cover(x: &Item, y: &Item, at: Point, gaps: &mut Vec<Gap>) -> Result<Point, NoMemory>
+    requires { y.now.period.from <ℤ x.now.period.to }
+    ensures ok { IfOk result (Covers x.now y.now at gaps.old.items gaps.new.items) }
+    ensures err { OnErr result (gaps.new.items ≡ gaps.old.items) }
+{
+    if y.class != x.class {
+        return Ok(at);
+    }
+    push_gap(x, at, y.period.from, gaps)?;
+    Ok(later(at, y.period.to))
+}
+
+/// Adds the gaps of one left item, and answers how many right items it passed. An item that ends later
+/// than `x` stays, for the next one.
+fn gaps_of(x: &Item, right: &mut Cursor, gaps: &mut Vec<Gap>) -> Result<u64, NoMemory>
+    ensures gaps { OnOk result (AddsAll GapStartsBefore (IsGapOf right.old x.now) gaps.old.items gaps.new.items) }
+    ensures passes { IfOk result (PassesWithin x.now right.old right.new) }
+    ensures keeps { Keeps gaps.old.items gaps.new.items }
+{
+    let most = right.len() as u64;
+    let mut at = x.period.from;
+    let mut advances = 0u64;
+    while let Some(y) = right.peek() {
+        if follows(&y.period, &x.period) {
+            break;
+        }
+        at = cover(x, &y, at, gaps)?;
+        if ends_before(&x.period, &y.period) {
+            break;
+        }
+        right.advance();
+        prove!(advances < most);
+        advances += 1;
+    }
+    push_gap(x, at, x.period.to, gaps)?;
+    Ok(advances)
+}
+
+/// Adds the gaps of the left part against the right one by rising start, and answers how often a cursor
+/// advanced.
+///
+/// # Errors
+///
+/// `NoMemory` where the list can't grow; it is then as before.
+pub fn merge_gaps(mut left: Cursor, mut right: Cursor, gaps: &mut Vec<Gap>) -> Result<u64, NoMemory>
+    ensures gaps { OnOk result (AddsAll GapStartsBefore (IsGap left.entry right.entry) gaps.old.items gaps.new.items) }
+    ensures advances { IfOk result (AreGapAdvances left.entry right.entry) }
+    ensures unchanged { OnErr result (gaps.new.items ≡ gaps.old.items) }
+{
+    let before = gaps.len();
+    let most = left.len() as u64 + right.len() as u64;
+    let mut advances = 0u64;
+    while let Some(x) = left.peek() {
+        match gaps_of(&x, &mut right, gaps) {
+            Ok(passed) => {
+                left.advance();
+                prove!(advances + passed < most);
+                advances += passed + 1;
+            }
+            Err(refused) => {
+                gaps.truncate(before);
+                return Err(refused);
+            }
+        }
+    }
+    Ok(advances)
+}

@@ -1,0 +1,72 @@
+//! The hits of two parts.
+
+ghost use Rattle.std.specs.Prelude.{◌≡◌, [], ◌∷◌, IfOk, IsOk, OnOk, OnErr};
+ghost use Rattle.std.specs.Option.{option_to_list};
+ghost use Rattle.list_core.specs.Wanted.{IsListOf, AddsAll};
+ghost use Rattle.merge_core.specs.declared.hit.Hit.{Hit};
+ghost use Rattle.merge_core.specs.Hits.{IsHit, HitStartsBefore, AreAdvances};
+
+use crate::ends::ends_first;
+use crate::{Cursor, Hit};
+use dip_core::Item;
+use period_core::NoMemory;
+
+/// The hit of two items, where they have one.
+fn hit_of(x: &Item, y: &Item) -> Option<Hit>
+    ensures { IsListOf HitStartsBefore (IsHit (x.now ∷ []) (y.now ∷ [])) (option_to_list result) }
+{
+    if x.class != y.class {
+        return None;
+    }
+    let period = x.period.meet(&y.period)?;
+    Some(Hit {
+        left: *x,
+        right: *y,
+        period,
+    })
+}
+
+/// Adds the hit of two items, where they have one; where they have none it asks for no memory.
+fn push_hit(x: &Item, y: &Item, hits: &mut Vec<Hit>) -> Result<(), NoMemory>
+    ensures ok { OnOk result (AddsAll HitStartsBefore (IsHit (x.now ∷ []) (y.now ∷ [])) hits.old.items hits.new.items) }
+    ensures err { OnErr result (hits.new.items ≡ hits.old.items) }
+    ensures hit { OnErr result ((hit : Hit) × IsHit (x.now ∷ []) (y.now ∷ []) hit) }
+{
+    if let Some(hit) = hit_of(x, y) {
+        hits.push(hit)?;
+    }
+    Ok(())
+}
+
+/// Adds the hits of two parts by rising start, and answers how often a cursor advanced.
+///
+/// # Errors
+///
+/// `NoMemory` where the list can't grow; it is then as before. Parts without a hit need no memory.
+pub fn merge_join(mut left: Cursor, mut right: Cursor, hits: &mut Vec<Hit>) -> Result<u64, NoMemory>
+    ensures hits { OnOk result (AddsAll HitStartsBefore (IsHit left.entry right.entry) hits.old.items hits.new.items) }
+    ensures advances { IfOk result (AreAdvances left.entry right.entry) }
+    ensures unchanged { OnErr result (hits.new.items ≡ hits.old.items) }
+    ensures no_hit { ((hit : Hit) → IsHit left.entry right.entry hit → ⊥) → IsOk result }
+{
+    let before = hits.len();
+    let most = left.len() as u64 + right.len() as u64;
+    let mut advances = 0u64;
+    while let Some(x) = left.peek() {
+        let Some(y) = right.peek() else {
+            break;
+        };
+        if let Err(refused) = push_hit(&x, &y, hits) {
+            hits.truncate(before);
+            return Err(refused);
+        }
+        if ends_first(&x.period, &y.period) {
+            left.advance();
+        } else {
+            right.advance();
+        }
+        prove!(advances < most);
+        advances += 1;
+    }
+    Ok(advances)
+}
