@@ -16,6 +16,7 @@ mod name;
 mod numbered;
 mod piece;
 mod run;
+mod stretch;
 mod worker;
 
 pub use collector::{Collector, Outs, Refused, Unfinished, Why};
@@ -24,3 +25,4 @@ pub use job::PairWork;
 pub use name::PairName;
 pub use piece::Piece;
 pub use run::run_pairs;
+pub use stretch::Stretch;
