@@ -1,2 +1,3 @@
 pub mod RisingLemmas
+pub mod WantedExistence
 pub mod WantedLemmas

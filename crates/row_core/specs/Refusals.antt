@@ -38,6 +38,13 @@ IsAnswer meant (Ok value) = meant ≡ Ok value
 IsAnswer meant (Err (Refused refusal)) = meant ≡ Err refusal
 IsAnswer meant (Err NoMemory) = IsOk meant
 
+-- a call's answer is the refusal where there is one; where there is none it is a value of which this holds, or memory
+-- is missed
+abbrev pub AnswersOr : {T E : Type 0} → Option E → (T → Type 0) → Result T (Failure E) → Type 0
+AnswersOr refusal Is (Ok value) = (refusal ≡ None) × Is value
+AnswersOr refusal Is (Err (Refused given)) = refusal ≡ Some given
+AnswersOr refusal Is (Err NoMemory) = refusal ≡ None
+
 -- a call's answer stands for the value that is meant, or is the refusal; of memory that is missed nothing is
 -- said
 abbrev pub Reads : {S T E : Type 0} → (T → S) → Result S E → Result T (Failure E) → Type 0

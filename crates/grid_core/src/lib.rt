@@ -1,0 +1,7 @@
+#![tactic(auto)]
+
+//! The pairs of a part of one division and a part of another, numbered by left part and then by right part.
+
+mod parts;
+
+pub use parts::{name_in, place_in, same_part};

@@ -1,0 +1,190 @@
+-- Any rows of two tables have a join, and only one.
+use Rattle.std.proofs.Common.{◌≡◌, ◌≢◌, ◌⊎◌, ◌↔◌, inl, inr, ℕ, ℤ, Bool, true, false, List, [], ◌∷◌, Option, Some, None, All, refl, sym, ap}
+use Rattle.std.specs.Prelude.{bytes_eq}
+use Rattle.std.specs.Bool.{Decides}
+use Rattle.std.specs.Cmp.{IsTotalOrder}
+use Rattle.std.specs.Cmp.Lexicographic.{bytes_decides}
+use Rattle.std.specs.Ordering.{int_cmp, int_eq, nat_cmp, ordering_then}
+use Rattle.std.proofs.lemmas.Bool.Decides.{Decides-int_eq, not_from_Decides}
+use Rattle.std.proofs.lemmas.Cmp.{then_total, on_total, int_cmp_total, nat_cmp_total}
+use Rattle.std.proofs.lemmas.List.Elements.{All-nil, All-cons, All-head, All-tail}
+use Rattle.std.proofs.lemmas.Map.Lookups.{CmpEqualImpliesEq, exact_pairs, exact_signed, exact_unsigned}
+use Rattle.period_core.specs.declared.period.Period.{Period}
+use Rattle.period_core.specs.Period.{Holds, HoldsIn, meet}
+use Rattle.period_core.proofs.PeriodLemmas.{meet-holds}
+use Rattle.row_core.specs.declared.row.Row.{Row}
+use Rattle.row_core.specs.declared.schema.Column.{Column}
+use Rattle.row_core.specs.declared.value.Value.{Value}
+use Rattle.row_core.specs.declared.value.Value.TheVariants.{Int, Text}
+use Rattle.list_core.proofs.RisingLemmas.{IsListOf-unique}
+use Rattle.list_core.proofs.WantedLemmas.{IsListOf-same}
+use Rattle.list_core.proofs.WantedExistence.{IsUnorderedListOf, IsUnorderedListOf-none, IsUnorderedListOf-one, WantedForSome, some_unordered, some_wanted}
+use Rattle.match_core.specs.Columns.{MatchesOn, Names, value_under}
+use Rattle.merge_core.specs.Hits.{IsShared}
+use Rattle.merge_core.proofs.SharedLemmas.{first_held, shared_once}
+use Rattle.grid_core.proofs.SameLemmas.{Period-same_ends}
+use Rattle.join_core.specs.declared.rows.JoinRow.{JoinRow}
+use Rattle.join_core.specs.Join.{IsJoin, IsJoinRow, RowBefore, join_cmp}
+use Rattle.join_core.proofs.OrderLemmas.{JoinRow-same_fields, RowBefore-asym}
+
+-- ---- the order
+
+-- rows are in a total order
+join_cmp-total : IsTotalOrder join_cmp
+join_cmp-total =
+    then_total (then_total (on_total (λ x. x.period.from) int_cmp_total) (on_total (λ x. x.period.to) int_cmp_total))
+    (then_total (on_total (λ x. x.left) nat_cmp_total) (on_total (λ x. x.right) nat_cmp_total))
+
+-- what the order looks at
+abbrev ends_and_ids : JoinRow → (ℤ × ℤ) × (ℕ × ℕ)
+ends_and_ids row = ((row.period.from, row.period.to), (row.left, row.right))
+
+-- rows that it doesn't tell apart are one
+join_cmp-exact : CmpEqualImpliesEq join_cmp
+join_cmp-exact a b e =
+    let same : ends_and_ids a ≡ ends_and_ids b =
+    exact_pairs (λ (x : ℤ × ℤ) (y : ℤ × ℤ). ordering_then (int_cmp x.0 y.0) (int_cmp x.1 y.1))
+    (λ (x : ℕ × ℕ) (y : ℕ × ℕ). ordering_then (nat_cmp x.0 y.0) (nat_cmp x.1 y.1))
+    (exact_pairs int_cmp int_cmp exact_signed exact_signed) (exact_pairs nat_cmp nat_cmp exact_unsigned exact_unsigned)
+    (ends_and_ids a) (ends_and_ids b) e in
+    JoinRow-same_fields a b
+    (Period-same_ends a.period b.period (ap (λ v. v.0.0) same) (ap (λ v. v.0.1) same))
+    (ap (λ v. v.1.0) same) (ap (λ v. v.1.1) same)
+
+-- ---- whether rows match
+
+-- what a test decides holds or not
+holds_or_not : (P : Type 0) (test : Bool) → Decides test P → P ⊎ (P → ⊥)
+holds_or_not P true decides = inl (decides.0 refl)
+holds_or_not P false decides = inr (not_from_Decides false decides refl)
+
+-- two values are one or not
+value_or_not : (a b : Value) → (a ≡ b) ⊎ (a ≢ b)
+value_or_not (Int m) (Int n) = elim (holds_or_not (m ≡ n) (int_eq m n) (Decides-int_eq m n)) [
+  | inl same ↦ inl (ap Int same)
+  | inr differ ↦ inr (λ e. differ (cc))
+]
+value_or_not (Text s) (Text t) = elim (holds_or_not (s ≡ t) (bytes_eq s t) (bytes_decides s t)) [
+  | inl same ↦ inl (ap Text same)
+  | inr differ ↦ inr (λ e. differ (cc))
+]
+value_or_not (Int m) (Text t) = inr (λ e. cc)
+value_or_not (Text s) (Int n) = inr (λ e. cc)
+
+-- two values that there may be are one or not
+maybe_value_or_not : (a b : Option Value) → (a ≡ b) ⊎ (a ≢ b)
+maybe_value_or_not None None = inl refl
+maybe_value_or_not None (Some v) = inr (λ e. cc)
+maybe_value_or_not (Some v) None = inr (λ e. cc)
+maybe_value_or_not (Some v) (Some w) = elim (value_or_not v w) [
+  | inl same ↦ inl (ap Some same)
+  | inr differ ↦ inr (λ e. differ (cc))
+]
+
+-- what of each thing holds or not, holds of all things in a list or not
+all_or_not : {X : Type 0} (P : X → Type 0) → ((x : X) → P x ⊎ (P x → ⊥)) → (xs : List X) → All P xs ⊎ (All P xs → ⊥)
+all_or_not P each [] = inl (All-nil P)
+all_or_not P each (x ∷ xs) = elim (each x) [
+  | inr not_first ↦ inr (λ all. not_first (All-head P x xs all))
+  | inl first ↦ elim (all_or_not P each xs) [
+    | inl others ↦ inl (All-cons P x xs first others)
+    | inr not_others ↦ inr (λ all. not_others (All-tail P x xs all))
+  ]
+]
+
+-- two rows match or not
+match_or_not : (left_columns right_columns : List Column) (on : List Names) (x y : Row)
+    → MatchesOn left_columns right_columns on x y ⊎ (MatchesOn left_columns right_columns on x y → ⊥)
+match_or_not left_columns right_columns on x y =
+    all_or_not (λ (names : Names). value_under left_columns names.0 x ≡ value_under right_columns names.1 y)
+    (λ names. maybe_value_or_not (value_under left_columns names.0 x) (value_under right_columns names.1 y)) on
+
+-- ---- the join
+
+module _ (Matches : Row → Row → Type 0) (decided : (x y : Row) → Matches x y ⊎ (Matches x y → ⊥)) where
+  -- the ids of two rows that match, with what they share
+  record IsRowOfTwo (x y : Row) (row : JoinRow) : Type 0 where
+    left_id : row.left ≡ x.id
+    right_id : row.right ≡ y.id
+    matches : Matches x y
+    shared : IsShared x.period y.period row.period
+
+  -- the row of two rows that match, if they share an instant
+  row_of_matches : (x y : Row) → Matches x y → (met : Option Period)
+      → ((t : ℤ) → HoldsIn met t ↔ (Holds x.period t × Holds y.period t))
+      → (rows : List JoinRow) × IsUnorderedListOf (IsRowOfTwo x y) rows
+  row_of_matches x y same None holds = (
+    [],
+    IsUnorderedListOf-none (IsRowOfTwo x y)
+        (λ row is. (holds row.period.from).1 ((is.shared row.period.from).0 (first_held row.period))),
+  )
+  row_of_matches x y same (Some p) holds =
+      let row : JoinRow = record { period = p; left = x.id; right = y.id } in (
+        row ∷ [],
+        IsUnorderedListOf-one (IsRowOfTwo x y) row
+            (record { left_id = refl; right_id = refl; matches = same; shared = holds })
+            (λ other is.
+            JoinRow-same_fields row other (shared_once x.period y.period p other.period holds is.shared)
+            (sym is.left_id) (sym is.right_id)),
+      )
+
+  -- the row of two rows, if they match and share an instant
+  row_of_two : (x y : Row) → (rows : List JoinRow) × IsUnorderedListOf (IsRowOfTwo x y) rows
+  row_of_two x y = elim (decided x y) [
+    | inl same ↦ row_of_matches x y same (meet x.period y.period) (meet-holds x.period y.period)
+    | inr differ ↦ ([], IsUnorderedListOf-none (IsRowOfTwo x y) (λ row is. differ is.matches))
+  ]
+
+  -- the row of some left and some right row
+  abbrev IsRowOfSome : List Row → List Row → JoinRow → Type 0
+  IsRowOfSome left right = WantedForSome (λ x. WantedForSome (IsRowOfTwo x) right) left
+
+  -- rows whose matching is decided have a join
+  some_join_of : (left right : List Row) → (rows : List JoinRow) × IsJoin Matches left right rows
+  some_join_of left right =
+      let (unordered, all) =
+      some_unordered (λ x. WantedForSome (IsRowOfTwo x) right)
+      (λ x. some_unordered (IsRowOfTwo x) (row_of_two x) right) left in
+      let (rows, is) = some_wanted join_cmp join_cmp-total join_cmp-exact (IsRowOfSome left right) unordered all in (
+        rows,
+        IsListOf-same RowBefore (IsRowOfSome left right) (IsJoinRow Matches left right) rows
+            (λ row (x, x_in, (y, y_in, of)). record {
+              x = x;
+              y = y;
+              x_in = x_in;
+              y_in = y_in;
+              left_id = of.left_id;
+              right_id = of.right_id;
+              matches = of.matches;
+              shared = of.shared;
+            })
+            (λ row of. (
+              of.x,
+              of.x_in,
+              (
+                of.y,
+                of.y_in,
+                record {
+                  left_id = of.left_id;
+                  right_id = of.right_id;
+                  matches = of.matches;
+                  shared = of.shared;
+                },
+              ),
+            ))
+            is,
+      )
+
+-- any rows have a join, whatever the pairs of columns behind on
+pub some_join : (left_columns right_columns : List Column) (on : List Names) (left right : List Row)
+    → (rows : List JoinRow) × IsJoin (MatchesOn left_columns right_columns on) left right rows
+some_join left_columns right_columns on left right =
+    some_join_of (MatchesOn left_columns right_columns on) (match_or_not left_columns right_columns on) left right
+
+-- they have no other
+pub one_join : (left_columns right_columns : List Column) (on : List Names) (left right : List Row)
+    (one other : List JoinRow) → IsJoin (MatchesOn left_columns right_columns on) left right one
+    → IsJoin (MatchesOn left_columns right_columns on) left right other → one ≡ other
+one_join left_columns right_columns on left right one other is is' =
+    IsListOf-unique RowBefore (IsJoinRow (MatchesOn left_columns right_columns on) left right) one other RowBefore-asym
+    is is'

@@ -1,0 +1,12 @@
+pub mod JoinExistence
+pub mod JoinedLemmas
+pub mod LeastLemmas
+pub mod ListLemmas
+pub mod LoopLemmas
+pub mod OrderLemmas
+pub mod PairLemmas
+pub mod PartLemmas
+pub mod RowLemmas
+pub mod StretchLemmas
+pub mod TurnLemmas
+pub mod ValueLemmas

@@ -1,0 +1,139 @@
+-- What stands in lists that are made of lists, and what lists have in common.
+use Rattle.std.proofs.Common.{◌≡◌, ◌≢◌, ◌⊎◌, ℕ, zero, suc, ◌+◌, ◌<◌, ◌≤◌, List, [], ◌∷◌, ◌++◌, length, map, take, drop, flat_map, AllPairs, Bool, true, false, cond, Some, refl, sym, subst, ap, ◌∙◌, inl, inr, arith}
+use Rattle.std.specs.Prelude.{Contains, slice_get, count_by}
+use Rattle.std.specs.Bool.{Decides}
+use Rattle.std.proofs.Math.Logic.{∥∥₁_elim, ∥∥₁_map}
+use Rattle.std.proofs.Props.{props}
+use Rattle.std.proofs.lemmas.List.Elements.{Contains-append_left, Contains-append_right, Contains-append_cases}
+use Rattle.std.proofs.lemmas.List.Sums.{sum_by-cons}
+use Rattle.list_core.proofs.RisingLemmas.{AllPairs-head, AllPairs-tail, Contains-head, Contains-cons, Contains-cons_cases, Contains-none}
+use Rattle.list_core.proofs.WantedLemmas.{AllPairs-append, AllPairs-before}
+
+-- nothing holds of what can't be
+nothing_prop : IsProp ⊥
+nothing_prop = hlevel props
+
+-- what stands in a list, and is not its first, stands in the rest
+Contains-rest : {X : Type 0} (eq : X → X → Bool) → ((a b : X) → Decides (eq a b) (a ≡ b))
+    → (y : X) (ys : List X) (x : X) → eq y x ≡ false → Contains (y ∷ ys) x → Contains ys x
+Contains-rest eq same y ys x other c = elim (Contains-cons_cases y ys x c) [
+  | inl is ↦ let passes : eq y x ≡ true = (same y x).1 is in absurd (let bad : true ≡ false = sym passes ∙ other in cc)
+  | inr k ↦ k
+]
+
+-- something stands in a list, where it is known only that it does, and `==` finds it
+pub Contains-opened : {X : Type 0} (eq : X → X → Bool) → ((a b : X) → Decides (eq a b) (a ≡ b)) → (xs : List X) (x : X)
+    → ∥ Contains xs x ∥₁ → Contains xs x
+Contains-opened eq same [] x bare = absurd (∥∥₁_elim bare nothing_prop (λ c. Contains-none x c))
+Contains-opened {X} eq same (y ∷ ys) x bare =
+    by_test (eq y x) refl
+    (λ other. Contains-opened eq same ys x (∥∥₁_map bare (λ c. Contains-rest eq same y ys x other c)))
+  where
+    by_test : (test : Bool) → eq y x ≡ test → (eq y x ≡ false → Contains ys x) → Contains (y ∷ ys) x
+    by_test true e later = subst (Contains (y ∷ ys)) ((same y x).0 e) (Contains-head y ys)
+    by_test false e later = Contains-cons y ys x (later e)
+
+-- what stands in one of the lists stands in all of them together
+pub Contains-flat_map : {X A : Type 0} (f : X → List A) (xs : List X) (i : ℕ) (x : X) (a : A)
+    → slice_get xs i ≡ Some x → Contains (f x) a → Contains (flat_map f xs) a
+Contains-flat_map f [] i x a at h = cc
+Contains-flat_map f (y ∷ xs) zero x a at h =
+    let e : y ≡ x = cc in
+    Contains-append_left (f y) (flat_map f xs) a (subst (λ z. Contains (f z) a) (sym e) h)
+Contains-flat_map f (y ∷ xs) (suc i) x a at h =
+    Contains-append_right (f y) (flat_map f xs) a (Contains-flat_map f xs i x a at h)
+
+-- what stands in all of them together stands in one of them
+pub Contains-flat_map_source : {X A : Type 0} (f : X → List A) (xs : List X) (a : A) → Contains (flat_map f xs) a
+    → (i : ℕ) × (x : X) × (slice_get xs i ≡ Some x) × Contains (f x) a
+Contains-flat_map_source f [] a h = absurd (Contains-none a h)
+Contains-flat_map_source f (y ∷ xs) a h = elim (Contains-append_cases (f y) (flat_map f xs) a h) [
+  | inl k ↦ (0, y, refl, k)
+  | inr k ↦ let r = Contains-flat_map_source f xs a k in (suc r.0, r.1, r.2, r.3)
+]
+
+-- lists in order, each before the later ones, are in order together
+pub AllPairs-flat_map : {X A : Type 0} (R : A → A → Type 0) (f : X → List A) (xs : List X)
+    → ((i : ℕ) (x : X) → slice_get xs i ≡ Some x → AllPairs R (f x))
+    → ((i j : ℕ) (x y : X) (a b : A) → i < j → slice_get xs i ≡ Some x → slice_get xs j ≡ Some y
+    → Contains (f x) a → Contains (f y) b → R a b)
+    → AllPairs R (flat_map f xs)
+AllPairs-flat_map R f [] each across = λ i j d less h. absurd (omega arith)
+AllPairs-flat_map R f (x ∷ xs) each across =
+    AllPairs-append R (f x) (flat_map f xs) (each 0 x refl)
+    (AllPairs-flat_map R f xs (λ i y at. each (suc i) y at)
+    (λ i j y z a b less at there h k. across (suc i) (suc j) y z a b (omega arith) at there h k))
+    (λ a b h k.
+    let r = Contains-flat_map_source f xs b k in
+    across 0 (suc r.0) x r.1 a b (omega arith) refl r.2 h r.3)
+
+-- what the function makes of a thing in the list stands in the list that it makes
+pub Contains-map : {X Y : Type 0} (f : X → Y) (xs : List X) (x : X) → Contains xs x → Contains (map f xs) (f x)
+Contains-map f [] x h = absurd (Contains-none x h)
+Contains-map f (z ∷ xs) x h = elim (Contains-cons_cases z xs x h) [
+  | inl e ↦ subst (Contains (f z ∷ map f xs)) (ap f e) (Contains-head (f z) (map f xs))
+  | inr k ↦ Contains-cons (f z) (map f xs) (f x) (Contains-map f xs x k)
+]
+
+-- what stands in the list that it makes is made of a thing in the list
+pub Contains-map_source : {X Y : Type 0} (f : X → Y) (xs : List X) (y : Y) → Contains (map f xs) y
+    → (x : X) × Contains xs x × (f x ≡ y)
+Contains-map_source f [] y h = absurd (Contains-none y h)
+Contains-map_source f (z ∷ xs) y h = elim (Contains-cons_cases (f z) (map f xs) y h) [
+  | inl e ↦ (z, Contains-head z xs, e)
+  | inr k ↦ let r = Contains-map_source f xs y k in (r.0, Contains-cons z xs r.0 r.1, r.2)
+]
+
+-- things that differ are made into things that differ, where the function tells those of the list apart
+pub differ-map : {X Y : Type 0} (f : X → Y) (xs : List X)
+    → ((a b : X) → Contains xs a → Contains xs b → f a ≡ f b → a ≡ b)
+    → AllPairs (λ x y. x ≢ y) xs → AllPairs (λ x y. x ≢ y) (map f xs)
+differ-map f [] tells differ = λ i j d less h. absurd (omega arith)
+differ-map {X} {Y} f (x ∷ xs) tells differ =
+    AllPairs-before (λ (a : Y) (b : Y). a ≢ b) (f x) (map f xs)
+    (λ y h e.
+    let r = Contains-map_source f xs y h in
+    AllPairs-head (λ (a : X) (b : X). a ≢ b) x xs r.0 differ r.1
+    (tells x r.0 (Contains-head x xs) (Contains-cons x xs r.0 r.1) (e ∙ sym r.2)))
+    (differ-map f xs (λ a b h k e. tells a b (Contains-cons x xs a h) (Contains-cons x xs b k) e)
+    (AllPairs-tail (λ (a : X) (b : X). a ≢ b) x xs differ))
+
+-- a thing in the list that passes a test is counted
+pub counted : {X : Type 0} (test : X → Bool) (xs : List X) (x : X) → Contains xs x → test x ≡ true
+    → 1 ≤ count_by test xs
+counted test [] x h passes = absurd (Contains-none x h)
+counted test (y ∷ ys) x h passes =
+    let split : count_by test (y ∷ ys) ≡ cond (test y) 1 0 + count_by test ys =
+    sum_by-cons (λ z. cond (test z) 1 0) y ys in
+    elim (Contains-cons_cases y ys x h) [
+      | inl e ↦ let first : test y ≡ true = ap test e ∙ passes in grind arith
+      | inr k ↦ let rest : 1 ≤ count_by test ys = counted test ys x k passes in grind arith
+    ]
+
+-- an element of one list behind another
+pub slice_get-append_cases : {X : Type 0} (xs ys : List X) (i : ℕ) (x : X) → slice_get (xs ++ ys) i ≡ Some x
+    → (slice_get xs i ≡ Some x) ⊎ ((k : ℕ) × (i ≡ length xs + k) × (slice_get ys k ≡ Some x))
+slice_get-append_cases [] ys i x h = inr (i, omega arith, h)
+slice_get-append_cases (z ∷ xs) ys zero x h = inl h
+slice_get-append_cases (z ∷ xs) ys (suc i) x h = elim (slice_get-append_cases xs ys i x h) [
+  | inl k ↦ inl k
+  | inr k ↦ inr (k.0, (let e = k.1 in omega (arith, e)), k.2)
+]
+
+-- an element of the front
+pub slice_get-take : {X : Type 0} (xs : List X) (n i : ℕ) (x : X) → slice_get (take n xs) i ≡ Some x
+    → (i < n) × (slice_get xs i ≡ Some x)
+slice_get-take [] zero i x h = cc
+slice_get-take [] (suc n) i x h = cc
+slice_get-take (y ∷ xs) zero i x h = cc
+slice_get-take (y ∷ xs) (suc n) zero x h = (omega arith, h)
+slice_get-take (y ∷ xs) (suc n) (suc i) x h = let r = slice_get-take xs n i x h in (omega (arith, r.0), r.1)
+
+-- an element of what is behind the front
+pub slice_get-drop : {X : Type 0} (xs : List X) (n i : ℕ) (x : X) → slice_get (drop n xs) i ≡ Some x
+    → slice_get xs (n + i) ≡ Some x
+slice_get-drop xs zero i x h = let e : i ≡ 0 + i = omega arith in subst (λ k. slice_get xs k ≡ Some x) e h
+slice_get-drop [] (suc n) i x h = cc
+slice_get-drop (y ∷ xs) (suc n) i x h =
+    let e : suc (n + i) ≡ suc n + i = omega arith in
+    subst (λ k. slice_get (y ∷ xs) k ≡ Some x) e (slice_get-drop xs n i x h)

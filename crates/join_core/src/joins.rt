@@ -1,0 +1,72 @@
+//! The join of the rows of two tables.
+
+ghost use Rattle.std.specs.Prelude.{◌≡◌, ◌<◌, ◌≤◌, ℕ, None, length, IfOk};
+ghost use Rattle.row_core.specs.Refusals.{AnswersOr};
+ghost use Rattle.dip_core.specs.Division.{IsLeast};
+ghost use Rattle.match_core.specs.Columns.{MatchesOn, columns_refusal};
+ghost use Rattle.match_core.specs.Items.{items_of};
+ghost use Rattle.work_core.specs.Limits.{worker_limit};
+ghost use Rattle.join_core.specs.Join.{IsJoin, IsWithin};
+
+use crate::parted::{JoinAnswer, join_items};
+use match_core::{QueryRefused, Side, classes_of, items_with, refusal_of_pairs};
+use period_core::NoMemory;
+use row_core::{Failure, Name};
+use std::alloc::Global;
+use std::thread::Threads;
+use work_core::Gate;
+
+/// The pairs of a left and a right row that are equal in each named pair of columns and share an instant, each
+/// with all the instants that both hold, by start, end, left id and right id: the same rows for every number of
+/// workers. Both sides are divided, and the gate is called before and after each pair of parts.
+///
+/// For k left parts, m right parts, a left rows and b right rows the cursors advance at least k * m times, and
+/// at most m * a + k * b times.
+///
+/// # Errors
+///
+/// What refuses the columns, and `NoMemory` after it, where a growth is refused.
+pub fn join<R: Threads + Sync, G: Gate>(
+    rt: &R,
+    alloc: Global,
+    left: Side<'_>,
+    right: Side<'_>,
+    on: &[(Name, Name)],
+    workers: u32,
+    gate: &G,
+) -> Result<JoinAnswer, Failure<QueryRefused>>
+    requires workers { (0 < workers) × (workers ≤ worker_limit) }
+    ensures answer { AnswersOr (columns_refusal left.entry.schema.now right.entry.schema.now on.now)
+        (λ answer. IsJoin (MatchesOn left.entry.schema.now right.entry.schema.now on.now) left.entry.rows.now right.entry.rows.now answer.rows) result }
+    ensures turns { IfOk result (λ answer. (k m : ℕ) → IsLeast (items_of left.entry.rows.now) k → IsLeast (items_of right.entry.rows.now) m
+        → IsWithin k m (length left.entry.rows.now) (length right.entry.rows.now) answer.turns) }
+{
+    if let Some(refused) = refusal_of_pairs(left.schema, right.schema, on) {
+        return Err(Failure::Refused(refused));
+    }
+    let answer = join_rows(rt, alloc, left, right, on, workers, gate)?;
+    Ok(answer)
+}
+
+/// The join, by columns that can be compared.
+fn join_rows<R: Threads + Sync, G: Gate>(
+    rt: &R,
+    alloc: Global,
+    left: Side<'_>,
+    right: Side<'_>,
+    on: &[(Name, Name)],
+    workers: u32,
+    gate: &G,
+) -> Result<JoinAnswer, NoMemory>
+    requires allowed { columns_refusal left.schema.now right.schema.now on.now ≡ None }
+    requires workers { (0 < workers) × (workers ≤ worker_limit) }
+    ensures rows { IfOk result (λ answer. IsJoin (MatchesOn left.entry.schema.now right.entry.schema.now on.now) left.entry.rows.now right.entry.rows.now answer.rows) }
+    ensures turns { IfOk result (λ answer. (k m : ℕ) → IsLeast (items_of left.entry.rows.now) k → IsLeast (items_of right.entry.rows.now) m
+        → IsWithin k m (length left.entry.rows.now) (length right.entry.rows.now) answer.turns) }
+{
+    let classes = classes_of(alloc, left, right, on)?;
+    let (left_classes, right_classes) = classes.split_at(left.rows.len());
+    let lefts = items_with(alloc, left.rows.as_slice(), left_classes)?;
+    let rights = items_with(alloc, right.rows.as_slice(), right_classes)?;
+    join_items(rt, alloc, &lefts, &rights, workers, gate)
+}

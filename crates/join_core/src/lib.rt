@@ -1,0 +1,17 @@
+#![tactic(auto)]
+
+//! Which rows of two tables match and share an instant: both are divided, and each part of the one is merged
+//! with each part of the other, by many workers.
+
+mod joins;
+mod laws;
+mod pairs;
+mod parted;
+mod rows;
+mod stretches;
+
+pub use joins::join;
+pub use laws::join_has_one_list;
+pub use pairs::{JoinOut, JoinPairs};
+pub use parted::JoinAnswer;
+pub use rows::{JoinRow, JoinRows};
