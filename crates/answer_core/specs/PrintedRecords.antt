@@ -13,10 +13,12 @@ use Rattle.cert_core.specs.declared.verdict.Verdict.{Verdict}
 use Rattle.cert_core.specs.declared.verdict.Verdict.TheVariants.{WrongCount, EmptyPart, Unknown, Twice, Missing, Overlap, NotCrowded, Yes}
 use Rattle.dip_core.specs.Division.{IsInstantOf}
 use Rattle.dip_core.specs.declared.item.Item.{Item}
+use Rattle.join_core.specs.declared.rows.JoinRow.{JoinRow}
 use Rattle.command_core.specs.Records.{Record}
 use Rattle.command_core.specs.Refusal.{refusal_text}
 use Rattle.command_core.specs.Words.{begins}
 use Rattle.command_core.specs.declared.refusal.Fault.{Fault}
+use Rattle.answer_core.specs.JoinedRows.{JoinedRows, values_with}
 use Rattle.answer_core.specs.declared.answer.Answer.{Answer}
 use Rattle.answer_core.specs.declared.answer.Answer.TheVariants as answer
 
@@ -62,6 +64,16 @@ version_record v =
 -- one record for each version, and how many there are
 abbrev pub version_records : List Version → List Record
 version_records versions = map version_record versions ++ end_record (length versions) ∷ []
+
+-- two rows that were joined: the period that they share, their ids, and the values of both
+abbrev pub join_record : List Row → List Row → JoinRow → Record
+join_record left right row =
+    codes "row" ∷ point_text row.period.from ∷ point_text row.period.to ∷ decimal row.left ∷ decimal row.right
+    ∷ (map value_text (values_with left row.left) ++ map value_text (values_with right row.right))
+
+-- one record for each pair of rows that were joined, and how many there are
+abbrev pub join_records : JoinedRows → List Record
+join_records joined = map (join_record joined.left joined.right) joined.rows ++ end_record (length joined.rows) ∷ []
 
 -- ---- the log
 
@@ -127,6 +139,7 @@ IsPrintedAs (answer.Rows rows) records = records ≡ row_records rows
 IsPrintedAs (answer.Versions versions) records = records ≡ version_records versions
 IsPrintedAs (answer.Division rows parts) records =
     (instant : Option ℤ) × IsInstantOf parts instant × (records ≡ division_records rows parts instant)
+IsPrintedAs (answer.Join joined) records = records ≡ join_records joined
 IsPrintedAs (answer.Verdict verdict) records = records ≡ verdict_record verdict ∷ []
 IsPrintedAs (answer.Log entries) records = records ≡ commit_records entries
 

@@ -3,6 +3,7 @@ ghost use Rattle.std.specs.Prelude.{◌≡◌, ◌≤◌, List};
 ghost use Rattle.command_core.specs.Records.{Record};
 ghost use Rattle.answer_core.specs.PrintedRecords.{IsPrintedAs, errors_in};
 
+use crate::joined::Joined;
 use book_core::{Log, VersionList};
 use cert_core::Verdict;
 use command_core::Fault;
@@ -22,6 +23,8 @@ pub enum Answer {
     Versions(VersionList),
     /// A division of so many rows.
     Division { rows: usize, division: Division },
+    /// Rows of two tables that held together.
+    Join(Joined),
     /// What the check of a division says.
     Verdict(Verdict),
     /// What each commit did.

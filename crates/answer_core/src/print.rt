@@ -41,6 +41,7 @@ impl AnswerWriter {
             Answer::Rows(rows) => self.row_list(rows),
             Answer::Versions(versions) => self.version_list(versions),
             Answer::Division { rows, division } => self.division(*rows, division),
+            Answer::Join(joined) => self.joined(joined),
             Answer::Verdict(verdict) => self.verdict(*verdict),
             Answer::Log(log) => self.log(log),
         }
@@ -140,7 +141,7 @@ impl AnswerWriter {
         }
     }
 
-    fn values(&mut self, values: &[Value]) -> Result<(), NoMemory>
+    pub(crate) fn values(&mut self, values: &[Value]) -> Result<(), NoMemory>
         ensures { OnOk result (self.new ≡ record self.old { fields = self.old.fields ++ map value_text values.now }) }
     {
         for value in values {

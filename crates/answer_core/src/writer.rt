@@ -70,6 +70,11 @@ impl AnswerWriter {
         }
     }
 
+    /// Where its memory comes from.
+    pub(crate) fn alloc(&self) -> Global {
+        self.alloc
+    }
+
     /// Drops what was not written.
     pub(crate) fn restart(&mut self)
         ensures { self.new ≡ nothing }

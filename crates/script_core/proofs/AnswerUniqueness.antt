@@ -17,15 +17,18 @@ use Rattle.dip_core.specs.Item as item
 use Rattle.cert_core.proofs.VerdictUniqueness.{one_verdict}
 use Rattle.match_core.specs.Items.{items_of}
 use Rattle.match_core.proofs.ItemIds.{IdsRise-items_of}
+use Rattle.join_core.specs.declared.rows.JoinRow.{JoinRow}
+use Rattle.join_core.proofs.JoinExistence.{one_join}
 use Rattle.command_core.specs.Fields.{both}
-use Rattle.command_core.specs.Meaning.{Meaning, Refuse, Make, Load, Update, Delete, Rows, At, Between, FromTo, Dip, Check, Log}
+use Rattle.command_core.specs.Meaning.{Meaning, Refuse, Make, Load, Update, Delete, Rows, At, Between, FromTo, Dip, Join, Check, Log}
+use Rattle.command_core.specs.Pairs.{NamePair}
 use Rattle.command_core.specs.Records.{Record}
 use Rattle.command_core.specs.declared.refusal.Fault.{Fault}
 use Rattle.answer_core.specs.PrintedRecords.{IsPrintedAs, division_records}
 use Rattle.answer_core.specs.declared.answer.Answer.{Answer}
 use Rattle.answer_core.specs.declared.answer.Answer.TheVariants as answer
-use Rattle.script_core.specs.Answer.{Answers, AnswersChange, AnswersQuery, IsAnswerTo, IsDipOf, IsVerdictOn, IsVersions, Refuses}
-use Rattle.script_core.specs.Effects.{claim_of, delete_in, load_in, make_in, rows_on, rows_told, update_in, versions_told}
+use Rattle.script_core.specs.Answer.{Answers, AnswersChange, AnswersQuery, IsAnswerTo, IsDipOf, IsJoinOf, IsVerdictOn, IsVersions, Refuses}
+use Rattle.script_core.specs.Effects.{Table, claim_of, delete_in, load_in, make_in, rows_on, rows_told, sides_told, update_in, versions_told}
 
 -- ---- what queries are answered
 
@@ -37,6 +40,14 @@ one_versions : (Are : List Version → Type 0) → ((vs ws : List Version) → A
     → (one other : Answer) → IsVersions Are one → IsVersions Are other → one ≡ other
 one_versions Are unique one other p q =
     p.is ∙ (ap answer.Versions (unique p.versions q.versions p.asked q.asked) ∙ sym q.is)
+
+one_join_of : (left right : Table) (on : List NamePair) (one other : Answer) → IsJoinOf left right on one
+    → IsJoinOf left right on other → one ≡ other
+one_join_of left right on one other p q =
+    p.is
+    ∙ (ap (λ (rows : List JoinRow). answer.Join (record { left = left.1; right = right.1; rows = rows }))
+    (one_join left.0 right.0 on left.1 right.1 p.rows q.rows p.joined q.joined)
+    ∙ sym q.is)
 
 one_verdict_on : (items : List Item) (claim : List (List ℕ)) (certificate : Certificate) (one other : Answer)
     → item.IdsRise items → IsVerdictOn items claim certificate one → IsVerdictOn items claim certificate other
@@ -119,6 +130,9 @@ one_given before number (FromTo name first end) one other f g p q =
 one_given before number (Dip name asof) one other f g p q =
     one_query before (rows_told number before asof name) (λ rows. IsDipOf (items_of rows))
     (λ rows read. one_dip_of (items_of rows)) one other f g p q
+one_given before number (Join tables asof) one other f g p q =
+    one_query before (sides_told number before asof tables) (λ sides. IsJoinOf sides.0 sides.1 tables.on)
+    (λ sides read. one_join_of sides.0 sides.1 tables.on) one other f g p q
 one_given before number (Check name parts instant asof body) one other f g p q =
     let told = rows_told number before asof name in
     let claimed = claim_of (number + 1) body in
@@ -144,6 +158,7 @@ one_print (answer.Rows rows) one other divides p q = p ∙ sym q
 one_print (answer.Versions versions) one other divides p q = p ∙ sym q
 one_print (answer.Division rows parts) one other (items, division) (s, at, is) (t, at', is') =
     is ∙ (ap (division_records rows parts) (one_instant_of items parts s t division at at') ∙ sym is')
+one_print (answer.Join joined) one other divides p q = p ∙ sym q
 one_print (answer.Verdict verdict) one other divides p q = p ∙ sym q
 one_print (answer.Log entries) one other divides p q = p ∙ sym q
 
@@ -191,6 +206,10 @@ divides before number (Dip name asof) given after p =
     query-divides before (rows_told number before asof name) (λ rows. IsDipOf (items_of rows))
     (λ rows given is. plain given (answer.Division (length (items_of rows)) is.parts)
     (items_of rows, is.dip.divided.division) is.is) given after p
+divides before number (Join tables asof) given after p =
+    query-divides before (sides_told number before asof tables) (λ sides. IsJoinOf sides.0 sides.1 tables.on)
+    (λ sides given is. plain given
+    (answer.Join (record { left = sides.0.1; right = sides.1.1; rows = is.rows })) tt is.is) given after p
 divides before number (Check name parts instant asof body) given after p =
     query-divides before (both (rows_told number before asof name) (claim_of (number + 1) body))
     (λ read. IsVerdictOn (items_of read.0) read.1 (record { parts = parts; instant = instant }))

@@ -7,3 +7,4 @@ pub mod FrontLemmas
 pub mod OutputUniqueness
 pub mod RunLemmas
 pub mod Progress
+pub mod Comparing

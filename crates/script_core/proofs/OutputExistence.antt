@@ -23,20 +23,23 @@ use Rattle.cert_core.specs.declared.verdict.Certificate.{Certificate}
 use Rattle.cert_core.proofs.VerdictExistence.{some_verdict}
 use Rattle.match_core.specs.Items.{items_of}
 use Rattle.match_core.proofs.ItemIds.{IdsRise-items_of}
+use Rattle.join_core.proofs.JoinExistence.{some_join}
 use Rattle.command_core.specs.Fields.{both}
-use Rattle.command_core.specs.Meaning.{FirstCommand, Meaning, Means, Refuse, Make, Load, Update, Delete, Rows, At, Between, FromTo, Dip, Check, Log}
+use Rattle.command_core.specs.Meaning.{FirstCommand, Meaning, Means, Refuse, Make, Load, Update, Delete, Rows, At, Between, FromTo, Dip, Join, Check, Log}
+use Rattle.command_core.specs.Pairs.{NamePair}
 use Rattle.command_core.specs.Records.{Record}
 use Rattle.command_core.specs.Refusal.{fault}
 use Rattle.command_core.specs.declared.refusal.Fault.{Fault}
 use Rattle.command_core.proofs.MeaningExistence.{some_meaning}
 use Rattle.command_core.proofs.RecordsExistence.{some_records}
-use Rattle.answer_core.specs.PrintedRecords.{IsPrintedAs, commit_records, division_records, error_record, ok_record, row_records, verdict_record, version_records}
+use Rattle.answer_core.specs.JoinedRows.{JoinedRows}
+use Rattle.answer_core.specs.PrintedRecords.{IsPrintedAs, commit_records, division_records, error_record, join_records, ok_record, row_records, verdict_record, version_records}
 use Rattle.answer_core.specs.declared.answer.Answer.{Answer}
 use Rattle.answer_core.specs.declared.answer.Answer.TheVariants as answer
-use Rattle.script_core.specs.Answer.{Answers, AnswersChange, AnswersQuery, IsAnswerTo, IsDipOf, IsVerdictOn, IsVersions, Refuses}
+use Rattle.script_core.specs.Answer.{Answers, AnswersChange, AnswersQuery, IsAnswerTo, IsDipOf, IsJoinOf, IsVerdictOn, IsVersions, Refuses}
 use Rattle.script_core.specs.Refusal.{book_refusal}
 use Rattle.script_core.specs.Script.{AreCommandsOf, Done, Finished, IsOutput, Place, Steps, output_of, start_of}
-use Rattle.script_core.specs.Effects.{change_in, claim_of, columns_told, delete_in, load_in, make_in, pairs_told, rows_of, rows_on, rows_told, update_in, versions_told}
+use Rattle.script_core.specs.Effects.{Table, change_in, claim_of, columns_told, delete_in, load_in, make_in, pairs_told, rows_of, rows_on, rows_told, sides_told, update_in, versions_told}
 use Rattle.script_core.proofs.AnswerUniqueness.{both-first, not_Ok, rise-told}
 use Rattle.script_core.proofs.OutputUniqueness.{takes_one}
 
@@ -123,6 +126,17 @@ some_dip_answer items rise =
       printed = (instant, at, refl);
     }
 
+some_join_answer : (left right : Table) (on : List NamePair) → Told (IsJoinOf left right on)
+some_join_answer left right on =
+    let (rows, joined) = some_join left.0 right.0 on left.1 right.1 in
+    let found : JoinedRows = record { left = left.1; right = right.1; rows = rows } in
+    record {
+      given = answer.Join found;
+      is = record { rows = rows; joined = joined; is = refl };
+      records = join_records found;
+      printed = refl;
+    }
+
 some_verdict_answer : (items : List Item) (claim : List (List ℕ)) (certificate : Certificate) → item.IdsRise items
     → Told (IsVerdictOn items claim certificate)
 some_verdict_answer items claim certificate rise =
@@ -188,6 +202,9 @@ some_reply before number (Dip name asof) legal =
     some_query before (rows_told number before asof name) (λ rows. IsDipOf (items_of rows)) legal
     (λ rows read. some_dip_answer (items_of rows)
     (IdsRise-items_of rows (rise-told number before asof name rows read)))
+some_reply before number (Join tables asof) legal =
+    some_query before (sides_told number before asof tables) (λ sides. IsJoinOf sides.0 sides.1 tables.on) legal
+    (λ sides read. some_join_answer sides.0 sides.1 tables.on)
 some_reply before number (Check name parts instant asof body) legal =
     let told = rows_told number before asof name in
     let claimed = claim_of (number + 1) body in

@@ -19,14 +19,15 @@ use Rattle.book_core.specs.State.{refusal_of}
 use Rattle.version_core.specs.declared.change.Change.{Change}
 use Rattle.version_core.specs.declared.change.Change.TheVariants as change
 use Rattle.command_core.specs.Fields.{natural_in}
-use Rattle.command_core.specs.Pairs.{TextPair}
+use Rattle.match_core.specs.Columns.{columns_refusal}
+use Rattle.command_core.specs.Pairs.{Compared, TextPair}
 use Rattle.command_core.specs.Records.{Record}
 use Rattle.command_core.specs.Refusal.{fault}
 use Rattle.command_core.specs.Words.{begins}
 use Rattle.command_core.specs.declared.refusal.Fault.{Fault}
 use Rattle.command_core.specs.declared.refusal.Refusal.{Refusal}
 use Rattle.command_core.specs.declared.refusal.Refusal.TheVariants.{BadCommand, NoColumn, NoTable}
-use Rattle.script_core.specs.Refusal.{book_refusal, row_refusal, rows_refusal, value_refusal, versions_refusal}
+use Rattle.script_core.specs.Refusal.{book_refusal, query_refusal, row_refusal, rows_refusal, value_refusal, versions_refusal}
 
 -- ---- changes
 
@@ -104,7 +105,27 @@ abbrev pub rows_told : ℕ → History → Option ℕ → List ℕ → Result (L
 rows_told number h asof name =
     map_err (λ refused. fault number (rows_refusal refused)) (rows_given h (unwrap_or asof (length h)) name)
 
--- those that hold at a point
+-- a table: its columns, and its rows
+abbrev pub Table : Type 0
+Table = List Column × List Row
+
+-- a table with the rows that a commit shows, the newest where none is told, or the fault of the command of this
+-- number
+abbrev pub table_told : ℕ → History → Option ℕ → List ℕ → Result Table Fault
+table_told number h asof name =
+    and_then (rows_told number h asof name) (λ rows. map_ok (λ columns. (columns, rows)) (columns_told number h name))
+
+-- two tables whose rows may be compared, or the fault of the command of this number: of the left table, of the
+-- right one, or of the columns
+abbrev pub sides_told : ℕ → History → Option ℕ → Compared → Result (Table × Table) Fault
+sides_told number h asof tables =
+    and_then (table_told number h asof tables.left) (λ left.
+    and_then (table_told number h asof tables.right) (λ right.
+    refused_or
+    (option_map (λ refused. fault number (query_refusal refused)) (columns_refusal left.0 right.0 tables.on))
+    (left, right)))
+
+-- the rows that hold at a point
 abbrev pub rows_on : ℤ → List Row → List Row
 rows_on point rows = filter (λ row. holds_at point row.period) rows
 

@@ -9,6 +9,8 @@ use Rattle.book_core.specs.declared.refusal.RowsRefused.{RowsRefused}
 use Rattle.book_core.specs.declared.refusal.RowsRefused.TheVariants as rows
 use Rattle.book_core.specs.declared.refusal.VersionsRefused.{VersionsRefused}
 use Rattle.book_core.specs.declared.refusal.VersionsRefused.TheVariants as versions
+use Rattle.match_core.specs.declared.columns.QueryRefused.{QueryRefused}
+use Rattle.match_core.specs.declared.columns.QueryRefused.TheVariants as query
 use Rattle.command_core.specs.declared.refusal.Refusal.{Refusal}
 use Rattle.command_core.specs.declared.refusal.Refusal.TheVariants.{BadNumber, BadPeriod, BadPoint, BadUtf8, Full, Future, KeyOverlap, NoColumn, NoTable, TableExists, TooLong, TooMany, WrongKind, WrongWidth}
 
@@ -47,3 +49,8 @@ abbrev pub versions_refusal : VersionsRefused → Refusal
 versions_refusal versions.Future = Future
 versions_refusal versions.BadPeriod = BadPeriod
 versions_refusal versions.NoTable = NoTable
+
+-- what is wrong with the columns that tables are compared by
+abbrev pub query_refusal : QueryRefused → Refusal
+query_refusal query.NoColumn = NoColumn
+query_refusal query.WrongKind = WrongKind

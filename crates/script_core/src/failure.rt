@@ -2,10 +2,11 @@
 ghost use Rattle.std.specs.Prelude.{◌≡◌};
 ghost use Rattle.command_core.specs.declared.refusal.Refusal as command;
 ghost use Rattle.script_core.specs.Failure.{failure_at, refused};
-ghost use Rattle.script_core.specs.Refusal.{book_refusal, row_refusal, rows_refusal, value_refusal, versions_refusal};
+ghost use Rattle.script_core.specs.Refusal.{book_refusal, query_refusal, row_refusal, rows_refusal, value_refusal, versions_refusal};
 
 use book_core::{BookRefused, RowsRefused, VersionsRefused};
 use command_core::{Fault, Refusal};
+use match_core::QueryRefused;
 use row_core::{RowRefused, ValueRefused};
 
 /// Why a command is not done.
@@ -100,6 +101,17 @@ impl Told for BookRefused {
             BookRefused::NoColumn => Refusal::NoColumn,
             BookRefused::WrongKind => Refusal::WrongKind,
             BookRefused::KeyOverlap => Refusal::KeyOverlap,
+        }
+    }
+}
+
+impl Told for QueryRefused {
+    ghost name = { query_refusal };
+
+    fn told(self) -> Refusal {
+        match self {
+            QueryRefused::NoColumn => Refusal::NoColumn,
+            QueryRefused::WrongKind => Refusal::WrongKind,
         }
     }
 }

@@ -1,12 +1,13 @@
-//! The values of a portion's settings and conditions.
-ghost use Rattle.std.specs.Prelude.{◌≡◌, Ok, MatchResult};
-ghost use Rattle.command_core.specs.PairsIn.{pairs_in};
+//! The values of a portion's settings and conditions, and the columns of a join.
+ghost use Rattle.std.specs.Prelude.{◌≡◌, IfOk, Ok, MatchResult};
+ghost use Rattle.command_core.specs.PairsIn.{name_pairs_in, pairs_in};
 ghost use Rattle.script_core.specs.Failure.{IsFailureOf, IsRecordFailure};
 ghost use Rattle.script_core.specs.Effects.{pair_read, pairs_told};
 
 use crate::failure::{Failure, failure_at, refused};
 use book_core::Pairs;
-use command_core::{Refusal, TextPairs};
+use command_core::{NamePairs, Refusal, TextPairs};
+use period_core::NoMemory;
 use row_core::{Name, Schema, Value};
 use std::alloc::Global;
 
@@ -47,6 +48,19 @@ pub(crate) fn read_pairs(
         if let Some(pair) = texts.get(place) {
             let value = value_named(alloc, schema, number, pair.0, pair.1)?;
             pairs.push((pair.0, value))?;
+        }
+    }
+    Ok(pairs)
+}
+
+/// The pairs of columns' names that two tables are compared by.
+pub(crate) fn name_pairs(alloc: Global, names: NamePairs<'_>) -> Result<Vec<(Name, Name)>, NoMemory>
+    ensures { IfOk result (λ pairs. pairs.items ≡ name_pairs_in names.entry) }
+{
+    let mut pairs = Vec::new(alloc);
+    for place in 0..names.len() {
+        if let Some(pair) = names.get(place) {
+            pairs.push(pair)?;
         }
     }
     Ok(pairs)

@@ -1,27 +1,33 @@
 //! What queries read of the book.
-ghost use Rattle.std.specs.Prelude.{◌≡◌, ◌+◌, ◌<◌, ◌≤◌, ◌^◌, All, IfErr, IfOk, IsTrue, length, nat_le, nat_lt};
+ghost use Rattle.std.specs.Prelude.{◌≡◌, ◌+◌, ◌<◌, ◌≤◌, ◌^◌, All, IfErr, IfOk, IsTrue, Ok, length, nat_le, nat_lt};
 ghost use Rattle.book_core.specs.Versions.{AreBetween, AreFromTo, log_of};
 ghost use Rattle.command_core.specs.Fields.{both};
 ghost use Rattle.command_core.specs.Lines.{lines_in};
+ghost use Rattle.command_core.specs.PairsIn.{compared_in, name_pairs_in};
+ghost use Rattle.work_core.specs.Limits.{worker_limit};
 ghost use Rattle.match_core.specs.Items.{items_of};
 ghost use Rattle.row_core.specs.Rows.{IdsRise};
 ghost use Rattle.row_core.specs.Schema.{fits};
-ghost use Rattle.script_core.specs.Answer.{IsDipOf, IsVerdictOn, IsVersions};
+ghost use Rattle.script_core.specs.Answer.{IsDipOf, IsJoinOf, IsVerdictOn, IsVersions};
 ghost use Rattle.script_core.specs.Performing.{Gives};
 ghost use Rattle.row_core.specs.declared.failure.Failure.TheVariants.{NoMemory};
-ghost use Rattle.script_core.specs.Effects.{claim_of, rows_on, rows_told, versions_told};
+ghost use Rattle.script_core.specs.Effects.{claim_of, columns_told, rows_on, rows_told, sides_told, versions_told};
 ghost use Rattle.answer_core.specs.declared.answer.Answer.TheVariants.{Log, Rows};
 
 use crate::claims::read_claim;
 use crate::failure::{Failure, failure_at, refused};
-use answer_core::Answer;
+use crate::pairs::name_pairs;
+use answer_core::{Answer, Joined};
 use book_core::Book;
 use cert_core::{Certificate, check_division};
-use command_core::{Lines, Refusal};
+use command_core::{Lines, Refusal, TwoTables};
+use join_core::join;
 use period_core::Point;
 use query_core::{Side, at, dip, items};
 use row_core::{Name, RowList, Schema};
 use std::alloc::Global;
+use std::thread::Threads;
+use work_core::OpenGate;
 
 /// A table's columns, and its rows that a commit shows, the newest where none is told, which the command
 /// of this number asks for.
@@ -32,6 +38,7 @@ fn shown_table<'a>(
     asof: Option<u64>,
 ) -> Result<(&'a Schema, RowList), Failure>
     ensures gives { Gives (rows_told number book.now asof table) (λ rows read. read.1 ≡ rows) result }
+    ensures columns { IfOk result (λ read. columns_told number book.now table ≡ Ok read.0.now) }
     ensures few { IfOk result (λ read. length read.1 ≤ 1_000_000) }
     ensures rise { IfOk result (λ read. IdsRise read.1) }
     ensures fit { IfOk result (λ read. All (λ row. IsTrue (fits read.0.now row.values)) read.1) }
@@ -97,6 +104,37 @@ pub(crate) fn divide(
         rows: rows.len(),
         division: dip(alloc, side)?,
     })
+}
+
+/// The rows of two tables that are equal in each pair of columns and held together, by so many workers.
+pub(crate) fn join_tables<T: Threads + Sync>(
+    rt: &T,
+    alloc: Global,
+    book: &Book,
+    number: u64,
+    tables: TwoTables<'_>,
+    asof: Option<u64>,
+    workers: u32,
+) -> Result<Answer, Failure>
+    requires { (0 < workers) × (workers ≤ worker_limit) }
+    ensures { Gives (sides_told number book.now asof (compared_in tables.entry))
+        (λ sides. IsJoinOf sides.0 sides.1 (name_pairs_in tables.entry.on)) result }
+{
+    let (left_columns, left) = shown_table(book, number, tables.left, asof)?;
+    let (right_columns, right) = shown_table(book, number, tables.right, asof)?;
+    let on = name_pairs(alloc, tables.on)?;
+    let left_side = Side {
+        schema: left_columns,
+        rows: &left,
+    };
+    let right_side = Side {
+        schema: right_columns,
+        rows: &right,
+    };
+    match join(rt, alloc, left_side, right_side, &on, workers, &OpenGate) {
+        Ok(found) => Ok(Answer::Join(Joined::new(left, right, found.rows))),
+        Err(why) => Err(failure_at(number, why)),
+    }
 }
 
 /// The verdict on a claimed division of a table's rows, the body's first record being of the number

@@ -6,6 +6,7 @@ ghost use Rattle.stream_core.specs.Counted.{failures_of, inner_of, sink_of};
 ghost use Rattle.stream_core.specs.FailureCount.{greatest_count};
 ghost use Rattle.stream_core.specs.Faults.{last_failures};
 ghost use Rattle.command_core.specs.Meaning.{behind_length};
+ghost use Rattle.work_core.specs.Limits.{worker_limit};
 ghost use Rattle.script_core.specs.Answer.{Answers, IsAnswerTo};
 ghost use Rattle.script_core.specs.Performing.{Performs, Prints};
 ghost use Rattle.script_core.specs.Script.{AppendsFront, ExplainsRun, IsOutput, RunsAll, streams_of};
@@ -14,7 +15,7 @@ ghost use Rattle.script_core.specs.Writing.{AnswersAll, ExplainsAnswering};
 use crate::changes::{delete, load, make, update};
 use crate::failure::Failure;
 use crate::outcome::Outcome;
-use crate::queries::{between, check, divide, from_to, log, rows, rows_on};
+use crate::queries::{between, check, divide, from_to, join_tables, log, rows, rows_on};
 use answer_core::{Answer, AnswerWriter};
 use book_core::Book;
 use cert_core::Certificate;
@@ -22,16 +23,20 @@ use command_core::{Command, Cut, Lines, Records, next_command, read_records};
 use period_core::NoMemory;
 use std::alloc::{AllocError, Global};
 use std::io::{Read, Write};
+use std::thread::Threads;
 use stream_core::{Counted, Patience, RunFault, read_script};
 
 /// Does a command, whose first record has this number.
-fn perform(
+fn perform<T: Threads + Sync>(
+    rt: &T,
     alloc: Global,
     book: &mut Book,
     number: u64,
     command: Command<'_>,
+    workers: u32,
 ) -> Result<Answer, Failure>
-    requires { number + behind_length (meaning_of command) < 2 ^ 64 }
+    requires numbers { number + behind_length (meaning_of command) < 2 ^ 64 }
+    requires workers { (0 < workers) × (workers ≤ worker_limit) }
     ensures { Performs book.old number (meaning_of command.entry) result book.new }
 {
     match command {
@@ -54,6 +59,9 @@ fn perform(
         Command::Between { table, first, last } => between(book, number, table, first, last),
         Command::FromTo { table, first, end } => from_to(book, number, table, first, end),
         Command::Dip { table, asof } => divide(alloc, book, number, table, asof),
+        Command::Join { tables, asof } => {
+            join_tables(rt, alloc, book, number, tables, asof, workers)
+        }
         Command::Check {
             table,
             parts,
@@ -69,16 +77,19 @@ fn perform(
 }
 
 /// The answer to a command, whose first record has this number: a refusal is one too.
-fn answer(
+fn answer<T: Threads + Sync>(
+    rt: &T,
     alloc: Global,
     book: &mut Book,
     number: u64,
     command: Command<'_>,
+    workers: u32,
 ) -> Result<Answer, NoMemory>
-    requires { number + behind_length (meaning_of command) < 2 ^ 64 }
+    requires numbers { number + behind_length (meaning_of command) < 2 ^ 64 }
+    requires workers { (0 < workers) × (workers ≤ worker_limit) }
     ensures { IfOk result (λ answer. IsAnswerTo book.old number (meaning_of command.entry) answer book.new) }
 {
-    match perform(alloc, book, number, command) {
+    match perform(rt, alloc, book, number, command, workers) {
         Ok(answer) => Ok(answer),
         Err(Failure::Refused(fault)) => Ok(Answer::Refused(fault)),
         Err(Failure::NoMemory) => Err(AllocError),
@@ -87,32 +98,38 @@ fn answer(
 
 /// Does a command, whose first record has this number, and prints its answer; tells how many records of
 /// the answer tell of a refusal.
-fn answer_command(
+fn answer_command<T: Threads + Sync>(
+    rt: &T,
     alloc: Global,
     book: &mut Book,
     number: u64,
     command: Command<'_>,
+    workers: u32,
     printer: &mut AnswerWriter,
 ) -> Result<u64, NoMemory>
     requires numbers { number + behind_length (meaning_of command) < 2 ^ 64 }
+    requires workers { (0 < workers) × (workers ≤ worker_limit) }
     requires begins { printer.old.fields ≡ [] }
     ensures printed { IfOk result
         (Prints (λ records. Answers book.old number (meaning_of command.entry) records book.new)
         printer.old printer.new) }
     ensures few { IfOk result (λ errors. errors ≤ 1) }
 {
-    let answer = answer(alloc, book, number, command)?;
+    let answer = answer(rt, alloc, book, number, command, workers)?;
     printer.print(&answer)?;
     Ok(answer.refusals())
 }
 
 /// Answers the commands of some records, and writes each answer whole.
-fn answer_all<W: Write>(
+fn answer_all<T: Threads + Sync, W: Write>(
+    rt: &T,
     alloc: Global,
     records: &Records,
+    workers: u32,
     writer: &mut Counted<W>,
     patience: &mut Patience,
 ) -> Result<Outcome, RunFault>
+    requires { (0 < workers) × (workers ≤ worker_limit) }
     ensures ok { IfOk result (AnswersAll records.now (sink_of W.contents writer.old) (sink_of W.contents writer.new)) }
     ensures fault { IfErr result
         (ExplainsAnswering records.now (sink_of W.contents writer.old) (sink_of W.contents writer.new)) }
@@ -131,7 +148,8 @@ fn answer_all<W: Write>(
     while at < lines.len() {
         let number = at as u64 + 1;
         let Cut { command, taken } = next_command(alloc, lines.range(at, lines.len()), number)?;
-        let errors = answer_command(alloc, &mut book, number, command, &mut printer)?;
+        let errors =
+            answer_command(rt, alloc, &mut book, number, command, workers, &mut printer)?;
         printer.write_to(writer, patience)?;
         outcome.commands += 1;
         outcome.errors += errors;
@@ -144,22 +162,22 @@ fn answer_all<W: Write>(
 /// answers how many commands there were, and how many `error` records were written.
 ///
 /// A script has at most 67,108,864 bytes. A read or a write that was interrupted is tried again, at
-/// most 1,000 times in a run. The writer is not flushed. There are 1 to 64 workers, whose number has
-/// no effect yet.
+/// most 1,000 times in a run. The writer is not flushed. Joins are run by 1 to 64 workers, and answer the
+/// same by any number of them.
 ///
 /// # Errors
 ///
 /// `ReadFault` or `TooLong` where the script could not be read: then nothing is written. `NoMemory`
 /// with the answers of all commands before written. `WriteFault` with those and a front of the
 /// command's own answer.
-pub fn run<R: Read, W: Write>(
+pub fn run<T: Threads + Sync, R: Read, W: Write>(
+    rt: &T,
     alloc: Global,
     reader: &mut Counted<R>,
     writer: &mut Counted<W>,
     workers: u32,
 ) -> Result<Outcome, RunFault>
-    requires some_workers { 0 < workers }
-    requires few_workers { workers ≤ 64 }
+    requires workers { (0 < workers) × (workers ≤ worker_limit) }
     requires reads { failures_of reader.old < greatest_count }
     requires writes { failures_of writer.old < greatest_count }
 
@@ -192,12 +210,11 @@ pub fn run<R: Read, W: Write>(
     ensures tries { failures_of reader.new + failures_of writer.new
         ≤ failures_of reader.old + failures_of writer.old + 1_000 + last_failures result }
 {
-    let _ = workers;
     let mut patience = Patience::new();
     let records = {
         // The script is given back before the first command.
         let script = read_script(alloc, reader, &mut patience)?;
         read_records(alloc, script.as_slice())?
     };
-    answer_all(alloc, &records, writer, &mut patience)
+    answer_all(rt, alloc, &records, workers, writer, &mut patience)
 }

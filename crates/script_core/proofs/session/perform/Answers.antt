@@ -5,16 +5,16 @@ use Rattle.cert_core.specs.declared.verdict.Certificate.{Certificate}
 use Rattle.match_core.specs.Items.{items_of}
 use Rattle.command_core.specs.Fields.{both}
 use Rattle.command_core.specs.Lines.{lines_in}
-use Rattle.command_core.specs.Meaning.{At, Between, Check, Delete, Dip, FromTo, Load, Make, Rows, Update}
-use Rattle.command_core.specs.PairsIn.{pairs_in}
+use Rattle.command_core.specs.Meaning.{At, Between, Check, Delete, Dip, FromTo, Join, Load, Make, Rows, Update}
+use Rattle.command_core.specs.PairsIn.{compared_in, pairs_in}
 use Rattle.answer_core.specs.declared.answer.Answer.TheVariants as answer
-use Rattle.script_core.specs.Answer.{IsDipOf, IsVerdictOn, IsVersions}
-use Rattle.script_core.specs.Effects.{claim_of, delete_in, load_in, make_in, rows_on, rows_told, update_in, versions_told}
+use Rattle.script_core.specs.Answer.{IsDipOf, IsJoinOf, IsVerdictOn, IsVersions}
+use Rattle.script_core.specs.Effects.{claim_of, delete_in, load_in, make_in, rows_on, rows_told, sides_told, update_in, versions_told}
 use Rattle.script_core.proofs.Answering.{change-answered, query-answered}
 use Rattle.script_core.proofs.session.perform.Goals as goal
 
 pub returns-in-Make : goal.returns-in-Make
-returns-in-Make c =
+returns-in-Make g c =
     let number = c.args.number in
     let before = c.args.book.now in
     let table = c.in-Make.table in
@@ -24,7 +24,7 @@ returns-in-Make c =
     (make_in number before table schema) before c.make.new.book c.make.result (λ given it. it) c.make.ensures)
 
 pub returns-in-Load : goal.returns-in-Load
-returns-in-Load c =
+returns-in-Load g c =
     let number = c.args.number in
     let before = c.args.book.now in
     let table = c.in-Load.table in
@@ -34,7 +34,7 @@ returns-in-Load c =
     (load_in number before table body) before c.load.new.book c.load.result (λ given it. it) c.load.ensures)
 
 pub returns-in-Update : goal.returns-in-Update
-returns-in-Update c =
+returns-in-Update g c =
     let number = c.args.number in
     let before = c.args.book.now in
     let table = c.in-Update.table in
@@ -47,7 +47,7 @@ returns-in-Update c =
     (λ given it. it) c.update.ensures)
 
 pub returns-in-Delete : goal.returns-in-Delete
-returns-in-Delete c =
+returns-in-Delete g c =
     let number = c.args.number in
     let before = c.args.book.now in
     let table = c.in-Delete.table in
@@ -59,7 +59,7 @@ returns-in-Delete c =
     (λ given it. it) c.delete.ensures)
 
 pub returns-in-Rows : goal.returns-in-Rows
-returns-in-Rows c =
+returns-in-Rows g c =
     let number = c.args.number in
     let before = c.args.book.now in
     let table = c.in-Rows.table in
@@ -68,7 +68,7 @@ returns-in-Rows c =
     (λ rows given. given ≡ answer.Rows rows) c.rows.result (λ given it. it) c.rows.ensures)
 
 pub returns-in-At : goal.returns-in-At
-returns-in-At c =
+returns-in-At g c =
     let number = c.args.number in
     let before = c.args.book.now in
     let table = c.in-At.table in
@@ -78,7 +78,7 @@ returns-in-At c =
     (λ rows given. given ≡ answer.Rows (rows_on point rows)) c.rows_on.result (λ given it. it) c.rows_on.ensures)
 
 pub returns-in-Between : goal.returns-in-Between
-returns-in-Between c =
+returns-in-Between g c =
     let number = c.args.number in
     let before = c.args.book.now in
     let table = c.in-Between.table in
@@ -90,7 +90,7 @@ returns-in-Between c =
     (λ given it. it) c.between.ensures)
 
 pub returns-in-FromTo : goal.returns-in-FromTo
-returns-in-FromTo c =
+returns-in-FromTo g c =
     let number = c.args.number in
     let before = c.args.book.now in
     let table = c.in-FromTo.table in
@@ -102,7 +102,7 @@ returns-in-FromTo c =
     (λ given it. it) c.from_to.ensures)
 
 pub returns-in-Dip : goal.returns-in-Dip
-returns-in-Dip c =
+returns-in-Dip g c =
     let number = c.args.number in
     let before = c.args.book.now in
     let table = c.in-Dip.table in
@@ -111,7 +111,7 @@ returns-in-Dip c =
     (λ rows. IsDipOf (items_of rows)) c.divide.result (λ given it. it) c.divide.ensures)
 
 pub returns-in-Check : goal.returns-in-Check
-returns-in-Check c =
+returns-in-Check g c =
     let number = c.args.number in
     let before = c.args.book.now in
     let table = c.in-Check.table in
@@ -124,3 +124,12 @@ returns-in-Check c =
     (query-answered number (Check table parts instant asof body) before
     (both (rows_told number before asof table) (claim_of (number + 1) body))
     (λ read. IsVerdictOn (items_of read.0) read.1 certificate) c.check.result (λ given it. it) c.check.ensures)
+
+pub returns-in-Join : goal.returns-in-Join
+returns-in-Join g c =
+    let number = c.args.number in
+    let before = c.args.book.now in
+    let tables = compared_in c.in-Join.tables in
+    let asof = c.in-Join.asof in
+    rw c.in-Join.is (query-answered number (Join tables asof) before (sides_told number before asof tables)
+    (λ sides. IsJoinOf sides.0 sides.1 tables.on) c.join_tables.result (λ given it. it) c.join_tables.ensures)

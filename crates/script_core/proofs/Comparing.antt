@@ -1,0 +1,26 @@
+-- Two tables, read one after the other.
+use Rattle.std.proofs.Common.{◌≡◌, ◌∙◌, ℕ, List, Option, None, Result, Ok, ap, refl}
+use Rattle.std.specs.Prelude.{option_map}
+use Rattle.book_core.specs.History.{History}
+use Rattle.command_core.specs.Pairs.{Compared}
+use Rattle.command_core.specs.Refusal.{fault}
+use Rattle.match_core.specs.Columns.{columns_refusal}
+use Rattle.row_core.specs.Refusals.{and_then, map_ok, refused_or}
+use Rattle.row_core.specs.declared.row.Row.{Row}
+use Rattle.row_core.specs.declared.schema.Column.{Column}
+use Rattle.script_core.specs.Effects.{Table, columns_told, rows_told, sides_told, table_told}
+use Rattle.script_core.specs.Refusal.{query_refusal}
+
+-- its rows and its columns
+pub table-read : (number : ℕ) (h : History) (asof : Option ℕ) (name : List ℕ) (columns : List Column) (rows : List Row)
+    → rows_told number h asof name ≡ Ok rows → columns_told number h name ≡ Ok columns
+    → table_told number h asof name ≡ Ok (columns, rows)
+table-read number h asof name columns rows read told =
+    ap (λ r. and_then r (λ (rows : List Row). map_ok (λ (columns : List Column). (columns, rows)) (columns_told number h name))) read
+    ∙ ap (map_ok (λ (columns : List Column). (columns, rows))) told
+
+-- both, whose columns may be compared
+pub sides-read : (number : ℕ) (h : History) (asof : Option ℕ) (tables : Compared) (left right : Table)
+    → table_told number h asof tables.left ≡ Ok left → table_told number h asof tables.right ≡ Ok right
+    → columns_refusal left.0 right.0 tables.on ≡ None → sides_told number h asof tables ≡ Ok (left, right)
+sides-read number h asof tables left right one other allowed = rw (one, other, allowed) refl
