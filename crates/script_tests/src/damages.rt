@@ -8,12 +8,16 @@ use std::alloc::Global;
 use std::fmt::Write;
 use std::process::Abort;
 use std::test::Fail;
+use std::thread::Threads;
 
 // What a script is answered.
-fn answers_of(alloc: Global, script: &[u8]) -> Result<Vec<u8>, Fail> {
+fn answers_of(
+    rt: &(impl Alloc<A = Global> + Threads + Sync),
+    script: &[u8],
+) -> Result<Vec<u8>, Fail> {
     let mut reader = Counted::new(script);
-    let mut writer = Counted::new(Vec::new(alloc));
-    run(alloc, &mut reader, &mut writer, 4)?;
+    let mut writer = Counted::new(Vec::new(rt.alloc()));
+    run(rt, rt.alloc(), &mut reader, &mut writer, 4)?;
     Ok(writer.into_inner())
 }
 
@@ -97,10 +101,14 @@ struct Claimed {
 
 impl Claimed {
     // What `dip` answers of the rows.
-    fn by_dip(alloc: Global, rows: &[Row]) -> Result<Claimed, Fail> {
+    fn by_dip(
+        rt: &(impl Alloc<A = Global> + Threads + Sync),
+        rows: &[Row],
+    ) -> Result<Claimed, Fail> {
+        let alloc = rt.alloc();
         let mut script = script_of(alloc, rows)?;
         script.push_str("dip,t\n")?;
-        let answers = answers_of(alloc, script.as_bytes())?;
+        let answers = answers_of(rt, script.as_bytes())?;
         let mut claimed = Claimed {
             count: 0,
             instant: String::new(alloc),
@@ -280,8 +288,11 @@ impl Trial {
     }
 
     // Runs the script.
-    fn check(&self, rt: &(impl Abort + Alloc<A = Global>)) -> Result<(), Fail> {
-        let answers = answers_of(rt.alloc(), self.script.as_bytes())?;
+    fn check(
+        &self,
+        rt: &(impl Abort + Alloc<A = Global> + Threads + Sync),
+    ) -> Result<(), Fail> {
+        let answers = answers_of(rt, self.script.as_bytes())?;
         assert_eq!(rt; str::from_utf8(&answers)?, self.answers.as_str());
         Ok(())
     }
@@ -292,7 +303,7 @@ fn what_dip_answers_is_certified(rt: HostRuntime) -> Result<(), Fail> {
     let mut dice = Dice { state: 1 };
     for count in 0..=60 {
         let rows = make_rows(rt.alloc(), &mut dice, count)?;
-        let claimed = Claimed::by_dip(rt.alloc(), &rows)?;
+        let claimed = Claimed::by_dip(&rt, &rows)?;
         assert_eq!(rt; claimed.parts.len() as u64, claimed.count);
         let mut trial = Trial::new(rt.alloc(), &rows)?;
         trial.add(&claimed, "yes")?;
@@ -307,7 +318,7 @@ fn each_damage_gets_its_verdict(rt: HostRuntime) -> Result<(), Fail> {
     let mut verdicts = String::new(rt.alloc());
     for count in 0..=60 {
         let rows = make_rows(rt.alloc(), &mut dice, count)?;
-        let claimed = Claimed::by_dip(rt.alloc(), &rows)?;
+        let claimed = Claimed::by_dip(&rt, &rows)?;
         let mut trial = Trial::new(rt.alloc(), &rows)?;
         trial.add_wrong_ids(rt.alloc(), &rows, &claimed)?;
         trial.add_wrong_counts(rt.alloc(), &claimed)?;

@@ -4,6 +4,7 @@ use script_core::{Counted, Outcome, run};
 use std::alloc::Global;
 use std::process::Abort;
 use std::test::Fail;
+use std::thread::Threads;
 
 // A script, its answers, and how many commands and refusals there are.
 struct Case {
@@ -13,10 +14,13 @@ struct Case {
     errors: u64,
 }
 
-fn check(rt: &(impl Abort + Alloc<A = Global>), case: &Case) -> Result<(), Fail> {
+fn check(
+    rt: &(impl Abort + Alloc<A = Global> + Threads + Sync),
+    case: &Case,
+) -> Result<(), Fail> {
     let mut reader = Counted::new(case.script);
     let mut writer = Counted::new(Vec::new(rt.alloc()));
-    let outcome = run(rt.alloc(), &mut reader, &mut writer, 4)?;
+    let outcome = run(rt, rt.alloc(), &mut reader, &mut writer, 4)?;
     let want = Outcome {
         commands: case.commands,
         errors: case.errors,

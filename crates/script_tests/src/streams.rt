@@ -110,7 +110,7 @@ fn takes_a_thousand_interruptions(rt: HostRuntime) -> Result<(), Fail> {
             ..slowly(SCRIPT)
         });
         let mut writer = Counted::new(Vec::new(rt.alloc()));
-        let outcome = run(rt.alloc(), &mut reader, &mut writer, 1);
+        let outcome = run(&rt, rt.alloc(), &mut reader, &mut writer, 1);
         assert_eq!(rt; outcome.map(|_| ()), want);
         assert_eq!(rt; reader.failures(), interruptions as u64);
         let written = writer.into_inner();
@@ -133,7 +133,7 @@ fn reads_and_writes_share_the_thousand(rt: HostRuntime) -> Result<(), Fail> {
             taken: Vec::new(rt.alloc()),
             interruptions,
         });
-        let outcome = run(rt.alloc(), &mut reader, &mut writer, 1);
+        let outcome = run(&rt, rt.alloc(), &mut reader, &mut writer, 1);
         assert_eq!(rt; outcome.map(|_| ()), want);
         assert_eq!(rt; reader.failures(), 600);
         assert_eq!(rt; writer.failures(), interruptions as u64);
@@ -167,7 +167,7 @@ fn a_failed_read_writes_nothing(rt: HostRuntime) -> Result<(), Fail> {
             ..slowly(SCRIPT)
         });
         let mut writer = Counted::new(Vec::new(rt.alloc()));
-        let outcome = run(rt.alloc(), &mut reader, &mut writer, 1);
+        let outcome = run(&rt, rt.alloc(), &mut reader, &mut writer, 1);
         assert_eq!(rt; outcome.err(), Some(RunFault::ReadFault));
         assert!(rt; writer.into_inner().is_empty());
         assert_eq!(rt; reader.failures(), 1);
@@ -183,7 +183,7 @@ fn a_full_writer_has_a_front_of_the_answers(rt: HostRuntime) -> Result<(), Fail>
             taken: Vec::new(rt.alloc()),
             room,
         });
-        let outcome = run(rt.alloc(), &mut reader, &mut writer, 1);
+        let outcome = run(&rt, rt.alloc(), &mut reader, &mut writer, 1);
         assert_eq!(rt; outcome.err(), Some(RunFault::WriteFault));
         assert_eq!(rt; writer.failures(), 1);
         let narrow = writer.into_inner();
@@ -196,7 +196,7 @@ fn a_full_writer_has_a_front_of_the_answers(rt: HostRuntime) -> Result<(), Fail>
 fn a_script_has_a_limit(rt: HostRuntime) -> Result<(), Fail> {
     let mut reader = Counted::new(Flood { left: 67_108_865 });
     let mut writer = Counted::new(Vec::new(rt.alloc()));
-    let outcome = run(rt.alloc(), &mut reader, &mut writer, 1);
+    let outcome = run(&rt, rt.alloc(), &mut reader, &mut writer, 1);
     assert_eq!(rt; outcome.err(), Some(RunFault::TooLong));
     assert!(rt; writer.into_inner().is_empty());
     Ok(())
@@ -206,7 +206,7 @@ fn a_script_has_a_limit(rt: HostRuntime) -> Result<(), Fail> {
 fn a_script_may_reach_its_limit(rt: HostRuntime) -> Result<(), Fail> {
     let mut reader = Counted::new(Flood { left: 67_108_864 });
     let mut writer = Counted::new(Vec::new(rt.alloc()));
-    let outcome = run(rt.alloc(), &mut reader, &mut writer, 1)?;
+    let outcome = run(&rt, rt.alloc(), &mut reader, &mut writer, 1)?;
     assert_eq!(rt; outcome.errors, 1);
     assert_eq!(rt;
         writer.into_inner().as_slice(),
