@@ -1,73 +1,110 @@
--- What workers hand back, put together.
-use Rattle.std.proofs.Common.{◌≡◌, ℕ, ◌+◌, ◌≤◌, max, All, List, [], ◌∷◌, ◌++◌, Result, Ok, Err, IfOk, IsOk, ap, ◌∙◌, sym, subst, arith}
-use Rattle.std.proofs.lemmas.Bool.Decides.{nat_tests}
+-- What workers keep, and what they hand back.
+use Rattle.std.proofs.Common.{◌≡◌, ◌⊎◌, ℕ, zero, suc, ◌+◌, ◌<◌, ◌≤◌, max, List, [], ◌∷◌, ◌++◌, length, Some, Option, slice_set, ap, ◌∙◌, sym, subst, inl, inr, ⊎_elim, arith, length-set}
 use Rattle.std.proofs.lemmas.List.{map-append}
-use Rattle.std.proofs.lemmas.List.Elements.{All-append, All-push}
-use Rattle.std.specs.Global.{Vec}
+use Rattle.std.proofs.lemmas.List.Elements.{All-push, All-same}
 use Rattle.atomic_table.specs.Table.{Me}
 use Rattle.work_core.specs.declared.claim_view.ClaimView.{ClaimView}
 use Rattle.work_core.specs.declared.job.PairWork as PairWork
+use Rattle.work_core.specs.declared.kept.Kept.{Kept}
 use Rattle.work_core.specs.declared.numbered.Numbered.{Numbered}
 use Rattle.work_core.specs.Claims.{joined_view}
+use Rattle.work_core.specs.Collected.{AreAtTheirPlaces}
 use Rattle.work_core.specs.Counting.{times}
-use Rattle.work_core.specs.Workers.{numbers_of, IsOfItsPair, Extends, AreOfDrawn}
+use Rattle.work_core.specs.Workers.{numbers_of, count_at, count_kept, Keeps, IsOfItsPair, IsRun, AreOfDrawn}
 use Rattle.work_core.proofs.Counting.{times-append}
+use Rattle.work_core.proofs.Places.{count_at-set, at_their_places-set}
 
+-- the numbers of two lists of values
 pub times-numbers-append : {T : Type 0} (x : ℕ) (us vs : List (Numbered T))
     → times x (numbers_of (us ++ vs)) ≡ times x (numbers_of us) + times x (numbers_of vs)
 times-numbers-append x us vs =
     ap (times x) (map-append (λ v. v.number) us vs) ∙ times-append x (numbers_of us) (numbers_of vs)
 
+-- a number is below another or not
+below_or_not : (n m : ℕ) → (n < m) ⊎ (m ≤ n)
+below_or_not n zero = inr (omega arith)
+below_or_not zero (suc m) = inl (omega arith)
+below_or_not (suc n) (suc m) = ⊎_elim (λ h. inl (omega (arith, h))) (λ h. inr (omega (arith, h))) (below_or_not n m)
+
+-- a value more at the places or in the list, and the rest as before
+put_more : (l a b after listed : ℕ) → after ≡ b → listed ≡ l → (0 < a → 0 < b) → 0 < a + l → 0 < after + listed
+put_more (suc l) a b after listed e f h some = omega (arith, f)
+put_more zero a b after listed e f h some = let p : 0 < b = h (omega (arith, some)) in omega (arith, p, e)
+
+-- what was kept, and what is kept now
+kept_more : {T : Type 0} (n x : ℕ) (o : T) (before after : Kept T) → Keeps n o before after
+    → 0 < count_kept before x + times x (n ∷ []) → 0 < count_kept after x
+kept_more {T} n x o before after keeps was =
+    let old = before.places.items in
+    ⊎_elim
+    (λ (inside : n < length old).
+    let new = keeps.placed inside in
+    let at = ap (λ (l : List (Option T)). count_at l x) new.0 in
+    let listed = ap (λ (l : List (Numbered T)). times x (numbers_of l)) new.1 in
+    put_more (times x (numbers_of before.values.items)) (count_at old x + times x (n ∷ []))
+    (count_at (slice_set old n (Some o)) x)
+    (count_at after.places.items x) (times x (numbers_of after.values.items)) at listed (count_at-set old n x o inside)
+    (omega (arith, was)))
+    (λ (past : length old ≤ n).
+    let new = keeps.listed past in
+    let at = ap (λ (l : List (Option T)). count_at l x) new.0 in
+    let listed = ap (λ (l : List (Numbered T)). times x (numbers_of l)) new.1 in
+    let both = times-numbers-append x before.values.items (record { number = n; value = o } ∷ []) in
+    omega (arith, at, listed, both, was))
+    (below_or_not n (length old))
+
+-- the places stay as many
+pub length-places-kept : {T : Type 0} (n : ℕ) (o : T) (before after : Kept T) → Keeps n o before after
+    → length after.places.items ≡ length before.places.items
+length-places-kept {T} n o before after keeps =
+    let old = before.places.items in
+    ⊎_elim
+    (λ (inside : n < length old).
+    ap (λ (l : List (Option T)). length l) (keeps.placed inside).0 ∙ length-set old n (Some o))
+    (λ (past : length old ≤ n). ap (λ (l : List (Option T)). length l) (keeps.listed past).0)
+    (below_or_not n (length old))
+
+-- one more is drawn, and what was to be run is kept
+one_more : (drawn kept more after next : ℕ) → (0 < drawn → 0 < kept + more) → (0 < kept + more → 0 < after)
+    → 0 < drawn + next → 0 < after + next
+one_more zero kept more after next was keeps some = omega (arith, some)
+one_more (suc drawn) kept more after next was keeps some =
+    let p : 0 < after = keeps (was (omega arith)) in omega (arith, p)
+
 module _ {W Out : Type 0} (g : PairWork.Ghosts W Out) (w : W) where
   -- the number drawn last was run, and one more was drawn
-  drawn_more : (drawn : List ℕ) (n next : ℕ) (before after : List (Numbered Out))
-      → AreOfDrawn g w drawn (n ∷ []) before → Extends g w n before after
+  pub drawn_next : (drawn : List ℕ) (n next : ℕ) (before after : Kept Out) → n < g.pairs w
+      → IsRun g w n before after → AreOfDrawn g w drawn (n ∷ []) before
       → AreOfDrawn g w (drawn ++ next ∷ []) (next ∷ []) after
-  drawn_more drawn n next before after was e = record {
-    of_pairs = subst (All (IsOfItsPair g w)) (sym e.after_is)
-        (All-push (IsOfItsPair g w) before e.last was.of_pairs e.of_pair);
-    times_drawn = λ x below.
-        (let a = ap (λ (l : List (Numbered Out)). times x (numbers_of l)) e.after_is in
-        let b = ap (λ (k : ℕ). times x (k ∷ [])) e.number_is in
-        omega (
-          arith,
-          a,
-          b,
-          times-numbers-append x before (e.last ∷ []),
-          was.times_drawn x below,
-          times-append x drawn (next ∷ []),
-        ));
-  }
-
-  -- the same where a run may have been refused, now or before
-  pub drawn_next : {E : Type 0} (drawn : List ℕ) (n next : ℕ) (before after : Result (Vec (Numbered Out)) E)
-      → IfOk after (λ a. IfOk before (λ b. Extends g w n b.items a.items)) → IfOk after (λ _. IsOk before)
-      → IfOk before (λ b. AreOfDrawn g w drawn (n ∷ []) b.items)
-      → IfOk after (λ a. AreOfDrawn g w (drawn ++ next ∷ []) (next ∷ []) a.items)
-  drawn_next drawn n next (Ok b) (Ok a) extends ok was = drawn_more drawn n next b.items a.items was extends
-  drawn_next drawn n next (Err e) (Ok a) extends ok was = cc
-  drawn_next drawn n next before (Err e) extends ok was = tt
-
-  -- a number past the pairs was drawn last, so nothing is to be run
-  pub drawn_past : {E : Type 0} (drawn : List ℕ) (n : ℕ) (answer : Result (Vec (Numbered Out)) E) → g.pairs w ≤ n
-      → IfOk answer (λ vs. AreOfDrawn g w drawn (n ∷ []) vs.items)
-      → IfOk answer (λ vs. AreOfDrawn g w drawn [] vs.items)
-  drawn_past drawn n (Ok vs) past was = record {
-    of_pairs = was.of_pairs;
-    times_drawn = λ x below.
-        (let none : times x (n ∷ []) ≡ 0 = grind (arith, nat_tests) in
-        omega (arith, none, was.times_drawn x below));
-  }
-  drawn_past drawn n (Err e) past was = tt
-
-  -- what two workers drew and made, together
-  pub drawn_both : (d d' : List ℕ) (us vs : List (Numbered Out)) → AreOfDrawn g w d [] us → AreOfDrawn g w d' [] vs
-      → AreOfDrawn g w (d ++ d') [] (us ++ vs)
-  drawn_both d d' us vs a b = record {
-    of_pairs = All-append (IsOfItsPair g w) us vs a.of_pairs b.of_pairs;
-    times_drawn = λ x below.
-        omega (arith, times-numbers-append x us vs, a.times_drawn x below, b.times_drawn x below, times-append x d d');
-  }
+  drawn_next drawn n next before after below run was =
+      let o = run.value in
+      let gives = run.gives in
+      let keeps = run.keeps in
+      let old = before.places.items in
+      let each : (x : ℕ) → x < g.pairs w → 0 < times x (drawn ++ next ∷ [])
+      → 0 < count_kept after x + times x (next ∷ []) = λ x inside some.
+      one_more (times x drawn) (count_kept before x) (times x (n ∷ [])) (count_kept after x) (times x (next ∷ []))
+      (was.each x inside) (kept_more n x o before after keeps)
+      (let e = times-append x drawn (next ∷ []) in omega (arith, e, some)) in
+      ⊎_elim
+      (λ (inside : n < length old).
+      let new = keeps.placed inside in record {
+        placed = subst (AreAtTheirPlaces g w) (sym new.0) (at_their_places-set g w n o old inside gives was.placed);
+        listed = All-same (IsOfItsPair g w) after.values.items before.values.items new.1 was.listed;
+        whole = λ all. new.1 ∙ was.whole (let e = ap length new.0 ∙ length-set old n (Some o) in omega (arith, e, all));
+        each = each;
+      })
+      (λ (past : length old ≤ n).
+      let new = keeps.listed past in record {
+        placed = subst (AreAtTheirPlaces g w) (sym new.0) was.placed;
+        listed = All-same (IsOfItsPair g w) after.values.items
+            (before.values.items ++ record { number = n; value = o } ∷ []) new.1
+            (All-push (IsOfItsPair g w) before.values.items (record { number = n; value = o }) was.listed
+            (record { inside = below; gives = gives }));
+        whole = λ all. absurd (let e = ap length new.0 in omega (arith, e, all, below, past));
+        each = each;
+      })
+      (below_or_not n (length old))
 
 -- what a seat knows after a join
 pub joined_me : {S : Type 0} (a b m : Me S ClaimView) → m ≡ (joined_view a.0 b.0, a.1)
@@ -79,10 +116,3 @@ joined_me {S} a b m e = (
   ap (λ (x : Me S ClaimView). x.0.drawn) e,
   ap (λ (x : Me S ClaimView). x.1) e,
 )
-
--- the values of a worker that has them
-pub values_of : {W Out E : Type 0} (g : PairWork.Ghosts W Out) (w : W) (drawn : List ℕ)
-    (answer : Result (Vec (Numbered Out)) E) (values : Vec (Numbered Out)) → answer ≡ Ok values
-    → IfOk answer (λ vs. AreOfDrawn g w drawn [] vs.items) → AreOfDrawn g w drawn [] values.items
-values_of {W} {Out} {E} g w drawn answer values e h =
-    subst (λ (r : Result (Vec (Numbered Out)) E). IfOk r (λ vs. AreOfDrawn g w drawn [] vs.items)) e h

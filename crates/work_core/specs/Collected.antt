@@ -1,5 +1,5 @@
 -- A job with the values of those of its pairs that are there.
-use Rattle.std.specs.Prelude.{◌≡◌, ℕ, ◌<◌, List, length, Option, Some, None, IsSome, slice_index_or, slice_set, replicate}
+use Rattle.std.specs.Prelude.{◌≡◌, ℕ, ◌<◌, List, [], ◌∷◌, length, Option, Some, None, IsSome, slice_index_or, slice_set, replicate}
 use Rattle.work_core.specs.declared.name.PairName.{PairName}
 use Rattle.work_core.specs.declared.job.PairWork as PairWork
 use Rattle.work_core.specs.Jobs.{Gives}
@@ -15,7 +15,17 @@ pub record IsFirstGap {T : Type 0} (places : List (Option T)) (i : ℕ) : Type 0
   pub gap : slice_index_or places i None ≡ None
   pub least : (k : ℕ) → k < i → IsSome (slice_index_or places k None)
 
+-- the values of the places that are not empty, in their order
+abbrev pub values_at : {T : Type 0} → List (Option T) → List T
+values_at [] = []
+values_at (Some x ∷ places) = x ∷ values_at places
+values_at (None ∷ places) = values_at places
+
 module _ {W Out : Type 0} (g : PairWork.Ghosts W Out) where
+  -- what is at a place is a value of the pair of its number
+  abbrev pub AreAtTheirPlaces : W → List (Option Out) → Type 0
+  AreAtTheirPlaces w places = (i : ℕ) (o : Out) → slice_index_or places i None ≡ Some o → Gives g w (g.name_of w i) o
+
   -- a job of which no pair's value is there yet
   abbrev pub nothing_of : W → Collected W Out
   nothing_of w = record { job = w; places = replicate (g.pairs w) None }
@@ -23,7 +33,7 @@ module _ {W Out : Type 0} (g : PairWork.Ghosts W Out) where
   -- a place for each pair of the job, which is empty or has a value of that pair
   pub record ArePlaces (w : W) (places : List (Option Out)) : Type 0 where
     pub len : length places ≡ g.pairs w
-    pub each : (i : ℕ) (o : Out) → slice_index_or places i None ≡ Some o → Gives g w (g.name_of w i) o
+    pub each : AreAtTheirPlaces w places
 
   -- the pair's place was empty, has the value o afterwards, and nothing else is changed
   pub record Fills (p : PairName) (o : Out) (old new : Collected W Out) : Type 0 where

@@ -1,18 +1,35 @@
--- What workers are given and what they hand back: values of pairs, whose numbers are those that they drew.
-use Rattle.std.specs.Prelude.{◌≡◌, ℕ, ◌+◌, ◌<◌, if◌then◌else◌, All, List, [], ◌∷◌, ◌++◌, map, IfOk, Option, None, is_some, slice_index_or}
+-- What workers are given and what they hand back: values of pairs, of each pair whose number they drew.
+use Rattle.std.specs.Prelude.{◌≡◌, ℕ, ◌+◌, ◌<◌, ◌≤◌, ◌==◌, if◌then◌else◌, All, List, [], ◌∷◌, ◌++◌, length, map, replicate, IfOk, Option, Some, None, is_some, slice_index_or, slice_set}
 use Rattle.atomic_table.specs.Seated.{TableId}
 use Rattle.atomic_table.specs.declared.shared.Seat.{Seat}
 use Rattle.work_core.specs.declared.job.PairWork as PairWork
+use Rattle.work_core.specs.declared.kept.Kept.{Kept}
 use Rattle.work_core.specs.declared.numbered.Numbered.{Numbered}
+use Rattle.work_core.specs.declared.worker.Worker.{Worker}
 use Rattle.work_core.specs.declared.worker.WorkerAnswer.{WorkerAnswer}
 use Rattle.work_core.specs.declared.claim_view.ClaimView.{ClaimView}
 use Rattle.work_core.specs.Claims.{worker_view}
+use Rattle.work_core.specs.Collected.{AreAtTheirPlaces}
 use Rattle.work_core.specs.Counting.{times}
 use Rattle.work_core.specs.Jobs.{Gives}
 
 -- a seat at this table that has drawn nothing
 abbrev pub IsFreshSeat : TableId → Seat (Unit {0}) ClaimView → Type 0
 IsFreshSeat table seat = (seat.table_id ≡ table) × (seat.me ≡ (worker_view, []))
+
+-- a worker at this table that has drawn nothing and keeps nothing
+abbrev pub IsFreshWorker : {T : Type 0} → TableId → Worker T → Type 0
+IsFreshWorker table worker = IsFreshSeat table worker.seat
+    × (worker.kept.places.items ≡ replicate (length worker.kept.places.items) None) × (worker.kept.values.items ≡ [])
+
+-- how many places the worker in that place of a team of m workers has: the last has n, and the others have none
+abbrev pub places_of : ℕ → ℕ → ℕ → ℕ
+places_of m n k = if k + 1 == m then n else 0
+
+-- each worker of the team has as many places as that
+abbrev pub HasPlaces : {T : Type 0} → ℕ → List (Worker T) → Type 0
+HasPlaces {T} n team = (k : ℕ) (d : Worker T) → k < length team
+    → length (slice_index_or team k d).kept.places.items ≡ places_of (length team) n k
 
 -- the numbers of some numbered values
 abbrev pub numbers_of : {T : Type 0} → List (Numbered T) → List ℕ
@@ -22,33 +39,48 @@ numbers_of values = map (λ v. v.number) values
 abbrev pub count_at : {T : Type 0} → List (Option T) → ℕ → ℕ
 count_at places x = if is_some (slice_index_or places x None) then 1 else 0
 
+-- how many values of the pair with this number are kept
+abbrev pub count_kept : {T : Type 0} → Kept T → ℕ → ℕ
+count_kept kept x = count_at kept.places.items x + times x (numbers_of kept.values.items)
+
+-- one more value is kept, with its number: at its place, or where it has none in the list
+pub record Keeps {T : Type 0} (n : ℕ) (o : T) (old new : Kept T) : Type 0 where
+  pub placed : n < length old.places.items
+      → (new.places.items ≡ slice_set old.places.items n (Some o)) × (new.values.items ≡ old.values.items)
+  pub listed : length old.places.items ≤ n → (new.places.items ≡ old.places.items)
+      × (new.values.items ≡ old.values.items ++ record { number = n; value = o } ∷ [])
+
 module _ {W Out : Type 0} (g : PairWork.Ghosts W Out) (w : W) where
   -- a value of the pair of its number
   pub record IsOfItsPair (v : Numbered Out) : Type 0 where
     pub inside : v.number < g.pairs w
-    pub gives : ∥ Gives g w (g.name_of w v.number) v.value ∥₁
+    pub gives : Gives g w (g.name_of w v.number) v.value
 
-  -- a value of pair n is added at the end
-  pub record Extends (n : ℕ) (before after : List (Numbered Out)) : Type 0 where
-    pub last : Numbered Out
-    pub of_pair : IsOfItsPair last
-    pub number_is : last.number ≡ n
-    pub after_is : after ≡ before ++ last ∷ []
+  -- the pair of number n was run, and its value is kept
+  pub record IsRun (n : ℕ) (old new : Kept Out) : Type 0 where
+    pub value : Out
+    pub gives : Gives g w (g.name_of w n) value
+    pub keeps : Keeps n value old new
 
-  -- values of pairs, of each pair as many as its number was drawn; the numbers in `more` are drawn and still to be run
-  pub record AreOfDrawn (drawn more : List ℕ) (values : List (Numbered Out)) : Type 0 where
-    pub of_pairs : All IsOfItsPair values
-    pub times_drawn : (x : ℕ) → x < g.pairs w → times x (numbers_of values) + times x more ≡ times x drawn
+  -- what is kept are values of their pairs, and one of each pair whose number was drawn; the numbers in `more` are
+  -- drawn and still to be run
+  pub record AreOfDrawn (drawn more : List ℕ) (kept : Kept Out) : Type 0 where
+    pub placed : AreAtTheirPlaces g w kept.places.items
+    pub listed : All IsOfItsPair kept.values.items
+    pub whole : g.pairs w ≤ length kept.places.items → kept.values.items ≡ []
+    pub each : (x : ℕ) → x < g.pairs w → 0 < times x drawn → 0 < count_kept kept x + times x more
 
-  -- a value of each pair of the job, once
-  pub record HasEachPairOnce (values : List (Numbered Out)) : Type 0 where
-    pub of_pairs : All IsOfItsPair values
-    pub once : (x : ℕ) → x < g.pairs w → times x (numbers_of values) ≡ 1
-
-  -- a worker drew until a number was past the pairs, and its values, if no run was refused, are of the numbers drawn
-  pub record IsWorkerAnswer (table : TableId) (answer : WorkerAnswer Out) : Type 0 where
+  -- a worker with n places drew until a number was past the pairs, and its values, if no run was refused, are of the
+  -- numbers drawn
+  pub record IsWorkerAnswer (table : TableId) (n : ℕ) (answer : WorkerAnswer Out) : Type 0 where
     pub table_is : answer.seat.table_id ≡ table
     pub free : answer.seat.me.1 ≡ []
     pub part : answer.seat.me.0.parts ≡ 1
     pub past : g.pairs w < answer.seat.me.0.least
-    pub values : IfOk answer.values (λ values. AreOfDrawn answer.seat.me.0.drawn [] values.items)
+    pub places : IfOk answer.kept (λ kept. length kept.places.items ≡ n)
+    pub values : IfOk answer.kept (λ kept. AreOfDrawn answer.seat.me.0.drawn [] kept)
+
+  -- the answers of a team whose last worker has a place for each pair
+  abbrev pub AreAnswers : TableId → List (WorkerAnswer Out) → Type 0
+  AreAnswers table answers = (k : ℕ) (d : WorkerAnswer Out) → k < length answers
+      → IsWorkerAnswer table (places_of (length answers) (g.pairs w) k) (slice_index_or answers k d)

@@ -1,18 +1,15 @@
 //! Puts the pieces of a job in order, whatever the order in which they come.
 
-ghost use Rattle.std.specs.Prelude.{◌≡◌, ◌+◌, ◌≤◌, IfOk, IfErr, OnOk, OnErr, IfSome, IfNone, Some, None, All, [], IsSome, map, replicate, vec_len, vec_capacity};
+ghost use Rattle.std.specs.Prelude.{◌≡◌, IfOk, IfErr, OnOk, OnErr, IfSome, IfNone, Some, None, All, IsSome, map, replicate};
 ghost use Rattle.work_core.specs.Jobs.{Shares, AreValues};
 ghost use Rattle.work_core.specs.Collected.{Collected, nothing_of, Fills, IsThere, IsFirstGap, IsFirstMissing};
 
 use crate::job::PairWork;
 use crate::name::PairName;
+use crate::outs::Outs;
 use crate::piece::Piece;
-use list_core::List;
 use std::alloc::{AllocError, Global};
 use std::marker::Model;
-
-/// The values of a job's pairs, by pair number.
-pub type Outs<T> = List<T>;
 
 /// The pieces of a job that are there. Contracts see the job, and the values by pair number.
 ///
@@ -21,19 +18,16 @@ pub type Outs<T> = List<T>;
 pub struct Collector<'j, W: PairWork> {
     job: &'j W,
     places: Vec<Option<W::Out>>,
-    outs: Vec<W::Out>,
 }
 
 impl<'j, W: PairWork> Model for Collector<'j, W> {
-    ghost use Rattle.std.specs.Prelude.{◌≡◌, ◌≤◌, vec_capacity, []};
     ghost use Rattle.work_core.specs.Collected.{Collected, ArePlaces};
 
     ghost Value = { Collected W W.Out };
 
     ghost view = { λ c. record { job = c.job.now; places = c.places.items } };
 
-    ghost invariant = { λ c. ArePlaces W.PairWork c.job.now c.places.items
-        × (c.outs.items ≡ []) × (W.pairs c.job.now ≤ vec_capacity c.outs) };
+    ghost invariant = { λ c. ArePlaces W.PairWork c.job.now c.places.items };
 }
 
 /// Why a piece was refused.
@@ -68,10 +62,8 @@ impl<'j, W: PairWork> Collector<'j, W> {
     pub fn new(alloc: Global, job: &'j W) -> Result<Collector<'j, W>, AllocError>
         ensures { IfOk result (λ c. c ≡ nothing_of W.PairWork job.entry.now) }
     {
-        let count = job.count() as usize;
-        let places = empty_places(alloc, count)?;
-        let outs = Vec::with_capacity(alloc, count)?;
-        Ok(Collector { job, places, outs })
+        let places = empty_places(alloc, job.count() as usize)?;
+        Ok(Collector { job, places })
     }
 
     /// Puts the piece's value at its pair's place: of this job, or of another that has the pair with equal
@@ -126,17 +118,16 @@ impl<'j, W: PairWork> Collector<'j, W> {
                 first,
             });
         }
-        let Collector {
-            job: _,
-            places,
-            outs,
-        } = self;
-        Ok(List::from(move_all(places, outs)))
+        let Collector { job: _, places } = self;
+        Ok(Outs::at_places(places))
     }
 }
 
 // So many places without a value.
-fn empty_places<T: Drop>(alloc: Global, count: usize) -> Result<Vec<Option<T>>, AllocError>
+pub(crate) fn empty_places<T: Drop>(
+    alloc: Global,
+    count: usize,
+) -> Result<Vec<Option<T>>, AllocError>
     ensures { IfOk result (λ v. v.items ≡ replicate count None) }
 {
     let mut places = Vec::with_capacity(alloc, count)?;
@@ -152,20 +143,4 @@ fn first_gap<T>(places: &[Option<T>]) -> Option<usize>
     ensures none { IfNone result (All IsSome places.now) }
 {
     places.iter().position(|place| place.is_none())
-}
-
-// Moves the values into `outs`, in their order.
-fn move_all<T: Drop>(places: Vec<Option<T>>, mut outs: Vec<T>) -> Vec<T>
-    requires all { All IsSome places.items }
-    requires room { vec_len outs + vec_len places ≤ vec_capacity outs }
-    requires empty { outs.items ≡ [] }
-    ensures { places.items ≡ map Some result.items }
-{
-    for place in places {
-        match place {
-            Some(out) => outs.push_reserved(out),
-            None => unreachable!(),
-        }
-    }
-    outs
 }

@@ -1,6 +1,6 @@
 //! Pieces: values that know which pair of which job they are of.
 
-ghost use Rattle.std.specs.Prelude.{◌≡◌, ◌<◌, IfOk, IsSome};
+ghost use Rattle.std.specs.Prelude.{◌≡◌, IfOk, IsSome};
 ghost use Rattle.work_core.specs.declared.name.PairName.{PairName};
 
 use crate::job::PairWork;
@@ -28,21 +28,6 @@ impl<'j, W: PairWork> Piece<'j, W> {
     {
         let out = job.run(alloc, name)?;
         Ok(Piece { job, name, out })
-    }
-
-    // The piece of a value that is known.
-    pub(crate) fn of(job: &'j W, number: u64, out: W::Out) -> Piece<'j, W>
-        requires inside { number < W.pairs job.now }
-        requires value { ∥ W.IsValue (W.inputs_of job.now (W.name_of job.now number)) out ∥₁ }
-        ensures job { result.job.now ≡ job.entry.now }
-        ensures name { result.name ≡ W.name_of job.entry.now number }
-        ensures out { result.out ≡ out }
-    {
-        Piece {
-            job,
-            name: job.name(number),
-            out,
-        }
     }
 
     /// The name of its pair.

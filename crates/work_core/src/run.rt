@@ -1,91 +1,100 @@
 //! Many workers on one job.
 
-ghost use Rattle.std.specs.Prelude.{◌≡◌, ◌+◌, ◌<◌, ◌≤◌, IfOk, All, [], min, max, vec_len};
+ghost use Rattle.std.specs.Prelude.{◌≡◌, ℕ, ◌+◌, ◌<◌, ◌≤◌, IfOk, All, IsSome, None, [], length, min, max, replicate, vec_len};
 ghost use Rattle.work_core.specs.Claims.{all_parts, first_view};
-ghost use Rattle.work_core.specs.Collected.{nothing_of};
+ghost use Rattle.work_core.specs.Collected.{ArePlaces};
+ghost use Rattle.work_core.specs.Counting.{times};
 ghost use Rattle.work_core.specs.Jobs.{AreValues};
 ghost use Rattle.work_core.specs.Limits.{worker_limit};
-ghost use Rattle.work_core.specs.Workers.{HasEachPairOnce, IsFreshSeat, IsWorkerAnswer};
+ghost use Rattle.work_core.specs.Workers.{AreAnswers, HasPlaces, IsFreshWorker, IsOfItsPair, IsWorkerAnswer, count_at, numbers_of};
 
 use crate::claims::{ClaimSeat, Claims};
-use crate::collector::{Collector, Outs};
+use crate::collector::empty_places;
 use crate::gate::Gate;
 use crate::job::PairWork;
+use crate::kept::Kept;
 use crate::numbered::Numbered;
-use crate::piece::Piece;
-use crate::worker::{WorkerAnswer, work};
+use crate::outs::Outs;
+use crate::worker::{Worker, WorkerAnswer, work};
 use std::alloc::{AllocError, Global};
 use std::thread;
 use std::thread::Threads;
 
-// A seat for each worker.
-fn deal(
+// The workers, each with a seat of its own, the last with the places.
+fn deal<T: Drop>(
     alloc: Global,
     claims: &Claims,
     seat: &mut ClaimSeat,
     workers: u32,
-) -> Result<Vec<ClaimSeat>, AllocError>
+    places: Vec<Option<T>>,
+) -> Result<Vec<Worker<T>>, AllocError>
     requires table { seat.old.table_id ≡ claims.now }
     requires first { seat.old.me ≡ (first_view, []) }
-    requires few { workers ≤ worker_limit }
+    requires few { (0 < workers) × (workers ≤ worker_limit) }
+    requires empty { places.items ≡ replicate (length places.items) None }
     ensures table { seat.new.table_id ≡ seat.old.table_id }
     ensures left { IfOk result (λ _. (seat.new.me.0.parts + workers ≡ all_parts)
         × (seat.new.me.0.drawn ≡ []) × (seat.new.me.1 ≡ [])) }
-    ensures len { IfOk result (λ seats. vec_len seats ≡ workers) }
-    ensures fresh { IfOk result (λ seats. All (IsFreshSeat seat.old.table_id) seats.items) }
+    ensures len { IfOk result (λ team. vec_len team ≡ workers) }
+    ensures fresh { IfOk result (λ team. All (IsFreshWorker seat.old.table_id) team.items) }
+    ensures places { IfOk result (λ team. HasPlaces (length places.items) team.items) }
 {
-    let mut seats = Vec::new(alloc);
-    for _ in 0..workers {
-        seats.push(claims.split(seat))?;
+    let mut team = Vec::new(alloc);
+    for _ in 1..workers {
+        let kept = Kept::with_places(alloc, Vec::new(alloc));
+        team.push(Worker {
+            seat: claims.split(seat),
+            kept,
+        })?;
     }
-    Ok(seats)
+    let kept = Kept::with_places(alloc, places);
+    team.push(Worker {
+        seat: claims.split(seat),
+        kept,
+    })?;
+    Ok(team)
 }
 
-// All values that the workers made, unless a run was refused.
+// Puts each value at its place.
+fn place_all<W: PairWork>(job: &W, places: &mut Vec<Option<W::Out>>, values: Vec<Numbered<W::Out>>)
+    requires are { ArePlaces W.PairWork job.now places.old.items }
+    requires values { All (IsOfItsPair W.PairWork job.now) values.items }
+    ensures are { ArePlaces W.PairWork job.now places.new.items }
+    ensures each { (x : ℕ) → x < W.pairs job.now
+        → 0 < count_at places.old.items x + times x (numbers_of values.items) → 0 < count_at places.new.items x }
+{
+    for numbered in values {
+        let Numbered { number, value } = numbered;
+        places[number as usize] = Some(value);
+    }
+}
+
+// The values that the workers made, each at its place, unless a run was refused.
 fn gather<W: PairWork>(
-    alloc: Global,
     job: &W,
     claims: Claims,
     mut seat: ClaimSeat,
-    answers: Vec<WorkerAnswer<W::Out>>,
-) -> Result<Vec<Numbered<W::Out>>, AllocError>
+    mut answers: Vec<WorkerAnswer<W::Out>>,
+) -> Result<Vec<Option<W::Out>>, AllocError>
     requires table { seat.table_id ≡ claims }
     requires seat { (seat.me.0.parts + vec_len answers ≡ all_parts)
         × (seat.me.0.drawn ≡ []) × (seat.me.1 ≡ []) }
     requires some { 0 < vec_len answers }
-    requires answers { All (IsWorkerAnswer W.PairWork job.now seat.table_id) answers.items }
-    ensures { IfOk result (λ values. HasEachPairOnce W.PairWork job.now values.items) }
+    requires answers { AreAnswers W.PairWork job.now seat.table_id answers.items }
+    ensures are { IfOk result (λ places. ArePlaces W.PairWork job.now places.items) }
+    ensures all { IfOk result (λ places. All IsSome places.items) }
 {
-    let mut all = Vec::new(alloc);
-    for answer in answers {
-        claims.join(&mut seat, answer.seat);
-        let mut values = answer.values?;
-        all.append(&mut values)?;
-    }
-    claims.close(seat);
-    Ok(all)
-}
-
-// Puts a value of each pair at its place.
-fn collect<'j, W: PairWork>(
-    job: &'j W,
-    mut collector: Collector<'j, W>,
-    values: Vec<Numbered<W::Out>>,
-) -> Outs<W::Out>
-    requires empty { collector ≡ nothing_of W.PairWork job.now }
-    requires each { HasEachPairOnce W.PairWork job.now values.items }
-    ensures { AreValues W.PairWork job.entry.now result }
-{
-    for numbered in values {
-        let Numbered { number, value } = numbered;
-        let Ok(()) = collector.accept(Piece::of(job, number, value)) else {
-            unreachable!()
-        };
-    }
-    let Ok(outs) = collector.finish() else {
+    let Some(last) = answers.pop() else {
         unreachable!()
     };
-    outs
+    claims.join(&mut seat, last.seat);
+    let mut places = last.kept?.places;
+    for answer in answers {
+        claims.join(&mut seat, answer.seat);
+        place_all(job, &mut places, answer.kept?.values);
+    }
+    claims.close(seat);
+    Ok(places)
 }
 
 // As many workers as are asked for, but no more than pairs, and at least one: a thread takes far longer to
@@ -118,18 +127,23 @@ pub fn run_pairs<R: Threads + Sync, W: PairWork, G: Gate>(
     requires { (0 < workers) × (workers ≤ worker_limit) }
     ensures { IfOk result (AreValues W.PairWork job.now) }
 {
-    let workers = workers_for(job.count(), workers);
-    let collector = Collector::new(alloc, job)?;
+    let count = job.count();
+    let places = empty_places(alloc, count as usize)?;
     let (claims, mut seat) = Claims::new(alloc)?;
-    let seats = deal(alloc, &claims, &mut seat, workers)?;
+    let team = deal(
+        alloc,
+        &claims,
+        &mut seat,
+        workers_for(count, workers),
+        places,
+    )?;
     let answers = thread::map_vec(
         rt,
-        seats,
-        &|seat: ClaimSeat| -> WorkerAnswer<W::Out>
-            requires { IsFreshSeat claims seat }
-            ensures { IsWorkerAnswer W.PairWork job.entry.now claims result }
-        { work(alloc, job, gate, &claims, seat) },
+        team,
+        &|worker: Worker<W::Out>| -> WorkerAnswer<W::Out>
+            requires { IsFreshWorker claims worker }
+            ensures { IsWorkerAnswer W.PairWork job.entry.now claims (length worker.kept.places.items) result }
+        { work(alloc, job, gate, &claims, worker) },
     )?;
-    let values = gather(alloc, job, claims, seat, answers)?;
-    Ok(collect(job, collector, values))
+    Ok(Outs::at_places(gather(job, claims, seat, answers)?))
 }

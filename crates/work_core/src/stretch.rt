@@ -4,9 +4,9 @@ ghost use Rattle.std.specs.Prelude.{◌≡◌, ◌+◌, ◌≤◌};
 ghost use Rattle.work_core.specs.Jobs.{AreValues};
 ghost use Rattle.work_core.specs.Stretches.{AreValuesFrom, number_within, number_within-at, number_within-is, stretch-few, stretch-inside};
 
-use crate::collector::Outs;
 use crate::job::PairWork;
 use crate::name::PairName;
+use crate::outs::Outs;
 use std::alloc::{AllocError, Global};
 
 /// The pairs of a job from one number on, so many of them, as a job: the pair with number i is the job's with

@@ -1,61 +1,60 @@
 //! One worker: it draws the number of a pair, runs that pair, and draws again.
 
-ghost use Rattle.std.specs.Prelude.{◌≡◌, ◌<◌, IfOk, IsOk};
-ghost use Rattle.work_core.specs.Workers.{IsFreshSeat, IsWorkerAnswer, IsOfItsPair, Extends};
+ghost use Rattle.std.specs.Prelude.{◌≡◌, ◌<◌, false, length, OnOk};
+ghost use Rattle.work_core.specs.Workers.{IsFreshWorker, IsRun, IsWorkerAnswer};
 
 use crate::claims::{ClaimSeat, Claims};
 use crate::gate::Gate;
 use crate::job::PairWork;
-use crate::numbered::Numbered;
-use crate::piece::Piece;
+use crate::kept::Kept;
 use std::alloc::{AllocError, Global};
+
+/// A worker: its right to draw, and the values that it keeps.
+#[derive(Drop)]
+pub(crate) struct Worker<T> {
+    pub seat: ClaimSeat,
+    pub kept: Kept<T>,
+}
 
 /// What a worker hands back: what it knows of the draws, and its values, if no run was refused memory.
 #[derive(Drop)]
 pub(crate) struct WorkerAnswer<T> {
     pub seat: ClaimSeat,
-    pub values: Result<Vec<Numbered<T>>, AllocError>,
+    pub kept: Result<Kept<T>, AllocError>,
 }
 
-// Runs the pair of that number, between the calls of its gate.
-fn run_gated<W: PairWork, G: Gate>(
+// Runs the pair of that number, between the calls of its gate, and keeps its value.
+fn run_pair<W: PairWork, G: Gate>(
     alloc: Global,
     job: &W,
     gate: &G,
     number: u64,
-) -> Result<Numbered<W::Out>, AllocError>
+    kept: &mut Kept<W::Out>,
+) -> Result<(), AllocError>
     requires { number < W.pairs job.now }
-    ensures { IfOk result (λ numbered. IsOfItsPair W.PairWork job.now numbered × (numbered.number ≡ number)) }
+    ensures { OnOk result (IsRun W.PairWork job.now number kept.old kept.new) }
 {
     let name = job.name(number);
     gate.enter(name);
-    let piece = Piece::make(alloc, job, name);
+    let run = job.run(alloc, name);
     gate.leave(name);
-    let Piece {
-        job: _,
-        name: _,
-        out,
-    } = piece?;
-    Ok(Numbered { number, value: out })
+    kept.put(number, run?)
 }
 
-// Runs one more pair, unless a run was refused before.
+// Runs one more pair, unless a run was refused before; says whether one was.
 fn run_next<W: PairWork, G: Gate>(
     alloc: Global,
     job: &W,
     gate: &G,
     number: u64,
-    done: Result<Vec<Numbered<W::Out>>, AllocError>,
-) -> Result<Vec<Numbered<W::Out>>, AllocError>
+    kept: &mut Kept<W::Out>,
+    refused: bool,
+) -> bool
     requires { number < W.pairs job.now }
-    ensures extends { IfOk result (λ after. IfOk done (λ before.
-        Extends W.PairWork job.now number before.items after.items)) }
-    ensures ok { IfOk result (λ _. IsOk done) }
+    ensures { result ≡ false → (refused ≡ false)
+        × IsRun W.PairWork job.now number kept.old kept.new }
 {
-    let mut values = done?;
-    let value = run_gated(alloc, job, gate, number)?;
-    values.push(value)?;
-    Ok(values)
+    refused || run_pair(alloc, job, gate, number, kept).is_err()
 }
 
 /// Draws numbers, and runs their pairs, until a number is past the pairs. After a refused run it goes on
@@ -65,17 +64,19 @@ pub(crate) fn work<W: PairWork, G: Gate>(
     job: &W,
     gate: &G,
     claims: &Claims,
-    mut seat: ClaimSeat,
+    worker: Worker<W::Out>,
 ) -> WorkerAnswer<W::Out>
-    requires { IsFreshSeat claims.now seat }
-    ensures { IsWorkerAnswer W.PairWork job.now claims.now result }
+    requires { IsFreshWorker claims.now worker }
+    ensures { IsWorkerAnswer W.PairWork job.now claims.now (length worker.kept.places.items) result }
 {
+    let Worker { mut seat, mut kept } = worker;
     let count = job.count();
-    let mut values = Ok(Vec::new(alloc));
+    let mut refused = false;
     let mut number = claims.draw(&mut seat);
     while number < count {
-        values = run_next(alloc, job, gate, number, values);
+        refused = run_next(alloc, job, gate, number, &mut kept, refused);
         number = claims.draw(&mut seat);
     }
-    WorkerAnswer { seat, values }
+    let kept = if refused { Err(AllocError) } else { Ok(kept) };
+    WorkerAnswer { seat, kept }
 }

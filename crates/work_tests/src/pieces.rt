@@ -1,6 +1,6 @@
 //! Pieces that come in any order, twice, and from another job.
 
-use crate::sums::Sums;
+use crate::sums::{Sums, check_values};
 use std::alloc::Global;
 use std::process::Abort;
 use std::test::Fail;
@@ -72,7 +72,7 @@ fn collect<'j>(
     let Ok(outs) = collector.finish() else {
         panic!(rt; "all pieces are there")
     };
-    assert_eq!(rt; outs.as_slice(), [11, 21, 12, 22].as_slice());
+    check_values(rt, &outs, &[11, 21, 12, 22]);
     Ok(())
 }
 
@@ -109,7 +109,7 @@ fn take_from_another<'j>(
     let Ok(outs) = collector.finish() else {
         panic!(rt; "all pieces are there")
     };
-    assert_eq!(rt; outs.as_slice(), [11].as_slice());
+    check_values(rt, &outs, &[11]);
     Ok(())
 }
 

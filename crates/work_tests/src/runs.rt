@@ -1,6 +1,6 @@
 //! Runs of jobs on some workers: their values, and which pairs the gate saw.
 
-use crate::sums::Sums;
+use crate::sums::{Sums, check_values};
 use std::process::Abort;
 use std::sync::atomic::{AtomicU64, Ordering};
 use std::test::Fail;
@@ -97,11 +97,7 @@ fn runs_each_pair_once_and_gives_its_value_by_number(rt: HostRuntime) -> Result<
             left: zeros(),
         };
         let outs = run_pairs(&rt, rt.alloc(), &job, workers, &gate)?;
-        assert_eq!(rt;
-            outs.as_slice(),
-            [11, 12, 13, 14, 15, 16, 17].as_slice(),
-            "with {workers} workers"
-        );
+        check_values(&rt, &outs, &[11, 12, 13, 14, 15, 16, 17]);
         check_counts(&rt, &gate.entered, [1, 1, 1, 1, 1, 1, 1]);
         check_counts(&rt, &gate.left, [1, 1, 1, 1, 1, 1, 1]);
     }
@@ -116,7 +112,7 @@ fn numbers_pairs_row_by_row(rt: HostRuntime) -> Result<(), Fail> {
         refused: None,
     };
     let outs = run_pairs(&rt, rt.alloc(), &job, 3, &OpenGate)?;
-    assert_eq!(rt; outs.as_slice(), [11, 21, 31, 12, 22, 32].as_slice());
+    check_values(&rt, &outs, &[11, 21, 31, 12, 22, 32]);
     Ok(())
 }
 
@@ -140,11 +136,7 @@ fn any_pair_may_wait_for_the_others(rt: HostRuntime) -> Result<(), Fail> {
             failed: AtomicU64::new(0),
         };
         let outs = run_pairs(&rt, rt.alloc(), &job, 2, &gate)?;
-        assert_eq!(rt;
-            outs.as_slice(),
-            [11, 12, 13, 14, 15, 16, 17].as_slice(),
-            "with {held} held"
-        );
+        check_values(&rt, &outs, &[11, 12, 13, 14, 15, 16, 17]);
         assert_eq!(rt; gate.failed.load(Ordering::SeqCst), 0, "with {held} held");
     }
     Ok(())

@@ -5,7 +5,8 @@ ghost use Rattle.work_core.specs.Limits.{pair_limit};
 ghost use Rattle.work_tests.specs.Grid.{grid_place, grid_name, grid_placed, grid_named, equal_prop};
 
 use std::alloc::{AllocError, Global};
-use work_core::{PairName, PairWork};
+use std::process::Abort;
+use work_core::{Outs, PairName, PairWork};
 
 /// The sums of a number of the left side and one of the right, row by row. Where `refused` names a pair, its
 /// run is refused memory.
@@ -76,5 +77,13 @@ impl<'a> PairWork for Sums<'a> {
             && other.place(pair).is_some()
             && self.left[l] == other.left[l]
             && self.right[r] == other.right[r]
+    }
+}
+
+/// These values by number, and no more.
+pub fn check_values(rt: &impl Abort, outs: &Outs<u64>, want: &[u64]) {
+    assert_eq!(rt; outs.len(), want.len());
+    for (i, value) in want.iter().enumerate() {
+        assert_eq!(rt; outs.get(i), Some(value), "value {i}");
     }
 }

@@ -1,16 +1,17 @@
-use Rattle.std.proofs.Common.{◌≡◌, ◌+◌, ◌*◌, All, [], vec_len}
+use Rattle.std.proofs.Common.{◌≡◌, ◌+◌, ◌*◌, All, [], length, vec_len}
 use Rattle.work_core.specs.Claims.{all_parts}
 use Rattle.work_core.specs.Limits.{draw_limit, word_limit}
-use Rattle.work_core.specs.Workers.{IsFreshSeat}
+use Rattle.work_core.specs.Workers.{IsFreshWorker}
 use Rattle.work_core.proofs.run.deal.Given as goal
 
 abbrev pub invariant-loop : goal.invariant-loop
-invariant-loop l = record {
+invariant-loop g l = record {
   table_is : l.seat.table_id ≡ l.initial.seat.table_id;
-  parts : l.seat.me.0.parts + l.counter ≡ all_parts;
-  room : l.seat.me.0.room + l.counter * draw_limit ≡ word_limit;
+  parts : l.seat.me.0.parts + l.counter ≡ all_parts + 1;
+  room : l.seat.me.0.room + l.counter * draw_limit ≡ word_limit + draw_limit;
   drawn : l.seat.me.0.drawn ≡ [];
   free : l.seat.me.1 ≡ [];
-  len : vec_len l.seats ≡ l.counter;
-  fresh : All (IsFreshSeat l.initial.seat.table_id) l.seats.items;
+  len : vec_len l.team + 1 ≡ l.counter;
+  fresh : All (IsFreshWorker l.initial.seat.table_id) l.team.items;
+  none : All (λ worker. length worker.kept.places.items ≡ 0) l.team.items;
 }

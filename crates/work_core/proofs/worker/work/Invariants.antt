@@ -1,4 +1,4 @@
-use Rattle.std.proofs.Common.{◌-◌, ◌≡◌, ◌+◌, ◌≤◌, IfOk, [], ◌∷◌}
+use Rattle.std.proofs.Common.{◌-◌, ◌≡◌, ◌+◌, ◌≤◌, [], ◌∷◌, false, length}
 use Rattle.work_core.specs.Limits.{draw_limit}
 use Rattle.work_core.specs.Workers.{AreOfDrawn}
 use Rattle.work_core.proofs.worker.work.Given as goal
@@ -10,7 +10,8 @@ invariant-loop-number g l = record {
   free : l.seat.me.1 ≡ [];
   reached : l.seat.me.0.least ≡ l.number + 1;
   room : draw_limit ≤ l.seat.me.0.room + l.seat.me.0.least;
-  drawn : IfOk l.values (λ values. AreOfDrawn g.W.PairWork l.job l.seat.me.0.drawn (l.number ∷ []) values.items);
+  places : l.refused ≡ false → length l.kept.places.items ≡ length l.initial.kept.places.items;
+  drawn : l.refused ≡ false → AreOfDrawn g.W.PairWork l.job l.seat.me.0.drawn (l.number ∷ []) l.kept;
 }
 
 abbrev pub decreases-loop-number : goal.decreases-loop-number

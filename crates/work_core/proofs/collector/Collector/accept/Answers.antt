@@ -10,7 +10,7 @@ index-requires g c =
     let places = c.self.inside.places.items in
     let inside : c.in-Some.number < length places =
     place_inside g.W.PairWork job c.args.piece.name c.in-Some.number places (laws.named job) (sym c.in-Some.ensures)
-    c.self.invariant.0 in
+    c.self.invariant in
     omega (arith, inside)
 
 pub returns-then-is_some-clause-double : goal.returns-then-is_some-clause-double
@@ -23,7 +23,7 @@ returns-then-is_some-clause-double g c e =
     let shares : Shares g.W.PairWork job piece.job.now piece.name = c.if-not-same.ensures.0 refl in
     let inside : number < length places =
     place_inside g.W.PairWork job piece.name number places (laws.named job) (sym c.in-Some.ensures)
-    c.self.invariant.0 in
+    c.self.invariant in
     let read : slice_index_or places number None ≡ c.index.result.now =
     place_read places number c.index.result.now inside c.index.ensures in
     rw (← c.self.view_is) (
@@ -38,7 +38,7 @@ index_mut-requires g c =
     let places = c.self.inside.places.items in
     let inside : c.in-Some.number < length places =
     place_inside g.W.PairWork job c.args.piece.name c.in-Some.number places (laws.named job) (sym c.in-Some.ensures)
-    c.self.invariant.0 in
+    c.self.invariant in
     omega (arith, inside)
 
 pub invariant_of-self : goal.invariant_of-self
@@ -48,9 +48,6 @@ invariant_of-self g c =
     let piece = c.args.piece in
     let shares : Shares g.W.PairWork job piece.job.now piece.name = c.if-not-same.ensures.0 refl in
     let value = piece.is_value in
-    let gives = shared_value g.W.PairWork laws.value_prop piece.job.now job piece.name piece.out shares value in (
-      places-set g.W.PairWork job piece.name c.in-Some.number piece.out c.self.inside.places.items (laws.named job)
-          (sym c.in-Some.ensures) gives c.self.invariant.0,
-      c.self.invariant.1,
-      c.self.invariant.2,
-    )
+    let gives = shared_value g.W.PairWork laws.value_prop piece.job.now job piece.name piece.out shares value in
+    places-set g.W.PairWork job piece.name c.in-Some.number piece.out c.self.inside.places.items (laws.named job)
+    (sym c.in-Some.ensures) gives c.self.invariant

@@ -1,0 +1,47 @@
+-- Values that stand each at its place.
+use Rattle.std.proofs.Common.{◌≡◌, ℕ, ◌<◌, ◌≤◌, All, List, [], ◌∷◌, Option, Some, None, IsSome, length, map, slice_get, slice_index_or, arith, ap, ◌∙◌, sym, refl}
+use Rattle.std.proofs.lemmas.List.{length-map}
+use Rattle.std.proofs.lemmas.List.Elements.{All-head, All-tail}
+use Rattle.std.proofs.lemmas.Option.{slice_get-map, slice_get_read, slice_get_past, same_Some, none-some}
+use Rattle.std.specs.Option.{option_map}
+use Rattle.work_core.specs.Collected.{values_at}
+
+-- an empty place has no value
+not_none : {T : Type 0} (x : Option T) → x ≡ None → IsSome x → ⊥
+not_none None e h = cc
+not_none (Some y) e h = cc
+
+-- where each place has a value, the places are these values
+pub places-values_at : {T : Type 0} (places : List (Option T)) → All IsSome places
+    → places ≡ map (λ (x : T). Some x) (values_at places)
+places-values_at [] all = refl
+places-values_at {T} (Some x ∷ places) all =
+    ap (λ (l : List (Option T)). Some x ∷ l) (places-values_at places (All-tail IsSome (Some x) places all))
+places-values_at {T} (None ∷ places) all = absurd (not_none {T = T} None refl (All-head IsSome None places all))
+
+-- there are as many values as places
+pub length-values_at : {T : Type 0} (places : List (Option T)) → All IsSome places
+    → length (values_at places) ≡ length places
+length-values_at {T} places all =
+    let e = ap (λ (l : List (Option T)). length l) (places-values_at places all) in
+    sym (e ∙ length-map (values_at places) (λ (x : T). Some x))
+
+-- what is found at a place is the value there
+same_option : {T : Type 0} (x : Option T) (y : Option T) → Some x ≡ option_map (λ (z : T). Some z) y → y ≡ x
+same_option x (Some z) e = sym (same_Some x (Some z) e)
+same_option x None e = absurd (none-some x (sym e))
+
+-- the value at a place
+pub get-values_at : {T : Type 0} (places : List (Option T)) (i : ℕ) (x : Option T) → All IsSome places
+    → i < length places → x ≡ slice_index_or places i x → slice_get (values_at places) i ≡ x
+get-values_at {T} places i x all inside read =
+    let at : slice_get places i ≡ Some x = slice_get_read places (length places) i x refl inside read in
+    let e = ap (λ (l : List (Option T)). slice_get l i) (places-values_at places all) in
+    let f = slice_get-map (λ (z : T). Some z) (values_at places) i in
+    same_option x (slice_get (values_at places) i) (sym at ∙ (e ∙ f))
+
+-- there is no value past the places
+pub get-values_past : {T : Type 0} (places : List (Option T)) (i : ℕ) → All IsSome places → length places ≤ i
+    → slice_get (values_at places) i ≡ None
+get-values_past places i all past =
+    let e = length-values_at places all in slice_get_past (values_at places) i (omega (arith, e, past))

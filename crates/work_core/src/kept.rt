@@ -1,0 +1,39 @@
+//! The values that a worker keeps.
+
+ghost use Rattle.std.specs.Prelude.{◌≡◌, [], OnOk};
+ghost use Rattle.work_core.specs.Workers.{Keeps};
+
+use crate::numbered::Numbered;
+use std::alloc::{AllocError, Global};
+
+/// The values of a worker: at the places of their pairs, where it has these, else in a list, by number.
+#[derive(Drop)]
+pub(crate) struct Kept<T> {
+    pub places: Vec<Option<T>>,
+    pub values: Vec<Numbered<T>>,
+}
+
+impl<T: Drop> Kept<T> {
+    /// Nothing yet, with these places, which may be none.
+    pub(crate) fn with_places(alloc: Global, places: Vec<Option<T>>) -> Kept<T>
+        ensures { (result.places.items ≡ places.items) × (result.values.items ≡ []) }
+    {
+        Kept {
+            places,
+            values: Vec::new(alloc),
+        }
+    }
+
+    /// Keeps one more value, at its place if there is one.
+    pub(crate) fn put(&mut self, number: u64, value: T) -> Result<(), AllocError>
+        ensures { OnOk result (Keeps number value self.old self.new) }
+    {
+        let place = number as usize;
+        if place < self.places.len() {
+            self.places[place] = Some(value);
+        } else {
+            self.values.push(Numbered { number, value })?;
+        }
+        Ok(())
+    }
+}

@@ -1,0 +1,58 @@
+//! The values of all pairs of a job.
+
+ghost use Rattle.std.specs.Prelude.{◌≡◌, ◌==◌, All, IsSome, Some, map, length, slice_get};
+ghost use Rattle.std.specs.Option.{option_copied};
+
+use std::marker::Model;
+
+/// The values of a job's pairs, by pair number. Contracts see the list of them.
+#[derive(Drop)]
+pub struct Outs<T> {
+    places: Vec<Option<T>>,
+}
+
+impl<T> Model for Outs<T> {
+    ghost use Rattle.std.specs.Prelude.{All, IsSome, List};
+    ghost use Rattle.work_core.specs.Collected.{values_at};
+
+    ghost Value = { List T };
+
+    ghost view = { λ o. values_at o.places.items };
+
+    ghost invariant = { λ o. All IsSome o.places.items };
+}
+
+impl<T> Outs<T> {
+    // The values at these places, each of which has one.
+    pub(crate) fn at_places(places: Vec<Option<T>>) -> Outs<T>
+        requires { All IsSome places.items }
+        ensures { places.items ≡ map Some result }
+    {
+        Outs { places }
+    }
+
+    /// How many values there are.
+    pub fn len(&self) -> usize
+        ensures { result ≡ length self.now }
+    {
+        self.places.len()
+    }
+
+    /// Whether there are none.
+    pub fn is_empty(&self) -> bool
+        ensures { result ≡ (length self.now == 0) }
+    {
+        self.places.is_empty()
+    }
+
+    /// The value of the pair with that number, from 0 on; None exactly past the last.
+    pub fn get(&self, i: usize) -> Option<&T>
+        ensures { option_copied result ≡ slice_get self.now i }
+    {
+        if i < self.places.len() {
+            self.places[i].as_ref()
+        } else {
+            None
+        }
+    }
+}
