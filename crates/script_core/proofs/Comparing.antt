@@ -1,15 +1,12 @@
 -- Two tables, read one after the other.
-use Rattle.std.proofs.Common.{◌≡◌, ◌∙◌, ℕ, List, Option, None, Result, Ok, ap, refl}
-use Rattle.std.specs.Prelude.{option_map}
+use Rattle.std.proofs.Common.{◌≡◌, ◌∙◌, ℕ, List, Option, None, Ok, ap, refl}
 use Rattle.book_core.specs.History.{History}
 use Rattle.command_core.specs.Pairs.{Compared}
-use Rattle.command_core.specs.Refusal.{fault}
 use Rattle.match_core.specs.Columns.{columns_refusal}
-use Rattle.row_core.specs.Refusals.{and_then, map_ok, refused_or}
+use Rattle.row_core.specs.Refusals.{and_then, map_ok}
 use Rattle.row_core.specs.declared.row.Row.{Row}
 use Rattle.row_core.specs.declared.schema.Column.{Column}
 use Rattle.script_core.specs.Effects.{Table, columns_told, rows_told, sides_told, table_told}
-use Rattle.script_core.specs.Refusal.{query_refusal}
 
 -- its rows and its columns
 pub table-read : (number : ℕ) (h : History) (asof : Option ℕ) (name : List ℕ) (columns : List Column) (rows : List Row)

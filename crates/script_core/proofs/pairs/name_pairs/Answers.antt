@@ -1,7 +1,5 @@
-use Rattle.std.proofs.Common.{◌≡◌, ◌+◌, ◌<◌, ◌++◌, ◌∷◌, ◌∙◌, [], List, ℕ, Some, ap, arith, length, sym, take}
-use Rattle.std.specs.List.{slice_get}
+use Rattle.std.proofs.Common.{◌<◌, ◌∙◌, arith, length, sym}
 use Rattle.std.proofs.lemmas.List.{take_all}
-use Rattle.command_core.specs.Pairs.{NamePair}
 use Rattle.command_core.specs.PairsIn.{name_pairs_in}
 use Rattle.command_core.proofs.Cutting.{slice_get-there, take-slice_get}
 use Rattle.script_core.proofs.pairs.name_pairs.Goals as goal
