@@ -7,3 +7,7 @@ pub mod GapLemmas
 pub mod WholeLemmas
 pub mod MeetLemmas
 pub mod BothLemmas
+pub mod StepLemmas
+pub mod TallyLemmas
+pub mod WeightLemmas
+pub mod CombineLemmas

@@ -2,3 +2,6 @@ pub mod Hits
 pub mod Gaps
 pub mod Sweep
 pub mod Meets
+pub mod Tallies
+pub mod Steps
+pub mod Combining

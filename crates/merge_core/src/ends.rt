@@ -1,7 +1,8 @@
 //! Comparisons of points, and of periods by their ends.
 
 ghost use Rattle.std.specs.Prelude.{◌≡◌, ◌≤ℤ◌, ◌<ℤ◌, MatchBool};
-ghost use Rattle.std.specs.Int.{int_max};
+ghost use Rattle.std.specs.Int.{int_max, int_min};
+ghost use Rattle.period_core.specs.Period.{holds_at};
 
 use period_core::{Period, Point};
 
@@ -31,4 +32,25 @@ pub(crate) fn follows(y: &Period, x: &Period) -> bool
     ensures { MatchBool result (x.now.to ≤ℤ y.now.from) (y.now.from <ℤ x.now.to) }
 {
     x.to <= y.from
+}
+
+/// The earlier of two points.
+pub(crate) fn earlier(a: Point, b: Point) -> Point
+    ensures { result ≡ int_min a b }
+{
+    if a < b { a } else { b }
+}
+
+/// Whether the first point is before the second.
+pub(crate) fn is_before(a: Point, b: Point) -> bool
+    ensures { MatchBool result (a <ℤ b) (b ≤ℤ a) }
+{
+    a < b
+}
+
+/// Whether the period holds the point.
+pub(crate) fn holds(period: Period, point: Point) -> bool
+    ensures { result ≡ holds_at point period }
+{
+    period.holds(point)
 }

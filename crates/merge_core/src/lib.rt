@@ -1,8 +1,10 @@
 #![tactic(auto)]
 
-//! Two parts merged, each read once and in its order: what items of equal class share, and what is
-//! left of each item where no item of its class of the other part holds.
+//! Parts merged, each read once and in its order: what items of equal class of two parts share, what is left
+//! of each item of the one where no item of its class of the other holds, and what items come to at each
+//! instant.
 
+mod combining;
 mod cursor;
 mod ends;
 mod gap;
@@ -10,6 +12,9 @@ mod gaps;
 mod hit;
 mod join;
 mod meets;
+mod step;
+mod steps;
+mod tally;
 
 pub use cursor::Cursor;
 pub use gap::Gap;
@@ -17,3 +22,6 @@ pub use gaps::merge_gaps;
 pub use hit::Hit;
 pub use join::merge_join;
 pub use meets::{Gaps, meet_gaps};
+pub use step::Step;
+pub use steps::{Steps, combine};
+pub use tally::Tally;

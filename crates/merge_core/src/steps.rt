@@ -1,0 +1,118 @@
+//! What items come to, instant by instant.
+
+ghost use Rattle.std.specs.Prelude.{◌≡◌, ◌+◌, ◌++◌, ◌≤◌, List, IfOk};
+ghost use Rattle.dip_core.specs.declared.item.Item.{Item};
+ghost use Rattle.dip_core.specs.Item.{item_limit};
+ghost use Rattle.merge_core.specs.Steps.{tally_at, StandsFor, IsBoth, IsStepList};
+ghost use Rattle.merge_core.specs.Combining.{IsLoneStep, AreLoneSteps};
+
+use crate::combining::combine_steps;
+use crate::ends::holds;
+use crate::{Step, Tally};
+use dip_core::{Item, Part};
+use period_core::{NoMemory, Point};
+use std::alloc::Global;
+use std::marker::Model;
+
+/// What some items come to at each instant: steps by rising start, each of which ends at or before the
+/// start of the next, and the number of the items. Contracts see both.
+#[derive(Drop)]
+pub struct Steps {
+    steps: Vec<Step>,
+    weight: u64,
+}
+
+impl Model for Steps {
+    ghost use Rattle.merge_core.specs.Steps.{StepList, IsStepList};
+
+    ghost Value = { StepList };
+
+    ghost view = { λ s. record { steps = s.steps.items; weight = s.weight } };
+
+    ghost invariant = { λ s. IsStepList s.weight s.steps.items };
+}
+
+/// The step of one item.
+fn step_of(item: &Item) -> Step
+    ensures { IsLoneStep item.now result }
+{
+    Step {
+        period: item.period,
+        tally: Tally {
+            count: 1,
+            sum: item.amount as i128,
+            min: item.amount,
+            max: item.amount,
+        },
+    }
+}
+
+/// The step of each item.
+fn steps_of(alloc: Global, items: &[Item]) -> Result<Vec<Step>, NoMemory>
+    ensures { IfOk result (λ v. AreLoneSteps items.now v.items) }
+{
+    let mut steps = Vec::new(alloc);
+    for item in items {
+        steps.push(step_of(item))?;
+    }
+    Ok(steps)
+}
+
+/// The tally of the first step that holds the instant.
+fn find_tally(steps: &[Step], at: Point) -> Option<Tally>
+    ensures { result ≡ tally_at steps.now at }
+{
+    for step in steps {
+        if holds(step.period, at) {
+            return Some(step.tally);
+        }
+    }
+    None
+}
+
+impl Steps {
+    /// The steps of a part: at each instant the tally of the item that holds it.
+    pub fn of_part(alloc: Global, part: Part<'_>) -> Result<Steps, NoMemory>
+        ensures { IfOk result (StandsFor part.entry.items.now) }
+    {
+        let items = part.items();
+        let steps = steps_of(alloc, items)?;
+        let weight = items.len() as u64;
+        Ok(Steps { steps, weight })
+    }
+
+    /// The number of the items.
+    pub fn weight(&self) -> u64
+        ensures { result ≡ self.now.weight }
+    {
+        self.weight
+    }
+
+    /// The steps, by rising start.
+    pub fn steps(&self) -> &[Step]
+        ensures value { result.now ≡ self.now.steps }
+        ensures kept { IsStepList self.now.weight self.now.steps }
+    {
+        &self.steps
+    }
+
+    /// What the items that hold the instant come to; None where none does.
+    pub fn tally_at(&self, at: Point) -> Option<Tally>
+        ensures { result ≡ tally_at self.now.steps at }
+    {
+        find_tally(&self.steps, at)
+    }
+}
+
+/// At each instant both tallies together, which are those of all their items. Both stand for at most
+/// 1,000,000 items together.
+pub fn combine(alloc: Global, one: &Steps, other: &Steps) -> Result<Steps, NoMemory>
+    requires { one.now.weight + other.now.weight ≤ item_limit }
+    ensures both { IfOk result (IsBoth one.now other.now) }
+    ensures items { IfOk result (λ steps. (xs ys : List Item)
+        → StandsFor xs one.now → StandsFor ys other.now → StandsFor (xs ++ ys) steps) }
+{
+    let weight = one.weight + other.weight;
+    let steps = combine_steps(alloc, &one.steps, &other.steps)?;
+    Ok(Steps { steps, weight })
+}
