@@ -12,10 +12,10 @@ use Rattle.list_core.proofs.RisingLemmas.{Contains-head, Contains-cons, Contains
 use Rattle.list_core.proofs.WantedLemmas.{IsListOf-append, IsListOf-none}
 use Rattle.merge_core.specs.declared.gap.Gap.{Gap}
 use Rattle.merge_core.specs.Gaps.{IsUncovered, IsMaximal, IsGap, GapStartsBefore, ListsGaps}
-use Rattle.merge_core.specs.Sweep.{IsGapOf, IsBetween, ListsGapsFrom, Covers, PassesWithin, Keeps}
+use Rattle.merge_core.specs.Sweep.{IsGapOf, IsBetween, IsGapFrom, ListsGapsFrom, Covers, HasGapBefore, PassesWithin, Keeps}
 use Rattle.merge_core.proofs.SharedLemmas.{first_held}
 use Rattle.merge_core.proofs.PartLemmas.{chain_head}
-use Rattle.merge_core.proofs.SweepLemmas.{clear, gaps_of_whole, IsMaximal-same}
+use Rattle.merge_core.proofs.SweepLemmas.{clear, clear_gap, gap_of_whole, gaps_of_whole, IsMaximal-same}
 
 -- what is there of the gaps of x when q is left of the right items Q, and x is swept up to `at`
 pub record IsSwept (x : Item) (Q q : List Item) (at : ℤ) (old now : List Gap) (n : ℕ) : Type 0 where
@@ -23,6 +23,7 @@ pub record IsSwept (x : Item) (Q q : List Item) (at : ℤ) (old now : List Gap) 
   pub split : now ≡ old ++ added
   pub goes_on : (rest : List Gap) → ListsGapsFrom q x at rest → ListsGapsFrom Q x x.period.from (added ++ rest)
   pub passes : PassesWithin x Q q n
+  pub within : (g : Gap) → IsGapFrom q x at g → IsGapFrom Q x x.period.from g
 
 nothing_passed : (x : Item) (q : List Item) → PassesWithin x q q 0
 nothing_passed x q =
@@ -30,7 +31,13 @@ nothing_passed x q =
 
 pub swept_start : (x : Item) (Q : List Item) (old : List Gap) → IsSwept x Q Q x.period.from old old 0
 swept_start x Q old =
-    record { added = []; split = sym (append-nil old); goes_on = λ rest r. r; passes = nothing_passed x Q }
+    record {
+      added = [];
+      split = sym (append-nil old);
+      goes_on = λ rest r. r;
+      passes = nothing_passed x Q;
+      within = λ g i. i;
+    }
 
 -- y is passed
 swept_past : (x : Item) (Q : List Item) (y : Item) (q : List Item) (at next : ℤ) (old mid now : List Gap) (n : ℕ)
@@ -53,6 +60,7 @@ swept_past x Q y q at next old mid now n part over c s =
         ];
         count = omega (arith, s.passes.count);
       };
+      within = λ g i. s.within g (c.within q part g i);
     }
 
 pub swept_next : (x : Item) (Q : List Item) (y : Item) (q : List Item) (at at' next next' : ℤ) (old mid now : List Gap)
@@ -90,6 +98,13 @@ all_later x y q e part late z h =
           omega (arith, ints))
     ]
 
+-- behind an item that ends no earlier than x none starts before the end of x
+last_later : (x y : Item) (q : List Item) → q ≡ y ∷ drop 1 q → IsChain q → x.period.to ≤ℤ y.period.to
+    → (z : Item) → Contains (drop 1 q) z → x.period.to ≤ℤ z.period.from
+last_later x y q e part beyond z h =
+    let after : y.period.to ≤ℤ z.period.from = chain_head y (drop 1 q) (subst IsChain e part) z h in
+    omega (arith, ints)
+
 -- y ends no earlier than x, and is not passed
 swept_last : (x : Item) (Q : List Item) (y : Item) (q : List Item) (at next : ℤ) (old mid now final : List Gap) (n : ℕ)
     → q ≡ y ∷ drop 1 q → IsChain q → x.period.to ≤ℤ y.period.to → Covers x y at mid now next
@@ -98,10 +113,7 @@ swept_last : (x : Item) (Q : List Item) (y : Item) (q : List Item) (at next : �
 swept_last x Q y q at next old mid now final n e part beyond c s a =
     let chain : IsChain (y ∷ drop 1 q) = subst IsChain e part in
     let later : ListsGapsFrom (drop 1 q) x next a.added =
-    clear x (drop 1 q) next
-    (λ z h.
-    let after : y.period.to ≤ℤ z.period.from = chain_head y (drop 1 q) chain z h in omega (arith, ints))
-    a.added a.all in
+    clear x (drop 1 q) next (last_later x y q e part beyond) a.added a.all in
     let lists : ListsGapsFrom q x at (c.added ++ a.added) =
     subst (λ z. ListsGapsFrom z x at (c.added ++ a.added)) (sym e) (c.goes_on (drop 1 q) chain a.added later) in
     record {
@@ -122,6 +134,7 @@ Keeps-swept x Q q at old now n s = record { more = s.added; split = s.split }
 -- of the gaps of x, only that from `at` up to its end is not there yet
 pub record IsStopped (x : Item) (Q : List Item) (at : ℤ) (old now : List Gap) : Type 0 where
   pub keeps : Keeps old now
+  pub gap : (g : Gap) → IsBetween x at x.period.to g → IsGapOf Q x g
   pub goes_on : (final : List Gap) → AddsAll GapStartsBefore (IsBetween x at x.period.to) now final
       → AddsAll GapStartsBefore (IsGapOf Q x) old final
 
@@ -131,6 +144,7 @@ pub stop_end : (x : Item) (Q q : List Item) (at : ℤ) (old now : List Gap) (n :
 stop_end x Q q at old now n out s =
     record {
       keeps = Keeps-swept x Q q at old now n s;
+      gap = λ g b. gap_of_whole x Q g (s.within g (clear_gap x q at out g b));
       goes_on = λ final a. swept_end x Q q at old now final n out s a;
     }
 
@@ -142,6 +156,12 @@ stop_last x Q y q at at' next next' old mid now n same same_next e part beyond c
     subst (λ z. Covers x y at mid now z) same_next (subst (λ z. Covers x y z mid now next') same c) in
     record {
       keeps = Keeps-more old mid now d.added d.split (Keeps-swept x Q q at old mid n s);
+      gap = λ g b.
+          let i : IsGapFrom (drop 1 q) x next g =
+          clear_gap x (drop 1 q) next (last_later x y q e part beyond) g b in
+          let whole : IsGapFrom q x at g =
+          subst (λ z. IsGapFrom z x at g) (sym e) (d.within (drop 1 q) (subst IsChain e part) g i) in
+          gap_of_whole x Q g (s.within g whole);
       goes_on = λ final a. swept_last x Q y q at next old mid now final n e part beyond d s a;
     }
 
@@ -152,6 +172,20 @@ stopped_final x Q at at' to' old now final e f s a =
     s.goes_on final
     (subst (λ z. AddsAll GapStartsBefore (IsBetween x at z) now final) f
     (subst (λ z. AddsAll GapStartsBefore (IsBetween x z to') now final) e a))
+
+-- the gap before the next item is one of x
+pub swept_gap : (x : Item) (Q : List Item) (y : Item) (q : List Item) (at at' : ℤ) (old now : List Gap) (n : ℕ)
+    → at' ≡ at → q ≡ y ∷ drop 1 q → IsChain q → (h : HasGapBefore x y at') → IsSwept x Q q at old now n
+    → IsGapOf Q x h.gap
+swept_gap x Q y q at at' old now n same e part h s =
+    let here : IsGapFrom (y ∷ drop 1 q) x at h.gap =
+    subst (λ z. IsGapFrom (y ∷ drop 1 q) x z h.gap) same (h.is (drop 1 q) (subst IsChain e part)) in
+    gap_of_whole x Q h.gap (s.within h.gap (subst (λ z. IsGapFrom z x at h.gap) (sym e) here))
+
+pub stopped_gap : (x : Item) (Q : List Item) (at at' to' : ℤ) (old now : List Gap) → at' ≡ at → to' ≡ x.period.to
+    → IsStopped x Q at old now → (g : Gap) → IsBetween x at' to' g → IsGapOf Q x g
+stopped_gap x Q at at' to' old now e f s g b =
+    s.gap g (subst (λ z. IsBetween x at z g) f (subst (λ z. IsBetween x z to' g) e b))
 
 -- ---- the gaps of all left items
 
@@ -198,6 +232,15 @@ module _ (x z : Item) (q q' : List Item) (n : ℕ) (w : PassesWithin x q q' n)
   not_passed : (p : Period) → IsMaximal (IsUncovered q' z) p → IsMaximal (IsUncovered q z) p
   not_passed p m = IsMaximal-same (IsUncovered q' z) (IsUncovered q z) p uncovered_back uncovered_to m
 
+-- a gap of a later item against what is left is one
+later_gap : (x : Item) (p q q' : List Item) (n : ℕ) → IsChain (x ∷ p) → PassesWithin x q q' n → (g : Gap)
+    → IsGap p q' g → IsGap (x ∷ p) q g
+later_gap x p q q' n part w g i =
+    record {
+      left_in = Contains-cons x p g.left i.left_in;
+      maximal = not_passed x g.left q q' n w (chain_head x p part g.left i.left_in) g.period i.maximal;
+    }
+
 -- the gaps of x, and then those of the later items
 pub gaps_step : (x : Item) (p q q' : List Item) (n : ℕ) → IsChain (x ∷ p) → PassesWithin x q q' n
     → (now rest : List Gap) → IsListOf GapStartsBefore (IsGapOf q x) now → ListsGaps p q' rest
@@ -214,10 +257,7 @@ gaps_step x p q q' n part w now rest a b =
       left_in = subst (Contains (x ∷ p)) (sym m.left) (Contains-head x p);
       maximal = subst (λ v. IsMaximal (IsUncovered q v) g.period) (sym m.left) m.maximal;
     })
-    (λ g i. record {
-      left_in = Contains-cons x p g.left i.left_in;
-      maximal = not_passed x g.left q q' n w (chain_head x p part g.left i.left_in) g.period i.maximal;
-    })
+    (later_gap x p q q' n part w)
     (λ g i.
     elim (Contains-cons_cases x p g.left i.left_in) [
       | inl e ↦ inl (record {
@@ -237,6 +277,7 @@ pub record IsGapped (P Q p q : List Item) (old now : List Gap) (n : ℕ) : Type 
   pub goes_on : (rest : List Gap) → ListsGaps p q rest → ListsGaps P Q (added ++ rest)
   pub count : n + (length p + length q) ≡ length P + length Q
   pub at_least : length P ≤ n + length p
+  pub within : (g : Gap) → IsGap p q g → IsGap P Q g
 
 pub gapped_start : (P Q : List Item) (old : List Gap) → IsGapped P Q P Q old old 0
 gapped_start P Q old =
@@ -246,6 +287,7 @@ gapped_start P Q old =
       goes_on = λ rest r. r;
       count = omega arith;
       at_least = omega arith;
+      within = λ g i. i;
     }
 
 gapped_past : (P Q : List Item) (x : Item) (p q q' : List Item) (old mid now : List Gap) (n m : ℕ)
@@ -259,6 +301,7 @@ gapped_past P Q x p q q' old mid now n m part a w g =
           rw append_assoc (g.goes_on (a.added ++ rest) (gaps_step x p q q' m part w a.added rest a.all r));
       count = omega (arith, g.count, w.count);
       at_least = omega (arith, g.at_least);
+      within = λ h i. g.within h (later_gap x p q q' m part w h i);
     }
 
 pub gapped_more : (P Q : List Item) (x : Item) (p q q' : List Item) (old mid now : List Gap) (n m : ℕ)
@@ -267,6 +310,16 @@ pub gapped_more : (P Q : List Item) (x : Item) (p q q' : List Item) (old mid now
 gapped_more P Q x p q q' old mid now n m e part a w g =
     gapped_past P Q x (drop 1 p) q q' old mid now n m (subst IsChain e part) a w
     (subst (λ z. IsGapped P Q z q old mid n) e g)
+
+-- a gap of the next left item is one of all
+pub gapped_gap : (P Q : List Item) (x : Item) (p q : List Item) (old now : List Gap) (n : ℕ) → p ≡ x ∷ drop 1 p
+    → IsGapped P Q p q old now n → (g : Gap) → IsGapOf q x g → IsGap P Q g
+gapped_gap P Q x p q old now n e s g i =
+    s.within g (record {
+      left_in = subst (λ z. Contains z g.left) (sym e)
+          (subst (Contains (x ∷ drop 1 p)) (sym i.left) (Contains-head x (drop 1 p)));
+      maximal = subst (λ v. IsMaximal (IsUncovered q v) g.period) (sym i.left) i.maximal;
+    })
 
 pub gapped_end : (P Q p q : List Item) (old now : List Gap) (n : ℕ) → p ≡ [] → IsGapped P Q p q old now n
     → AddsAll GapStartsBefore (IsGap P Q) old now

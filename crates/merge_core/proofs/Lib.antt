@@ -11,3 +11,4 @@ pub mod StepLemmas
 pub mod TallyLemmas
 pub mod WeightLemmas
 pub mod CombineLemmas
+pub mod ErrLemmas

@@ -1,7 +1,8 @@
 -- The gaps of one left item, as the right items pass by.
 use Rattle.std.proofs.Common.{◌≡◌, ◌⊎◌, List, [], ◌∷◌, ◌++◌, inl, inr, sym, subst, ap, ◌∙◌, arith, append-nil}
 use Rattle.std.specs.Prelude.{ℤ, pos, ◌-ℤ◌, ◌≤ℤ◌, ◌<ℤ◌, Contains}
-use Rattle.std.proofs.lemmas.Int.{ints}
+use Rattle.std.specs.Int.{int_max}
+use Rattle.std.proofs.lemmas.Int.{ints, clamps}
 use Rattle.period_core.specs.declared.period.Period.{Period}
 use Rattle.period_core.specs.Period.{Holds}
 use Rattle.dip_core.specs.declared.item.Item.{Item}
@@ -11,7 +12,7 @@ use Rattle.list_core.proofs.RisingLemmas.{Contains-head, Contains-cons, Contains
 use Rattle.list_core.proofs.WantedLemmas.{IsListOf-append, IsListOf-same, IsListOf-none, IsListOf-one}
 use Rattle.merge_core.specs.declared.gap.Gap.{Gap}
 use Rattle.merge_core.specs.Gaps.{IsCovered, IsUncovered, IsMaximal, GapStartsBefore}
-use Rattle.merge_core.specs.Sweep.{IsGapOf, IsBetween, IsUncoveredFrom, IsGapFrom, ListsGapsFrom, Covers}
+use Rattle.merge_core.specs.Sweep.{IsGapOf, IsBetween, IsUncoveredFrom, IsGapFrom, ListsGapsFrom, Covers, HasGapBefore}
 use Rattle.merge_core.proofs.SharedLemmas.{by_order, Period-same, first_held}
 use Rattle.merge_core.proofs.PartLemmas.{chain_head}
 
@@ -50,43 +51,47 @@ between_none x from to h =
     let out : ⊥ = omega (arith, ints) in out)
 
 -- an item of another class covers nothing
-pub unmatched : (x y : Item) (later : List Item) (at : ℤ) → (y.class ≡ x.class → ⊥) → (gaps : List Gap)
-    → ListsGapsFrom later x at gaps → ListsGapsFrom (y ∷ later) x at gaps
-unmatched x y later at other gaps a =
-    IsListOf-same GapStartsBefore (IsGapFrom later x at) (IsGapFrom (y ∷ later) x at) gaps
-    (λ g i. record {
-      left = i.left;
-      maximal =
-          IsMaximal-same (IsUncoveredFrom later x at) (IsUncoveredFrom (y ∷ later) x at) g.period to back i.maximal;
-    })
-    (λ g i. record {
-      left = i.left;
-      maximal =
-          IsMaximal-same (IsUncoveredFrom (y ∷ later) x at) (IsUncoveredFrom later x at) g.period back to i.maximal;
-    })
-    a
-  where
-    to : (t : ℤ) → IsUncoveredFrom later x at t → IsUncoveredFrom (y ∷ later) x at t
-    to t f = record {
-      from = f.from;
-      to = f.to;
-      uncovered = λ c. elim (Contains-cons_cases y later c.by c.by_in) [
-        | inl e ↦ other (ap (λ (z : Item). z.class) e ∙ c.matches)
-        | inr k ↦ f.uncovered (record { by = c.by; by_in = k; matches = c.matches; holds = c.holds })
-      ];
-    }
+module _ (x y : Item) (later : List Item) (at : ℤ) (other : y.class ≡ x.class → ⊥) where
+  unmatched_to : (t : ℤ) → IsUncoveredFrom later x at t → IsUncoveredFrom (y ∷ later) x at t
+  unmatched_to t f = record {
+    from = f.from;
+    to = f.to;
+    uncovered = λ c. elim (Contains-cons_cases y later c.by c.by_in) [
+      | inl e ↦ other (ap (λ (z : Item). z.class) e ∙ c.matches)
+      | inr k ↦ f.uncovered (record { by = c.by; by_in = k; matches = c.matches; holds = c.holds })
+    ];
+  }
 
-    back : (t : ℤ) → IsUncoveredFrom (y ∷ later) x at t → IsUncoveredFrom later x at t
-    back t f = record {
-      from = f.from;
-      to = f.to;
-      uncovered = λ c. f.uncovered (record {
-        by = c.by;
-        by_in = Contains-cons y later c.by c.by_in;
-        matches = c.matches;
-        holds = c.holds;
-      });
-    }
+  unmatched_back : (t : ℤ) → IsUncoveredFrom (y ∷ later) x at t → IsUncoveredFrom later x at t
+  unmatched_back t f = record {
+    from = f.from;
+    to = f.to;
+    uncovered = λ c. f.uncovered (record {
+      by = c.by;
+      by_in = Contains-cons y later c.by c.by_in;
+      matches = c.matches;
+      holds = c.holds;
+    });
+  }
+
+  pub unmatched_gap : (g : Gap) → IsGapFrom later x at g → IsGapFrom (y ∷ later) x at g
+  unmatched_gap g i = record {
+    left = i.left;
+    maximal = IsMaximal-same (IsUncoveredFrom later x at) (IsUncoveredFrom (y ∷ later) x at) g.period
+        unmatched_to unmatched_back i.maximal;
+  }
+
+  gap_unmatched : (g : Gap) → IsGapFrom (y ∷ later) x at g → IsGapFrom later x at g
+  gap_unmatched g i = record {
+    left = i.left;
+    maximal = IsMaximal-same (IsUncoveredFrom (y ∷ later) x at) (IsUncoveredFrom later x at) g.period
+        unmatched_back unmatched_to i.maximal;
+  }
+
+  pub unmatched : (gaps : List Gap) → ListsGapsFrom later x at gaps → ListsGapsFrom (y ∷ later) x at gaps
+  unmatched gaps a =
+      IsListOf-same GapStartsBefore (IsGapFrom later x at) (IsGapFrom (y ∷ later) x at) gaps
+      unmatched_gap gap_unmatched a
 
 -- y is of the class of x: first the gap before it, and then those from its end on
 module _ (x y : Item) (later : List Item) (at next : ℤ) (same : y.class ≡ x.class) (part : IsChain (y ∷ later))
@@ -134,7 +139,7 @@ module _ (x y : Item) (later : List Item) (at next : ℤ) (same : y.class ≡ x.
     });
   }
 
-  gap_before : (g : Gap) → IsBetween x at y.period.from g → IsGapFrom (y ∷ later) x at g
+  pub gap_before : (g : Gap) → IsBetween x at y.period.from g → IsGapFrom (y ∷ later) x at g
   gap_before g b =
       let f = b.from in
       let e = b.to in
@@ -173,7 +178,7 @@ module _ (x y : Item) (later : List Item) (at next : ℤ) (same : y.class ≡ x.
             ])
       ]
 
-  gap_later : (g : Gap) → IsGapFrom later x next g → IsGapFrom (y ∷ later) x at g
+  pub gap_later : (g : Gap) → IsGapFrom later x next g → IsGapFrom (y ∷ later) x at g
   gap_later g b =
       let first : IsUncoveredFrom later x next g.period.from = b.maximal.inside g.period.from (first_held g.period) in
       let on : next ≤ℤ g.period.from = first.from in
@@ -264,83 +269,89 @@ module _ (x y : Item) (later : List Item) (at next : ℤ) (same : y.class ≡ x.
       gap_before gap_later gap_cases
 
 -- no right item starts before the end of x: all from `at` on is uncovered
-pub clear : (x : Item) (later : List Item) (at : ℤ)
-    → ((z : Item) → Contains later z → x.period.to ≤ℤ z.period.from)
-    → (gaps : List Gap) → IsListOf GapStartsBefore (IsBetween x at x.period.to) gaps → ListsGapsFrom later x at gaps
-clear x later at out gaps a =
-    IsListOf-same GapStartsBefore (IsBetween x at x.period.to) (IsGapFrom later x at) gaps to back a
-  where
-    free : (t : ℤ) → t <ℤ x.period.to → IsCovered later x t → ⊥
-    free t h c =
-        let o : x.period.to ≤ℤ c.by.period.from = out c.by c.by_in in
-        let k = c.holds in omega (arith, ints)
+module _ (x : Item) (later : List Item) (at : ℤ)
+    (out : (z : Item) → Contains later z → x.period.to ≤ℤ z.period.from) where
+  free : (t : ℤ) → t <ℤ x.period.to → IsCovered later x t → ⊥
+  free t h c =
+      let o : x.period.to ≤ℤ c.by.period.from = out c.by c.by_in in
+      let k = c.holds in omega (arith, ints)
 
-    to : (g : Gap) → IsBetween x at x.period.to g → IsGapFrom later x at g
-    to g b =
-        let f = b.from in
-        let e = b.to in
-        record {
-          left = b.left;
-          maximal = record {
-            inside = λ t h. record {
-              from = omega (arith, ints);
-              to = omega (arith, ints);
-              uncovered = free t (omega (arith, ints));
-            };
-            before = λ r. (let k = r.from in omega (arith, ints));
-            after = λ r. (let k = r.to in omega (arith, ints));
-          };
-        }
-
-    back : (g : Gap) → IsGapFrom later x at g → IsBetween x at x.period.to g
-    back g b =
-        let first : IsUncoveredFrom later x at g.period.from = b.maximal.inside g.period.from (first_held g.period) in
-        let proper : g.period.from <ℤ g.period.to = g.period.ordered in
-        let ends : g.period.from <ℤ x.period.to = first.to in
-        let starts : g.period.from ≡ at =
-        elim (by_order g.period.from at) [
-          | inl k ↦ (let l : at ≤ℤ g.period.from = first.from in omega (arith, ints))
-          | inr k ↦ absurd (b.maximal.before (record {
+  pub clear_gap : (g : Gap) → IsBetween x at x.period.to g → IsGapFrom later x at g
+  clear_gap g b =
+      let f = b.from in
+      let e = b.to in
+      record {
+        left = b.left;
+        maximal = record {
+          inside = λ t h. record {
             from = omega (arith, ints);
             to = omega (arith, ints);
-            uncovered = free (g.period.from -ℤ pos 1) (omega (arith, ints));
-          }))
-        ] in
-        let last : IsUncoveredFrom later x at (g.period.to -ℤ pos 1) =
-        b.maximal.inside (g.period.to -ℤ pos 1) (omega (arith, ints), omega (arith, ints)) in
-        let stops : g.period.to ≡ x.period.to =
-        elim (by_order x.period.to g.period.to) [
-          | inl k ↦ (let l : (g.period.to -ℤ pos 1) <ℤ x.period.to = last.to in omega (arith, ints))
-          | inr k ↦ absurd (b.maximal.after (record {
-            from = omega (arith, ints);
-            to = k;
-            uncovered = free g.period.to k;
-          }))
-        ] in
-        record { left = b.left; from = starts; to = stops }
+            uncovered = free t (omega (arith, ints));
+          };
+          before = λ r. (let k = r.from in omega (arith, ints));
+          after = λ r. (let k = r.to in omega (arith, ints));
+        };
+      }
+
+  gap_clear : (g : Gap) → IsGapFrom later x at g → IsBetween x at x.period.to g
+  gap_clear g b =
+      let first : IsUncoveredFrom later x at g.period.from = b.maximal.inside g.period.from (first_held g.period) in
+      let proper : g.period.from <ℤ g.period.to = g.period.ordered in
+      let ends : g.period.from <ℤ x.period.to = first.to in
+      let starts : g.period.from ≡ at =
+      elim (by_order g.period.from at) [
+        | inl k ↦ (let l : at ≤ℤ g.period.from = first.from in omega (arith, ints))
+        | inr k ↦ absurd (b.maximal.before (record {
+          from = omega (arith, ints);
+          to = omega (arith, ints);
+          uncovered = free (g.period.from -ℤ pos 1) (omega (arith, ints));
+        }))
+      ] in
+      let last : IsUncoveredFrom later x at (g.period.to -ℤ pos 1) =
+      b.maximal.inside (g.period.to -ℤ pos 1) (omega (arith, ints), omega (arith, ints)) in
+      let stops : g.period.to ≡ x.period.to =
+      elim (by_order x.period.to g.period.to) [
+        | inl k ↦ (let l : (g.period.to -ℤ pos 1) <ℤ x.period.to = last.to in omega (arith, ints))
+        | inr k ↦ absurd (b.maximal.after (record {
+          from = omega (arith, ints);
+          to = k;
+          uncovered = free g.period.to k;
+        }))
+      ] in
+      record { left = b.left; from = starts; to = stops }
+
+  pub clear : (gaps : List Gap) → IsListOf GapStartsBefore (IsBetween x at x.period.to) gaps
+      → ListsGapsFrom later x at gaps
+  clear gaps a =
+      IsListOf-same GapStartsBefore (IsBetween x at x.period.to) (IsGapFrom later x at) gaps clear_gap gap_clear a
 
 -- from the start of x on, these are all its gaps
-pub gaps_of_whole : (x : Item) (right : List Item) (gaps : List Gap) → ListsGapsFrom right x x.period.from gaps
-    → IsListOf GapStartsBefore (IsGapOf right x) gaps
-gaps_of_whole x right gaps a =
-    IsListOf-same GapStartsBefore (IsGapFrom right x x.period.from) (IsGapOf right x) gaps
-    (λ g i. record {
-      left = i.left;
-      maximal =
-          IsMaximal-same (IsUncoveredFrom right x x.period.from) (IsUncovered right x) g.period to back i.maximal;
-    })
-    (λ g i. record {
-      left = i.left;
-      maximal =
-          IsMaximal-same (IsUncovered right x) (IsUncoveredFrom right x x.period.from) g.period back to i.maximal;
-    })
-    a
-  where
-    to : (t : ℤ) → IsUncoveredFrom right x x.period.from t → IsUncovered right x t
-    to t f = record { held = (f.from, f.to); uncovered = f.uncovered }
+module _ (x : Item) (right : List Item) where
+  held_from : (t : ℤ) → IsUncoveredFrom right x x.period.from t → IsUncovered right x t
+  held_from t f = record { held = (f.from, f.to); uncovered = f.uncovered }
 
-    back : (t : ℤ) → IsUncovered right x t → IsUncoveredFrom right x x.period.from t
-    back t f = record { from = f.held.0; to = f.held.1; uncovered = f.uncovered }
+  from_held : (t : ℤ) → IsUncovered right x t → IsUncoveredFrom right x x.period.from t
+  from_held t f = record { from = f.held.0; to = f.held.1; uncovered = f.uncovered }
+
+  pub gap_of_whole : (g : Gap) → IsGapFrom right x x.period.from g → IsGapOf right x g
+  gap_of_whole g i = record {
+    left = i.left;
+    maximal = IsMaximal-same (IsUncoveredFrom right x x.period.from) (IsUncovered right x) g.period
+        held_from from_held i.maximal;
+  }
+
+  whole_of_gap : (g : Gap) → IsGapOf right x g → IsGapFrom right x x.period.from g
+  whole_of_gap g i = record {
+    left = i.left;
+    maximal = IsMaximal-same (IsUncovered right x) (IsUncoveredFrom right x x.period.from) g.period
+        from_held held_from i.maximal;
+  }
+
+  pub gaps_of_whole : (gaps : List Gap) → ListsGapsFrom right x x.period.from gaps
+      → IsListOf GapStartsBefore (IsGapOf right x) gaps
+  gaps_of_whole gaps a =
+      IsListOf-same GapStartsBefore (IsGapFrom right x x.period.from) (IsGapOf right x) gaps
+      gap_of_whole whole_of_gap a
 
 -- one gap was added
 pub adds_between : (x : Item) (from to : ℤ) (old new : List Gap) (g : Gap) → new ≡ old ++ g ∷ [] → g.left ≡ x
@@ -355,6 +366,7 @@ covers_unmatched x y at next old e other =
       added = [];
       split = sym (append-nil old);
       goes_on = λ later part rest r. unmatched x y later at other rest (subst (λ z. ListsGapsFrom later x z rest) e r);
+      within = λ later part g i. unmatched_gap x y later at other g (subst (λ z. IsGapFrom later x z g) e i);
     }
 
 pub covers_matched : (x y : Item) (at at' start next : ℤ) (old new : List Gap) → at' ≡ at → start ≡ y.period.from
@@ -370,4 +382,17 @@ covers_matched x y at at' start next old new e f same early at_next y_next least
       split = b.split;
       goes_on = λ later part rest r.
           matched x y later at next same part early at_next y_next least b.added rest b.all r;
+      within = λ later part g i. gap_later x y later at next same part early at_next y_next least g i;
+    }
+
+-- the gap before y is one of x
+pub gap_found : (x y : Item) (at at' start : ℤ) → at' ≡ at → start ≡ y.period.from → y.class ≡ x.class
+    → y.period.from <ℤ x.period.to → (g : Gap) → IsBetween x at' start g → HasGapBefore x y at
+gap_found x y at at' start e f same early g b =
+    record {
+      gap = g;
+      is = λ later part.
+          gap_before x y later at (int_max at y.period.to) same part early (omega (arith, ints, clamps))
+          (omega (arith, ints, clamps)) (λ t h k. omega (arith, ints, clamps)) g
+          (subst (λ z. IsBetween x at z g) f (subst (λ z. IsBetween x z start g) e b));
     }

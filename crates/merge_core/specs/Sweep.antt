@@ -38,6 +38,13 @@ pub record Covers (x y : Item) (at : ℤ) (old new : List Gap) (next : ℤ) : Ty
   pub split : new ≡ old ++ added
   pub goes_on : (later : List Item) → IsChain (y ∷ later) → (rest : List Gap)
       → ListsGapsFrom later x next rest → ListsGapsFrom (y ∷ later) x at (added ++ rest)
+  pub within : (later : List Item) → IsChain (y ∷ later) → (gap : Gap) → IsGapFrom later x next gap
+      → IsGapFrom (y ∷ later) x at gap
+
+-- x has a gap from `at` on, whatever items come behind y
+pub record HasGapBefore (x y : Item) (at : ℤ) : Type 0 where
+  pub gap : Gap
+  pub is : (later : List Item) → IsChain (y ∷ later) → IsGapFrom (y ∷ later) x at gap
 
 -- n items were passed, none of which ends later than x
 pub record PassesWithin (x : Item) (old new : List Item) (n : ℕ) : Type 0 where

@@ -1,9 +1,10 @@
 //! The gaps of the items of a part.
 
-ghost use Rattle.std.specs.Prelude.{◌≡◌, ℤ, ◌<ℤ◌, IfOk, OnOk, OnErr};
+ghost use Rattle.std.specs.Prelude.{◌≡◌, ℤ, ◌<ℤ◌, IfOk, IsOk, OnOk, OnErr};
 ghost use Rattle.list_core.specs.Wanted.{AddsAll};
+ghost use Rattle.merge_core.specs.declared.gap.Gap.{Gap};
 ghost use Rattle.merge_core.specs.Gaps.{IsGap, GapStartsBefore, AreGapAdvances};
-ghost use Rattle.merge_core.specs.Sweep.{IsGapOf, IsBetween, Covers, PassesWithin, Keeps};
+ghost use Rattle.merge_core.specs.Sweep.{IsGapOf, IsBetween, Covers, HasGapBefore, PassesWithin, Keeps};
 
 use crate::ends::{ends_before, follows, later};
 use crate::{Cursor, Gap};
@@ -14,6 +15,7 @@ use period_core::{NoMemory, Period, Point};
 fn push_gap(x: &Item, from: Point, to: Point, gaps: &mut Vec<Gap>) -> Result<(), NoMemory>
     ensures ok { OnOk result (AddsAll GapStartsBefore (IsBetween x.now from to) gaps.old.items gaps.new.items) }
     ensures err { OnErr result (gaps.new.items ≡ gaps.old.items) }
+    ensures gap { OnErr result ((gap : Gap) × IsBetween x.now from to gap) }
 {
     if let Ok(period) = Period::new(from, to) {
         gaps.push(Gap { left: *x, period })?;
@@ -26,6 +28,7 @@ fn cover(x: &Item, y: &Item, at: Point, gaps: &mut Vec<Gap>) -> Result<Point, No
     requires { y.now.period.from <ℤ x.now.period.to }
     ensures ok { IfOk result (Covers x.now y.now at gaps.old.items gaps.new.items) }
     ensures err { OnErr result (gaps.new.items ≡ gaps.old.items) }
+    ensures gap { OnErr result (HasGapBefore x.now y.now at) }
 {
     if y.class != x.class {
         return Ok(at);
@@ -40,6 +43,7 @@ fn gaps_of(x: &Item, right: &mut Cursor, gaps: &mut Vec<Gap>) -> Result<u64, NoM
     ensures gaps { OnOk result (AddsAll GapStartsBefore (IsGapOf right.old x.now) gaps.old.items gaps.new.items) }
     ensures passes { IfOk result (PassesWithin x.now right.old right.new) }
     ensures keeps { Keeps gaps.old.items gaps.new.items }
+    ensures gap { OnErr result ((gap : Gap) × IsGapOf right.old x.now gap) }
 {
     let most = right.len() as u64;
     let mut at = x.period.from;
@@ -65,11 +69,12 @@ fn gaps_of(x: &Item, right: &mut Cursor, gaps: &mut Vec<Gap>) -> Result<u64, NoM
 ///
 /// # Errors
 ///
-/// `NoMemory` where the list can't grow; it is then as before.
+/// `NoMemory` where the list can't grow; it is then as before. Parts without a gap need no memory.
 pub fn merge_gaps(mut left: Cursor, mut right: Cursor, gaps: &mut Vec<Gap>) -> Result<u64, NoMemory>
     ensures gaps { OnOk result (AddsAll GapStartsBefore (IsGap left.entry right.entry) gaps.old.items gaps.new.items) }
     ensures advances { IfOk result (AreGapAdvances left.entry right.entry) }
     ensures unchanged { OnErr result (gaps.new.items ≡ gaps.old.items) }
+    ensures no_gap { ((gap : Gap) → IsGap left.entry right.entry gap → ⊥) → IsOk result }
 {
     let before = gaps.len();
     let most = left.len() as u64 + right.len() as u64;

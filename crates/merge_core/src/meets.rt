@@ -1,11 +1,11 @@
 //! Lists of gaps, and what two of them share.
 
-ghost use Rattle.std.specs.Prelude.{◌≡◌, ◌==◌, ◌++◌, List, [], ◌∷◌, drop, length, map, MatchOption, IfOk, OnOk, slice_get};
+ghost use Rattle.std.specs.Prelude.{◌≡◌, ◌==◌, ◌++◌, List, [], ◌∷◌, drop, length, map, MatchOption, IfOk, IsOk, OnOk, slice_get};
 ghost use Rattle.std.specs.Option.{option_to_list};
 ghost use Rattle.dip_core.specs.declared.item.Item.{Item};
 ghost use Rattle.list_core.specs.Wanted.{IsListOf, AddsAll};
 ghost use Rattle.merge_core.specs.declared.gap.Gap.{Gap};
-ghost use Rattle.merge_core.specs.Gaps.{ListsGaps, GapStartsBefore};
+ghost use Rattle.merge_core.specs.Gaps.{IsGap, ListsGaps, GapStartsBefore};
 ghost use Rattle.merge_core.specs.Meets.{IsMeet, AreGapsApart, IdsTell};
 
 use crate::ends::ends_first;
@@ -35,9 +35,10 @@ impl Model for Gaps {
 }
 
 impl Gaps {
-    /// The gaps of the left part against the right one.
+    /// The gaps of the left part against the right one. Parts without a gap need no memory.
     pub fn of(alloc: Global, left: Cursor, right: Cursor) -> Result<Gaps, NoMemory>
-        ensures { IfOk result (ListsGaps left.entry right.entry) }
+        ensures gaps { IfOk result (ListsGaps left.entry right.entry) }
+        ensures no_gap { ((gap : Gap) → IsGap left.entry right.entry gap → ⊥) → IsOk result }
     {
         let _ = left.len();
         let mut gaps = Vec::new(alloc);

@@ -1,6 +1,7 @@
 use Rattle.std.proofs.Common.{arith, ◌≤ℤ◌}
 use Rattle.std.proofs.lemmas.Int.{ints}
-use Rattle.merge_core.proofs.GapLemmas.{swept_next, stop_end, stop_last, stopped_final, IsStopped, none_left, all_later, Keeps-more}
+use Rattle.merge_core.proofs.ErrLemmas.{on_err}
+use Rattle.merge_core.proofs.GapLemmas.{swept_next, stop_end, stop_last, stopped_final, IsStopped, swept_gap, stopped_gap, none_left, all_later, Keeps-more}
 use Rattle.merge_core.proofs.gaps.gaps_of.Goals as goal
 use Rattle.merge_core.proofs.gaps.gaps_of.Goals.{in-Some+then-follows, in-Some+else-follows+in_ok-at+then-ends_before, in_default, After-push_gap}
 
@@ -49,3 +50,21 @@ pub returns-clause-keeps : goal.returns-clause-keeps
 returns-clause-keeps c =
     Keeps-more _ _ _ c.in_ok-push_gap.ensures.ok.added c.in_ok-push_gap.ensures.ok.split
     (stopped (goal.at.returns-clause-keeps c).After-push_gap).keeps
+
+pub returns-in_err-at-clause-gap : goal.returns-in_err-at-clause-gap
+returns-in_err-at-clause-gap c =
+    on_err _ c.from_residual.result (
+      c.in_err-at.ensures.gap.gap,
+      swept_gap c.args.x.now c.args.right.now c.in-Some.y c.loop-y.right _ _ c.args.gaps.now.items
+          c.loop-y.gaps.items c.loop-y.advances (omega (arith, ints)) c.in-Some.ensures.next c.in-Some.ensures.chain
+          c.in_err-at.ensures.gap c.loop-y.invariant,
+    )
+
+pub returns-in_err-push_gap-clause-gap : goal.returns-in_err-push_gap-clause-gap
+returns-in_err-push_gap-clause-gap c =
+    on_err _ c.from_residual-in_err-push_gap.result (
+      c.in_err-push_gap.ensures.gap.0,
+      stopped_gap _ _ _ _ _ _ _ (omega (arith, ints)) (omega (arith, ints))
+          (stopped (goal.at.returns-in_err-push_gap-clause-gap c).After-push_gap)
+          c.in_err-push_gap.ensures.gap.0 c.in_err-push_gap.ensures.gap.1,
+    )

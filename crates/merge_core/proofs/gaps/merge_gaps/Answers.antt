@@ -1,5 +1,5 @@
 use Rattle.std.proofs.Common.{arith, ◌+◌, ◌≡◌}
-use Rattle.merge_core.proofs.GapLemmas.{gapped_more, gapped_end}
+use Rattle.merge_core.proofs.GapLemmas.{gapped_more, gapped_end, gapped_gap}
 use Rattle.merge_core.proofs.gaps.merge_gaps.Goals as goal
 
 pub loop-x-preserved : goal.loop-x-preserved
@@ -12,3 +12,10 @@ loop-x-preserved c =
 
 pub returns-clause-gaps : goal.returns-clause-gaps
 returns-clause-gaps c = gapped_end _ _ _ _ _ _ _ c.in_default.ensures.next c.loop-x.invariant
+
+pub returns-in-Err-clause-no_gap : goal.returns-in-Err-clause-no_gap
+returns-in-Err-clause-no_gap c =
+    λ none. absurd (none c.in-Err.ensures.gap.0
+    (gapped_gap c.args.left c.args.right c.in-Some.x c.loop-x.left c.loop-x.right c.args.gaps.now.items
+    c.loop-x.gaps.items c.loop-x.advances c.in-Some.ensures.next c.loop-x.invariant c.in-Err.ensures.gap.0
+    c.in-Err.ensures.gap.1))

@@ -1,12 +1,7 @@
-use Rattle.std.proofs.Common.{[], Result, Ok, Err}
-use Rattle.std.specs.Prelude.{OnErr}
+use Rattle.std.proofs.Common.{[]}
 use Rattle.list_core.proofs.RisingLemmas.{Contains-head}
+use Rattle.merge_core.proofs.ErrLemmas.{on_err}
 use Rattle.merge_core.proofs.join.push_hit.Goals as goal
-
--- what is so is so of each error
-on_err : {T E : Type 0} (P : Type 0) (r : Result T E) → P → OnErr r P
-on_err P (Ok x) p = tt
-on_err P (Err e) p = p
 
 pub returns-in_err-push-clause-hit : goal.returns-in_err-push-clause-hit
 returns-in_err-push-clause-hit c =

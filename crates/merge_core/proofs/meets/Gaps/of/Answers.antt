@@ -6,5 +6,6 @@ invariant_of-result c =
     AreGapsApart-added c.args.left c.args.right _ _ c.len.ensures.chain c.new-gaps.ensures.items
     c.in_ok-merge_gaps.ensures.gaps
 
-pub returns : goal.returns
-returns c = ListsGaps-added c.args.left c.args.right _ _ c.new-gaps.ensures.items c.in_ok-merge_gaps.ensures.gaps
+pub returns-clause-gaps : goal.returns-clause-gaps
+returns-clause-gaps c =
+    ListsGaps-added c.args.left c.args.right _ _ c.new-gaps.ensures.items c.in_ok-merge_gaps.ensures.gaps
