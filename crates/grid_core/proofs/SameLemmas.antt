@@ -18,7 +18,7 @@ Period-same_ends p q from to =
     cc
 
 -- an item is determined by its fields
-pub Item-same_fields : (a b : Item) → a.period ≡ b.period → a.id ≡ b.id → a.class ≡ b.class → a.amount ≡ b.amount
+Item-same_fields : (a b : Item) → a.period ≡ b.period → a.id ≡ b.id → a.class ≡ b.class → a.amount ≡ b.amount
     → a ≡ b
 Item-same_fields a b p i c m = λ k. record { period = p k; id = i k; class = c k; amount = m k }
 

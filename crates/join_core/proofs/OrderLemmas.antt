@@ -42,7 +42,7 @@ join_total =
     (then_total (on_total (λ x. x.left) nat_cmp_total) (on_total (λ x. x.right) nat_cmp_total))
 
 -- no two rows come before each other
-pub RowBefore-asym : (a b : JoinRow) → RowBefore a b → RowBefore b a → ⊥
+RowBefore-asym : (a b : JoinRow) → RowBefore a b → RowBefore b a → ⊥
 RowBefore-asym a b one other =
     let e : join_cmp a b ≡ ordering_reverse (join_cmp b a) = join_total.antisymm a b in
     let turned : ordering_reverse (join_cmp b a) ≡ Greater = ap ordering_reverse other in

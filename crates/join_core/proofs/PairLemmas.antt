@@ -18,7 +18,7 @@ use Rattle.join_core.proofs.PartLemmas.{one_part}
 use Rattle.join_core.proofs.ValueLemmas.{IsPairValue-opened}
 
 -- a pair's number is one of all numbers
-pub number-within : (m n l r : ℕ) → l < m → r < n → l * n + r < m * n
+number-within : (m n l r : ℕ) → l < m → r < n → l * n + r < m * n
 number-within m n l r a b = let h : suc l * n ≤ m * n = mul-le-mul_right n a in omega (arith, suc-mul l n, h)
 
 -- where there are so many, there is one at each place
@@ -39,7 +39,7 @@ hits-differ p q hits list =
 module _ (ps qs : List (List Item)) (outs : List JoinOut) (len : length outs ≡ length ps * length qs)
     (values : AreFirstValues ps qs outs) where
   -- the value of a pair by its number
-  pub value_at : (i : ℕ) (o : JoinOut) → slice_get outs i ≡ Some o
+  value_at : (i : ℕ) (o : JoinOut) → slice_get outs i ≡ Some o
       → IsPairValue (part_at ps (i / length qs)) (part_at qs (i % length qs)) o
   value_at i o h = IsPairValue-opened (part_at ps (i / length qs)) (part_at qs (i % length qs)) o (values i o h)
 

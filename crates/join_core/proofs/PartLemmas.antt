@@ -15,7 +15,7 @@ has_id : (items : List Item) (x : Item) (i : ℕ) → Contains items x → x.id 
 has_id items x i h e = counted (λ (y : Item). y.id == i) items x h ((Decides-eqb x.id i).1 e)
 
 -- the part of that number
-pub part_at-is : (ps : List (List Item)) (k : ℕ) (p : List Item) → slice_get ps k ≡ Some p → part_at ps k ≡ p
+part_at-is : (ps : List (List Item)) (k : ℕ) (p : List Item) → slice_get ps k ≡ Some p → part_at ps k ≡ p
 part_at-is [] k p h = cc
 part_at-is (q ∷ ps) zero p h = cc
 part_at-is (q ∷ ps) (suc k) p h = part_at-is ps k p h
