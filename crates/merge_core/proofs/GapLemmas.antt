@@ -25,7 +25,7 @@ pub record IsSwept (x : Item) (Q q : List Item) (at : ℤ) (old now : List Gap) 
   pub passes : PassesWithin x Q q n
   pub within : (g : Gap) → IsGapFrom q x at g → IsGapFrom Q x x.period.from g
 
-nothing_passed : (x : Item) (q : List Item) → PassesWithin x q q 0
+pub nothing_passed : (x : Item) (q : List Item) → PassesWithin x q q 0
 nothing_passed x q =
     record { passed = []; split = refl; over = λ y h. absurd (Contains-none y h); count = omega arith }
 

@@ -12,3 +12,4 @@ pub mod TallyLemmas
 pub mod WeightLemmas
 pub mod CombineLemmas
 pub mod ErrLemmas
+pub mod GapExistence
