@@ -1,14 +1,11 @@
 -- Any rows of two tables have a join, and only one.
-use Rattle.std.proofs.Common.{◌≡◌, ◌≢◌, ◌⊎◌, ◌↔◌, inl, inr, ℕ, ℤ, Bool, true, false, List, [], ◌∷◌, Option, Some, None, All, refl, sym, ap}
+use Rattle.std.proofs.Common.{◌≡◌, ◌≢◌, ◌⊎◌, ◌↔◌, inl, inr, ℤ, Bool, true, false, List, [], ◌∷◌, Option, Some, None, All, refl, sym, ap}
 use Rattle.std.specs.Prelude.{bytes_eq}
 use Rattle.std.specs.Bool.{Decides}
-use Rattle.std.specs.Cmp.{IsTotalOrder}
 use Rattle.std.specs.Cmp.Lexicographic.{bytes_decides}
-use Rattle.std.specs.Ordering.{int_cmp, int_eq, nat_cmp, ordering_then}
+use Rattle.std.specs.Ordering.{int_eq}
 use Rattle.std.proofs.lemmas.Bool.Decides.{Decides-int_eq, not_from_Decides}
-use Rattle.std.proofs.lemmas.Cmp.{then_total, on_total, int_cmp_total, nat_cmp_total}
 use Rattle.std.proofs.lemmas.List.Elements.{All-nil, All-cons, All-head, All-tail}
-use Rattle.std.proofs.lemmas.Map.Lookups.{CmpEqualImpliesEq, exact_pairs, exact_signed, exact_unsigned}
 use Rattle.period_core.specs.declared.period.Period.{Period}
 use Rattle.period_core.specs.Period.{Holds, HoldsIn, meet}
 use Rattle.period_core.proofs.PeriodLemmas.{meet-holds}
@@ -16,40 +13,14 @@ use Rattle.row_core.specs.declared.row.Row.{Row}
 use Rattle.row_core.specs.declared.schema.Column.{Column}
 use Rattle.row_core.specs.declared.value.Value.{Value}
 use Rattle.row_core.specs.declared.value.Value.TheVariants.{Int, Text}
-use Rattle.list_core.proofs.RisingLemmas.{IsListOf-unique}
 use Rattle.list_core.proofs.WantedLemmas.{IsListOf-same}
 use Rattle.list_core.proofs.WantedExistence.{IsUnorderedListOf, IsUnorderedListOf-none, IsUnorderedListOf-one, WantedForSome, some_unordered, some_wanted}
 use Rattle.match_core.specs.Columns.{MatchesOn, Names, value_under}
 use Rattle.merge_core.specs.Hits.{IsShared}
 use Rattle.merge_core.proofs.SharedLemmas.{first_held, shared_once}
-use Rattle.grid_core.proofs.SameLemmas.{Period-same_ends}
 use Rattle.join_core.specs.declared.rows.JoinRow.{JoinRow}
 use Rattle.join_core.specs.Join.{IsJoin, IsJoinRow, RowBefore, join_cmp}
-use Rattle.join_core.proofs.OrderLemmas.{JoinRow-same_fields, RowBefore-asym}
-
--- ---- the order
-
--- rows are in a total order
-join_cmp-total : IsTotalOrder join_cmp
-join_cmp-total =
-    then_total (then_total (on_total (λ x. x.period.from) int_cmp_total) (on_total (λ x. x.period.to) int_cmp_total))
-    (then_total (on_total (λ x. x.left) nat_cmp_total) (on_total (λ x. x.right) nat_cmp_total))
-
--- what the order looks at
-abbrev ends_and_ids : JoinRow → (ℤ × ℤ) × (ℕ × ℕ)
-ends_and_ids row = ((row.period.from, row.period.to), (row.left, row.right))
-
--- rows that it doesn't tell apart are one
-join_cmp-exact : CmpEqualImpliesEq join_cmp
-join_cmp-exact a b e =
-    let same : ends_and_ids a ≡ ends_and_ids b =
-    exact_pairs (λ (x : ℤ × ℤ) (y : ℤ × ℤ). ordering_then (int_cmp x.0 y.0) (int_cmp x.1 y.1))
-    (λ (x : ℕ × ℕ) (y : ℕ × ℕ). ordering_then (nat_cmp x.0 y.0) (nat_cmp x.1 y.1))
-    (exact_pairs int_cmp int_cmp exact_signed exact_signed) (exact_pairs nat_cmp nat_cmp exact_unsigned exact_unsigned)
-    (ends_and_ids a) (ends_and_ids b) e in
-    JoinRow-same_fields a b
-    (Period-same_ends a.period b.period (ap (λ v. v.0.0) same) (ap (λ v. v.0.1) same))
-    (ap (λ v. v.1.0) same) (ap (λ v. v.1.1) same)
+use Rattle.join_core.proofs.OrderLemmas.{IsJoin-unique, JoinRow-same_fields, join_total, tied_rows}
 
 -- ---- whether rows match
 
@@ -145,7 +116,7 @@ module _ (Matches : Row → Row → Type 0) (decided : (x y : Row) → Matches x
       let (unordered, all) =
       some_unordered (λ x. WantedForSome (IsRowOfTwo x) right)
       (λ x. some_unordered (IsRowOfTwo x) (row_of_two x) right) left in
-      let (rows, is) = some_wanted join_cmp join_cmp-total join_cmp-exact (IsRowOfSome left right) unordered all in (
+      let (rows, is) = some_wanted join_cmp join_total tied_rows (IsRowOfSome left right) unordered all in (
         rows,
         IsListOf-same RowBefore (IsRowOfSome left right) (IsJoinRow Matches left right) rows
             (λ row (x, x_in, (y, y_in, of)). record {
@@ -186,5 +157,4 @@ pub one_join : (left_columns right_columns : List Column) (on : List Names) (lef
     (one other : List JoinRow) → IsJoin (MatchesOn left_columns right_columns on) left right one
     → IsJoin (MatchesOn left_columns right_columns on) left right other → one ≡ other
 one_join left_columns right_columns on left right one other is is' =
-    IsListOf-unique RowBefore (IsJoinRow (MatchesOn left_columns right_columns on) left right) one other RowBefore-asym
-    is is'
+    IsJoin-unique (MatchesOn left_columns right_columns on) left right one other is is'

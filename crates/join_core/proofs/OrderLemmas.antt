@@ -36,7 +36,7 @@ row_eq-Decides a b = Decides-like _
     (Decides-and _ _ (Decides-eqb a.left b.left) (Decides-eqb a.right b.right)))
 
 -- the order is total
-join_total : IsTotalOrder join_cmp
+pub join_total : IsTotalOrder join_cmp
 join_total =
     then_total (then_total (on_total (λ x. x.period.from) int_cmp_total) (on_total (λ x. x.period.to) int_cmp_total))
     (then_total (on_total (λ x. x.left) nat_cmp_total) (on_total (λ x. x.right) nat_cmp_total))
@@ -69,7 +69,7 @@ nat_tie : (a b : ℕ) → nat_cmp a b ≡ Equal → a ≡ b
 nat_tie a b e = grind (arith, nat_tests)
 
 -- rows that tie are one
-tied_rows : (a b : JoinRow) → join_cmp a b ≡ Equal → a ≡ b
+pub tied_rows : (a b : JoinRow) → join_cmp a b ≡ Equal → a ≡ b
 tied_rows a b e =
     let halves = both_tie _ _ e in
     let ends = both_tie _ _ halves.0 in
