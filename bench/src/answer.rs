@@ -4,6 +4,7 @@ use crate::book::{ChangeKind, Commit};
 use crate::check::Verdict;
 use crate::csv::Writer;
 use crate::divide::Division;
+use crate::join::Joined;
 use crate::point::{Period, Point};
 use crate::refusal::Fault;
 use crate::table::Table;
@@ -60,6 +61,19 @@ impl<W: Write> Answer<W> {
             count += 1;
         }
         self.end(count)
+    }
+
+    pub fn joined(&mut self, left: &Table, right: &Table, rows: &[Joined]) -> io::Result<()> {
+        for row in rows {
+            self.word(b"row");
+            self.period(row.period);
+            self.number(u64::from(row.left) + 1);
+            self.number(u64::from(row.right) + 1);
+            self.values(left, row.left as usize);
+            self.values(right, row.right as usize);
+            self.end_record()?;
+        }
+        self.end(rows.len())
     }
 
     pub fn division(&mut self, division: &Division) -> io::Result<()> {

@@ -6,7 +6,9 @@ use crate::check::{Certificate, Claim, first_fault};
 use crate::csv::{Reader, Record};
 use crate::divide::{Key, divide};
 use crate::fields::{behind, commit, instant, is_end, name, natural, point, split_asof};
+use crate::join::{self, Side};
 use crate::refusal::{Fault, Refusal, Stop};
+use crate::table::Table;
 use std::io::Write;
 
 /// `rows,T`
@@ -67,6 +69,59 @@ pub fn dip<W: Write>(record: Record<'_>, book: &Book, answer: &mut Answer<W>) ->
         .shown(commit)
         .map(|place| Key::new(table.period(place), place as u32 + 1));
     Ok(answer.division(&divide(rows.collect()))?)
+}
+
+/// The names of the columns that a join compares, a left and a right one in turn.
+fn compared(front: Record<'_>) -> Result<Record<'_>, Refusal> {
+    match front.len() {
+        3 => Ok(front.range(3..3)),
+        len if len >= 6 && len.is_multiple_of(2) && front.field(3) == b"on" => {
+            Ok(front.range(4..len))
+        }
+        _ => Err(Refusal::BadCommand),
+    }
+}
+
+/// The places of the columns of both tables, of one kind in each pair.
+fn compared_columns(
+    left: &Table,
+    right: &Table,
+    names: Record<'_>,
+) -> Result<(Vec<usize>, Vec<usize>), Refusal> {
+    let mut places = (Vec::new(), Vec::new());
+    for pair in (0..names.len()).step_by(2) {
+        let one = left.column(names.field(pair)).ok_or(Refusal::NoColumn)?;
+        let other = right
+            .column(names.field(pair + 1))
+            .ok_or(Refusal::NoColumn)?;
+        if left.columns[one].values.kind() != right.columns[other].values.kind() {
+            return Err(Refusal::WrongKind);
+        }
+        places.0.push(one);
+        places.1.push(other);
+    }
+    Ok(places)
+}
+
+/// `join,L,R`, and behind `on` a column of each for each pair that is compared.
+pub fn join<W: Write>(record: Record<'_>, book: &Book, answer: &mut Answer<W>) -> Result<(), Stop> {
+    let (front, asof) = split_asof(record);
+    let names = compared(front)?;
+    let (left, right) = (name(front.field(1))?, name(front.field(2))?);
+    for column in names.iter() {
+        name(column)?;
+    }
+    let asof = commit(asof)?;
+    let (left, commit) = book.read(left, asof)?;
+    let (right, _) = book.read(right, asof)?;
+    let columns = compared_columns(left, right, names)?;
+    let side = |table, columns| Side {
+        table,
+        commit,
+        columns,
+    };
+    let rows = join::join(&side(left, columns.0), &side(right, columns.1));
+    Ok(answer.joined(left, right, &rows)?)
 }
 
 /// `log`

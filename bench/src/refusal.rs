@@ -21,6 +21,7 @@ pub enum Refusal {
     TooMany,
     TwiceNamed,
     Unended,
+    WrongKind,
     WrongWidth,
 }
 

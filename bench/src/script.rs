@@ -90,6 +90,7 @@ fn answer_record<W: Write>(
         b"between" => return queries::between(record, book, answer),
         b"fromto" => return queries::from_to(record, book, answer),
         b"dip" => return queries::dip(record, book, answer),
+        b"join" => return queries::join(record, book, answer),
         b"log" => return queries::log(record, book, answer),
         _ => return Err(Refusal::BadCommand.into()),
     }

@@ -1,10 +1,11 @@
 //! Writes a script of a kind, the same one for the same words:
 //!
-//!     generate KIND [--rows N] [--overlap N] [--columns N] [--key N] [--updates N] [--queries N] [--seed N]
+//!     generate KIND [--rows N] [--overlap N] [--columns N] [--key N] [--groups N] [--updates N] [--queries N]
+//!         [--seed N]
 //!
 //! Rows start on random days of a range that grows with their number, so that on each day about
 //! `overlap` of them hold. Columns are a text and a number in turn, of which the first is the row's own
-//! name; the first `key` of them are the table's key. All kinds begin with the table, and then:
+//! name; the first `key` of them are the table's key. All kinds but `join` begin with the table, and then:
 //!
 //! - `rows`, `at`, `dip`, `log`: a load of the rows, and so many queries;
 //! - `between`: a load of the rows, a change of all of them, and queries for all versions;
@@ -13,6 +14,9 @@
 //! - `renamed`: a load of the rows, and so many updates that give one row another name;
 //! - `portions`: a load of the rows, and so many updates of a portion of 30 days, without conditions;
 //! - `past`: a load of half of the rows, a change of all of them, and queries as of the load.
+//!
+//! A script of `join` has two tables with half of the rows each, and so many joins of them: by their one
+//! column, which is one of so many numbers as there are groups, or without columns where these are 0.
 
 use bench::point::Point;
 use std::fmt::Display;
@@ -57,6 +61,7 @@ struct Options {
     overlap: u64,
     columns: u64,
     key: u64,
+    groups: u64,
     updates: u64,
     queries: u64,
     seed: u64,
@@ -94,10 +99,14 @@ impl<W: Write> Script<W> {
         writeln!(self.out)
     }
 
-    fn row(&mut self, number: u64) -> io::Result<()> {
+    fn period(&mut self) -> io::Result<()> {
         let from = self.numbers.below(self.range());
         let len = 1 + self.numbers.below(2 * SPREAD * self.options.overlap - 1);
-        write!(self.out, "row,{},{}", self.day(from), self.day(from + len))?;
+        write!(self.out, "row,{},{}", self.day(from), self.day(from + len))
+    }
+
+    fn row(&mut self, number: u64) -> io::Result<()> {
+        self.period()?;
         for column in 0..self.options.columns {
             match column {
                 0 => write!(self.out, ",{}", name_of(number))?,
@@ -159,6 +168,32 @@ impl<W: Write> Script<W> {
         Ok(())
     }
 
+    fn sides(&mut self) -> io::Result<()> {
+        let groups = self.options.groups;
+        let column = if groups == 0 { "" } else { ",c,int" };
+        for table in ["t", "u"] {
+            writeln!(self.out, "table,{table}{column}\nload,{table}")?;
+            for _ in 0..self.options.rows / 2 {
+                self.period()?;
+                if groups > 0 {
+                    write!(self.out, ",{}", self.numbers.below(groups))?;
+                }
+                writeln!(self.out)?;
+            }
+            writeln!(self.out, "end")?;
+        }
+        Ok(())
+    }
+
+    fn join(&mut self) -> io::Result<()> {
+        self.sides()?;
+        self.queries(if self.options.groups == 0 {
+            "join,t,u"
+        } else {
+            "join,t,u,on,c,c"
+        })
+    }
+
     fn change_all(&mut self) -> io::Result<()> {
         writeln!(self.out, "update,t,0001-01-01,9999-12-31,set,c1,0")
     }
@@ -180,8 +215,11 @@ impl<W: Write> Script<W> {
 
     fn write(&mut self, kind: &str) -> io::Result<()> {
         let rows = self.options.rows;
-        self.table()?;
+        if kind != "join" {
+            self.table()?;
+        }
         match kind {
+            "join" => self.join(),
             "rows" => self.load(rows).and_then(|()| self.queries("rows,t")),
             "at" => self.load(rows).and_then(|()| self.days()),
             "dip" => self.load(rows).and_then(|()| self.queries("dip,t")),
@@ -222,6 +260,7 @@ fn read_options(words: &[String]) -> Option<Options> {
         overlap: 10,
         columns: 2,
         key: 0,
+        groups: 0,
         updates: 0,
         queries: 0,
         seed: 1,
@@ -233,6 +272,7 @@ fn read_options(words: &[String]) -> Option<Options> {
             "--overlap" => &mut options.overlap,
             "--columns" => &mut options.columns,
             "--key" => &mut options.key,
+            "--groups" => &mut options.groups,
             "--updates" => &mut options.updates,
             "--queries" => &mut options.queries,
             "--seed" => &mut options.seed,
@@ -247,7 +287,7 @@ fn read_options(words: &[String]) -> Option<Options> {
 
 fn main() -> Result<(), String> {
     let words: Vec<String> = std::env::args().skip(1).collect();
-    let usage = "usage: generate KIND [--rows N] [--overlap N] [--columns N] [--key N] [--updates N] [--queries N] [--seed N]";
+    let usage = "usage: generate KIND [--rows N] [--overlap N] [--columns N] [--key N] [--groups N] [--updates N] [--queries N] [--seed N]";
     let (kind, rest) = words.split_first().ok_or(usage)?;
     let options = read_options(rest).ok_or(usage)?;
     let mut script = Script {
