@@ -117,3 +117,36 @@ fn pair(arrival: &Arrival, other: Key) -> Joined {
 fn sort(pairs: &mut [Joined]) {
     pairs.sort_unstable_by_key(|joined| (joined.period.to, joined.left, joined.right));
 }
+
+#[cfg(test)]
+mod tests {
+    use crate::script;
+
+    fn answers(script: &str) -> String {
+        let mut answers = Vec::new();
+        script::run(script.as_bytes().to_vec(), &mut answers).unwrap();
+        String::from_utf8(answers).unwrap()
+    }
+
+    #[test]
+    fn rows_that_match_and_overlap_are_joined() {
+        let tables = "table,a,c,int\ntable,b,c,int\nload,a\nrow,2024-01-01,2024-01-10,1\nrow,2024-01-05,2024-01-08,2\n\
+             end\nload,b\nrow,2024-01-03,2024-01-06,1\nrow,2024-01-06,2024-01-20,1\nrow,2024-01-07,2024-01-08,2\nend\n";
+        let changed = "ok,1\nok,2\nok,3\nok,4\n";
+        assert_eq!(
+            answers(&format!("{tables}join,a,b,on,c,c\n")),
+            format!(
+                "{changed}row,2024-01-03,2024-01-06,1,1,1,1\nrow,2024-01-06,2024-01-10,1,2,1,1\n\
+                 row,2024-01-07,2024-01-08,2,3,2,2\nend,3\n"
+            )
+        );
+        assert_eq!(
+            answers(&format!("{tables}join,a,b\n")),
+            format!(
+                "{changed}row,2024-01-03,2024-01-06,1,1,1,1\nrow,2024-01-05,2024-01-06,2,1,2,1\n\
+                 row,2024-01-06,2024-01-08,2,2,2,1\nrow,2024-01-06,2024-01-10,1,2,1,1\n\
+                 row,2024-01-07,2024-01-08,1,3,1,2\nrow,2024-01-07,2024-01-08,2,3,2,2\nend,6\n"
+            )
+        );
+    }
+}
