@@ -1,0 +1,17 @@
+//! Tests from outside of queries: what parts share and leave, joins by many workers, and rows by their ids.
+#![tactic(auto)]
+
+#[cfg(test)]
+mod classes;
+#[cfg(test)]
+mod gates;
+#[cfg(test)]
+mod joins;
+#[cfg(test)]
+mod lookups;
+#[cfg(test)]
+mod merges;
+#[cfg(test)]
+mod pieces;
+#[cfg(test)]
+mod tables;

@@ -1,0 +1,109 @@
+//! Worked hits and gaps of two parts.
+
+use crate::tables::{item, january};
+use dip_core::{Item, Part};
+use merge_core::{Cursor, Gap, Gaps, Hit, meet_gaps, merge_gaps, merge_join};
+use std::alloc::Global;
+use std::process::Abort;
+use std::test::Fail;
+
+// The left part's one item.
+fn left(rt: &impl Abort) -> [Item; 1] {
+    [item(rt, 1, 1, 10, 1)]
+}
+
+// The right part's two items, of some class.
+fn right(rt: &impl Abort, class: u64) -> [Item; 2] {
+    [item(rt, 1, 3, 6, class), item(rt, 2, 6, 20, class)]
+}
+
+fn cursor<'a>(rt: &impl Abort, items: &'a [Item]) -> Cursor<'a> {
+    Cursor::new(Part::new(items).expect(rt, "items without overlaps"))
+}
+
+// The hits of two parts, found with at most 3 advances.
+fn check_hits(
+    rt: &(impl Abort + Alloc<A = Global>),
+    lefts: &[Item],
+    rights: &[Item],
+    want: &[Hit],
+) -> Result<(), Fail> {
+    let mut hits = Vec::new(rt.alloc());
+    let advances = merge_join(cursor(rt, lefts), cursor(rt, rights), &mut hits)?;
+    assert!(rt; advances <= 3);
+    assert_eq!(rt; hits.as_slice(), want);
+    Ok(())
+}
+
+// The gaps of two parts, found with at most 3 advances.
+fn check_gaps(
+    rt: &(impl Abort + Alloc<A = Global>),
+    lefts: &[Item],
+    rights: &[Item],
+    want: &[Gap],
+) -> Result<(), Fail> {
+    let mut gaps = Vec::new(rt.alloc());
+    let advances = merge_gaps(cursor(rt, lefts), cursor(rt, rights), &mut gaps)?;
+    assert!(rt; advances <= 3);
+    assert_eq!(rt; gaps.as_slice(), want);
+    Ok(())
+}
+
+#[test]
+fn finds_hits(rt: HostRuntime) -> Result<(), Fail> {
+    let lefts = left(&rt);
+    let rights = right(&rt, 1);
+    let want = [
+        Hit {
+            left: lefts[0],
+            right: rights[0],
+            period: january(&rt, 3, 6),
+        },
+        Hit {
+            left: lefts[0],
+            right: rights[1],
+            period: january(&rt, 6, 10),
+        },
+    ];
+    check_hits(&rt, &lefts, &rights, &want)?;
+    check_hits(&rt, &lefts, &right(&rt, 2), &[])
+}
+
+#[test]
+fn finds_gaps(rt: HostRuntime) -> Result<(), Fail> {
+    let lefts = left(&rt);
+    let before = Gap {
+        left: lefts[0],
+        period: january(&rt, 1, 3),
+    };
+    check_gaps(&rt, &lefts, &right(&rt, 1), &[before])?;
+    let whole = Gap {
+        left: lefts[0],
+        period: january(&rt, 1, 10),
+    };
+    check_gaps(&rt, &lefts, &right(&rt, 2), &[whole])
+}
+
+// A list of the one gap of the left item, which reaches from its first day to this one.
+fn check_gap(rt: &impl Abort, gaps: &Gaps, to: u8) {
+    let want = Gap {
+        left: item(rt, 1, 1, 10, 1),
+        period: january(rt, 1, to),
+    };
+    assert_eq!(rt; gaps.len(), 1);
+    assert_eq!(rt; gaps.get(0), Some(want));
+}
+
+#[test]
+fn meets_gaps(rt: HostRuntime) -> Result<(), Fail> {
+    let lefts = left(&rt);
+    let rights = right(&rt, 1);
+    let part = Part::new(&lefts).expect(&rt, "items without overlaps");
+    let whole = Gaps::whole(rt.alloc(), part)?;
+    check_gap(&rt, &whole, 10);
+    let gaps = Gaps::of(rt.alloc(), cursor(&rt, &lefts), cursor(&rt, &rights))?;
+    check_gap(&rt, &gaps, 3);
+    let shared = meet_gaps(rt.alloc(), &whole, &gaps)?;
+    check_gap(&rt, &shared, 3);
+    Ok(())
+}
