@@ -189,7 +189,8 @@ names-get [] k field all e = absurd (cc e)
 names-get (f ∷ fields) zero field all e =
     let same : f ≡ field = cc in
     ap is_name (sym same) ∙ both-left (is_name f) (list_all is_name fields) all
-names-get (f ∷ fields) (suc k) field all e = names-get fields k field (both-right (is_name f) (list_all is_name fields) all) e
+names-get (f ∷ fields) (suc k) field all e =
+    names-get fields k field (both-right (is_name f) (list_all is_name fields) all) e
 
 -- ---- whole records
 

@@ -41,10 +41,7 @@ impl Ending {
 }
 
 /// Runs the script on standard input with so many workers, and flushes what was written.
-fn answer(
-    rt: &(impl Input + Print + Alloc<A = Global> + Threads + Sync),
-    workers: u32,
-) -> Ending
+fn answer(rt: &(impl Input + Print + Alloc<A = Global> + Threads + Sync), workers: u32) -> Ending
     requires { IsWorkers workers }
 {
     let Ok(output) = BufWriter::new(rt.alloc(), io::writer(rt)) else {

@@ -13,7 +13,9 @@ pub table-read : (number : ℕ) (h : History) (asof : Option ℕ) (name : List �
     → rows_told number h asof name ≡ Ok rows → columns_told number h name ≡ Ok columns
     → table_told number h asof name ≡ Ok (columns, rows)
 table-read number h asof name columns rows read told =
-    ap (λ r. and_then r (λ (rows : List Row). map_ok (λ (columns : List Column). (columns, rows)) (columns_told number h name))) read
+    ap
+    (λ r. and_then r
+    (λ (rows : List Row). map_ok (λ (columns : List Column). (columns, rows)) (columns_told number h name))) read
     ∙ ap (map_ok (λ (columns : List Column). (columns, rows))) told
 
 -- both, whose columns may be compared

@@ -288,10 +288,7 @@ impl Trial {
     }
 
     // Runs the script.
-    fn check(
-        &self,
-        rt: &(impl Abort + Alloc<A = Global> + Threads + Sync),
-    ) -> Result<(), Fail> {
+    fn check(&self, rt: &(impl Abort + Alloc<A = Global> + Threads + Sync)) -> Result<(), Fail> {
         let answers = answers_of(rt, self.script.as_bytes())?;
         assert_eq!(rt; str::from_utf8(&answers)?, self.answers.as_str());
         Ok(())

@@ -14,10 +14,7 @@ struct Case {
     errors: u64,
 }
 
-fn check(
-    rt: &(impl Abort + Alloc<A = Global> + Threads + Sync),
-    case: &Case,
-) -> Result<(), Fail> {
+fn check(rt: &(impl Abort + Alloc<A = Global> + Threads + Sync), case: &Case) -> Result<(), Fail> {
     let mut reader = Counted::new(case.script);
     let mut writer = Counted::new(Vec::new(rt.alloc()));
     let outcome = run(rt, rt.alloc(), &mut reader, &mut writer, 4)?;

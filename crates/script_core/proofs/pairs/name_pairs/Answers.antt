@@ -12,7 +12,8 @@ loop-place-preserved c =
     let lt : place < length pairs = omega (arith, c.loop-place-test.true, c.len-place-end.ensures) in
     elim c.match-get.branch [
       | in-Some+in_ok-push w ↦
-          rw (w.pairs-is, w.in_ok-push.ensures.items, c.loop-place.invariant) (sym (take-slice_get pairs place w.in-Some.pair (sym w.in-Some.ensures)))
+          rw (w.pairs-is, w.in_ok-push.ensures.items, c.loop-place.invariant)
+          (sym (take-slice_get pairs place w.in-Some.pair (sym w.in-Some.ensures)))
       | in_default w ↦ absurd (slice_get-there pairs place lt (sym w.in_default.ensures))
     ]
 

@@ -15,8 +15,10 @@ returns-in-Ok g c =
     let right : Table = (c.in_ok-right_columns.right_columns.now, c.in_ok-right_columns.right) in
     let (_, told, is) = c.in_ok-left_columns.ensures.gives in
     let (_, told', is') = c.in_ok-right_columns.ensures.gives in
-    let one = table-read number h asof tables.left left.0 left.1 (told ∙ ap Ok (sym is)) c.in_ok-left_columns.ensures.columns in
-    let other = table-read number h asof tables.right right.0 right.1 (told' ∙ ap Ok (sym is')) c.in_ok-right_columns.ensures.columns in
+    let one = table-read number h asof tables.left left.0 left.1 (told ∙ ap Ok (sym is))
+    c.in_ok-left_columns.ensures.columns in
+    let other = table-read number h asof tables.right right.0 right.1 (told' ∙ ap Ok (sym is'))
+    c.in_ok-right_columns.ensures.columns in
     let named : c.deref.result.now ≡ name_pairs_in c.args.tables.on = c.deref.ensures.value ∙ c.in_ok-on.ensures in
     let answered = rw named at c.in-Ok.ensures.answer in (
       (left, right),
