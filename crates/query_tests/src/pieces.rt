@@ -7,7 +7,7 @@ use merge_core::Hit;
 use std::alloc::Global;
 use std::process::Abort;
 use std::test::Fail;
-use work_core::{Collector, PairName, PairWork, Piece, Refused, Why};
+use work_core::{Collector, Outs, PairName, PairWork, Piece, Refused, Why};
 
 // The piece of a pair that the join has.
 fn piece<'j>(
@@ -56,13 +56,13 @@ fn divide(rt: &(impl Abort + Alloc<A = Global>), items: &[Item]) -> Result<Divis
 }
 
 // What the parts of one pair share.
-fn check_hits(rt: &impl Abort, outs: &[JoinOut], number: usize, want: &[Hit]) {
+fn check_hits(rt: &impl Abort, outs: &Outs<JoinOut>, number: usize, want: &[Hit]) {
     let out = outs.get(number).expect(rt, "a value");
     assert_eq!(rt; out.hits.as_slice(), want);
 }
 
 // The values of four pairs: what row 1 shares with two rows, nothing, nothing, and what row 2 shares with row 3.
-fn check_values(rt: &impl Abort, outs: &[JoinOut]) {
+fn check_values(rt: &impl Abort, outs: &Outs<JoinOut>) {
     let lefts = lefts(rt);
     let rights = rights(rt, 2);
     let first = [
@@ -114,7 +114,7 @@ fn collect<'j>(
     let Ok(outs) = collector.finish() else {
         panic!(rt; "all pieces are there")
     };
-    check_values(rt, outs.as_slice());
+    check_values(rt, &outs);
     Ok(())
 }
 
