@@ -11,7 +11,7 @@ use Rattle.version_core.specs.declared.change.Change.{Change}
 use Rattle.version_core.specs.declared.change.Change.TheVariants.{Make, Load, Update, Delete}
 use Rattle.book_core.specs.State.{State, Table, table_named, table_of, rows_of, at_table, after, changed, first_refusal, refusal_of}
 use Rattle.book_core.specs.History.{History, state_after, rows_at}
-use Rattle.book_core.specs.Versions.{new_ids, kind_of, entry_at, entries_from, log_of}
+use Rattle.book_core.specs.Versions.{new_ids, change_kind, entry_at, entries_from, log_of}
 use Rattle.book_core.specs.StoredTables.{kept_table, StoredTable, IsBook, table_at, kept_tables_from, IsWellKept, added_in, closed_in}
 use Rattle.book_core.specs.declared.commit.Commit.{Commit}
 use Rattle.book_core.specs.declared.log.Entry.{Entry}
@@ -29,7 +29,7 @@ entry_at-append h more n c k =
     ap (λ rows. record {
       number = n + 1;
       by = c.by;
-      kind = kind_of c.change;
+      kind = change_kind c.change;
       table = t;
       added = new_ids rows
           (rows_at (h ++ more) n t);
@@ -39,7 +39,7 @@ entry_at-append h more n c k =
     ∙ ap (λ rows. record {
       number = n + 1;
       by = c.by;
-      kind = kind_of c.change;
+      kind = change_kind c.change;
       table = t;
       added = new_ids
           (rows_at h (n + 1) t) rows;
@@ -217,7 +217,7 @@ new_entry n by c ts =
     record {
       number = n + 1;
       by = by;
-      kind = kind_of c;
+      kind = change_kind c;
       table = table_named c;
       added = added_in n c
           (kept_table (table_named c) ts);
@@ -227,15 +227,15 @@ new_entry n by c ts =
 -- an entry of those counts
 pub entry_same : (n m by added took : ℕ) (c : Change) (ts : List StoredTable) (entry : Entry) → n ≡ m
     → added ≡ added_in n c (kept_table (table_named c) ts) → took ≡ closed_in n c (kept_table (table_named c) ts)
-    → entry ≡ record { number = n + 1; by = by; kind = kind_of c; table = table_named c; added = added; closed = took }
+    → entry ≡ record { number = n + 1; by = by; kind = change_kind c; table = table_named c; added = added; closed = took }
     → entry ≡ new_entry m by c ts
 entry_same n m by added took c ts entry e a b h =
-    h ∙ ap (λ k. record { number = n + 1; by = by; kind = kind_of c; table = table_named c; added = k; closed = took })
+    h ∙ ap (λ k. record { number = n + 1; by = by; kind = change_kind c; table = table_named c; added = k; closed = took })
     a
     ∙ ap (λ k. record {
       number = n + 1;
       by = by;
-      kind = kind_of c;
+      kind = change_kind c;
       table = table_named c;
       added = added_in n c
           (kept_table (table_named c) ts);
@@ -265,7 +265,7 @@ log-push h now new ts log logged c k v r n l =
     ∙ ap (λ k. log_of h ++ record {
       number = length h + 1;
       by = c.by;
-      kind = kind_of c.change;
+      kind = change_kind c.change;
       table = name;
       added = k;
       closed = closed_in
@@ -274,7 +274,7 @@ log-push h now new ts log logged c k v r n l =
     ∙ ap (λ k. log_of h ++ record {
       number = length h + 1;
       by = c.by;
-      kind = kind_of c.change;
+      kind = change_kind c.change;
       table = name;
       added = new_ids
           (rows_at (h ++ c ∷ []) (length h + 1) name) (rows_at (h ++ c ∷ []) (length h) name);

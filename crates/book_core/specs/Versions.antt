@@ -49,18 +49,18 @@ abbrev pub new_ids : List Row → List Row → ℕ
 new_ids xs ys = count_by (λ x. not (list_any (λ y. nat_eq y.id x.id) ys)) xs
 
 -- the kind of a change
-abbrev pub kind_of : Change → ChangeKind
-kind_of (Make table schema) = kind.Make
-kind_of (Load table rows) = kind.Load
-kind_of (Update table portion sets conds) = kind.Update
-kind_of (Delete table portion conds) = kind.Delete
+abbrev pub change_kind : Change → ChangeKind
+change_kind (Make table schema) = kind.Make
+change_kind (Load table rows) = kind.Load
+change_kind (Update table portion sets conds) = kind.Update
+change_kind (Delete table portion conds) = kind.Delete
 
 -- what the log has of commit n + 1: whose it is, and how many versions it made and closed
 abbrev pub entry_at : History → ℕ → Commit → Entry
 entry_at h n c = let table = table_named c.change in record {
   number = n + 1;
   by = c.by;
-  kind = kind_of c.change;
+  kind = change_kind c.change;
   table = table;
   added = new_ids (rows_at h (n + 1) table) (rows_at h n table);
   closed = new_ids (rows_at h n table) (rows_at h (n + 1) table);

@@ -3,7 +3,7 @@
 ghost use Rattle.std.specs.Prelude.{◌≡◌, ◌+◌, ◌<◌};
 ghost use Rattle.book_core.specs.Limits.{commit_limit};
 ghost use Rattle.book_core.specs.State.{table_named};
-ghost use Rattle.book_core.specs.Versions.{kind_of};
+ghost use Rattle.book_core.specs.Versions.{change_kind};
 
 use list_core::List;
 use row_core::Name;
@@ -38,7 +38,7 @@ pub(crate) fn entry_of(commits: u64, by: u32, change: &Change, counts: VersionCo
     ensures { result ≡ record {
       number = commits + 1;
       by = by;
-      kind = kind_of change.now;
+      kind = change_kind change.now;
       table = table_named change.now;
       added = counts.added;
       closed = counts.closed;
@@ -47,7 +47,7 @@ pub(crate) fn entry_of(commits: u64, by: u32, change: &Change, counts: VersionCo
     Entry {
         number: commits + 1,
         by,
-        kind: kind_of(change),
+        kind: change_kind(change),
         table: table_of(change),
         added: counts.added,
         closed: counts.closed,
@@ -55,8 +55,8 @@ pub(crate) fn entry_of(commits: u64, by: u32, change: &Change, counts: VersionCo
 }
 
 /// What the log calls the change.
-fn kind_of(change: &Change) -> ChangeKind
-    ensures { result ≡ kind_of change.now }
+fn change_kind(change: &Change) -> ChangeKind
+    ensures { result ≡ change_kind change.now }
 {
     match change {
         Change::Make { .. } => ChangeKind::Make,

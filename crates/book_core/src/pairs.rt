@@ -25,29 +25,13 @@ pub(crate) fn pairs_refusal(schema: &Schema, pairs: &[(Name, Value)]) -> Option<
 fn pair_refusal(schema: &Schema, pair: &(Name, Value)) -> Option<BookRefused>
     ensures { result ≡ first_of (pair_tests schema.now pair.now) }
 {
-    match column_kind(schema, pair.0) {
+    match schema.column_kind(pair.0) {
         None => Some(BookRefused::NoColumn),
         Some(kind) => {
             if pair.1.is_of(kind) {
                 None
             } else {
                 Some(BookRefused::WrongKind)
-            }
-        }
-    }
-}
-
-/// The kind of the column of that name.
-fn column_kind(schema: &Schema, name: Name) -> Option<Kind>
-    ensures { result ≡ kind_in schema.now name }
-{
-    match schema.column(name) {
-        None => None,
-        Some(i) => {
-            if i < schema.width() {
-                Some(schema.kind(i))
-            } else {
-                None
             }
         }
     }

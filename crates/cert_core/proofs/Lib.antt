@@ -1,8 +1,8 @@
-pub mod CutLemmas
 pub mod IdsLemmas
 pub mod PlacesLemmas
 pub mod OverlapLemmas
 pub mod SearchLemmas
+pub mod CutLemmas
 pub mod ClaimLemmas
 pub mod PassesLemmas
 pub mod VerdictLemmas

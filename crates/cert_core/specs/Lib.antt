@@ -1,4 +1,3 @@
-pub mod Cut
 pub mod Claim
 pub mod Ids
 pub mod Places

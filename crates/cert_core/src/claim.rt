@@ -1,9 +1,10 @@
-ghost use Rattle.std.specs.Prelude.{◌≡◌, ◌↔◌, ◌<◌, [], ◌∷◌, ◌++◌, length, Some, IsTrue, OnOk, OnErr, slice_get, unwrap_or, ◌+◌};
+ghost use Rattle.std.specs.Prelude.{◌≡◌, ◌↔◌, ◌<◌, [], ◌∷◌, ◌++◌, length, Some, IsTrue, OnOk, OnErr, slice_get, slice_set, ◌-◌};
 ghost use Rattle.std.specs.Option.{option_copied};
-ghost use Rattle.cert_core.specs.Cut.{cut_at, IsCut};
+ghost use Rattle.list_core.specs.Cut.{cut, EndsAt};
 ghost use Rattle.cert_core.specs.Claim.{ids_of, AddsToLast};
 
 use crate::NoMemory;
+use list_core::start_at;
 use std::alloc::Global;
 use std::marker::Model;
 
@@ -11,20 +12,20 @@ use std::marker::Model;
 /// Contracts see the list of its parts.
 #[derive(Drop)]
 pub struct Claim {
-    // The ids of all parts, one after another, and where each part starts in them.
+    // The ids of all parts, one after another, and where each part ends in them.
     ids: Vec<u64>,
-    starts: Vec<usize>,
+    ends: Vec<usize>,
 }
 
 impl Model for Claim {
     ghost use Rattle.std.specs.Prelude.{ℕ, List, length};
-    ghost use Rattle.cert_core.specs.Cut.{cut_at, IsCut};
+    ghost use Rattle.list_core.specs.Cut.{cut, EndsAt};
 
     ghost Value = { List (List ℕ) };
 
-    ghost view = { λ c. cut_at c.starts.items c.ids.items };
+    ghost view = { λ c. cut 0 c.ends.items c.ids.items };
 
-    ghost invariant = { λ c. IsCut c.starts.items (length c.ids.items) };
+    ghost invariant = { λ c. EndsAt 0 c.ends.items (length c.ids.items) };
 }
 
 impl Claim {
@@ -34,7 +35,7 @@ impl Claim {
     {
         Claim {
             ids: Vec::new(alloc),
-            starts: Vec::new(alloc),
+            ends: Vec::new(alloc),
         }
     }
 
@@ -43,7 +44,7 @@ impl Claim {
         ensures ok { OnOk result (self.new ≡ self.old ++ [] ∷ []) }
         ensures err { OnErr result (self.new ≡ self.old) }
     {
-        self.starts.push(self.ids.len())?;
+        self.ends.push(self.ids.len())?;
         Ok(())
     }
 
@@ -55,6 +56,7 @@ impl Claim {
         ensures err { OnErr result (self.new ≡ self.old) }
     {
         self.ids.push(id)?;
+        move_last(&mut self.ends, self.ids.len());
         Ok(())
     }
 
@@ -62,21 +64,21 @@ impl Claim {
     pub fn len(&self) -> usize
         ensures { result ≡ length self.now }
     {
-        self.starts.len()
+        self.ends.len()
     }
 
     /// Whether there is no part.
     pub fn is_empty(&self) -> bool
         ensures { IsTrue result ↔ (self.now ≡ []) }
     {
-        self.starts.is_empty()
+        self.len() == 0
     }
 
     /// The part of that number, from 0 on; None exactly past the last.
     pub fn get(&self, number: usize) -> Option<&[u64]>
         ensures { option_copied result ≡ slice_get self.now number }
     {
-        if number < self.starts.len() {
+        if number < self.ends.len() {
             Some(self.part(number))
         } else {
             None
@@ -88,7 +90,7 @@ impl Claim {
         requires { number < length self.now }
         ensures { slice_get self.now number ≡ Some result.now }
     {
-        part_of(&self.ids, &self.starts, number)
+        part_of(&self.ids, &self.ends, number)
     }
 
     // The ids of all parts.
@@ -99,21 +101,22 @@ impl Claim {
     }
 }
 
-// The ids from that start on, up to the next one, or else all that are left.
-fn part_of<'a>(ids: &'a [u64], starts: &[usize], number: usize) -> &'a [u64]
-    requires there { number < length starts.now }
-    requires cut { IsCut starts.now (length ids.now) }
-    ensures { slice_get (cut_at starts.now ids.now) number ≡ Some result.now }
+// The ids of that part: those before its end, from the end of the part before it on.
+fn part_of<'a>(ids: &'a [u64], ends: &[usize], number: usize) -> &'a [u64]
+    requires there { number < length ends.now }
+    requires ends { EndsAt 0 ends.now (length ids.now) }
+    ensures { slice_get (cut 0 ends.now ids.now) number ≡ Some result.now }
 {
-    let start = starts[number];
-    let end = end_of(starts, number, ids.len());
+    let end = ends[number];
+    let start = start_at(ends, number);
     &ids[start..end]
 }
 
-// Where that part ends, of a list of that length.
-fn end_of(starts: &[usize], number: usize, len: usize) -> usize
-    requires { number < length starts.now }
-    ensures { result ≡ unwrap_or (slice_get starts.now (number + 1)) len }
+// The last of these places is moved.
+fn move_last(ends: &mut Vec<usize>, end: usize)
+    requires { 0 < length ends.old.items }
+    ensures { ends.new.items ≡ slice_set ends.old.items (length ends.old.items - 1) end }
 {
-    starts.get(number + 1).copied().unwrap_or(len)
+    let last = ends.len() - 1;
+    ends[last] = end;
 }

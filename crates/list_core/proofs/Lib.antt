@@ -1,3 +1,4 @@
+pub mod CutLemmas
 pub mod RisingLemmas
 pub mod WantedExistence
 pub mod WantedLemmas

@@ -1,1 +1,3 @@
+pub mod Cut
+pub mod Order
 pub mod Wanted

@@ -4,7 +4,9 @@
 //! that is wanted, in order.
 
 mod copy;
+mod cut;
 mod list;
 
 pub use copy::{DeepCopy, copy_each};
+pub use cut::start_at;
 pub use list::List;

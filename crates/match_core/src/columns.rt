@@ -36,9 +36,9 @@ pub fn refusal_of_pairs(left: &Schema, right: &Schema, on: &[(Name, Name)]) -> O
 fn refusal_of_pair(left: &Schema, right: &Schema, pair: &(Name, Name)) -> Option<QueryRefused>
     ensures { result ≡ first_of (tests_of_names left.now right.now pair.now) }
 {
-    match column_kind(left, pair.0) {
+    match left.column_kind(pair.0) {
         None => Some(QueryRefused::NoColumn),
-        Some(one) => match column_kind(right, pair.1) {
+        Some(one) => match right.column_kind(pair.1) {
             None => Some(QueryRefused::NoColumn),
             Some(other) => {
                 if is_same_kind(one, other) {
@@ -57,21 +57,5 @@ fn is_same_kind(one: Kind, other: Kind) -> bool
     match one {
         Kind::Int => matches!(other, Kind::Int),
         Kind::Text => matches!(other, Kind::Text),
-    }
-}
-
-/// The kind of the column of that name.
-pub fn column_kind(schema: &Schema, name: Name) -> Option<Kind>
-    ensures { result ≡ kind_in schema.now name }
-{
-    match schema.column(name) {
-        None => None,
-        Some(i) => {
-            if i < schema.width() {
-                Some(schema.kind(i))
-            } else {
-                None
-            }
-        }
     }
 }

@@ -10,7 +10,7 @@ mod row_items;
 mod side;
 
 pub use classes::classes_of;
-pub use columns::{QueryRefused, column_kind, refusal_of_pairs};
+pub use columns::{QueryRefused, refusal_of_pairs};
 pub use period_core::NoMemory;
 pub use row_items::{items, items_with};
 pub use side::Side;

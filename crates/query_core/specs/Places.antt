@@ -14,7 +14,7 @@ ArePlacesFrom first rows places = (i : ℕ) (d : Row) → i < length rows
     → slice_index places ((slice_index_or rows i d).id - first) ≡ i
 
 -- the rows' ids rise from the first on, and the places are those of the rows
-pub record ArePlaced (first : ℕ) (rows : List Row) (places : List ℕ) : Type 0 where
+pub record ArePlacesOfRows (first : ℕ) (rows : List Row) (places : List ℕ) : Type 0 where
   pub rise : IdsRise rows
   pub low : All (λ row. first ≤ row.id) rows
   pub found : ArePlacesFrom first rows places

@@ -4,7 +4,7 @@ ghost use Rattle.std.specs.Prelude.{◌≡◌, ◌==◌, ℕ, ◌*◌, ◌<◌, 
 ghost use Rattle.std.specs.Option.{option_copied};
 ghost use Rattle.row_core.specs.Rows.{IdsRise};
 ghost use Rattle.row_core.specs.declared.row.Row.{Row};
-ghost use Rattle.query_core.specs.Places.{ArePlaced, ArePlacesFrom, place_limit};
+ghost use Rattle.query_core.specs.Places.{ArePlacesOfRows, ArePlacesFrom, place_limit};
 
 use crate::NoMemory;
 use row_core::{Row, RowList};
@@ -12,7 +12,7 @@ use std::alloc::Global;
 use std::marker::Model;
 
 /// The most ids, from the first row's on, whose rows are found without a search.
-const MAX_PLACES: usize = 1_000_000;
+const PLACE_LIMIT: usize = 1_000_000;
 
 /// The most of them for each row, so that few rows with ids far apart take little memory.
 const PLACES_PER_ROW: usize = 4;
@@ -30,13 +30,13 @@ pub struct RowsById<'a> {
 impl<'a> Model for RowsById<'a> {
     ghost use Rattle.std.specs.Prelude.{List};
     ghost use Rattle.row_core.specs.declared.row.Row.{Row as AnyRow};
-    ghost use Rattle.query_core.specs.Places.{ArePlaced};
+    ghost use Rattle.query_core.specs.Places.{ArePlacesOfRows};
 
     ghost Value = { List AnyRow };
 
     ghost view = { λ r. r.rows.now };
 
-    ghost invariant = { λ r. ArePlaced r.first r.rows.now r.places.items };
+    ghost invariant = { λ r. ArePlacesOfRows r.first r.rows.now r.places.items };
 }
 
 impl<'a> RowsById<'a> {
@@ -89,7 +89,7 @@ fn count_of_places(rows: &[Row], first: u64) -> usize
         return 0;
     };
     let apart = last.id.saturating_sub(first);
-    let most = rows.len().min(MAX_PLACES / PLACES_PER_ROW) * PLACES_PER_ROW;
+    let most = rows.len().min(PLACE_LIMIT / PLACES_PER_ROW) * PLACES_PER_ROW;
     if apart < most as u64 {
         apart as usize + 1
     } else {
@@ -127,7 +127,7 @@ fn put_places(rows: &[Row], first: u64, places: &mut [u32])
 
 // The row of that id.
 fn row_with<'a>(rows: &'a [Row], first: u64, places: &[u32], id: u64) -> Option<&'a Row>
-    requires { ArePlaced first rows.now places.now }
+    requires { ArePlacesOfRows first rows.now places.now }
     ensures { option_copied result ≡ find (λ row. row.id == id) rows.now }
 {
     let Some(place) = place_of(rows, first, places, id) else {
@@ -142,7 +142,7 @@ fn row_with<'a>(rows: &'a [Row], first: u64, places: &[u32], id: u64) -> Option<
 
 // The place of the row of that id; any place, or none, where there is no such row.
 fn place_of(rows: &[Row], first: u64, places: &[u32], id: u64) -> Option<usize>
-    requires { ArePlaced first rows.now places.now }
+    requires { ArePlacesOfRows first rows.now places.now }
     ensures { (k : ℕ) (d : Row) → k < length rows.now → (slice_index_or rows.now k d).id ≡ id → result ≡ Some k }
 {
     let at = id.saturating_sub(first);

@@ -16,7 +16,7 @@ ghost use Rattle.row_core.specs.Name.{
 use std::marker::Model;
 
 /// The most bytes of a name.
-const MAX_LEN: usize = 32;
+const NAME_LIMIT: usize = 32;
 
 /// What a script has at a place where a name may stand.
 const RESERVED: [&[u8]; 6] = [b"asof", b"by", b"key", b"on", b"set", b"where"];
@@ -26,7 +26,7 @@ const RESERVED: [&[u8]; 6] = [b"asof", b"by", b"key", b"on", b"set", b"where"];
 #[derive(Clone, Copy, Debug)]
 pub struct Name {
     // Zeros stand behind the text.
-    bytes: [u8; MAX_LEN],
+    bytes: [u8; NAME_LIMIT],
 }
 
 impl Model for Name {
@@ -58,7 +58,7 @@ impl Name {
         if !is_name(text) {
             return Err(BadName);
         }
-        let mut bytes = [0; MAX_LEN];
+        let mut bytes = [0; NAME_LIMIT];
         bytes[..text.len()].copy_from_slice(text);
         Ok(Name { bytes })
     }
@@ -68,7 +68,7 @@ impl Name {
         ensures text { result.now ≡ self.now }
         ensures name { IsTrue (is_name result.now) }
     {
-        let len = first_zero(&self.bytes).unwrap_or(MAX_LEN);
+        let len = first_zero(&self.bytes).unwrap_or(NAME_LIMIT);
         &self.bytes[..len]
     }
 }
@@ -90,7 +90,10 @@ impl Eq for Name {
 fn is_name(text: &[u8]) -> bool
     ensures { result ≡ is_name text.now }
 {
-    starts_with_letter(text) && text.len() <= MAX_LEN && are_name_bytes(text) && !is_reserved(text)
+    starts_with_letter(text)
+        && text.len() <= NAME_LIMIT
+        && are_name_bytes(text)
+        && !is_reserved(text)
 }
 
 fn starts_with_letter(text: &[u8]) -> bool

@@ -29,6 +29,7 @@ ghost use Rattle.row_core.specs.Schema.{
   key_tests,
   keyed,
   keyed_of,
+  kind_in,
   schema_of,
 };
 ghost use Rattle.row_core.specs.Value.{kind_of, same_kind, value_of};
@@ -42,7 +43,7 @@ use std::alloc::Global;
 use std::marker::Model;
 
 /// The most columns of a table.
-const MAX_COLUMNS: usize = 16;
+const COLUMN_LIMIT: usize = 16;
 
 /// A column: its name, the kind of its values, and its place in the table's key, if it is part of it.
 #[derive(Clone, Copy, Debug, PartialEq, Eq)]
@@ -101,7 +102,7 @@ impl Schema {
     pub fn new(alloc: Global, columns: &[(Name, Kind)]) -> Result<Schema, Failure<SchemaRefused>>
         ensures { IsAnswer (schema_of columns.now) result }
     {
-        if columns.len() > MAX_COLUMNS {
+        if columns.len() > COLUMN_LIMIT {
             return Err(Failure::Refused(SchemaRefused::TooMany));
         }
         if has_twins(columns) {
@@ -150,6 +151,13 @@ impl Schema {
     {
         let place = column_place(&self.columns, name)?;
         Some(place as u32)
+    }
+
+    /// The kind of the column of that name.
+    pub fn column_kind(&self, name: Name) -> Option<Kind>
+        ensures { result ≡ kind_in self.now name }
+    {
+        kind_among(&self.columns, name)
     }
 
     /// Whether there are as many values as columns, each of its column's kind.
@@ -260,6 +268,13 @@ fn column_place(columns: &[Column], name: Name) -> Option<usize>
     ensures { result ≡ column_of columns.now name }
 {
     columns.iter().position(|column| column.name == name)
+}
+
+fn kind_among(columns: &[Column], name: Name) -> Option<Kind>
+    ensures { result ≡ kind_in columns.now name }
+{
+    let place = column_place(columns, name)?;
+    columns.get(place).map(|column| column.kind)
 }
 
 fn values_fit(columns: &[Column], values: &[Value]) -> bool

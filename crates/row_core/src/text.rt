@@ -15,7 +15,7 @@ use std::cmp::Ordering;
 use std::marker::Model;
 
 /// The most bytes of a text.
-const MAX_LEN: usize = 4096;
+const TEXT_LIMIT: usize = 4096;
 
 /// A text of at most 4,096 bytes, ordered by its bytes. Contracts see its bytes.
 #[derive(Debug, Drop)]
@@ -124,7 +124,7 @@ pub(crate) fn checked_text(bytes: &[u8]) -> Result<&str, TextRefused>
     ensures { MatchResult result (λ text. (text_of bytes.now ≡ Ok text.now) × (length text.now ≤ text_limit))
         (λ refusal. text_of bytes.now ≡ Err refusal) }
 {
-    if bytes.len() > MAX_LEN {
+    if bytes.len() > TEXT_LIMIT {
         return Err(TextRefused::TooLong);
     }
     match str::from_utf8(bytes) {

@@ -3,14 +3,11 @@ use Rattle.std.specs.Prelude.{◌≡◌, ◌≢◌, ◌⊎◌, ◌≤◌, ℕ, L
 use Rattle.std.specs.Str.Parse.{IsNumeral, digits_value, without_leading_plus}
 use Rattle.clap.specs.Words.{App, IsAmong, Rule, Text, fault_of, first_of, matches_of, new_app, new_rule, with_rule}
 use Rattle.clap.specs.declared.error.kind.ErrorKind.TheVariants.{DisplayHelp}
+use Rattle.work_core.specs.Limits.{worker_limit}
 use Rattle.words_core.specs.declared.words.Words.{Words}
 use Rattle.words_core.specs.declared.words.Words.TheVariants.{Run, Help}
 use Rattle.words_core.specs.declared.refused.WordsRefused.{WordsRefused}
 use Rattle.words_core.specs.declared.refused.WordsRefused.TheVariants.{NoMemory}
-
--- the most workers that may be asked for
-abbrev pub worker_limit : ℕ
-worker_limit = 64
 
 -- how many workers there are where no word tells
 abbrev pub default_workers : ℕ
@@ -41,8 +38,8 @@ IsToldBy text (Run n) = TellsWorkers text n
 IsToldBy text Help = ⊥
 
 -- the result is what is meant, unless memory is missed
-abbrev pub IsAnswer : Result Words WordsRefused → Result Words WordsRefused → Type 0
-IsAnswer meant result = (result ≡ meant) ⊎ (result ≡ Err NoMemory)
+abbrev pub IsAnswerOfWords : Result Words WordsRefused → Result Words WordsRefused → Type 0
+IsAnswerOfWords meant result = (result ≡ meant) ⊎ (result ≡ Err NoMemory)
 
 -- the option that tells the number of workers, as `clap` sees it
 abbrev pub workers_rule : Rule

@@ -2,16 +2,14 @@
 ghost use Rattle.std.specs.Prelude.{◌≡◌, ℕ, List, [], ◌∷◌, map, codes, IfOk, Ok, Err};
 ghost use Rattle.std.specs.Fmt.{decimal};
 ghost use Rattle.clap.specs.Words.{app_of};
-ghost use Rattle.words_core.specs.Words.{AsksFor, IsAnswer, IsRunnable, IsToldBy, IsPlainWord, IsWorkers};
+ghost use Rattle.words_core.specs.Words.{AsksFor, IsAnswerOfWords, IsRunnable, IsToldBy, IsPlainWord, IsWorkers};
 ghost use Rattle.words_core.specs.Words.{TellsWorkers, default_workers, program_app};
 
 use crate::WordsRefused;
 use clap::error::ErrorKind;
 use clap::{Arg, Command};
 use std::alloc::{AllocError, Global};
-
-/// The most workers that may be asked for.
-const MAX_WORKERS: u32 = 64;
+use work_core::WORKER_LIMIT;
 
 /// How many workers there are where no word tells, as a word would tell it.
 const DEFAULT_WORKERS: &str = "4";
@@ -43,7 +41,7 @@ fn run_with(text: &str) -> Result<Words, WordsRefused>
     ensures untold { ((n : ℕ) → TellsWorkers text.now n → ⊥) → result ≡ Err WordsRefused.Usage }
 {
     match text.parse::<u32>() {
-        Ok(n) if n >= 1 && n <= MAX_WORKERS => Ok(Words::Run(n)),
+        Ok(n) if n >= 1 && n <= WORKER_LIMIT => Ok(Words::Run(n)),
         _ => Err(WordsRefused::Usage),
     }
 }
@@ -72,20 +70,20 @@ pub fn read_words(alloc: Global, words: &[&str]) -> Result<Words, WordsRefused>
     ensures bounded { IfOk result IsRunnable }
     ensures asked { IfOk result (AsksFor (map (λ word. word.now) words.entry.now)) }
     ensures granted { (n : ℕ) → AsksFor (map (λ word. word.now) words.entry.now) (Words.Run n)
-        → IsAnswer (Ok (Words.Run n)) result }
+        → IsAnswerOfWords (Ok (Words.Run n)) result }
     ensures alone { (name : List ℕ) → map (λ word. word.now) words.entry.now ≡ name ∷ []
-        → IsAnswer (Ok (Words.Run default_workers)) result }
+        → IsAnswerOfWords (Ok (Words.Run default_workers)) result }
     ensures workers { (name : List ℕ) (n : ℕ) → IsWorkers n
         → map (λ word. word.now) words.entry.now ≡ name ∷ codes "--workers" ∷ decimal n ∷ []
-        → IsAnswer (Ok (Words.Run n)) result }
+        → IsAnswerOfWords (Ok (Words.Run n)) result }
     ensures wrong_number { (name text : List ℕ) → IsPlainWord text → ((n : ℕ) → TellsWorkers text n → ⊥)
         → map (λ word. word.now) words.entry.now ≡ name ∷ codes "--workers" ∷ text ∷ []
-        → IsAnswer (Err WordsRefused.Usage) result }
+        → IsAnswerOfWords (Err WordsRefused.Usage) result }
     ensures stray { (name word : List ℕ) → IsPlainWord word
         → map (λ word. word.now) words.entry.now ≡ name ∷ word ∷ []
-        → IsAnswer (Err WordsRefused.Usage) result }
+        → IsAnswerOfWords (Err WordsRefused.Usage) result }
     ensures help { (name : List ℕ) → map (λ word. word.now) words.entry.now ≡ name ∷ codes "--help" ∷ []
-        → IsAnswer (Ok Words.Help) result }
+        → IsAnswerOfWords (Ok Words.Help) result }
 {
     let command = command(alloc)?;
     let matches = match command.try_get_matches_from(words) {
