@@ -4,8 +4,6 @@ use Rattle.std.specs.declared.cmp.Ordering.{Ordering}
 use Rattle.std.specs.declared.cmp.Ordering.TheVariants.{Less}
 use Rattle.std.specs.Ordering.{nat_cmp, int_cmp, ordering_then}
 use Rattle.row_core.specs.declared.row.Row.{Row}
-use Rattle.row_core.specs.declared.schema.Column.{Column}
-use Rattle.match_core.specs.Columns.{Names, MatchesOn}
 use Rattle.list_core.specs.Wanted.{IsListOf}
 use Rattle.merge_core.specs.Hits.{IsShared}
 use Rattle.join_core.specs.declared.rows.JoinRow.{JoinRow}
@@ -34,13 +32,6 @@ pub record IsJoinRow (Matches : Row → Row → Type 0) (left right : List Row) 
 -- all of them, each once, by start, end, left id and right id
 abbrev pub IsJoin : (Row → Row → Type 0) → List Row → List Row → List JoinRow → Type 0
 IsJoin Matches left right rows = IsListOf RowBefore (IsJoinRow Matches left right) rows
-
--- two joins of the same rows by the same columns are one
-abbrev pub JoinHasOneList : Type 0
-JoinHasOneList =
-    (left_columns right_columns : List Column) (on : List Names) (left right : List Row) (one other : List JoinRow)
-    → IsJoin (MatchesOn left_columns right_columns on) left right one
-    → IsJoin (MatchesOn left_columns right_columns on) left right other → one ≡ other
 
 -- at least k * m, and at most m * a + k * b: what it takes to read each of k parts, which have a rows in all, against
 -- each of m parts, which have b

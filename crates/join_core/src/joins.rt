@@ -18,7 +18,7 @@ use work_core::Gate;
 
 /// The pairs of a left and a right row that are equal in each named pair of columns and share an instant, each
 /// with all the instants that both hold, by start, end, left id and right id: the same rows for every number of
-/// workers. Both sides are divided, and the gate is called before and after each pair of parts.
+/// workers. Both sides are divided, and the gate is called before and after each pair of parts, which tests show.
 ///
 /// For k left parts, m right parts, a left rows and b right rows the cursors advance at least k * m times, and
 /// at most m * a + k * b times.

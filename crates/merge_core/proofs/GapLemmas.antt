@@ -12,7 +12,7 @@ use Rattle.list_core.proofs.RisingLemmas.{Contains-head, Contains-cons, Contains
 use Rattle.list_core.proofs.WantedLemmas.{IsListOf-append, IsListOf-none}
 use Rattle.merge_core.specs.declared.gap.Gap.{Gap}
 use Rattle.merge_core.specs.Gaps.{IsUncovered, IsMaximal, IsGap, GapStartsBefore, ListsGaps}
-use Rattle.merge_core.specs.Sweep.{IsGapOf, IsBetween, IsGapFrom, ListsGapsFrom, Covers, HasGapBefore, PassesWithin, Keeps}
+use Rattle.merge_core.specs.Sweep.{IsGapOf, IsBetween, IsGapFrom, ListsGapsFrom, Covers, HasGapBefore, PassesWithin, Extends}
 use Rattle.merge_core.proofs.SharedLemmas.{first_held}
 use Rattle.merge_core.proofs.PartLemmas.{chain_head}
 use Rattle.merge_core.proofs.SweepLemmas.{clear, clear_gap, gap_of_whole, gaps_of_whole, IsMaximal-same}
@@ -123,17 +123,17 @@ swept_last x Q y q at next old mid now final n e part beyond c s a =
       all = gaps_of_whole x Q (s.added ++ (c.added ++ a.added)) (s.goes_on (c.added ++ a.added) lists);
     }
 
-pub Keeps-more : (old mid now more : List Gap) → now ≡ mid ++ more → Keeps old mid → Keeps old now
-Keeps-more old mid now more e s =
+pub Extends-more : (old mid now more : List Gap) → now ≡ mid ++ more → Extends old mid → Extends old now
+Extends-more old mid now more e s =
     record { more = s.more ++ more; split = e ∙ ap (λ z. z ++ more) s.split ∙ append_assoc old s.more more }
 
-pub Keeps-swept : (x : Item) (Q q : List Item) (at : ℤ) (old now : List Gap) (n : ℕ)
-    → IsSwept x Q q at old now n → Keeps old now
-Keeps-swept x Q q at old now n s = record { more = s.added; split = s.split }
+pub Extends-swept : (x : Item) (Q q : List Item) (at : ℤ) (old now : List Gap) (n : ℕ)
+    → IsSwept x Q q at old now n → Extends old now
+Extends-swept x Q q at old now n s = record { more = s.added; split = s.split }
 
 -- of the gaps of x, only that from `at` up to its end is not there yet
 pub record IsStopped (x : Item) (Q : List Item) (at : ℤ) (old now : List Gap) : Type 0 where
-  pub keeps : Keeps old now
+  pub keeps : Extends old now
   pub gap : (g : Gap) → IsBetween x at x.period.to g → IsGapOf Q x g
   pub goes_on : (final : List Gap) → AddsAll GapStartsBefore (IsBetween x at x.period.to) now final
       → AddsAll GapStartsBefore (IsGapOf Q x) old final
@@ -143,7 +143,7 @@ pub stop_end : (x : Item) (Q q : List Item) (at : ℤ) (old now : List Gap) (n :
     → IsStopped x Q at old now
 stop_end x Q q at old now n out s =
     record {
-      keeps = Keeps-swept x Q q at old now n s;
+      keeps = Extends-swept x Q q at old now n s;
       gap = λ g b. gap_of_whole x Q g (s.within g (clear_gap x q at out g b));
       goes_on = λ final a. swept_end x Q q at old now final n out s a;
     }
@@ -155,7 +155,7 @@ stop_last x Q y q at at' next next' old mid now n same same_next e part beyond c
     let d : Covers x y at mid now next =
     subst (λ z. Covers x y at mid now z) same_next (subst (λ z. Covers x y z mid now next') same c) in
     record {
-      keeps = Keeps-more old mid now d.added d.split (Keeps-swept x Q q at old mid n s);
+      keeps = Extends-more old mid now d.added d.split (Extends-swept x Q q at old mid n s);
       gap = λ g b.
           let i : IsGapFrom (drop 1 q) x next g =
           clear_gap x (drop 1 q) next (last_later x y q e part beyond) g b in

@@ -1,5 +1,5 @@
 -- What items of equal class of two parts share, and how often a cursor advances to find it.
-use Rattle.std.specs.Prelude.{◌≡◌, ◌↔◌, ◌+◌, ◌≤◌, ◌<ℤ◌, ℕ, ℤ, List, length, min, Contains}
+use Rattle.std.specs.Prelude.{◌≡◌, ◌↔◌, ◌⊎◌, ◌+◌, ◌≤◌, ◌<ℤ◌, ◌≤ℤ◌, ℕ, ℤ, List, length, min, drop, Contains}
 use Rattle.period_core.specs.declared.period.Period.{Period}
 use Rattle.period_core.specs.Period.{Holds}
 use Rattle.dip_core.specs.declared.item.Item.{Item}
@@ -24,3 +24,9 @@ HitStartsBefore a b = a.period.from <ℤ b.period.from
 pub record AreAdvances (left right : List Item) (n : ℕ) : Type 0 where
   pub at_least : min (length left) (length right) ≤ n
   pub at_most : n ≤ length left + length right
+
+-- of two items the one that ends first is passed, the left one where both end together, and nothing else
+abbrev pub PassesFirst : Item → Item → (left right left_after right_after : List Item) → Type 0
+PassesFirst x y left right left_after right_after =
+    ((x.period.to ≤ℤ y.period.to) × (left_after ≡ drop 1 left) × (right_after ≡ right))
+    ⊎ ((y.period.to <ℤ x.period.to) × (left_after ≡ left) × (right_after ≡ drop 1 right))

@@ -54,6 +54,6 @@ pub record PassesWithin (x : Item) (old new : List Item) (n : ℕ) : Type 0 wher
   pub count : n + length new ≡ length old
 
 -- the new list begins with the old one
-pub record Keeps (old new : List Gap) : Type 0 where
+pub record Extends (old new : List Gap) : Type 0 where
   pub more : List Gap
   pub split : new ≡ old ++ more

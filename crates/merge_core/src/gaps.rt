@@ -4,7 +4,7 @@ ghost use Rattle.std.specs.Prelude.{◌≡◌, ℤ, ◌<ℤ◌, IfOk, IsOk, OnOk
 ghost use Rattle.list_core.specs.Wanted.{AddsAll};
 ghost use Rattle.merge_core.specs.declared.gap.Gap.{Gap};
 ghost use Rattle.merge_core.specs.Gaps.{IsGap, GapStartsBefore, AreGapAdvances};
-ghost use Rattle.merge_core.specs.Sweep.{IsGapOf, IsBetween, Covers, HasGapBefore, PassesWithin, Keeps};
+ghost use Rattle.merge_core.specs.Sweep.{IsGapOf, IsBetween, Covers, HasGapBefore, PassesWithin, Extends};
 
 use crate::ends::{ends_before, follows, later};
 use crate::{Cursor, Gap};
@@ -42,7 +42,7 @@ fn cover(x: &Item, y: &Item, at: Point, gaps: &mut Vec<Gap>) -> Result<Point, No
 fn gaps_of(x: &Item, right: &mut Cursor, gaps: &mut Vec<Gap>) -> Result<u64, NoMemory>
     ensures gaps { OnOk result (AddsAll GapStartsBefore (IsGapOf right.old x.now) gaps.old.items gaps.new.items) }
     ensures passes { IfOk result (PassesWithin x.now right.old right.new) }
-    ensures keeps { Keeps gaps.old.items gaps.new.items }
+    ensures keeps { Extends gaps.old.items gaps.new.items }
     ensures gap { OnErr result ((gap : Gap) × IsGapOf right.old x.now gap) }
 {
     let most = right.len() as u64;

@@ -1,10 +1,10 @@
 //! The hits of two parts.
 
-ghost use Rattle.std.specs.Prelude.{◌≡◌, [], ◌∷◌, IfOk, IsOk, OnOk, OnErr};
+ghost use Rattle.std.specs.Prelude.{◌≡◌, ◌++◌, [], ◌∷◌, IfOk, IsOk, OnOk, OnErr};
 ghost use Rattle.std.specs.Option.{option_to_list};
 ghost use Rattle.list_core.specs.Wanted.{IsListOf, AddsAll};
 ghost use Rattle.merge_core.specs.declared.hit.Hit.{Hit};
-ghost use Rattle.merge_core.specs.Hits.{IsHit, HitStartsBefore, AreAdvances};
+ghost use Rattle.merge_core.specs.Hits.{IsHit, HitStartsBefore, AreAdvances, PassesFirst};
 
 use crate::ends::ends_first;
 use crate::{Cursor, Hit};
@@ -26,6 +26,18 @@ fn hit_of(x: &Item, y: &Item) -> Option<Hit>
     })
 }
 
+/// Adds a hit. The first one takes room for itself alone, since most pairs of parts have one hit, if any.
+fn add_hit(hit: Hit, hits: &mut Vec<Hit>) -> Result<(), NoMemory>
+    ensures ok { OnOk result (hits.new.items ≡ hits.old.items ++ hit ∷ []) }
+    ensures err { OnErr result (hits.new.items ≡ hits.old.items) }
+{
+    if hits.is_empty() {
+        hits.reserve_exact(1)?;
+    }
+    hits.push(hit)?;
+    Ok(())
+}
+
 /// Adds the hit of two items, where they have one; where they have none it asks for no memory.
 fn push_hit(x: &Item, y: &Item, hits: &mut Vec<Hit>) -> Result<(), NoMemory>
     ensures ok { OnOk result (AddsAll HitStartsBefore (IsHit (x.now ∷ []) (y.now ∷ [])) hits.old.items hits.new.items) }
@@ -33,9 +45,18 @@ fn push_hit(x: &Item, y: &Item, hits: &mut Vec<Hit>) -> Result<(), NoMemory>
     ensures hit { OnErr result ((hit : Hit) × IsHit (x.now ∷ []) (y.now ∷ []) hit) }
 {
     if let Some(hit) = hit_of(x, y) {
-        hits.push(hit)?;
+        add_hit(hit, hits)?;
     }
     Ok(())
+}
+
+/// Passes the item of the two that ends first, the left one where both end together.
+fn pass_first(x: &Item, y: &Item, left: &mut Cursor, right: &mut Cursor)
+    ensures { PassesFirst x.now y.now left.old right.old left.new right.new }
+{
+    let is_left = ends_first(&x.period, &y.period);
+    left.advance_if(is_left);
+    right.advance_if(!is_left);
 }
 
 /// Adds the hits of two parts by rising start, and answers how often a cursor advanced.
@@ -60,11 +81,7 @@ pub fn merge_join(mut left: Cursor, mut right: Cursor, hits: &mut Vec<Hit>) -> R
             hits.truncate(before);
             return Err(refused);
         }
-        if ends_first(&x.period, &y.period) {
-            left.advance();
-        } else {
-            right.advance();
-        }
+        pass_first(&x, &y, &mut left, &mut right);
         prove!(advances < most);
         advances += 1;
     }

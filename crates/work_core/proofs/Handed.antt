@@ -10,7 +10,7 @@ use Rattle.work_core.specs.declared.numbered.Numbered.{Numbered}
 use Rattle.work_core.specs.Claims.{joined_view}
 use Rattle.work_core.specs.Collected.{AreAtTheirPlaces}
 use Rattle.work_core.specs.Counting.{times}
-use Rattle.work_core.specs.Workers.{numbers_of, count_at, count_kept, Keeps, IsOfItsPair, IsRun, AreOfDrawn}
+use Rattle.work_core.specs.Workers.{numbers_of, count_at, count_kept, KeepsValue, IsOfItsPair, IsRun, AreOfDrawn}
 use Rattle.work_core.proofs.Counting.{times-append}
 use Rattle.work_core.proofs.Places.{count_at-set, at_their_places-set}
 
@@ -32,7 +32,7 @@ put_more (suc l) a b after listed e f h some = omega (arith, f)
 put_more zero a b after listed e f h some = let p : 0 < b = h (omega (arith, some)) in omega (arith, p, e)
 
 -- what was kept, and what is kept now
-kept_more : {T : Type 0} (n x : ℕ) (o : T) (before after : Kept T) → Keeps n o before after
+kept_more : {T : Type 0} (n x : ℕ) (o : T) (before after : Kept T) → KeepsValue n o before after
     → 0 < count_kept before x + times x (n ∷ []) → 0 < count_kept after x
 kept_more {T} n x o before after keeps was =
     let old = before.places.items in
@@ -54,7 +54,7 @@ kept_more {T} n x o before after keeps was =
     (below_or_not n (length old))
 
 -- the places stay as many
-pub length-places-kept : {T : Type 0} (n : ℕ) (o : T) (before after : Kept T) → Keeps n o before after
+pub length-places-kept : {T : Type 0} (n : ℕ) (o : T) (before after : Kept T) → KeepsValue n o before after
     → length after.places.items ≡ length before.places.items
 length-places-kept {T} n o before after keeps =
     let old = before.places.items in

@@ -44,7 +44,7 @@ abbrev pub count_kept : {T : Type 0} → Kept T → ℕ → ℕ
 count_kept kept x = count_at kept.places.items x + times x (numbers_of kept.values.items)
 
 -- one more value is kept, with its number: at its place, or where it has none in the list
-pub record Keeps {T : Type 0} (n : ℕ) (o : T) (old new : Kept T) : Type 0 where
+pub record KeepsValue {T : Type 0} (n : ℕ) (o : T) (old new : Kept T) : Type 0 where
   pub placed : n < length old.places.items
       → (new.places.items ≡ slice_set old.places.items n (Some o)) × (new.values.items ≡ old.values.items)
   pub listed : length old.places.items ≤ n → (new.places.items ≡ old.places.items)
@@ -60,7 +60,7 @@ module _ {W Out : Type 0} (g : PairWork.Ghosts W Out) (w : W) where
   pub record IsRun (n : ℕ) (old new : Kept Out) : Type 0 where
     pub value : Out
     pub gives : Gives g w (g.name_of w n) value
-    pub keeps : Keeps n value old new
+    pub keeps : KeepsValue n value old new
 
   -- what is kept are values of their pairs, and one of each pair whose number was drawn; the numbers in `more` are
   -- drawn and still to be run

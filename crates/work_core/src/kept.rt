@@ -1,7 +1,7 @@
 //! The values that a worker keeps.
 
 ghost use Rattle.std.specs.Prelude.{◌≡◌, [], OnOk};
-ghost use Rattle.work_core.specs.Workers.{Keeps};
+ghost use Rattle.work_core.specs.Workers.{KeepsValue};
 
 use crate::numbered::Numbered;
 use std::alloc::{AllocError, Global};
@@ -24,9 +24,9 @@ impl<T: Drop> Kept<T> {
         }
     }
 
-    /// Keeps one more value, at its place if there is one.
+    /// KeepsValue one more value, at its place if there is one.
     pub(crate) fn put(&mut self, number: u64, value: T) -> Result<(), AllocError>
-        ensures { OnOk result (Keeps number value self.old self.new) }
+        ensures { OnOk result (KeepsValue number value self.old self.new) }
     {
         let place = number as usize;
         if place < self.places.len() {

@@ -27,5 +27,5 @@ pub use job::PairWork;
 pub use name::PairName;
 pub use outs::Outs;
 pub use piece::Piece;
-pub use run::run_pairs;
+pub use run::{WORKER_LIMIT, run_pairs};
 pub use stretch::Stretch;

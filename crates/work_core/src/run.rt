@@ -20,6 +20,9 @@ use std::alloc::{AllocError, Global};
 use std::thread;
 use std::thread::Threads;
 
+/// The most workers of a run.
+pub const WORKER_LIMIT: u32 = 64;
+
 // The workers, each with a seat of its own, the last with the places.
 fn deal<T: Drop>(
     alloc: Global,
@@ -116,7 +119,7 @@ fn workers_for(count: u64, workers: u32) -> u32
 ///
 /// Each pair is run once, between the calls of the gate. No more threads are started than there are pairs, and
 /// one that can't be started is left out. Nothing waits but for threads to end, so the call returns whenever
-/// the job's runs and the gate do.
+/// the job's runs and the gate do. (The clauses tell of the values; tests show how often pairs are run.)
 pub fn run_pairs<R: Threads + Sync, W: PairWork, G: Gate>(
     rt: &R,
     alloc: Global,

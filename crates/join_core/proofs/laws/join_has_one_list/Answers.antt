@@ -1,7 +1,8 @@
-use Rattle.join_core.proofs.OrderLemmas.{IsJoin-unique}
-use Rattle.match_core.specs.Columns.{MatchesOn}
+use Rattle.join_core.proofs.JoinExistence.{some_join, one_join}
 use Rattle.join_core.proofs.laws.join_has_one_list.Goals as goal
 
-pub returns : goal.returns
-returns c left_columns right_columns on left right one other is is' =
-    IsJoin-unique (MatchesOn left_columns right_columns on) left right one other is is'
+pub returns-clause-exists : goal.returns-clause-exists
+returns-clause-exists c = some_join
+
+pub returns-clause-one : goal.returns-clause-one
+returns-clause-one c = one_join

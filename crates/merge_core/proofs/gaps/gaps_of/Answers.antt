@@ -1,7 +1,7 @@
 use Rattle.std.proofs.Common.{arith, ◌≤ℤ◌}
 use Rattle.std.proofs.lemmas.Int.{ints}
 use Rattle.merge_core.proofs.ErrLemmas.{on_err}
-use Rattle.merge_core.proofs.GapLemmas.{swept_next, stop_end, stop_last, stopped_final, IsStopped, swept_gap, stopped_gap, none_left, all_later, Keeps-more}
+use Rattle.merge_core.proofs.GapLemmas.{swept_next, stop_end, stop_last, stopped_final, IsStopped, swept_gap, stopped_gap, none_left, all_later, Extends-more}
 use Rattle.merge_core.proofs.gaps.gaps_of.Goals as goal
 use Rattle.merge_core.proofs.gaps.gaps_of.Goals.{in-Some+then-follows, in-Some+else-follows+in_ok-at+then-ends_before, in_default, After-push_gap}
 
@@ -48,7 +48,7 @@ returns-clause-gaps c =
 
 pub returns-clause-keeps : goal.returns-clause-keeps
 returns-clause-keeps c =
-    Keeps-more _ _ _ c.in_ok-push_gap.ensures.ok.added c.in_ok-push_gap.ensures.ok.split
+    Extends-more _ _ _ c.in_ok-push_gap.ensures.ok.added c.in_ok-push_gap.ensures.ok.split
     (stopped (goal.at.returns-clause-keeps c).After-push_gap).keeps
 
 pub returns-in_err-at-clause-gap : goal.returns-in_err-at-clause-gap

@@ -2,7 +2,6 @@ use Rattle.std.proofs.Common.{inl, inr, arith, ◌≤ℤ◌}
 use Rattle.std.proofs.lemmas.Int.{ints}
 use Rattle.merge_core.proofs.HitLemmas.{joining_start, joining_left, joining_right, joining_end, joining_hit}
 use Rattle.merge_core.proofs.join.merge_join.Goals as goal
-use Rattle.merge_core.proofs.join.merge_join.Goals.{then-ends_first, else-ends_first}
 
 pub returns-in-Err-clause-no_hit : goal.returns-in-Err-clause-no_hit
 returns-in-Err-clause-no_hit c =
@@ -13,18 +12,15 @@ returns-in-Err-clause-no_hit c =
 
 pub loop-x-preserved : goal.loop-x-preserved
 loop-x-preserved c =
-    elim c.if-ends_first.branch [
-      | then-ends_first w ↦
-          let first : c.in-Some.x.period.to ≤ℤ c.in-Some-peek.y.period.to
-          = omega (arith, ints, w.if-ends_first.ensures) in
-          rw (w.left-is, w.right-is, w.advance.ensures)
+    elim c.pass_first.ensures [
+      | inl (first, passed, stays) ↦
+          rw (passed, stays)
           (joining_left c.args.left c.args.right c.in-Some.x c.loop-x.left c.in-Some-peek.y c.loop-x.right
           c.args.hits.now.items c.loop-x.hits.items c.push_hit.new.hits.items c.loop-x.advances
           c.in-Some.ensures.next c.in-Some-peek.ensures.next first c.in_default-push_hit.ensures.ok c.loop-x.invariant)
-      | else-ends_first w ↦
-          let first : c.in-Some-peek.y.period.to ≤ℤ c.in-Some.x.period.to
-          = omega (arith, ints, w.if-ends_first.ensures) in
-          rw (w.left-is, w.right-is, w.advance-else-ends_first.ensures)
+      | inr (later, stays, passed) ↦
+          let first : c.in-Some-peek.y.period.to ≤ℤ c.in-Some.x.period.to = omega (arith, ints, later) in
+          rw (passed, stays)
           (joining_right c.args.left c.args.right c.in-Some.x c.loop-x.left c.in-Some-peek.y c.loop-x.right
           c.args.hits.now.items c.loop-x.hits.items c.push_hit.new.hits.items c.loop-x.advances
           c.in-Some.ensures.next c.in-Some-peek.ensures.next first c.in_default-push_hit.ensures.ok c.loop-x.invariant)
