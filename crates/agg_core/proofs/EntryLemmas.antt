@@ -1,0 +1,168 @@
+-- Entries of rows, in the order of the rows and sorted.
+use Rattle.std.proofs.Common.{◌≡◌, ◌⊎◌, ◌&&◌, ◌<◌, ◌+◌, ℕ, Bool, true, false, cond, not, List, [], ◌∷◌, ◌++◌, length, map, take, get_or, All, Option, Some, inl, inr, refl, sym, ap, subst, ◌∙◌, arith}
+use Rattle.std.specs.Prelude.{filter, slice_get, IsPermutation, IsSortedByKey}
+use Rattle.std.specs.Bool.{Decides}
+use Rattle.std.specs.List.{AllZip}
+use Rattle.std.specs.List.Sorted.{IsStableByKey, ties}
+use Rattle.std.specs.Ordering.{is_lt}
+use Rattle.std.proofs.lemmas.Bool.Decides.{same_from_decides}
+use Rattle.std.proofs.lemmas.List.{take_more}
+use Rattle.std.proofs.lemmas.List.Elements.{All-cons, All-head, All-tail, All-nil, All-contains}
+use Rattle.std.proofs.lemmas.List.Sorted.{All-permutation, IsPermutation-map, ranks_by, sorted_far}
+use Rattle.std.proofs.lemmas.Slice.Zip.{all_zipped_more}
+use Rattle.row_core.specs.declared.row.Row.{Row}
+use Rattle.row_core.specs.declared.value.Value.{Value}
+use Rattle.agg_core.specs.declared.entries.Entry.{Entry}
+use Rattle.agg_core.specs.Groups.{rows_of_group, same_group, value_cmp}
+use Rattle.agg_core.specs.Entries.{AreEntries, AreSortedEntries, row_in, sort_value, value_at}
+use Rattle.agg_core.proofs.OrderLemmas.{group_decides, not_after, not_after-from, value_lt, value_total}
+
+-- ---- lists side by side
+
+-- one thing more of each list
+pub AllZip-more : {A B : Type 0} (R : A → B → Type 0) (xs : List A) (i : ℕ) (x : A) (ys new : List B) (y : B)
+    → i < length xs → x ≡ get_or xs i x → new ≡ ys ++ y ∷ [] → R x y → AllZip R (take i xs) ys
+    → AllZip R (take (i + 1) xs) new
+AllZip-more {A} {B} R xs i x ys new y inside at put r all =
+    subst (λ (l : List A). AllZip R l new)
+    (sym (take_more xs i x inside ∙ ap (λ (z : A). take i xs ++ z ∷ []) (sym at)))
+    (subst (AllZip R (take i xs ++ x ∷ [])) (sym put) (all_zipped_more R (take i xs) ys x y all r))
+
+-- ---- entries of rows
+
+-- what each entry keeps wherever it stands
+abbrev IsKept : ℕ → Entry → Type 0
+IsKept place e = (slice_get e.row.now.values place ≡ Some e.value.now) × (sort_value e ≡ e.value.now)
+
+-- each entry has its row's value
+entries_kept : (place : ℕ) (rows : List Row) (es : List Entry) → AreEntries place rows es → All (IsKept place) es
+entries_kept place [] [] all = All-nil (IsKept place)
+entries_kept place [] (e ∷ es) all = absurd all
+entries_kept place (r ∷ rows) [] all = absurd all
+entries_kept place (r ∷ rows) (e ∷ es) all =
+    All-cons (IsKept place) e es
+    (ap (λ (x : Row). slice_get x.values place) all.0.row_is ∙ all.0.value_is, all.0.key_is)
+    (entries_kept place rows es all.1)
+
+-- the rows of the entries are the rows
+rows_in_entries : (place : ℕ) (rows : List Row) (es : List Entry) → AreEntries place rows es → map row_in es ≡ rows
+rows_in_entries place [] [] all = refl
+rows_in_entries place [] (e ∷ es) all = absurd all
+rows_in_entries place (r ∷ rows) [] all = absurd all
+rows_in_entries place (r ∷ rows) (e ∷ es) all =
+    ap (λ (x : Row). x ∷ map row_in es) all.0.row_is ∙ ap (λ l. r ∷ l) (rows_in_entries place rows es all.1)
+
+-- ---- filters
+
+-- what is made of a list to which one thing is added, or not
+cond-map : {A B : Type 0} (f : A → B) (x : A) (b : Bool) (xs : List A) (ys : List B) → ys ≡ map f xs
+    → cond b (f x ∷ ys) ys ≡ map f (cond b (x ∷ xs) xs)
+cond-map f x true xs ys e = ap (λ l. f x ∷ l) e
+cond-map f x false xs ys e = e
+
+-- what passes of the things that are made is made of what passes
+pub filter-map : {A B : Type 0} (f : A → B) (p : B → Bool) (xs : List A)
+    → filter p (map f xs) ≡ map f (filter (λ x. p (f x)) xs)
+filter-map f p [] = refl
+filter-map f p (x ∷ xs) =
+    cond-map f x (p (f x)) (filter (λ y. p (f y)) xs) (filter p (map f xs)) (filter-map f p xs)
+
+-- two tests that agree on a list let the same pass
+filter_alike : {A : Type 0} (p q : A → Bool) (xs : List A) → All (λ x. p x ≡ q x) xs → filter p xs ≡ filter q xs
+filter_alike p q [] all = refl
+filter_alike p q (x ∷ xs) all =
+    ap (λ b. cond b (x ∷ filter p xs) (filter p xs)) (All-head (λ y. p y ≡ q y) x xs all)
+    ∙ ap (λ l. cond (q x) (x ∷ l) l) (filter_alike p q xs (All-tail (λ y. p y ≡ q y) x xs all))
+
+-- nothing passes, or something does
+filter_first : {A : Type 0} (p : A → Bool) (xs : List A) → (filter p xs ≡ []) ⊎ ((x : A) × (p x ≡ true))
+filter_first p [] = inl refl
+filter_first {A} p (x ∷ xs) = split (p x) refl (filter_first p xs)
+  where
+    split : (b : Bool) → p x ≡ b → (filter p xs ≡ []) ⊎ ((k : A) × (p k ≡ true))
+        → (filter p (x ∷ xs) ≡ []) ⊎ ((k : A) × (p k ≡ true))
+    split true e rest = inr (x, e)
+    split false e (inr f) = inr f
+    split false e (inl f) = inl (ap (λ c. cond c (x ∷ filter p xs) (filter p xs)) e ∙ f)
+
+-- ---- entries of one value, after a stable sort
+
+-- the entry is of the group
+abbrev in_group : Option Value → Entry → Bool
+in_group group e = same_group (Some (sort_value e)) group
+
+-- where both are denied, both are false
+neither : (p q : Bool) → not p && not q ≡ true → (p ≡ false) × (q ≡ false)
+neither true q e = cc
+neither false true e = cc
+neither false false e = (refl, refl)
+
+-- two entries tie where they are of one group
+tie_decides : (x m : Entry) → Decides (ties value_lt x m) (Some (sort_value m) ≡ Some (sort_value x))
+tie_decides x m = (
+  λ e. (let n = neither (value_lt x m) (value_lt m x) e in
+      elim (not_after (Some (sort_value m)) (Some (sort_value x)) n.0) [
+        | inl less ↦ absurd (let bad : true ≡ false = ap is_lt (sym less) ∙ n.1 in cc)
+        | inr same ↦ same
+      ]),
+  λ e. ap (λ t. not t && not (value_lt m x)) (not_after-from (Some (sort_value m)) (Some (sort_value x)) (inr e))
+      ∙ ap (λ t. not t) (not_after-from (Some (sort_value x)) (Some (sort_value m)) (inr (sym e))),
+)
+
+-- entries tie with those of their group
+tie_is : (x m : Entry) → ties value_lt x m ≡ in_group (Some (sort_value x)) m
+tie_is x m =
+    same_from_decides (ties value_lt x m) (in_group (Some (sort_value x)) m) (tie_decides x m)
+    (group_decides (Some (sort_value m)) (Some (sort_value x)))
+
+-- the entries of a group stand in the order in which they stood
+group_stable : (old new : List Entry) → IsStableByKey sort_value value_cmp old new → (group : Option Value)
+    → filter (in_group group) new ≡ filter (in_group group) old
+group_stable old new stable group = elim (filter_first (in_group group) new) [
+  | inr f ↦ by f.0 ((group_decides (Some (sort_value f.0)) group).0 f.1)
+  | inl none ↦ elim (filter_first (in_group group) old) [
+    | inr f ↦ by f.0 ((group_decides (Some (sort_value f.0)) group).0 f.1)
+    | inl also ↦ none ∙ sym also
+  ]
+]
+  where
+    tied : (x : Entry) (zs : List Entry) → Some (sort_value x) ≡ group
+        → filter (in_group group) zs ≡ filter (ties value_lt x) zs
+    tied x zs e =
+        filter_alike (in_group group) (ties value_lt x) zs
+        (λ k d h. ap (λ (v : Option Value). in_group v (get_or zs k d)) (sym e) ∙ sym (tie_is x (get_or zs k d)))
+
+    by : (x : Entry) → Some (sort_value x) ≡ group → filter (in_group group) new ≡ filter (in_group group) old
+    by x e = tied x new e ∙ stable x ∙ sym (tied x old e)
+
+-- a group's rows are those of its entries
+group_rows : (place : ℕ) (group : Option Value) (es : List Entry) → All (IsKept place) es
+    → rows_of_group (value_at (Some place)) group (map row_in es) ≡ map row_in (filter (in_group group) es)
+group_rows place group es kept =
+    filter-map row_in (λ (r : Row). same_group (value_at (Some place) r) group) es
+    ∙ ap (map row_in)
+    (filter_alike (λ (e : Entry). same_group (value_at (Some place) (row_in e)) group) (in_group group) es
+    (λ k d h. let at : IsKept place (get_or es k d) = kept k d h in
+    ap (λ (v : Option Value). same_group v group) (at.0 ∙ ap Some (sym at.1))))
+
+-- ---- sorted entries
+
+-- entries that a stable sort has moved
+pub sorted_are : (place : ℕ) (rows : List Row) (old new : List Entry) → AreEntries place rows old
+    → IsPermutation old new → IsSortedByKey sort_value value_cmp new → IsStableByKey sort_value value_cmp old new
+    → AreSortedEntries place rows new
+sorted_are place rows old new entries moved sorted stable =
+    let was : All (IsKept place) old = entries_kept place rows old entries in
+    let is : All (IsKept place) new = All-permutation (IsKept place) old new moved was in
+    let all : map row_in old ≡ rows = rows_in_entries place rows old entries in
+    record {
+      each = λ e h. (All-contains (IsKept place) new e is h).0;
+      rise = λ i j d below inside.
+          ap (λ (v : Value). is_lt (value_cmp v (get_or new i d).value.now)) (sym (is j d inside).1)
+          ∙ ap (λ (v : Value). is_lt (value_cmp (sort_value (get_or new j d)) v)) (sym (is i d (omega arith)).1)
+          ∙ sorted_far value_lt (ranks_by value_total sort_value) new sorted i j d (omega arith) inside;
+      moved = subst (λ (l : List Row). IsPermutation l (map row_in new)) all (IsPermutation-map row_in old new moved);
+      kept = λ group.
+          group_rows place group new is ∙ ap (map row_in) (group_stable old new stable group)
+          ∙ sym (group_rows place group old was) ∙ ap (rows_of_group (value_at (Some place)) group) all;
+    }

@@ -1,0 +1,5 @@
+pub mod OrderLemmas
+pub mod EntryLemmas
+pub mod GroupLemmas
+pub mod PlateauLemmas
+pub mod AggExistence

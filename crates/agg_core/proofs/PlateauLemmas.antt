@@ -1,0 +1,258 @@
+-- The rows of an aggregate are those of the plateaus of its groups' numbers.
+use Rattle.std.proofs.Common.{◌≡◌, ◌<◌, ◌==◌, ℕ, ℤ, Bool, true, List, [], ◌∷◌, length, map, get_or, All, AllPairs, Option, Some, None, inl, inr, refl, sym, ap, subst, ◌∙◌, arith}
+use Rattle.std.specs.Prelude.{filter, slice_get, slice_index_or, ◌<ℤ◌, Contains}
+use Rattle.std.specs.declared.cmp.Ordering.{Ordering}
+use Rattle.std.specs.declared.cmp.Ordering.TheVariants.{Less}
+use Rattle.std.specs.Ordering.{int_cmp, ordering_then}
+use Rattle.std.proofs.lemmas.Bool.Decides.{Decides-eqb}
+use Rattle.std.proofs.lemmas.Int.{ints}
+use Rattle.std.proofs.lemmas.List.{length-map}
+use Rattle.std.proofs.lemmas.List.Elements.{All-contains, All-contains_itself, All-filter, Contains-get_or, filter_passes}
+use Rattle.std.proofs.lemmas.Option.{get_or_from_slice_get, slice_get-get_or}
+use Rattle.period_core.specs.declared.period.Period.{Period}
+use Rattle.period_core.specs.Period.{holds_at}
+use Rattle.row_core.specs.declared.row.Row.{Row}
+use Rattle.row_core.specs.declared.schema.Column.{Column}
+use Rattle.row_core.specs.declared.value.Value.{Value}
+use Rattle.dip_core.specs.declared.item.Item.{Item}
+use Rattle.list_core.proofs.RisingLemmas.{AllPairs-head, AllPairs-tail, Contains-cons, Contains-cons_cases, Contains-head, Contains-none}
+use Rattle.list_core.proofs.WantedLemmas.{AllPairs-before}
+use Rattle.merge_core.specs.declared.tally.Tally.{Tally}
+use Rattle.merge_core.specs.Gaps.{IsMaximal}
+use Rattle.merge_core.specs.Tallies.{IsTally, amounts, held, total}
+use Rattle.merge_core.proofs.SharedLemmas.{first_held}
+use Rattle.merge_core.proofs.SweepLemmas.{IsMaximal-same}
+use Rattle.round_core.specs.declared.measure.Measure.{Measure}
+use Rattle.round_core.specs.declared.plateau.Plateau.{Plateau}
+use Rattle.round_core.specs.Plateaus.{ArePlateaus, HasValue, IsPlateau, PlateauBefore, of_class}
+use Rattle.agg_core.specs.declared.rows.AggRow.{AggRow}
+use Rattle.agg_core.specs.declared.func.Func.{Func}
+use Rattle.agg_core.specs.Agg.{AreAggRows, IsAgg, IsAggRow, amount_in, item_of, measure_of, number_column, amount_of_value, value_in}
+use Rattle.agg_core.specs.Entries.{amount_at, place_in, value_at}
+use Rattle.agg_core.specs.Groups.{AggRowBefore, group_cmp, rows_of_group, same_group}
+use Rattle.agg_core.specs.Grouping.{IsGrouping, agg_row_of}
+use Rattle.agg_core.proofs.EntryLemmas.{filter-map}
+use Rattle.agg_core.proofs.GroupLemmas.{Contains-map_source}
+use Rattle.agg_core.proofs.OrderLemmas.{group_decides, group_total, ties_self}
+
+-- ---- lists
+
+-- what is made of a thing in a list is in the list of all that is made
+pub Contains-map : {X Y : Type 0} (f : X → Y) (xs : List X) (x : X) → Contains xs x → Contains (map f xs) (f x)
+Contains-map f [] x h = absurd (Contains-none x h)
+Contains-map f (z ∷ xs) x h = elim (Contains-cons_cases z xs x h) [
+  | inl e ↦ subst (Contains (f z ∷ map f xs)) (ap f e) (Contains-head (f z) (map f xs))
+  | inr k ↦ Contains-cons (f z) (map f xs) (f x) (Contains-map f xs x k)
+]
+
+-- what is made stands in order where what it is made of does
+AllPairs-map : {X Y : Type 0} (R : X → X → Type 0) (S : Y → Y → Type 0) (f : X → Y) (xs : List X) → AllPairs R xs
+    → ((a b : X) → Contains xs b → R a b → S (f a) (f b)) → AllPairs S (map f xs)
+AllPairs-map R S f [] rises gives = λ i j d less h. absurd (omega arith)
+AllPairs-map R S f (x ∷ xs) rises gives =
+    AllPairs-before S (f x) (map f xs)
+    (λ y h. let (z, there, is) = Contains-map_source f xs y h in
+    subst (S (f x)) is (gives x z (Contains-cons x xs z there) (AllPairs-head R x xs z rises there)))
+    (AllPairs-map R S f xs (AllPairs-tail R x xs rises) (λ a b h. gives a b (Contains-cons x xs b h)))
+
+-- what passes stands in the list
+pub filtered_in : {X : Type 0} (p : X → Bool) (xs : List X) (x : X) → Contains (filter p xs) x → Contains xs x
+filtered_in p xs x h =
+    All-contains (Contains xs) (filter p xs) x (All-filter p (Contains xs) xs (All-contains_itself xs)) h
+
+-- what passes has passed
+pub filtered_passes : {X : Type 0} (p : X → Bool) (xs : List X) (x : X) → Contains (filter p xs) x → p x ≡ true
+filtered_passes p xs x h = All-contains (λ y. p y ≡ true) (filter p xs) x (filter_passes p xs) h
+
+-- ---- values of items
+
+-- where items come to a value there is one
+value_held : (measure : Measure) (items : List Item) (value t : ℤ) → HasValue measure items value t
+    → (x : Item) × Contains items x
+value_held measure items value t has =
+    let (x, there, is) = Contains-map_source (λ (y : Item). y.amount) (held items t) has.tally.min has.is.min_in in
+    (x, filtered_in (λ (y : Item). holds_at t y.period) items x there)
+
+-- in a period of one value there is an item
+pub period_held : (measure : Measure) (items : List Item) (value : ℤ) (p : Period)
+    → IsMaximal (HasValue measure items value) p → (x : Item) × Contains items x
+period_held measure items value p maximal =
+    value_held measure items value p.from (maximal.inside p.from (first_held p))
+
+-- the amounts of items are those of their rows
+amounts-item_of : (amount_of : Row → ℤ) (class : ℕ) (rows : List Row)
+    → amounts (map (item_of amount_of class) rows) ≡ map amount_of rows
+amounts-item_of amount_of class [] = refl
+amounts-item_of amount_of class (r ∷ rows) = ap (λ l. amount_of r ∷ l) (amounts-item_of amount_of class rows)
+
+-- what items come to doesn't depend on their class
+tally_classed : (amount_of : Row → ℤ) (c d : ℕ) (rows : List Row) (tally : Tally)
+    → IsTally (map (item_of amount_of c) rows) tally → IsTally (map (item_of amount_of d) rows) tally
+tally_classed amount_of c d rows tally is =
+    let same : amounts (map (item_of amount_of c) rows) ≡ amounts (map (item_of amount_of d) rows) =
+    amounts-item_of amount_of c rows ∙ sym (amounts-item_of amount_of d rows) in
+    record {
+      count = is.count ∙ length-map rows (item_of amount_of c) ∙ sym (length-map rows (item_of amount_of d));
+      sum = is.sum ∙ ap total same;
+      min_in = subst (λ l. Contains l tally.min) same is.min_in;
+      min_least = λ a h. is.min_least a (subst (λ l. Contains l a) (sym same) h);
+      max_in = subst (λ l. Contains l tally.max) same is.max_in;
+      max_greatest = λ a h. is.max_greatest a (subst (λ l. Contains l a) (sym same) h);
+    }
+
+-- the items that hold an instant are those of the rows that do
+held-item_of : (amount_of : Row → ℤ) (c : ℕ) (rows : List Row) (t : ℤ)
+    → held (map (item_of amount_of c) rows) t
+    ≡ map (item_of amount_of c) (filter (λ (r : Row). holds_at t r.period) rows)
+held-item_of amount_of c rows t = filter-map (item_of amount_of c) (λ (x : Item). holds_at t x.period) rows
+
+-- nor does their value at an instant
+value_classed : (measure : Measure) (amount_of : Row → ℤ) (c d : ℕ) (rows : List Row) (value t : ℤ)
+    → HasValue measure (map (item_of amount_of c) rows) value t
+    → HasValue measure (map (item_of amount_of d) rows) value t
+value_classed measure amount_of c d rows value t has = record {
+  tally = has.tally;
+  is = subst (λ l. IsTally l has.tally) (sym (held-item_of amount_of d rows t))
+      (tally_classed amount_of c d (filter (λ (r : Row). holds_at t r.period) rows) has.tally
+      (subst (λ l. IsTally l has.tally) (held-item_of amount_of c rows t) has.is));
+  gives = has.gives;
+}
+
+-- nor do its maximal periods
+maximal_classed : (measure : Measure) (amount_of : Row → ℤ) (c d : ℕ) (rows : List Row) (value : ℤ) (p : Period)
+    → IsMaximal (HasValue measure (map (item_of amount_of c) rows) value) p
+    → IsMaximal (HasValue measure (map (item_of amount_of d) rows) value) p
+maximal_classed measure amount_of c d rows value p =
+    IsMaximal-same (HasValue measure (map (item_of amount_of c) rows) value)
+    (HasValue measure (map (item_of amount_of d) rows) value) p (value_classed measure amount_of c d rows value)
+    (value_classed measure amount_of d c rows value)
+
+-- ---- rows of plateaus
+
+-- numbers are ordered as they are compared
+int_less : (a b : ℤ) → a <ℤ b → int_cmp a b ≡ Less
+int_less a b h = grind (arith, ints)
+
+-- a group of which a row is wanted is that of some row
+pub row_of_group : (measure : Measure) (amount_of : Row → ℤ) (group_of : Row → Option Value) (rows : List Row)
+    (row : AggRow) → IsAggRow measure amount_of group_of rows row
+    → (r : Row) × Contains rows r × (group_of r ≡ row.group)
+row_of_group measure amount_of group_of rows row is =
+    let (x, there) = period_held measure (map (item_of amount_of 0) (rows_of_group group_of row.group rows)) row.value
+    row.period is.maximal in
+    let (r, within, made) = Contains-map_source (item_of amount_of 0) (rows_of_group group_of row.group rows) x there in
+    let test = filtered_passes (λ (z : Row). same_group (group_of z) row.group) rows r within in (
+      r,
+      filtered_in (λ (z : Row). same_group (group_of z) row.group) rows r within,
+      (group_decides (group_of r) row.group).0 test,
+    )
+
+module _ (measure : Measure) (amount_of : Row → ℤ) (group_of : Row → Option Value) (rows : List Row) (items : List Item)
+    (groups : List (Option Value)) (grouping : IsGrouping amount_of group_of rows items groups) where
+  -- a plateau's class is the number of a group
+  pub class_within : (p : Plateau) → IsPlateau measure items p → p.class < length groups
+  class_within p is =
+      let (x, there) = period_held measure (of_class p.class items) p.value p.period is.maximal in
+      let test : (x.class == p.class) ≡ true = filtered_passes (λ (y : Item). y.class == p.class) items x there in
+      subst (λ n. n < length groups) ((Decides-eqb x.class p.class).0 test)
+      (All-contains (λ (y : Item). y.class < length groups) items x grouping.within
+      (filtered_in (λ (y : Item). y.class == p.class) items x there))
+
+  -- so are those of all plateaus
+  pub classes_within : (ps : List Plateau) → ArePlateaus measure items ps
+      → All (λ (p : Plateau). p.class < length groups) ps
+  classes_within ps all i d h =
+      class_within (get_or ps i d) ((all.exactly (get_or ps i d)).0 (Contains-get_or ps i d h))
+
+  -- the plateaus of a group's number are maximal periods of its rows
+  row_maximal : (c : ℕ) (g : Option Value) (value : ℤ) (p : Period) → slice_get groups c ≡ Some g
+      → IsMaximal (HasValue measure (of_class c items) value) p
+      → IsMaximal (HasValue measure (map (item_of amount_of 0) (rows_of_group group_of g rows)) value) p
+  row_maximal c g value p at maximal =
+      maximal_classed measure amount_of c 0 (rows_of_group group_of g rows) value p
+      (subst (λ l. IsMaximal (HasValue measure l value) p) (grouping.of_classes c g at) maximal)
+
+  -- the maximal periods of a group's rows are plateaus of its number
+  class_maximal : (c : ℕ) (g : Option Value) (value : ℤ) (p : Period) → slice_get groups c ≡ Some g
+      → IsMaximal (HasValue measure (map (item_of amount_of 0) (rows_of_group group_of g rows)) value) p
+      → IsMaximal (HasValue measure (of_class c items) value) p
+  class_maximal c g value p at maximal =
+      subst (λ l. IsMaximal (HasValue measure l value) p) (sym (grouping.of_classes c g at))
+      (maximal_classed measure amount_of 0 c (rows_of_group group_of g rows) value p maximal)
+
+  -- the row of a plateau is wanted
+  row_of_plateau : (p : Plateau) → IsPlateau measure items p
+      → IsAggRow measure amount_of group_of rows (agg_row_of groups p)
+  row_of_plateau p is =
+      record {
+        maximal = row_maximal p.class (slice_index_or groups p.class None) p.value p.period
+            (slice_get-get_or groups p.class None (class_within p is)) is.maximal;
+      }
+
+  -- the group of a row that is wanted has a number
+  number_of_row : (row : AggRow) → IsAggRow measure amount_of group_of rows row → Contains groups row.group
+  number_of_row row is =
+      let (r, there, same) = row_of_group measure amount_of group_of rows row is in
+      subst (Contains groups) same (grouping.listed r there)
+
+  -- a row that is wanted is that of a plateau
+  plateau_of_row : (row : AggRow) → IsAggRow measure amount_of group_of rows row
+      → (p : Plateau) × IsPlateau measure items p × (agg_row_of groups p ≡ row)
+  plateau_of_row row is =
+      let (c, inside, e) = number_of_row row is in
+      let at : slice_get groups c ≡ Some row.group = slice_get-get_or groups c row.group inside ∙ ap Some e in
+      let group_is : slice_index_or groups c None ≡ row.group =
+      get_or_from_slice_get groups c row.group None at in (
+        record { class = c; period = row.period; value = row.value },
+        record { maximal = class_maximal c row.group row.value row.period at is.maximal },
+        λ i. record { group = group_is i; period = row.period; value = row.value },
+      )
+
+  -- rows stand in the order of their plateaus
+  rows_before : (a b : Plateau) → IsPlateau measure items b → PlateauBefore a b
+      → AggRowBefore (agg_row_of groups a) (agg_row_of groups b)
+  rows_before a b is (inl less) =
+      ap (λ (o : Ordering). ordering_then o (int_cmp a.period.from b.period.from))
+      (grouping.rise a.class b.class None less (class_within b is))
+  rows_before a b is (inr (same, earlier)) =
+      ap (λ (o : Ordering). ordering_then o (int_cmp a.period.from b.period.from))
+      (ap (λ n. group_cmp (slice_index_or groups n None) (slice_index_or groups b.class None)) same
+      ∙ ties_self group_cmp group_total (slice_index_or groups b.class None))
+      ∙ int_less a.period.from b.period.from earlier
+
+  -- the rows of all plateaus are all that is wanted
+  pub answer_of : (ps : List Plateau) (answer : List AggRow) → ArePlateaus measure items ps
+      → answer ≡ map (agg_row_of groups) ps → AreAggRows measure amount_of group_of rows answer
+  answer_of ps answer all e = subst (AreAggRows measure amount_of group_of rows) (sym e) (record {
+    ordered = AllPairs-map PlateauBefore AggRowBefore (agg_row_of groups) ps all.ordered
+        (λ a b h. rows_before a b ((all.exactly b).0 h));
+    exactly = λ row. (
+      λ h. let (p, there, is) = Contains-map_source (agg_row_of groups) ps row h in
+          subst (IsAggRow measure amount_of group_of rows) is (row_of_plateau p ((all.exactly p).0 there)),
+      λ w. let (p, wanted, is) = plateau_of_row row w in
+          subst (Contains (map (agg_row_of groups) ps)) is
+          (Contains-map (agg_row_of groups) ps p ((all.exactly p).1 wanted)),
+    );
+  })
+
+-- ---- places of columns
+
+-- the value at a column's place is that under its name
+value_at-place : (columns : List Column) (name : Option (List ℕ))
+    → value_at (place_in columns name) ≡ value_in columns name
+value_at-place columns None = refl
+value_at-place columns (Some n) = refl
+
+-- an aggregate by places is one by names
+pub agg_by_names : (columns : List Column) (func : Func) (group : Option (List ℕ)) (rows : List Row) (measure : Measure)
+    (amount by : Option ℕ) (answer : List AggRow) → measure ≡ measure_of func
+    → amount ≡ place_in columns (number_column func) → by ≡ place_in columns group
+    → AreAggRows measure (amount_at amount) (value_at by) rows answer → IsAgg columns func group rows answer
+agg_by_names columns func group rows measure amount by answer m a b all =
+    let numbers : (Row → Option Value) → Row → ℤ = λ v r. amount_of_value (v r) in
+    let amounts_are : amount_at amount ≡ amount_in columns func =
+    ap numbers (ap value_at a ∙ value_at-place columns (number_column func)) in
+    let groups_are : value_at by ≡ value_in columns group = ap value_at b ∙ value_at-place columns group in
+    subst (λ (n : Measure). AreAggRows n (amount_in columns func) (value_in columns group) rows answer) m
+    (subst (λ (f : Row → ℤ). AreAggRows measure f (value_in columns group) rows answer) amounts_are
+    (subst (λ (f : Row → Option Value). AreAggRows measure (amount_at amount) f rows answer) groups_are all))

@@ -1,0 +1,102 @@
+-- What the rows of a table come to, group by group.
+use Rattle.std.specs.Prelude.{◌≡◌, ℕ, ℤ, pos, List, [], ◌∷◌, ◌++◌, map, Bool, Option, Some, None, is_none, option_and_then}
+use Rattle.list_core.specs.Wanted.{IsListOf}
+use Rattle.row_core.specs.Refusals.{first_of}
+use Rattle.row_core.specs.Schema.{kind_in}
+use Rattle.row_core.specs.declared.row.Row.{Row}
+use Rattle.row_core.specs.declared.schema.Column.{Column}
+use Rattle.row_core.specs.declared.value.Kind.TheVariants as kind
+use Rattle.row_core.specs.declared.value.Value.{Value}
+use Rattle.row_core.specs.declared.value.Value.TheVariants.{Int, Text}
+use Rattle.dip_core.specs.declared.item.Item.{Item}
+use Rattle.merge_core.specs.Gaps.{IsMaximal}
+use Rattle.match_core.specs.Columns.{kinds_differ, value_under}
+use Rattle.match_core.specs.declared.columns.QueryRefused.{QueryRefused}
+use Rattle.match_core.specs.declared.columns.QueryRefused.TheVariants.{NoColumn, WrongKind}
+use Rattle.round_core.specs.Plateaus.{HasValue}
+use Rattle.round_core.specs.declared.measure.Measure.{Measure}
+use Rattle.round_core.specs.declared.measure.Measure.TheVariants as measure
+use Rattle.agg_core.specs.Groups.{AggRowBefore, rows_of_group}
+use Rattle.agg_core.specs.declared.func.Func.{Func}
+use Rattle.agg_core.specs.declared.func.Func.TheVariants.{Count, Sum, Min, Max}
+use Rattle.agg_core.specs.declared.rows.AggRow.{AggRow}
+
+-- what is asked of a tally
+abbrev pub measure_of : Func → Measure
+measure_of Count = measure.Count
+measure_of (Sum name) = measure.Sum
+measure_of (Min name) = measure.Min
+measure_of (Max name) = measure.Max
+
+-- the column that numbers are taken from; a count takes none
+abbrev pub number_column : Func → Option (List ℕ)
+number_column Count = None
+number_column (Sum name) = Some name
+number_column (Min name) = Some name
+number_column (Max name) = Some name
+
+-- what is tested of the column that numbers are taken from, in this order
+abbrev pub number_tests : List Column → Option (List ℕ) → List (Bool × QueryRefused)
+number_tests columns None = []
+number_tests columns (Some name) =
+    (is_none (kind_in columns name), NoColumn)
+    ∷ (kinds_differ (kind_in columns name) (Some kind.Int), WrongKind)
+    ∷ []
+
+-- what is tested of the column that rows are grouped by
+abbrev pub group_tests : List Column → Option (List ℕ) → List (Bool × QueryRefused)
+group_tests columns None = []
+group_tests columns (Some name) = (is_none (kind_in columns name), NoColumn) ∷ []
+
+-- why there is no aggregate: the first test that applies
+abbrev pub agg_refusal : List Column → Func → Option (List ℕ) → Option QueryRefused
+agg_refusal columns func group = first_of (number_tests columns (number_column func) ++ group_tests columns group)
+
+-- the row's value in the column of that name; None where no name is given
+abbrev pub value_in : List Column → Option (List ℕ) → Row → Option Value
+value_in columns name row = option_and_then (λ n. value_under columns n row) name
+
+-- the number that a value is; 0 where it is none
+abbrev pub amount_of_value : Option Value → ℤ
+amount_of_value None = pos 0
+amount_of_value (Some (Int number)) = number
+amount_of_value (Some (Text text)) = pos 0
+
+-- a row's amount: its number in the function's column; 0 for a count
+abbrev pub amount_in : List Column → Func → Row → ℤ
+amount_in columns func row = amount_of_value (value_in columns (number_column func) row)
+
+-- a row with its amount, as an item of a class
+abbrev pub item_of : (Row → ℤ) → ℕ → Row → Item
+item_of amount_of class row = record { period = row.period; id = row.id; class = class; amount = amount_of row }
+
+-- the rows of a group with their amounts, as items
+abbrev pub items_of_group : (Row → ℤ) → (Row → Option Value) → Option Value → List Row → List Item
+items_of_group amount_of group_of group rows = map (item_of amount_of 0) (rows_of_group group_of group rows)
+
+-- a group, and a maximal period at each instant of which some of its rows hold and come to one value, and that value
+pub record IsAggRow (measure : Measure) (amount_of : Row → ℤ) (group_of : Row → Option Value) (rows : List Row)
+    (row : AggRow) : Type 0 where
+  pub maximal : IsMaximal (HasValue measure (items_of_group amount_of group_of row.group rows) row.value) row.period
+
+-- all of them, each once, by group and start
+abbrev pub AreAggRows : Measure → (Row → ℤ) → (Row → Option Value) → List Row → List AggRow → Type 0
+AreAggRows measure amount_of group_of rows answer =
+    IsListOf AggRowBefore (IsAggRow measure amount_of group_of rows) answer
+
+-- what the rows come to: the groups are those of the values in the named column, or the one of all rows
+abbrev pub IsAgg : List Column → Func → Option (List ℕ) → List Row → List AggRow → Type 0
+IsAgg columns func group rows answer =
+    AreAggRows (measure_of func) (amount_in columns func) (value_in columns group) rows answer
+
+-- two aggregates of the same rows are one
+abbrev pub AggHasOneList : Type 0
+AggHasOneList =
+    (columns : List Column) (func : Func) (group : Option (List ℕ)) (rows : List Row) (one other : List AggRow)
+    → IsAgg columns func group rows one → IsAgg columns func group rows other → one ≡ other
+
+-- any rows have an aggregate
+abbrev pub AggHasSomeList : Type 0
+AggHasSomeList =
+    (columns : List Column) (func : Func) (group : Option (List ℕ)) (rows : List Row)
+    → (answer : List AggRow) × IsAgg columns func group rows answer

@@ -1,0 +1,61 @@
+-- Rows sorted by the values that they are grouped by.
+use Rattle.std.specs.Prelude.{◌≡◌, ℕ, ℤ, List, map, AllPairs, Contains, false, Option, Some, option_and_then, slice_get, IsPermutation}
+use Rattle.std.specs.List.{AllZip}
+use Rattle.std.specs.Ordering.{is_lt}
+use Rattle.row_core.specs.Schema.{column_of}
+use Rattle.row_core.specs.declared.row.Row.{Row}
+use Rattle.row_core.specs.declared.schema.Column.{Column}
+use Rattle.row_core.specs.declared.value.Value.{Value}
+use Rattle.row_core.specs.declared.value.Value.TheVariants as value
+use Rattle.agg_core.specs.Agg.{amount_of_value}
+use Rattle.agg_core.specs.Groups.{rows_of_group, value_cmp}
+use Rattle.agg_core.specs.declared.entries.Entry.{Entry}
+use Rattle.agg_core.specs.declared.entries.Key.{Key}
+use Rattle.agg_core.specs.declared.entries.Key.TheVariants.{Number, Text}
+
+-- the place of a column, where one is named
+abbrev pub place_in : List Column → Option (List ℕ) → Option ℕ
+place_in columns name = option_and_then (column_of columns) name
+
+-- the row's value at a place, where a place is given
+abbrev pub value_at : Option ℕ → Row → Option Value
+value_at place row = option_and_then (slice_get row.values) place
+
+-- the row's number at that place
+abbrev pub amount_at : Option ℕ → Row → ℤ
+amount_at place row = amount_of_value (value_at place row)
+
+-- the value of a key
+abbrev pub value_of_key : Key → Value
+value_of_key (Number number) = value.Int number
+value_of_key (Text text) = value.Text text.now
+
+-- the value by which an entry is sorted
+abbrev pub sort_value : Entry → Value
+sort_value entry = value_of_key entry.key
+
+-- an entry's row
+abbrev pub row_in : Entry → Row
+row_in entry = entry.row.now
+
+-- the entry of a row, by its value at the place
+pub record IsEntry (place : ℕ) (row : Row) (entry : Entry) : Type 0 where
+  pub row_is : entry.row.now ≡ row
+  pub value_is : slice_get row.values place ≡ Some entry.value.now
+  pub key_is : value_of_key entry.key ≡ entry.value.now
+
+-- the entries of rows, in their order
+abbrev pub AreEntries : ℕ → List Row → List Entry → Type 0
+AreEntries place rows entries = AllZip (IsEntry place) rows entries
+
+-- no value is before that of an earlier entry
+abbrev pub AreRising : List Entry → Type 0
+AreRising entries = AllPairs (λ (a b : Entry). is_lt (value_cmp b.value.now a.value.now) ≡ false) entries
+
+-- the entries of rows, by rising value, those of one value in the order of the rows
+pub record AreSortedEntries (place : ℕ) (rows : List Row) (entries : List Entry) : Type 0 where
+  pub each : (entry : Entry) → Contains entries entry → slice_get entry.row.now.values place ≡ Some entry.value.now
+  pub rise : AreRising entries
+  pub moved : IsPermutation rows (map row_in entries)
+  pub kept : (group : Option Value) → rows_of_group (value_at (Some place)) group (map row_in entries)
+      ≡ rows_of_group (value_at (Some place)) group rows

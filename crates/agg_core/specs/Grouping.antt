@@ -1,0 +1,81 @@
+-- Rows as items whose classes are the numbers of their groups.
+use Rattle.std.specs.Prelude.{None, slice_index_or, ◌≡◌, ◌+◌, ◌-◌, ◌<◌, ◌≤◌, ◌⊎◌, ℕ, ℤ, List, length, map, All, AllPairs, Contains, false, Option, Some, slice_get, IfSome}
+use Rattle.std.specs.Borrow.{Bor}
+use Rattle.std.specs.List.{AllZip}
+use Rattle.std.specs.Option.{option_copied}
+use Rattle.std.specs.declared.cmp.Ordering.TheVariants.{Less}
+use Rattle.std.specs.Ordering.{is_lt}
+use Rattle.row_core.specs.declared.row.Row.{Row}
+use Rattle.row_core.specs.declared.value.Value.{Value}
+use Rattle.dip_core.specs.declared.item.Item.{Item}
+use Rattle.round_core.specs.declared.plateau.Plateau.{Plateau}
+use Rattle.round_core.specs.Plateaus.{of_class}
+use Rattle.agg_core.specs.Agg.{item_of}
+use Rattle.agg_core.specs.Groups.{group_cmp, rows_of_group}
+use Rattle.agg_core.specs.declared.entries.Entry.{Entry}
+use Rattle.agg_core.specs.declared.rows.AggRow.{AggRow}
+
+-- each row has a value at the place, if one is given
+abbrev pub HaveValues : Option ℕ → List Row → Type 0
+HaveValues place rows = IfSome place (λ p. All (λ row. p < length row.values) rows)
+
+-- a group comes before another
+abbrev pub GroupBefore : Option Value → Option Value → Type 0
+GroupBefore a b = group_cmp a b ≡ Less
+
+-- each group comes before all later ones
+abbrev pub RisesByGroup : List (Option Value) → Type 0
+RisesByGroup groups = AllPairs GroupBefore groups
+
+-- no group comes after that one
+abbrev pub AreNotAfter : List (Option Value) → Option Value → Type 0
+AreNotAfter groups group = All (λ g. is_lt (group_cmp group g) ≡ false) groups
+
+-- the group is the last one
+abbrev pub IsLast : List (Option Value) → Option Value → Type 0
+IsLast groups group = slice_get groups (length groups - 1) ≡ Some group
+
+-- the class is the number of the last group, which is that of the value; earlier groups keep their numbers
+pub record IsClassOf (value : Value) (old new : List (Option Value)) (class : ℕ) : Type 0 where
+  pub rise : RisesByGroup new
+  pub last : class + 1 ≡ length new
+  pub at : slice_get new class ≡ Some (Some value)
+  pub kept : (c : ℕ) (g : Option Value) → slice_get old c ≡ Some g → slice_get new c ≡ Some g
+  pub added : (g : Option Value) → Contains new g → Contains old g ⊎ (g ≡ Some value)
+
+-- an entry's row as an item, whose class is the number of the group of the entry's value
+pub record IsNumberedItem (amount_of : Row → ℤ) (groups : List (Option Value)) (entry : Entry) (x : Item) : Type 0 where
+  pub is : x ≡ item_of amount_of x.class entry.row.now
+  pub at : slice_get groups x.class ≡ Some (Some entry.value.now)
+
+-- the rows of entries as items, by rising class, and the groups of their values
+pub record IsNumbered (amount_of : Row → ℤ) (entries : List Entry) (items : List Item) (groups : List (Option Value))
+    : Type 0 where
+  pub classes : AllPairs (λ (a b : Item). a.class ≤ b.class) items
+  pub rise : RisesByGroup groups
+  pub each : AllZip (IsNumberedItem amount_of groups) entries items
+  pub listed : (g : Option Value) → Contains groups g → (e : Entry) × Contains entries e × (Some e.value.now ≡ g)
+
+-- rows as items, by rising class: class c is that of the rows of group number c, and each row is of one of the groups,
+-- which rise
+pub record IsGrouping (amount_of : Row → ℤ) (group_of : Row → Option Value) (rows : List Row) (items : List Item)
+    (groups : List (Option Value)) : Type 0 where
+  pub classes : AllPairs (λ (a b : Item). a.class ≤ b.class) items
+  pub count : length items ≡ length rows
+  pub within : All (λ (x : Item). x.class < length groups) items
+  pub rise : RisesByGroup groups
+  pub listed : (row : Row) → Contains rows row → Contains groups (group_of row)
+  pub of_classes : (c : ℕ) (g : Option Value) → slice_get groups c ≡ Some g
+      → of_class c items ≡ map (item_of amount_of c) (rows_of_group group_of g rows)
+
+-- the groups behind references
+abbrev pub values_in : List (Option (Bor Value)) → List (Option Value)
+values_in groups = map option_copied groups
+
+-- the row of a plateau: its class is the number of its group
+abbrev pub agg_row_of : List (Option Value) → Plateau → AggRow
+agg_row_of groups plateau = record {
+  group = slice_index_or groups plateau.class None;
+  period = plateau.period;
+  value = plateau.value;
+}

@@ -1,0 +1,4 @@
+pub mod Groups
+pub mod Agg
+pub mod Entries
+pub mod Grouping

@@ -1,0 +1,82 @@
+//! Rows sorted by the values that they are grouped by.
+
+ghost use Rattle.std.specs.Prelude.{◌≡◌, ◌<◌, All, IfOk, IsPermutation, IsSortedByKey, OnOk, Some, length};
+ghost use Rattle.std.specs.List.Sorted.{IsStableByKey};
+ghost use Rattle.agg_core.specs.Groups.{value_cmp};
+ghost use Rattle.agg_core.specs.Entries.{AreEntries, AreSortedEntries, sort_value, value_at, value_of_key};
+
+use period_core::NoMemory;
+use row_core::{Row, Value};
+use std::alloc::{AllocError, Global};
+
+/// A value as a sort compares it: what decides is at hand, and no text is copied.
+#[derive(Clone, Copy, Debug, PartialEq, Eq, PartialOrd, Ord)]
+pub(crate) enum Key<'a> {
+    Number(i64),
+    Text(&'a str),
+}
+
+/// A row, with the value by which it is grouped, and that value's key.
+#[derive(Clone, Copy)]
+pub(crate) struct Entry<'a> {
+    pub key: Key<'a>,
+    pub value: &'a Value,
+    pub row: &'a Row,
+}
+
+/// An entry for each row, by rising value at that place.
+pub(crate) fn sorted_entries<'a>(
+    alloc: Global,
+    rows: &'a [Row],
+    place: u32,
+) -> Result<Vec<Entry<'a>>, NoMemory>
+    requires { All (λ row. place < length row.values) rows.now }
+    ensures { IfOk result (λ entries. AreSortedEntries place rows.entry.now entries.items) }
+{
+    let mut entries = entries_of(alloc, rows, place)?;
+    sort_entries(&mut entries)?;
+    Ok(entries)
+}
+
+// An entry for each row, in their order.
+fn entries_of<'a>(alloc: Global, rows: &'a [Row], place: u32) -> Result<Vec<Entry<'a>>, NoMemory>
+    requires { All (λ row. place < length row.values) rows.now }
+    ensures { IfOk result (λ entries. AreEntries place rows.entry.now entries.items) }
+{
+    let mut entries = Vec::with_capacity(alloc, rows.len())?;
+    for row in rows {
+        let value = value_at(row, place);
+        let key = key_of(value);
+        if let Err(_) = entries.push(Entry { key, value, row }) {
+            return Err(AllocError);
+        }
+    }
+    Ok(entries)
+}
+
+// The row's value at that place.
+fn value_at(row: &Row, place: u32) -> &Value
+    requires { place < length row.now.values }
+    ensures { value_at (Some place) row.now ≡ Some result.now }
+{
+    &row.values.as_slice()[place as usize]
+}
+
+// The value's key.
+fn key_of(value: &Value) -> Key<'_>
+    ensures { value_of_key result ≡ value.now }
+{
+    match value {
+        Value::Int(number) => Key::Number(*number),
+        Value::Text(text) => Key::Text(text.as_str()),
+    }
+}
+
+// Puts the entries by rising value, those of one value in the order in which they stood.
+fn sort_entries(entries: &mut Vec<Entry<'_>>) -> Result<(), NoMemory>
+    ensures permutation { IsPermutation entries.old.items entries.new.items }
+    ensures sorted { OnOk result (IsSortedByKey sort_value value_cmp entries.new.items) }
+    ensures stable { IsStableByKey sort_value value_cmp entries.old.items entries.new.items }
+{
+    entries.sort_by_key(|entry| entry.key)
+}

@@ -1,0 +1,151 @@
+//! Rows by group: each is an item whose class is the number of its group.
+
+ghost use Rattle.std.specs.Prelude.{◌≡◌, ◌≢◌, IfOk, MatchBool, None, Some};
+ghost use Rattle.agg_core.specs.Agg.{item_of};
+ghost use Rattle.agg_core.specs.Entries.{AreRising, amount_at, value_at};
+ghost use Rattle.agg_core.specs.Grouping.{
+  AreNotAfter,
+  HaveValues,
+  IsClassOf,
+  IsGrouping,
+  IsLast,
+  IsNumbered,
+  RisesByGroup,
+  values_in,
+};
+
+use crate::entries::{Entry, sorted_entries};
+use dip_core::Item;
+use period_core::NoMemory;
+use row_core::{Row, Value};
+use std::alloc::{AllocError, Global};
+
+/// Rows by group.
+#[derive(Drop)]
+pub(crate) struct GroupedRows<'a> {
+    /// An item for each row, whose class is the number of its group, by rising class.
+    pub items: Vec<Item>,
+    /// The groups by number: the value of each one's rows in the column that they are grouped by, or None where all
+    /// rows are one group.
+    pub groups: Vec<Option<&'a Value>>,
+}
+
+/// The rows by group, with the numbers that they have at one place: by the values at another place, or as one group
+/// where there is none.
+pub(crate) fn group_rows<'a>(
+    alloc: Global,
+    rows: &'a [Row],
+    amount: Option<u32>,
+    by: Option<u32>,
+) -> Result<GroupedRows<'a>, NoMemory>
+    requires { HaveValues by rows.now }
+    ensures { IfOk result (λ grouped. IsGrouping (amount_at amount) (value_at by) rows.entry.now
+        grouped.items.items (values_in grouped.groups.items)) }
+{
+    match by {
+        None => one_group(alloc, rows, amount),
+        Some(place) => {
+            let entries = sorted_entries(alloc, rows, place)?;
+            group_entries(alloc, &entries, amount)
+        }
+    }
+}
+
+// All rows as one group.
+fn one_group<'a>(
+    alloc: Global,
+    rows: &'a [Row],
+    amount: Option<u32>,
+) -> Result<GroupedRows<'a>, NoMemory>
+    ensures { IfOk result (λ grouped. IsGrouping (amount_at amount) (value_at None) rows.entry.now
+        grouped.items.items (values_in grouped.groups.items)) }
+{
+    let mut items = Vec::with_capacity(alloc, rows.len())?;
+    for row in rows {
+        items.push(item_of(row, amount, 0))?;
+    }
+    let mut groups = Vec::new(alloc);
+    groups.push(None)?;
+    Ok(GroupedRows { items, groups })
+}
+
+// The rows of entries that stand by rising value, each value a group.
+fn group_entries<'a>(
+    alloc: Global,
+    entries: &[Entry<'a>],
+    amount: Option<u32>,
+) -> Result<GroupedRows<'a>, NoMemory>
+    requires { AreRising entries.now }
+    ensures { IfOk result (λ grouped. IsNumbered (amount_at amount) entries.entry.now
+        grouped.items.items (values_in grouped.groups.items)) }
+{
+    let mut items = Vec::with_capacity(alloc, entries.len())?;
+    let mut groups = Vec::new(alloc);
+    for entry in entries {
+        let class = enter_group(&mut groups, entry.value)?;
+        items.push(item_of(entry.row, amount, class))?;
+    }
+    Ok(GroupedRows { items, groups })
+}
+
+// The number of the value's group, which is the last one, or is added behind it.
+fn enter_group<'a>(groups: &mut Vec<Option<&'a Value>>, value: &'a Value) -> Result<u64, NoMemory>
+    requires rise { RisesByGroup (values_in groups.old.items) }
+    requires upto { AreNotAfter (values_in groups.old.items) (Some value.now) }
+    ensures { IfOk result (λ class.
+        IsClassOf value.entry.now (values_in groups.old.items) (values_in groups.new.items) class) }
+{
+    if is_last(groups, value) {
+        return Ok(groups.len() as u64 - 1);
+    }
+    let class = groups.len() as u64;
+    if let Err(_) = groups.push(Some(value)) {
+        return Err(AllocError);
+    }
+    Ok(class)
+}
+
+// Whether the value is that of the last group.
+fn is_last(groups: &[Option<&Value>], value: &Value) -> bool
+    ensures { MatchBool result (IsLast (values_in groups.now) (Some value.now))
+        (IsLast (values_in groups.now) (Some value.now) → ⊥) }
+{
+    match groups.last() {
+        Some(Some(last)) => is_same(last, value),
+        Some(None) => false,
+        None => false,
+    }
+}
+
+// Whether both are one value.
+fn is_same(a: &Value, b: &Value) -> bool
+    ensures { MatchBool result (a.now ≡ b.now) (a.now ≢ b.now) }
+{
+    a == b
+}
+
+// The row as an item of that class, with the number that it has at the place.
+fn item_of(row: &Row, amount: Option<u32>, class: u64) -> Item
+    ensures { result ≡ item_of (amount_at amount) class row.now }
+{
+    Item {
+        period: row.period,
+        id: row.id,
+        class,
+        amount: amount_at(row, amount),
+    }
+}
+
+// The number that the row has at the place; 0 where there is none.
+fn amount_at(row: &Row, place: Option<u32>) -> i64
+    ensures { result ≡ amount_at place row.now }
+{
+    match place {
+        None => 0,
+        Some(place) => match row.values.get(place as usize) {
+            None => 0,
+            Some(Value::Int(number)) => *number,
+            Some(Value::Text(_)) => 0,
+        },
+    }
+}

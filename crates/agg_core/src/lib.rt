@@ -1,0 +1,16 @@
+#![tactic(auto)]
+
+//! What the rows of a table come to, group by group: at each instant how many hold, or the sum, the least or the
+//! greatest of their numbers, and the periods for which that stays the same.
+
+mod aggregates;
+mod entries;
+mod func;
+mod groups;
+mod laws;
+mod rows;
+
+pub use aggregates::agg;
+pub use func::Func;
+pub use laws::agg_has_one_list;
+pub use rows::{AggRow, AggRows};

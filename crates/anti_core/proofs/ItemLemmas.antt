@@ -1,0 +1,153 @@
+-- The rows of items, part by part, and from the items of parts to the items that were divided.
+use Rattle.std.proofs.Common.{◌≡◌, ◌≢◌, ℕ, ◌+◌, ◌<◌, ℤ, List, [], ◌++◌, length, map, take, refl, sym, subst, ap, ◌∙◌, inl, inr, arith}
+use Rattle.std.specs.Prelude.{◌<ℤ◌, Contains, IsPermutation, IsSorted}
+use Rattle.std.proofs.lemmas.Int.{ints}
+use Rattle.std.proofs.lemmas.List.Elements.{Contains-append_left, Contains-append_right, Contains-append_cases}
+use Rattle.std.proofs.lemmas.List.Sorted.{Contains-permutation, IsPermutation-sym}
+use Rattle.dip_core.specs.declared.item.Item.{Item}
+use Rattle.dip_core.specs.Item.{HasDistinctIds}
+use Rattle.dip_core.specs.Division.{all_of, part_at}
+use Rattle.list_core.proofs.RisingLemmas.{Contains-none}
+use Rattle.list_core.proofs.WantedLemmas.{IsListOf-append, IsListOf-none, IsListOf-same}
+use Rattle.merge_core.specs.declared.gap.Gap.{Gap}
+use Rattle.merge_core.specs.Gaps.{IsCovered, IsUncovered, IsGap, GapStartsBefore, ListsGaps}
+use Rattle.merge_core.proofs.SweepLemmas.{IsMaximal-same}
+use Rattle.anti_core.specs.declared.rows.AntiRow.{AntiRow}
+use Rattle.anti_core.specs.Anti.{anti_cmp, AntiRowBefore}
+use Rattle.anti_core.specs.ItemAnti.{row_of_gap, IsItemsRow, AreItemsRows, IsItemsAnti}
+use Rattle.anti_core.proofs.ListLemmas.{Contains-map, Contains-map_source, AllPairs-map}
+use Rattle.anti_core.proofs.OrderLemmas.{AntiRow-same_fields, sorted_rows}
+use Rattle.anti_core.proofs.PartLemmas.{all_of-more, parts-apart}
+
+-- ---- part by part
+
+-- no items have no rows
+pub AreItemsRows-none : (right : List Item) (rows : List AntiRow) → rows ≡ [] → AreItemsRows [] right rows
+AreItemsRows-none right rows e =
+    subst (AreItemsRows [] right) (sym e)
+    (IsListOf-none (λ (a b : AntiRow). a ≢ b) (IsItemsRow [] right) (λ row is. Contains-none is.x is.x_in))
+
+-- the row of a gap
+row-of_gap : (p right : List Item) (gap : Gap) → IsGap p right gap → IsItemsRow p right (row_of_gap gap)
+row-of_gap p right gap is = record { x = gap.left; x_in = is.left_in; id = refl; maximal = is.maximal }
+
+-- a row is that of a gap
+row-from_gaps : (p right : List Item) (gaps : List Gap) → ListsGaps p right gaps → (row : AntiRow)
+    → IsItemsRow p right row → Contains (map row_of_gap gaps) row
+row-from_gaps p right gaps lists row is =
+    let gap : Gap = record { left = is.x; period = row.period } in
+    let there : Contains gaps gap =
+    (lists.exactly gap).1 (record { left_in = is.x_in; maximal = is.maximal }) in
+    let e : row_of_gap gap ≡ row = AntiRow-same_fields (row_of_gap gap) row (sym is.id) refl in
+    subst (Contains (map row_of_gap gaps)) e (Contains-map row_of_gap gaps gap there)
+
+-- the gaps of one part give its rows
+AreItemsRows-from_gaps : (p right : List Item) (gaps : List Gap) → ListsGaps p right gaps
+    → AreItemsRows p right (map row_of_gap gaps)
+AreItemsRows-from_gaps p right gaps lists = record {
+  ordered = AllPairs-map GapStartsBefore (λ (a b : AntiRow). a ≢ b) row_of_gap gaps
+      (λ g k before same.
+      let first : g.period.from <ℤ k.period.from = before in
+      let e : g.period.from ≡ k.period.from = ap (λ (v : AntiRow). v.period.from) same in
+      absurd (omega (arith, ints)))
+      lists.ordered;
+  exactly = λ row. (
+    λ h. (let at = Contains-map_source row_of_gap gaps row h in
+        subst (IsItemsRow p right) at.2 (row-of_gap p right at.0 ((lists.exactly at.0).0 at.1))),
+    λ is. row-from_gaps p right gaps lists row is,
+  );
+}
+
+-- a row of some items is one of more
+row-of_more : (xs ys right : List Item) → ((x : Item) → Contains xs x → Contains ys x) → (row : AntiRow)
+    → IsItemsRow xs right row → IsItemsRow ys right row
+row-of_more xs ys right more row is = record { x = is.x; x_in = more is.x is.x_in; id = is.id; maximal = is.maximal }
+
+-- the rows of some items, and behind them those of the items of a part
+AreItemsRows-append : (xs p right : List Item) (rows : List AntiRow) (gaps : List Gap)
+    → ((x y : Item) → Contains xs x → Contains p y → x.id ≡ y.id → ⊥) → AreItemsRows xs right rows
+    → ListsGaps p right gaps → AreItemsRows (xs ++ p) right (rows ++ map row_of_gap gaps)
+AreItemsRows-append xs p right rows gaps apart before lists =
+    IsListOf-append (λ (a b : AntiRow). a ≢ b) (IsItemsRow xs right) (IsItemsRow p right) (IsItemsRow (xs ++ p) right)
+    rows (map row_of_gap gaps) before (AreItemsRows-from_gaps p right gaps lists)
+    (λ a b i j same. apart i.x j.x i.x_in j.x_in (sym i.id ∙ ap (λ (v : AntiRow). v.id) same ∙ j.id))
+    (row-of_more xs (xs ++ p) right (Contains-append_left xs p))
+    (row-of_more p (xs ++ p) right (Contains-append_right xs p))
+    (λ row is. elim (Contains-append_cases xs p is.x is.x_in) [
+      | inl k ↦ inl (record { x = is.x; x_in = k; id = is.id; maximal = is.maximal })
+      | inr k ↦ inr (record { x = is.x; x_in = k; id = is.id; maximal = is.maximal })
+    ])
+
+-- the rows of one left part more
+pub AreItemsRows-more : (ps : List (List Item)) (l : ℕ) (right : List Item) (old new : List AntiRow)
+    (gaps slice : List Gap) → l < length ps → HasDistinctIds (all_of ps) → AreItemsRows (all_of (take l ps)) right old
+    → ListsGaps (part_at ps l) right gaps → slice ≡ gaps → new ≡ old ++ map row_of_gap slice
+    → AreItemsRows (all_of (take (l + 1) ps)) right new
+AreItemsRows-more ps l right old new gaps slice inside distinct before lists same e =
+    subst (λ z. AreItemsRows z right new) (sym (all_of-more ps l inside))
+    (subst (AreItemsRows (all_of (take l ps) ++ part_at ps l) right)
+    (sym (e ∙ ap (λ z. old ++ map row_of_gap z) same))
+    (AreItemsRows-append (all_of (take l ps)) (part_at ps l) right old gaps
+    (λ x y h k same. parts-apart ps l x y inside distinct h k same) before lists))
+
+-- ---- in order
+
+-- the rows, sorted
+pub IsItemsAnti-sorted : (left right : List Item) (found rows : List AntiRow) → AreItemsRows left right found
+    → IsPermutation found rows → IsSorted anti_cmp rows → IsItemsAnti left right rows
+IsItemsAnti-sorted left right found rows all moved sorted = record {
+  ordered = sorted_rows found rows all.ordered moved sorted;
+  exactly = λ row. (
+    λ h. (all.exactly row).0 (Contains-permutation rows found row (IsPermutation-sym found rows moved) h),
+    λ is. Contains-permutation found rows row moved ((all.exactly row).1 is),
+  );
+}
+
+-- ---- of the items that were divided
+
+-- what covers an instant is there in the other list too
+covered-there : (right other : List Item) → ((y : Item) → Contains right y → Contains other y) → (x : Item) (t : ℤ)
+    → IsCovered right x t → IsCovered other x t
+covered-there right other there x t is =
+    record { by = is.by; by_in = there is.by is.by_in; matches = is.matches; holds = is.holds }
+
+-- the rows of items are those of others that are the same but for their order
+module _ (left other_left right other_right : List Item) (lefts : IsPermutation left other_left)
+    (rights : IsPermutation right other_right) where
+  uncovered-there : (x : Item) (t : ℤ) → IsUncovered right x t → IsUncovered other_right x t
+  uncovered-there x t is = record {
+    held = is.held;
+    uncovered = λ c. is.uncovered (covered-there other_right right
+        (λ y h. Contains-permutation other_right right y (IsPermutation-sym right other_right rights) h) x t c);
+  }
+
+  uncovered-back : (x : Item) (t : ℤ) → IsUncovered other_right x t → IsUncovered right x t
+  uncovered-back x t is = record {
+    held = is.held;
+    uncovered = λ c. is.uncovered
+        (covered-there right other_right (λ y h. Contains-permutation right other_right y rights h) x t c);
+  }
+
+  row-there : (row : AntiRow) → IsItemsRow left right row → IsItemsRow other_left other_right row
+  row-there row is = record {
+    x = is.x;
+    x_in = Contains-permutation left other_left is.x lefts is.x_in;
+    id = is.id;
+    maximal = IsMaximal-same (IsUncovered right is.x) (IsUncovered other_right is.x) row.period (uncovered-there is.x)
+        (uncovered-back is.x) is.maximal;
+  }
+
+  row-back : (row : AntiRow) → IsItemsRow other_left other_right row → IsItemsRow left right row
+  row-back row is = record {
+    x = is.x;
+    x_in = Contains-permutation other_left left is.x (IsPermutation-sym left other_left lefts) is.x_in;
+    id = is.id;
+    maximal = IsMaximal-same (IsUncovered other_right is.x) (IsUncovered right is.x) row.period (uncovered-back is.x)
+        (uncovered-there is.x) is.maximal;
+  }
+
+  pub IsItemsAnti-permutation : (rows : List AntiRow) → IsItemsAnti other_left other_right rows
+      → IsItemsAnti left right rows
+  IsItemsAnti-permutation rows lists =
+      IsListOf-same AntiRowBefore (IsItemsRow other_left other_right) (IsItemsRow left right) rows row-back row-there
+      lists

@@ -1,0 +1,9 @@
+pub mod AntiExistence
+pub mod BorderLemmas
+pub mod ItemLemmas
+pub mod ListLemmas
+pub mod MaximalLemmas
+pub mod OrderLemmas
+pub mod PartLemmas
+pub mod RowLemmas
+pub mod SupplyLemmas

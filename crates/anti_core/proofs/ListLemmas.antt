@@ -1,0 +1,46 @@
+-- What stands in lists that are made of lists.
+use Rattle.std.proofs.Common.{◌≡◌, ◌+◌, ◌≤◌, List, [], ◌∷◌, map, AllPairs, Bool, true, cond, subst, ap, ◌∙◌, inl, inr, arith}
+use Rattle.std.specs.Prelude.{Contains, count_by}
+use Rattle.std.proofs.lemmas.List.Sums.{sum_by-cons}
+use Rattle.list_core.proofs.RisingLemmas.{AllPairs-head, AllPairs-tail, Contains-head, Contains-cons, Contains-cons_cases, Contains-none}
+use Rattle.list_core.proofs.WantedLemmas.{AllPairs-before}
+
+-- what the function makes of a thing in the list stands in the list that it makes
+pub Contains-map : {X Y : Type 0} (f : X → Y) (xs : List X) (x : X) → Contains xs x → Contains (map f xs) (f x)
+Contains-map f [] x h = absurd (Contains-none x h)
+Contains-map f (z ∷ xs) x h = elim (Contains-cons_cases z xs x h) [
+  | inl e ↦ subst (Contains (f z ∷ map f xs)) (ap f e) (Contains-head (f z) (map f xs))
+  | inr k ↦ Contains-cons (f z) (map f xs) (f x) (Contains-map f xs x k)
+]
+
+-- what stands in the list that it makes is made of a thing in the list
+pub Contains-map_source : {X Y : Type 0} (f : X → Y) (xs : List X) (y : Y) → Contains (map f xs) y
+    → (x : X) × Contains xs x × (f x ≡ y)
+Contains-map_source f [] y h = absurd (Contains-none y h)
+Contains-map_source f (z ∷ xs) y h = elim (Contains-cons_cases (f z) (map f xs) y h) [
+  | inl e ↦ (z, Contains-head z xs, e)
+  | inr k ↦ let r = Contains-map_source f xs y k in (r.0, Contains-cons z xs r.0 r.1, r.2)
+]
+
+-- things in one order are made into things in another, where the function takes the one to the other
+pub AllPairs-map : {X Y : Type 0} (R : X → X → Type 0) (S : Y → Y → Type 0) (f : X → Y) (xs : List X)
+    → ((a b : X) → R a b → S (f a) (f b)) → AllPairs R xs → AllPairs S (map f xs)
+AllPairs-map R S f [] gives ordered = λ i j d less h. absurd (omega arith)
+AllPairs-map R S f (x ∷ xs) gives ordered =
+    AllPairs-before S (f x) (map f xs)
+    (λ y h.
+    let r = Contains-map_source f xs y h in
+    subst (S (f x)) r.2 (gives x r.0 (AllPairs-head R x xs r.0 ordered r.1)))
+    (AllPairs-map R S f xs gives (AllPairs-tail R x xs ordered))
+
+-- a thing in the list that passes a test is counted
+pub counted : {X : Type 0} (test : X → Bool) (xs : List X) (x : X) → Contains xs x → test x ≡ true
+    → 1 ≤ count_by test xs
+counted test [] x h passes = absurd (Contains-none x h)
+counted test (y ∷ ys) x h passes =
+    let split : count_by test (y ∷ ys) ≡ cond (test y) 1 0 + count_by test ys =
+    sum_by-cons (λ z. cond (test z) 1 0) y ys in
+    elim (Contains-cons_cases y ys x h) [
+      | inl e ↦ let first : test y ≡ true = ap test e ∙ passes in grind arith
+      | inr k ↦ let rest : 1 ≤ count_by test ys = counted test ys x k passes in grind arith
+    ]

@@ -1,0 +1,8 @@
+use Rattle.std.proofs.Common.{arith}
+use Rattle.anti_core.proofs.PartLemmas.{length-part_at}
+use Rattle.anti_core.proofs.supply.items_of_part.Goals as goal
+
+pub returns : goal.returns
+returns c =
+    rw (c.items.ensures, c.part.ensures)
+    (let most = length-part_at c.args.division.now c.args.number in omega (arith, most, c.parts.ensures.small))

@@ -1,0 +1,3 @@
+pub mod Anti
+pub mod ItemAnti
+pub mod PairGaps

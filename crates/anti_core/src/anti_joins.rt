@@ -1,0 +1,67 @@
+//! The anti-join of the rows of two tables.
+
+ghost use Rattle.std.specs.Prelude.{◌≡◌, ◌<◌, ◌≤◌, None, IfOk};
+ghost use Rattle.row_core.specs.Refusals.{AnswersOr};
+ghost use Rattle.match_core.specs.Columns.{MatchesOn, columns_refusal};
+ghost use Rattle.work_core.specs.Limits.{worker_limit};
+ghost use Rattle.anti_core.specs.Anti.{IsAnti};
+
+use crate::parted::anti_items;
+use crate::rows::AntiRows;
+use match_core::{QueryRefused, Side, classes_of, items_with, refusal_of_pairs};
+use period_core::NoMemory;
+use row_core::{Failure, Name};
+use std::alloc::Global;
+use std::thread::Threads;
+use work_core::Gate;
+
+/// When each left row holds and no right row does that is equal to it in each named pair of columns: the id of the
+/// left row and each such period that is as long as can be, by id and start, the same rows for every number of
+/// workers. Without names each right row matches. Both sides are divided, and the gate is called before and after
+/// each pair of parts.
+///
+/// # Errors
+///
+/// What refuses the columns, and `NoMemory` after it, where a growth is refused.
+pub fn anti<R: Threads + Sync, G: Gate>(
+    rt: &R,
+    alloc: Global,
+    left: Side<'_>,
+    right: Side<'_>,
+    on: &[(Name, Name)],
+    workers: u32,
+    gate: &G,
+) -> Result<AntiRows, Failure<QueryRefused>>
+    requires workers { (0 < workers) × (workers ≤ worker_limit) }
+    ensures { AnswersOr (columns_refusal left.entry.schema.now right.entry.schema.now on.now)
+        (IsAnti (MatchesOn left.entry.schema.now right.entry.schema.now on.now) left.entry.rows.now
+        right.entry.rows.now) result }
+{
+    if let Some(refused) = refusal_of_pairs(left.schema, right.schema, on) {
+        return Err(Failure::Refused(refused));
+    }
+    let rows = anti_rows(rt, alloc, left, right, on, workers, gate)?;
+    Ok(rows)
+}
+
+/// The anti-join, by columns that can be compared.
+fn anti_rows<R: Threads + Sync, G: Gate>(
+    rt: &R,
+    alloc: Global,
+    left: Side<'_>,
+    right: Side<'_>,
+    on: &[(Name, Name)],
+    workers: u32,
+    gate: &G,
+) -> Result<AntiRows, NoMemory>
+    requires allowed { columns_refusal left.schema.now right.schema.now on.now ≡ None }
+    requires workers { (0 < workers) × (workers ≤ worker_limit) }
+    ensures { IfOk result (IsAnti (MatchesOn left.entry.schema.now right.entry.schema.now on.now)
+        left.entry.rows.now right.entry.rows.now) }
+{
+    let classes = classes_of(alloc, left, right, on)?;
+    let (left_classes, right_classes) = classes.split_at(left.rows.len());
+    let lefts = items_with(alloc, left.rows.as_slice(), left_classes)?;
+    let rights = items_with(alloc, right.rows.as_slice(), right_classes)?;
+    anti_items(rt, alloc, &lefts, &rights, workers, gate)
+}

@@ -1,0 +1,17 @@
+#![tactic(auto)]
+
+//! When the rows of a table held with no row of another that matches them: both are divided, the gaps of each part
+//! of the one against each part of the other are made by many workers, and those of one left part are met.
+
+mod anti_joins;
+mod laws;
+mod pairs;
+mod part_gaps;
+mod parted;
+mod rows;
+mod supply;
+
+pub use anti_joins::anti;
+pub use laws::{anti_has_one_list, unmet_periods_are_bordered};
+pub use pairs::GapPairs;
+pub use rows::{AntiRow, AntiRows};

@@ -1,0 +1,96 @@
+//! The gaps of one left part against all right parts.
+
+ghost use Rattle.std.specs.Prelude.{◌≡◌, ℕ, ◌<◌, ◌≤◌, ◌+◌, ◌*◌, List, length, take, drop, IfOk, OnOk};
+ghost use Rattle.std.specs.Option.{ForSome};
+ghost use Rattle.dip_core.specs.declared.item.Item.{Item};
+ghost use Rattle.dip_core.specs.Division.{all_of, part_at};
+ghost use Rattle.merge_core.specs.Gaps.{ListsGaps};
+ghost use Rattle.merge_core.specs.Meets.{IdsTell};
+ghost use Rattle.work_core.specs.Limits.{worker_limit};
+ghost use Rattle.anti_core.specs.PairGaps.{AreGapsFrom, AreGapsAgainst};
+
+use crate::pairs::GapPairs;
+use crate::supply::{Supply, supply_at};
+use dip_core::Part;
+use merge_core::{Gaps, meet_gaps};
+use period_core::NoMemory;
+use std::alloc::Global;
+use std::thread::Threads;
+use work_core::{Gate, Outs};
+
+/// The gaps of a part against the items of `count` right parts: those against each of them are there, from place
+/// `from` on. Half is met with half, so that each list is gone through as often as their number can be halved.
+fn meet_values(
+    alloc: Global,
+    part: Part<'_>,
+    values: &Outs<Gaps>,
+    from: usize,
+    count: usize,
+) -> Result<Gaps, NoMemory>
+    requires some { 0 < count }
+    requires inside { from + count ≤ length values.now }
+    requires tell { IdsTell part.items.now }
+    ensures { (rights : List (List Item)) (start : ℕ) → start + count ≤ length rights
+        → AreGapsAgainst part.entry.items.now rights start values.now from count
+        → IfOk result (ListsGaps part.entry.items.now (all_of (take count (drop start rights)))) }
+{
+    // How long the list is bounds its places.
+    let _ = values.len();
+    if count == 1 {
+        // What is there is only lent: met with the whole periods it makes an equal list of its own.
+        let Some(only) = values.get(from) else {
+            unreachable!()
+        };
+        return meet_gaps(alloc, &Gaps::whole(alloc, part)?, only);
+    }
+    if count == 2 {
+        let Some(one) = values.get(from) else {
+            unreachable!()
+        };
+        let Some(other) = values.get(from + 1) else {
+            unreachable!()
+        };
+        return meet_gaps(alloc, one, other);
+    }
+    let half = count / 2;
+    let front = meet_values(alloc, part, values, from, half)?;
+    let back = meet_values(alloc, part, values, from + half, count - half)?;
+    meet_gaps(alloc, &front, &back)
+}
+
+/// The gaps of the left part of that number against the items of all right parts: those against the right parts so
+/// far are met with those against more of them, as they are supplied.
+pub(crate) fn gaps_of_part<R: Threads + Sync, G: Gate>(
+    rt: &R,
+    alloc: Global,
+    pairs: &GapPairs<'_>,
+    supply: &mut Option<Supply>,
+    number: u32,
+    workers: u32,
+    gate: &G,
+) -> Result<Gaps, NoMemory>
+    requires workers { (0 < workers) × (workers ≤ worker_limit) }
+    requires supply { ForSome supply.old (λ s. AreGapsFrom pairs.now.left.now pairs.now.right.now s.first s.values) }
+    requires part { number < length pairs.now.left.now }
+    requires tell { IdsTell (part_at pairs.now.left.now number) }
+    ensures gaps { IfOk result (ListsGaps (part_at pairs.now.left.now number) (all_of pairs.now.right.now)) }
+    ensures supply { OnOk result
+        (ForSome supply.new (λ s. AreGapsFrom pairs.now.left.now pairs.now.right.now s.first s.values)) }
+{
+    let part = pairs.left.part(number);
+    let rights = pairs.right.parts();
+    let first = number as u64 * rights as u64;
+    let mut gaps = Gaps::whole(alloc, part)?;
+    let mut done = 0;
+    while done < rights {
+        let at = first + done as u64;
+        let ready = supply_at(rt, alloc, pairs, supply.take(), at, workers, gate)?;
+        let from = (at - ready.first) as usize;
+        let count = (ready.values.len() - from).min((rights - done) as usize);
+        let more = meet_values(alloc, part, &ready.values, from, count)?;
+        gaps = meet_gaps(alloc, &gaps, &more)?;
+        done += count as u32;
+        *supply = Some(ready);
+    }
+    Ok(gaps)
+}

@@ -1,0 +1,136 @@
+//! The gaps of pairs of parts, made stretch by stretch and ahead of their use.
+
+ghost use Rattle.std.specs.Prelude.{◌<◌, ◌≤◌, ◌+◌, ◌*◌, length, IfOk};
+ghost use Rattle.std.specs.Option.{ForSome};
+ghost use Rattle.dip_core.specs.Item.{item_limit};
+ghost use Rattle.work_core.specs.Limits.{worker_limit};
+ghost use Rattle.work_core.specs.Stretches.{AreValuesFrom};
+ghost use Rattle.anti_core.specs.PairGaps.{AreGapsFrom};
+
+use crate::pairs::GapPairs;
+use dip_core::Division;
+use merge_core::Gaps;
+use period_core::NoMemory;
+use std::alloc::Global;
+use std::thread::Threads;
+use work_core::{Gate, Outs, PairWork, Stretch, run_pairs};
+
+/// How many pairs are run at once, at most.
+const STRETCH_PAIRS: u64 = 65_536;
+
+/// How many items the parts of these pairs have, at most and but for the last pair. A pair has no more gaps than its
+/// parts have items, so no more gaps are held at once.
+const STRETCH_ITEMS: u64 = 1_000_000;
+
+/// The gaps of pairs that follow one another by number.
+#[derive(Drop)]
+pub(crate) struct Supply {
+    /// The number of the first pair.
+    pub first: u64,
+    /// The gaps of each pair.
+    pub values: Outs<Gaps>,
+}
+
+/// Gaps of some pairs, with that one among them: those that are there, or else those of a stretch from that pair on.
+/// What is there is given back before that stretch is run.
+pub(crate) fn supply_at<R: Threads + Sync, G: Gate>(
+    rt: &R,
+    alloc: Global,
+    pairs: &GapPairs<'_>,
+    supply: Option<Supply>,
+    number: u64,
+    workers: u32,
+    gate: &G,
+) -> Result<Supply, NoMemory>
+    requires workers { (0 < workers) × (workers ≤ worker_limit) }
+    requires inside { number < length pairs.now.left.now * length pairs.now.right.now }
+    requires supply { ForSome supply (λ s. AreGapsFrom pairs.now.left.now pairs.now.right.now s.first s.values) }
+    ensures values { IfOk result (λ s. AreGapsFrom pairs.now.left.now pairs.now.right.now s.first s.values) }
+    ensures there { IfOk result (λ s. (s.first ≤ number) × (number < s.first + length s.values)) }
+{
+    if let Some(supply) = supply {
+        if supply.first <= number && number - supply.first < supply.values.len() as u64 {
+            return Ok(supply);
+        }
+    }
+    run_from(rt, alloc, pairs, number, workers, gate)
+}
+
+/// The gaps of a stretch of pairs from number `first` on.
+fn run_from<R: Threads + Sync, G: Gate>(
+    rt: &R,
+    alloc: Global,
+    pairs: &GapPairs<'_>,
+    first: u64,
+    workers: u32,
+    gate: &G,
+) -> Result<Supply, NoMemory>
+    requires workers { (0 < workers) × (workers ≤ worker_limit) }
+    requires inside { first < length pairs.now.left.now * length pairs.now.right.now }
+    ensures values { IfOk result (λ s. AreGapsFrom pairs.now.left.now pairs.now.right.now s.first s.values) }
+    ensures there { IfOk result (λ s. (s.first ≤ first) × (first < s.first + length s.values)) }
+{
+    // What is known of each division.
+    let _ = pairs.left.parts();
+    let _ = pairs.right.parts();
+    let count = stretch_len(pairs, first);
+    let values = run_stretch(rt, alloc, pairs, first, count, workers, gate)?;
+    Ok(Supply { first, values })
+}
+
+/// The gaps of the `count` pairs from number `first` on.
+fn run_stretch<'a, R: Threads + Sync, G: Gate>(
+    rt: &R,
+    alloc: Global,
+    pairs: &GapPairs<'a>,
+    first: u64,
+    count: u64,
+    workers: u32,
+    gate: &G,
+) -> Result<Outs<Gaps>, NoMemory>
+    requires inside { first + count ≤ length pairs.now.left.now * length pairs.now.right.now }
+    requires workers { (0 < workers) × (workers ≤ worker_limit) }
+    ensures { IfOk result (AreValuesFrom ⟦<GapPairs<'a> as PairWork>⟧ pairs.now first count) }
+{
+    let stretch = Stretch::new(pairs, first, count);
+    let outs = run_pairs(rt, alloc, &stretch, workers, gate)?;
+    stretch.has_values_of_job(&outs);
+    Ok(outs)
+}
+
+/// How many pairs a stretch from number `first` on has: at least one.
+fn stretch_len(pairs: &GapPairs<'_>, first: u64) -> u64
+    requires { first < length pairs.now.left.now * length pairs.now.right.now }
+    ensures some { 0 < result }
+    ensures inside { first + result ≤ length pairs.now.left.now * length pairs.now.right.now }
+{
+    let most = (pairs.count() - first).min(STRETCH_PAIRS);
+    let mut items = items_of_pair(pairs, first);
+    for len in 1..most {
+        if items >= STRETCH_ITEMS {
+            return len;
+        }
+        items += items_of_pair(pairs, first + len);
+    }
+    most
+}
+
+/// How many items both parts of a pair have.
+fn items_of_pair(pairs: &GapPairs<'_>, number: u64) -> u64
+    requires { number < length pairs.now.left.now * length pairs.now.right.now }
+    ensures { result ≤ 2 * item_limit }
+{
+    let pair = pairs.name(number);
+    let left = items_of_part(pairs.left, pair.left);
+    let right = items_of_part(pairs.right, pair.right);
+    left + right
+}
+
+/// How many items a part has.
+fn items_of_part(division: &Division, number: u32) -> u64
+    requires { number < length division.now }
+    ensures { result ≤ item_limit }
+{
+    let _ = division.parts();
+    division.part(number).items().len() as u64
+}

@@ -1,0 +1,9 @@
+pub mod TwoLemmas
+pub mod SameSteps
+pub mod SortLemmas
+pub mod RoundLemmas
+pub mod PermutedLemmas
+pub mod RunLemmas
+pub mod ClosingLemmas
+pub mod CollectLemmas
+pub mod PlateauExistence

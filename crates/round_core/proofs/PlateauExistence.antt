@@ -1,0 +1,459 @@
+-- Any items have a list of plateaus, and one only.
+use Rattle.std.proofs.Common.{◌≡◌, ◌<◌, ◌⊎◌, ℕ, zero, suc, Bool, true, false, cond, Option, Some, None, List, [], ◌∷◌, inl, inr, refl, sym, subst, ap, ◌∙◌, arith}
+use Rattle.std.specs.Prelude.{ℤ, pos, ◌-ℤ◌, ◌+ℤ◌, ◌≤ℤ◌, ◌<ℤ◌, nat_abs, nat_eq, Contains}
+use Rattle.std.specs.Cmp.{IsTotalOrder}
+use Rattle.std.specs.Int.Signed.{yes_non_neg, pos-nat_abs, non_neg}
+use Rattle.std.specs.Ordering.{ordering_reverse, ordering_then, int_cmp, nat_cmp}
+use Rattle.std.specs.declared.cmp.Ordering.{Ordering}
+use Rattle.std.specs.declared.cmp.Ordering.TheVariants.{Less, Equal, Greater}
+use Rattle.std.proofs.Math.Dec.{T}
+use Rattle.std.proofs.lemmas.Bool.Decides.{nat_tests}
+use Rattle.std.proofs.lemmas.Cmp.{then_total, on_total, int_cmp_total, nat_cmp_total}
+use Rattle.std.proofs.lemmas.Int.{ints}
+use Rattle.period_core.specs.declared.period.Period.{Period}
+use Rattle.period_core.specs.Period.{Holds, holds_at}
+use Rattle.dip_core.specs.declared.item.Item.{Item}
+use Rattle.list_core.specs.Wanted.{IsListOf}
+use Rattle.list_core.proofs.RisingLemmas.{Contains-head, Contains-cons, Contains-cons_cases, Contains-none, IsListOf-unique}
+use Rattle.list_core.proofs.WantedLemmas.{AllPairs-other, IsListOf-same}
+use Rattle.list_core.proofs.WantedExistence.{IsUnorderedListOf, IsUnorderedListOf-none, IsUnorderedListOf-one, WantedForSome, some_unordered, some_wanted}
+use Rattle.merge_core.specs.declared.tally.Tally.{Tally}
+use Rattle.merge_core.specs.Gaps.{IsMaximal}
+use Rattle.merge_core.specs.Tallies.{held, IsTally, IsTallyAt, both}
+use Rattle.merge_core.proofs.SharedLemmas.{by_order, first_held, Period-same}
+use Rattle.merge_core.proofs.TallyLemmas.{IsTallyAt-append}
+use Rattle.merge_core.proofs.WeightLemmas.{lone_tallies}
+use Rattle.round_core.specs.declared.measure.Measure.{Measure}
+use Rattle.round_core.specs.declared.plateau.Plateau.{Plateau}
+use Rattle.round_core.specs.Plateaus.{of_class, value_of, HasValue, IsPlateau, PlateauBefore, ArePlateaus}
+use Rattle.round_core.proofs.ClosingLemmas.{Plateau-same}
+use Rattle.round_core.proofs.CollectLemmas.{IsTally-unique, no_tally}
+use Rattle.round_core.proofs.PermutedLemmas.{has_held, amount_from}
+
+-- ---- around an instant of a bounded set that can be tested there is a maximal period
+
+module _ (S : ℤ → Type 0) (test : (t : ℤ) → S t ⊎ (S t → ⊥)) where
+  -- from t up, at most n instants on, the set ends
+  ends_above : (n : ℕ) (t : ℤ) → S t → (S (t +ℤ pos n) → ⊥)
+      → (e : ℤ) × (t <ℤ e) × ((u : ℤ) → t ≤ℤ u → u <ℤ e → S u) × (S e → ⊥)
+  ends_above zero t s out = absurd (out (subst S (omega (arith, ints)) s))
+  ends_above (suc n) t s out =
+      elim (test (t +ℤ pos 1)) [
+        | inl m ↦ (
+            let far : S ((t +ℤ pos 1) +ℤ pos n) → ⊥ =
+            λ r. out (let e : (t +ℤ pos 1) +ℤ pos n ≡ t +ℤ pos (suc n) = omega (arith, ints) in subst S e r) in
+            let k = ends_above n (t +ℤ pos 1) m far in (
+              k.0,
+              omega (arith, ints, k.1),
+              (λ u lo hi. elim (by_order u t) [
+                | inl h ↦ (let e : t ≡ u = omega (arith, ints) in subst S e s)
+                | inr h ↦ k.2 u (omega (arith, ints)) hi
+              ]),
+              k.3,
+            ))
+        | inr m ↦ (
+          t +ℤ pos 1,
+          omega (arith, ints),
+          (λ u lo hi. let e : t ≡ u = omega (arith, ints) in subst S e s),
+          m,
+        )
+      ]
+
+  -- from t down, at most n instants on, the set starts
+  starts_below : (n : ℕ) (t : ℤ) → S t → (S (t -ℤ pos n) → ⊥)
+      → (b : ℤ) × (b ≤ℤ t) × ((u : ℤ) → b ≤ℤ u → u ≤ℤ t → S u) × (S (b -ℤ pos 1) → ⊥)
+  starts_below zero t s out = absurd (out (subst S (omega (arith, ints)) s))
+  starts_below (suc n) t s out =
+      elim (test (t -ℤ pos 1)) [
+        | inl m ↦ (
+            let far : S ((t -ℤ pos 1) -ℤ pos n) → ⊥ =
+            λ r. out (let e : (t -ℤ pos 1) -ℤ pos n ≡ t -ℤ pos (suc n) = omega (arith, ints) in subst S e r) in
+            let k = starts_below n (t -ℤ pos 1) m far in (
+              k.0,
+              omega (arith, ints, k.1),
+              (λ u lo hi. elim (by_order t u) [
+                | inl h ↦ (let e : t ≡ u = omega (arith, ints) in subst S e s)
+                | inr h ↦ k.2 u lo (omega (arith, ints))
+              ]),
+              k.3,
+            ))
+        | inr m ↦ (t, omega (arith, ints), (λ u lo hi. let e : t ≡ u = omega (arith, ints) in subst S e s), m)
+      ]
+
+  maximal_around : (lo hi : ℤ) → ((t : ℤ) → S t → lo ≤ℤ t) → ((t : ℤ) → S t → t <ℤ hi) → (t : ℤ) → S t
+      → (p : Period) × Holds p t × IsMaximal S p
+  maximal_around lo hi above below t s =
+      let up = ends_above (nat_abs (hi -ℤ t)) t s (λ r. past hi t (below t s) (below _ r)) in
+      let down = starts_below (nat_abs ((t -ℤ lo) +ℤ pos 1)) t s (λ r. before lo t (above t s) (above _ r)) in (
+        record { from = down.0; to = up.0; ordered = omega (arith, ints, down.1, up.1) },
+        (down.1, up.1),
+        record {
+          inside = λ u h. elim (by_order u t) [ inl k ↦ down.2 u h.0 k | inr k ↦ up.2 u (omega (arith, ints)) h.1 ];
+          before = down.3;
+          after = up.3;
+        },
+      )
+    where
+      past : (hi t : ℤ) → t <ℤ hi → (t +ℤ pos (nat_abs (hi -ℤ t))) <ℤ hi → ⊥
+      past hi t a b =
+          let n : T (non_neg (hi -ℤ t)) = yes_non_neg (omega (arith, ints)) in
+          let e : pos (nat_abs (hi -ℤ t)) ≡ hi -ℤ t = pos-nat_abs (hi -ℤ t) n in
+          let c : (t +ℤ (hi -ℤ t)) <ℤ hi = subst (λ v. (t +ℤ v) <ℤ hi) e b in
+          omega (arith, ints)
+
+      before : (lo t : ℤ) → lo ≤ℤ t → lo ≤ℤ (t -ℤ pos (nat_abs ((t -ℤ lo) +ℤ pos 1))) → ⊥
+      before lo t a b =
+          let n : T (non_neg ((t -ℤ lo) +ℤ pos 1)) = yes_non_neg (omega (arith, ints)) in
+          let e : pos (nat_abs ((t -ℤ lo) +ℤ pos 1)) ≡ (t -ℤ lo) +ℤ pos 1 = pos-nat_abs ((t -ℤ lo) +ℤ pos 1) n in
+          let c : lo ≤ℤ (t -ℤ ((t -ℤ lo) +ℤ pos 1)) = subst (λ v. lo ≤ℤ (t -ℤ v)) e b in
+          omega (arith, ints)
+
+-- maximal periods of one set that share an instant are one
+module _ (S : ℤ → Type 0) (p q : Period) (t : ℤ) (m : IsMaximal S p) (n : IsMaximal S q) (h : Holds p t)
+    (k : Holds q t) where
+  not_earlier : p.from <ℤ q.from → ⊥
+  not_earlier less =
+      let a = h.1 in let b = k.0 in
+      n.before (m.inside (q.from -ℤ pos 1) (omega (arith, ints), omega (arith, ints)))
+
+  not_sooner : p.to <ℤ q.to → ⊥
+  not_sooner less =
+      let a = h.1 in let b = k.0 in
+      m.after (n.inside p.to (omega (arith, ints), less))
+
+pub maximal-same : (S : ℤ → Type 0) (p q : Period) (t : ℤ) → IsMaximal S p → IsMaximal S q → Holds p t → Holds q t
+    → p ≡ q
+maximal-same S p q t m n h k =
+    Period-same p q
+    (elim (by_order p.from q.from) [
+      | inr late ↦ absurd (not_earlier S q p t n m k h late)
+      | inl a ↦ elim (by_order q.from p.from) [
+        | inr late ↦ absurd (not_earlier S p q t m n h k late)
+        | inl b ↦ omega (arith, ints)
+      ]
+    ])
+    (elim (by_order p.to q.to) [
+      | inr late ↦ absurd (not_sooner S q p t n m k h late)
+      | inl a ↦ elim (by_order q.to p.to) [
+        | inr late ↦ absurd (not_sooner S p q t m n h k late)
+        | inl b ↦ omega (arith, ints)
+      ]
+    ])
+
+-- ---- what some items come to at an instant can be told
+
+-- one item's tally
+lone : Item → Tally
+lone x = record { count = 1; sum = x.amount; min = x.amount; max = x.amount }
+
+lone_at : (x : Item) (t : ℤ) → (o : Option Tally) × IsTallyAt (x ∷ []) t o
+unfolding lone
+lone_at x t = split (holds_at t x.period)
+  where
+    split : (b : Bool) → (o : Option Tally) × (elim o as (λ z. Type 0) [
+      | None ↦ cond b (x ∷ []) [] ≡ []
+      | Some tally ↦ IsTally (cond b (x ∷ []) []) tally
+    ])
+    split true = (Some (lone x), lone_tallies x (lone x) refl refl refl refl)
+    split false = (None, refl)
+
+pub some_tally : (items : List Item) (t : ℤ) → (o : Option Tally) × IsTallyAt items t o
+some_tally [] t = (None, refl)
+some_tally (x ∷ xs) t =
+    let one = lone_at x t in
+    let others = some_tally xs t in
+    (both one.0 others.0, IsTallyAt-append (x ∷ []) xs t one.0 others.0 one.1 others.1)
+
+-- two numbers are one or not
+int_or_not : (a b : ℤ) → (a ≡ b) ⊎ (a ≡ b → ⊥)
+int_or_not a b = elim (by_order a b) [
+  | inr more ↦ inr (λ e. omega (arith, ints))
+  | inl h ↦ elim (by_order b a) [
+    | inr less ↦ inr (λ e. omega (arith, ints))
+    | inl k ↦ inl (omega (arith, ints))
+  ]
+]
+
+-- whether some items come to a value can be told
+value_or_not : (measure : Measure) (items : List Item) (v t : ℤ)
+    → HasValue measure items v t ⊎ (HasValue measure items v t → ⊥)
+value_or_not measure items v t = told (some_tally items t)
+  where
+    told : ((o : Option Tally) × IsTallyAt items t o) → HasValue measure items v t ⊎ (HasValue measure items v t → ⊥)
+    told (None, i) = inr (λ h. no_tally items t h.tally i h.is)
+    told (Some a, i) = elim (int_or_not (value_of measure a) v) [
+      | inl e ↦ inl (record { tally = a; is = i; gives = e })
+      | inr ne ↦ inr (λ h. ne (IsTally-unique measure (held items t) a h.tally i h.is ∙ h.gives))
+    ]
+
+-- ---- items bound what they come to
+
+held_yes : (p : Period) (t : ℤ) → holds_at t p ≡ true → Holds p t
+held_yes p t e = (late p t e, early p t e)
+  where
+    late : (p : Period) (t : ℤ) → holds_at t p ≡ true → p.from ≤ℤ t
+    late p t e = grind (arith, ints)
+
+    early : (p : Period) (t : ℤ) → holds_at t p ≡ true → t <ℤ p.to
+    early p t e = grind (arith, ints)
+
+-- where items come to a value, one of them holds the instant
+holder : (measure : Measure) (items : List Item) (v t : ℤ) → HasValue measure items v t
+    → (x : Item) × Contains items x × Holds x.period t
+holder measure items v t h =
+    let m = amount_from (held items t) h.tally.min h.is.min_in in
+    let k = has_held items t m.0 m.1 in
+    (m.0, k.0, held_yes m.0.period t k.1)
+
+-- an item of a class is one of the items, and of that class
+own_item : (class : ℕ) (items : List Item) (x : Item) → Contains (of_class class items) x
+    → Contains items x × (x.class ≡ class)
+own_item class [] x h = absurd (Contains-none x h)
+own_item class (y ∷ items) x h = split (nat_eq y.class class) refl (own_item class items x) h
+  where
+    same : (a b : ℕ) → nat_eq a b ≡ true → a ≡ b
+    same a b e = grind (arith, nat_tests)
+
+    split : (b : Bool) → nat_eq y.class class ≡ b
+        → (Contains (of_class class items) x → Contains items x × (x.class ≡ class))
+        → Contains (cond b (y ∷ of_class class items) (of_class class items)) x
+        → Contains (y ∷ items) x × (x.class ≡ class)
+    split true e rec k = elim (Contains-cons_cases y (of_class class items) x k) [
+      | inl f ↦ (
+        subst (Contains (y ∷ items)) f (Contains-head y items),
+        sym (ap (λ (v : Item). v.class) f) ∙ same y.class class e,
+      )
+      | inr later ↦ let m = rec later in (Contains-cons y items x m.0, m.1)
+    ]
+    split false e rec k = let m = rec k in (Contains-cons y items x m.0, m.1)
+
+-- instants between which all items lie
+bounds : (items : List Item) → (lo hi : ℤ)
+    × ((x : Item) (t : ℤ) → Contains items x → Holds x.period t → (lo ≤ℤ t) × (t <ℤ hi))
+bounds [] = (pos 0, pos 0, λ x t h k. absurd (Contains-none x h))
+bounds (y ∷ items) =
+    let rest = bounds items in
+    let lo = least_of y.period.from rest.0 in
+    let hi = greatest_of y.period.to rest.1 in (
+      lo.0,
+      hi.0,
+      λ x t h k. elim (Contains-cons_cases y items x h) [
+        | inl e ↦
+            let a : y.period.from ≤ℤ t = subst (λ (v : Item). v.period.from ≤ℤ t) (sym e) k.0 in
+            let b : t <ℤ y.period.to = subst (λ (v : Item). t <ℤ v.period.to) (sym e) k.1 in
+            (omega (arith, ints, a, lo.1), omega (arith, ints, b, hi.1))
+        | inr later ↦
+            let m = rest.2 x t later k in
+            (omega (arith, ints, m.0, lo.2), omega (arith, ints, m.1, hi.2))
+      ],
+    )
+  where
+    least_of : (a b : ℤ) → (z : ℤ) × (z ≤ℤ a) × (z ≤ℤ b)
+    least_of a b = elim (by_order a b) [
+      | inl h ↦ (a, omega (arith, ints), h)
+      | inr h ↦ (b, omega (arith, ints), omega (arith, ints))
+    ]
+
+    greatest_of : (a b : ℤ) → (z : ℤ) × (a ≤ℤ z) × (b ≤ℤ z)
+    greatest_of a b = elim (by_order a b) [
+      | inl h ↦ (b, h, omega (arith, ints))
+      | inr h ↦ (a, omega (arith, ints), omega (arith, ints))
+    ]
+
+-- so many instants from one on
+instants : ℤ → ℕ → List ℤ
+instants from zero = []
+instants from (suc n) = from ∷ instants (from +ℤ pos 1) n
+
+among : (from : ℤ) (n : ℕ) (t : ℤ) → from ≤ℤ t → t <ℤ (from +ℤ pos n) → Contains (instants from n) t
+unfolding instants
+among from zero t a b = absurd (omega (arith, ints))
+among from (suc n) t a b = elim (by_order t from) [
+  | inl h ↦
+      let e : from ≡ t = omega (arith, ints) in
+      subst (Contains (from ∷ instants (from +ℤ pos 1) n)) e (Contains-head from (instants (from +ℤ pos 1) n))
+  | inr h ↦
+      Contains-cons from (instants (from +ℤ pos 1) n) t
+      (among (from +ℤ pos 1) n t (omega (arith, ints)) (omega (arith, ints)))
+]
+
+between_bounds : (lo hi t : ℤ) → lo ≤ℤ t → t <ℤ hi → Contains (instants lo (nat_abs (hi -ℤ lo))) t
+between_bounds lo hi t a b =
+    let n : T (non_neg (hi -ℤ lo)) = yes_non_neg (omega (arith, ints)) in
+    let e : pos (nat_abs (hi -ℤ lo)) ≡ hi -ℤ lo = pos-nat_abs (hi -ℤ lo) n in
+    among lo (nat_abs (hi -ℤ lo)) t a (subst (λ v. t <ℤ (lo +ℤ v)) (sym e) (omega (arith, ints)))
+
+-- ---- the plateau of a class that holds an instant
+
+module _ (measure : Measure) (items : List Item) where
+  -- a plateau of that class that holds t
+  record IsPlateauAt (class : ℕ) (t : ℤ) (p : Plateau) : Type 0 where
+    class_is : p.class ≡ class
+    holds : Holds p.period t
+    is : IsPlateau measure items p
+
+  -- two plateaus of one class that share an instant are one
+  one_at : (p q : Plateau) (t : ℤ) → p.class ≡ q.class → Holds p.period t → Holds q.period t → IsPlateau measure items p
+      → IsPlateau measure items q → p ≡ q
+  one_at p q t same h k i j =
+      let a = i.maximal.inside t h in
+      let b : HasValue measure (of_class p.class items) q.value t =
+      subst (λ c. HasValue measure (of_class c items) q.value t) (sym same) (j.maximal.inside t k) in
+      let value : p.value ≡ q.value =
+      sym a.gives ∙ IsTally-unique measure (held (of_class p.class items) t) a.tally b.tally a.is b.is ∙ b.gives in
+      let j' : IsMaximal (HasValue measure (of_class p.class items) p.value) q.period =
+      subst (λ v. IsMaximal (HasValue measure (of_class p.class items) v) q.period) (sym value)
+      (subst (λ c. IsMaximal (HasValue measure (of_class c items) q.value) q.period) (sym same) j.maximal) in
+      Plateau-same p q same
+      (maximal-same (HasValue measure (of_class p.class items) p.value) p.period q.period t i.maximal j' h k) value
+
+  plateau_at : (class : ℕ) (t : ℤ) → (ps : List Plateau) × IsUnorderedListOf (IsPlateauAt class t) ps
+  plateau_at class t = told (some_tally (of_class class items) t)
+    where
+      told : ((o : Option Tally) × IsTallyAt (of_class class items) t o)
+          → (ps : List Plateau) × IsUnorderedListOf (IsPlateauAt class t) ps
+      told (None, i) = (
+        [],
+        IsUnorderedListOf-none (IsPlateauAt class t) (λ p at.
+            let h : HasValue measure (of_class class items) p.value t =
+            subst (λ c. HasValue measure (of_class c items) p.value t) at.class_is (at.is.maximal.inside t at.holds) in
+            no_tally (of_class class items) t h.tally i h.is),
+      )
+      told (Some a, i) =
+          let own = of_class class items in
+          let v : ℤ = value_of measure a in
+          let S : ℤ → Type 0 = HasValue measure own v in
+          let lie = bounds own in
+          let m = maximal_around S (value_or_not measure own v) lie.0 lie.1
+          (λ u h. (let x = holder measure own v u h in (lie.2 x.0 u x.1 x.2).0))
+          (λ u h. (let x = holder measure own v u h in (lie.2 x.0 u x.1 x.2).1))
+          t (record { tally = a; is = i; gives = refl }) in
+          let p : Plateau = record { class = class; period = m.0; value = v } in
+          let is : IsPlateau measure items p = record { maximal = m.2 } in (
+            p ∷ [],
+            IsUnorderedListOf-one (IsPlateauAt class t) p (record { class_is = refl; holds = m.1; is = is })
+                (λ q at. one_at p q t (sym at.class_is) m.1 at.holds is at.is),
+          )
+
+-- ---- all plateaus
+
+-- the order by class, start, end and value
+pub plateau_cmp : Plateau → Plateau → Ordering
+plateau_cmp a b =
+    ordering_then (ordering_then (nat_cmp a.class b.class) (int_cmp a.period.from b.period.from))
+    (ordering_then (int_cmp a.period.to b.period.to) (int_cmp a.value b.value))
+
+plateau_total : IsTotalOrder plateau_cmp
+unfolding plateau_cmp
+plateau_total =
+    then_total (then_total (on_total (λ x. x.class) nat_cmp_total) (on_total (λ x. x.period.from) int_cmp_total))
+    (then_total (on_total (λ x. x.period.to) int_cmp_total) (on_total (λ x. x.value) int_cmp_total))
+
+both_tie : (r s : Ordering) → ordering_then r s ≡ Equal → (r ≡ Equal) × (s ≡ Equal)
+both_tie Less s e = cc
+both_tie Equal s e = (refl, e)
+both_tie Greater s e = cc
+
+int_tie : (a b : ℤ) → int_cmp a b ≡ Equal → a ≡ b
+int_tie a b e = grind (arith, ints)
+
+nat_tie : (a b : ℕ) → nat_cmp a b ≡ Equal → a ≡ b
+nat_tie a b e = grind (arith, nat_tests)
+
+int_less : (a b : ℤ) → int_cmp a b ≡ Less → a <ℤ b
+int_less a b e = grind (arith, ints)
+
+nat_less : (a b : ℕ) → nat_cmp a b ≡ Less → a < b
+nat_less a b e = grind (arith, nat_tests)
+
+tied_plateaus : (a b : Plateau) → plateau_cmp a b ≡ Equal → a ≡ b
+unfolding plateau_cmp
+tied_plateaus a b e =
+    let halves = both_tie _ _ e in
+    let first = both_tie _ _ halves.0 in
+    let second = both_tie _ _ halves.1 in
+    Plateau-same a b (nat_tie a.class b.class first.0)
+    (Period-same a.period b.period (int_tie a.period.from b.period.from first.1)
+    (int_tie a.period.to b.period.to second.0))
+    (int_tie a.value b.value second.1)
+
+-- what comes first comes first by class, or by start, or ties by both
+first_of : (r s rest : Ordering) → ordering_then (ordering_then r s) rest ≡ Less
+    → (r ≡ Less) ⊎ ((r ≡ Equal) × ((s ≡ Less) ⊎ (s ≡ Equal)))
+first_of Less s rest e = inl refl
+first_of Greater s rest e = cc
+first_of Equal Less rest e = inr (refl, inl refl)
+first_of Equal Equal rest e = inr (refl, inr refl)
+first_of Equal Greater rest e = cc
+
+not_before_itself : (a : Plateau) → plateau_cmp a a ≡ Less → ⊥
+not_before_itself a e =
+    let f : plateau_cmp a a ≡ ordering_reverse (plateau_cmp a a) = plateau_total.antisymm a a in
+    let g : ordering_reverse (plateau_cmp a a) ≡ Greater = ap ordering_reverse e in
+    cc
+
+-- of two plateaus of some items the one that comes first by all comes first by class and start
+before_of : (measure : Measure) (items : List Item) (a b : Plateau) → IsPlateau measure items a
+    → IsPlateau measure items b → plateau_cmp a b ≡ Less → PlateauBefore a b
+unfolding plateau_cmp
+before_of measure items a b i j less =
+    elim (first_of (nat_cmp a.class b.class) (int_cmp a.period.from b.period.from)
+    (ordering_then (int_cmp a.period.to b.period.to) (int_cmp a.value b.value)) less) [
+      | inl e ↦ inl (nat_less a.class b.class e)
+      | inr (e, rest) ↦ elim rest [
+        | inl f ↦ inr (nat_tie a.class b.class e, int_less a.period.from b.period.from f)
+        | inr f ↦ absurd (
+            let start : a.period.from ≡ b.period.from = int_tie a.period.from b.period.from f in
+            let same : a ≡ b =
+            one_at measure items a b a.period.from (nat_tie a.class b.class e) (first_held a.period)
+            (subst (Holds b.period) (sym start) (first_held b.period)) i j in
+            not_before_itself a (subst (λ z. plateau_cmp a z ≡ Less) (sym same) less))
+      ]
+    ]
+
+-- any items have a list of plateaus
+pub some_plateaus : (measure : Measure) (items : List Item) → (ps : List Plateau) × ArePlateaus measure items ps
+some_plateaus measure items =
+    let lie = bounds items in
+    let all : List ℤ = instants lie.0 (nat_abs (lie.1 -ℤ lie.0)) in
+    let Wanted : Item → Plateau → Type 0 = λ x. WantedForSome (λ t. IsPlateauAt measure items x.class t) all in
+    let (unordered, are) =
+    some_unordered Wanted (λ x. some_unordered (λ t. IsPlateauAt measure items x.class t)
+    (λ t. plateau_at measure items x.class t) all) items in
+    let (ps, is) = some_wanted plateau_cmp plateau_total tied_plateaus (WantedForSome Wanted items) unordered are in
+    let listed : IsListOf (λ a b. plateau_cmp a b ≡ Less) (IsPlateau measure items) ps =
+    IsListOf-same (λ a b. plateau_cmp a b ≡ Less) (WantedForSome Wanted items) (IsPlateau measure items) ps
+    (λ p (x, x_in, (t, t_in, at)). at.is)
+    (λ p i.
+    let h = i.maximal.inside p.period.from (first_held p.period) in
+    let m = holder measure (of_class p.class items) p.value p.period.from h in
+    let own = own_item p.class items m.0 m.1 in
+    let lies = lie.2 m.0 p.period.from own.0 m.2 in (
+      m.0,
+      own.0,
+      (
+        p.period.from,
+        between_bounds lie.0 lie.1 p.period.from lies.0 lies.1,
+        record { class_is = sym own.1; holds = first_held p.period; is = i },
+      ),
+    ))
+    is in (
+      ps,
+      record {
+        ordered = AllPairs-other (λ a b. plateau_cmp a b ≡ Less) PlateauBefore ps listed.ordered
+            (λ a b h k less. before_of measure items a b ((listed.exactly a).0 h) ((listed.exactly b).0 k) less);
+        exactly = listed.exactly;
+      },
+    )
+
+PlateauBefore-asym : (a b : Plateau) → PlateauBefore a b → PlateauBefore b a → ⊥
+PlateauBefore-asym a b (inl h) (inl k) = omega (arith, h, k)
+PlateauBefore-asym a b (inl h) (inr (e, k)) = omega (arith, h, e)
+PlateauBefore-asym a b (inr (e, h)) (inl k) = omega (arith, e, k)
+PlateauBefore-asym a b (inr (e, h)) (inr (f, k)) = omega (arith, ints)
+
+-- they have no other
+pub one_list_of_plateaus : (measure : Measure) (items : List Item) (one other : List Plateau)
+    → ArePlateaus measure items one → ArePlateaus measure items other → one ≡ other
+one_list_of_plateaus measure items one other is is' =
+    IsListOf-unique PlateauBefore (IsPlateau measure items) one other PlateauBefore-asym is is'

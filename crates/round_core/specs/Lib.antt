@@ -1,0 +1,7 @@
+pub mod Plateaus
+pub mod Together
+pub mod Twos
+pub mod TwoLaws
+pub mod ClassLists
+pub mod Rounds
+pub mod Closing

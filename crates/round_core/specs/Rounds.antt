@@ -1,0 +1,51 @@
+-- A round: which lists go in twos, which are put aside, and where the values of the twos come.
+use Rattle.std.specs.Prelude.{◌≡◌, ◌+◌, ℕ, List, [], ◌∷◌, ℤ}
+use Rattle.merge_core.specs.Steps.{StepList, IsBoth, tally_at}
+use Rattle.round_core.specs.declared.class_steps.ClassSteps.{ClassSteps}
+use Rattle.round_core.specs.declared.round.Slot.{Slot}
+use Rattle.round_core.specs.declared.round.Slot.TheVariants.{Aside, OfTwo}
+
+-- steps of a class
+abbrev pub of : ℕ → StepList → ClassSteps
+of class steps = record { class = class; steps = steps }
+
+-- how many slots wait for the value of two
+abbrev pub twos_in : List Slot → ℕ
+twos_in [] = 0
+twos_in (Aside list ∷ slots) = twos_in slots
+twos_in (OfTwo class ∷ slots) = 1 + twos_in slots
+
+-- the lists that were sorted into these slots and twos
+abbrev pub sorted_lists : List Slot → List StepList → List ClassSteps
+sorted_lists [] twos = []
+sorted_lists (Aside list ∷ slots) twos = list ∷ sorted_lists slots twos
+sorted_lists (OfTwo class ∷ slots) [] = []
+sorted_lists (OfTwo class ∷ slots) (a ∷ []) = []
+sorted_lists (OfTwo class ∷ slots) (a ∷ (b ∷ twos)) = of class a ∷ (of class b ∷ sorted_lists slots twos)
+
+-- the lists that come of these slots and the values of the twos
+abbrev pub filled : List Slot → List StepList → List ClassSteps
+filled [] made = []
+filled (Aside list ∷ slots) made = list ∷ filled slots made
+filled (OfTwo class ∷ slots) [] = []
+filled (OfTwo class ∷ slots) (o ∷ made) = of class o ∷ filled slots made
+
+-- each two lists have one value
+abbrev pub AreBoths : List StepList → List StepList → Type 0
+AreBoths [] [] = Unit {0}
+AreBoths [] (o ∷ made) = ⊥
+AreBoths (a ∷ []) made = ⊥
+AreBoths (a ∷ (b ∷ twos)) [] = ⊥
+AreBoths (a ∷ (b ∷ twos)) (o ∷ made) = IsBoth a b o × AreBoths twos made
+
+-- the same tally at each instant, and the same weight
+pub record IsAlike (one other : StepList) : Type 0 where
+  pub tallies : (t : ℤ) → tally_at other.steps t ≡ tally_at one.steps t
+  pub weight : other.weight ≡ one.weight
+
+-- each list is alike to the one in its place
+abbrev pub AreAlike : List StepList → List StepList → Type 0
+AreAlike [] [] = Unit {0}
+AreAlike [] (o ∷ others) = ⊥
+AreAlike (l ∷ lists) [] = ⊥
+AreAlike (l ∷ lists) (o ∷ others) = IsAlike l o × AreAlike lists others

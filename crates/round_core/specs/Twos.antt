@@ -1,0 +1,21 @@
+-- Lists of steps in twos: pair i is lists 2i and 2i + 1.
+use Rattle.std.specs.Prelude.{ℕ, ◌+◌, ◌*◌, ◌-◌, ◌/◌, ◌%◌, List, [], Option, Some, None, if◌then◌else◌, ◌&&◌, nat_lt, nat_eq, slice_index_or}
+use Rattle.merge_core.specs.Steps.{StepList}
+use Rattle.work_core.specs.declared.name.PairName.{PairName}
+
+-- no steps, of no items
+abbrev pub no_steps : StepList
+no_steps = record { steps = []; weight = 0 }
+
+-- list i; past the end, no steps
+abbrev pub list_at : List StepList → ℕ → StepList
+list_at lists i = slice_index_or lists i no_steps
+
+-- the name of pair i
+abbrev pub two_name : ℕ → PairName
+two_name i = record { left = i * 2; right = i * 2 + 1 }
+
+-- the number of a pair of n lists; None where they have no such pair
+abbrev pub two_place : ℕ → PairName → Option ℕ
+two_place n p =
+    if (nat_lt p.right n && nat_eq (p.right % 2) 1) && nat_eq p.left (p.right - 1) then Some (p.right / 2) else None

@@ -1,0 +1,118 @@
+//! Steps closed up to plateaus.
+
+ghost use Rattle.std.specs.Prelude.{◌≡◌, [], ◌∷◌, drop, MatchOption, IfOk, OnOk};
+ghost use Rattle.list_core.specs.Wanted.{AddsAll, IsListOf};
+ghost use Rattle.merge_core.specs.Steps.{AreStepsApart};
+ghost use Rattle.round_core.specs.ClassLists.{HaveNoNeighbours, RisesFrom};
+ghost use Rattle.round_core.specs.Closing.{Continues, IsJoined, IsPlateauOfSome, IsStepPlateau, valued_step};
+ghost use Rattle.round_core.specs.Plateaus.{PlateauBefore, value_of};
+
+use crate::class_steps::ClassSteps;
+use crate::measure::Measure;
+use crate::plateau::Plateau;
+use merge_core::{Step, Tally};
+use period_core::{NoMemory, Period};
+use std::alloc::Global;
+use std::collections::VecDeque;
+
+/// What is asked of a tally.
+fn value_of(measure: Measure, tally: &Tally) -> i128
+    ensures { result ≡ value_of measure tally.now }
+{
+    match measure {
+        Measure::Count => tally.count as i128,
+        Measure::Sum => tally.sum,
+        Measure::Min => tally.min as i128,
+        Measure::Max => tally.max as i128,
+    }
+}
+
+/// What a step says of the value that is asked for.
+fn plateau_of(measure: Measure, class: u64, step: &Step) -> Plateau
+    ensures { result ≡ valued_step measure class step.now }
+{
+    Plateau {
+        class,
+        period: step.period,
+        value: value_of(measure, &step.tally),
+    }
+}
+
+/// Both as one, where the second starts where the first ends, with the same value.
+fn joined(one: &Plateau, next: &Plateau) -> Option<Plateau>
+    ensures { MatchOption result (Continues one.now next.now → ⊥)
+        (λ joined. Continues one.now next.now × IsJoined one.now next.now joined) }
+{
+    if one.period.to == next.period.from && one.value == next.value {
+        let from = one.period.from;
+        let to = next.period.to;
+        return Some(Plateau {
+            class: one.class,
+            period: Period { from, to },
+            value: one.value,
+        });
+    }
+    None
+}
+
+/// The first step of a list.
+fn first_step(steps: &[Step]) -> Option<Step>
+    ensures { MatchOption result (steps.now ≡ []) (λ x. steps.now ≡ x ∷ drop 1 steps.now) }
+{
+    steps.first().copied()
+}
+
+/// A list without its first step.
+fn later_steps(steps: &[Step]) -> &[Step]
+    ensures { result.now ≡ drop 1 steps.now }
+{
+    if steps.is_empty() { steps } else { &steps[1..] }
+}
+
+/// Adds the plateaus of a class, from its steps: neighbours that touch and have one value are one.
+fn close(
+    measure: Measure,
+    class: u64,
+    steps: &[Step],
+    plateaus: &mut Vec<Plateau>,
+) -> Result<(), NoMemory>
+    requires { AreStepsApart steps.now }
+    ensures { OnOk result (AddsAll PlateauBefore (IsStepPlateau measure class steps.now)
+        plateaus.old.items plateaus.new.items) }
+{
+    let Some(first) = first_step(steps) else {
+        return Ok(());
+    };
+    let mut row = plateau_of(measure, class, &first);
+    let mut left = later_steps(steps);
+    'steps: while let Some(step) = first_step(left) {
+        let next = plateau_of(measure, class, &step);
+        if let Some(both) = joined(&row, &next) {
+            row = both;
+        } else {
+            plateaus.push(row)?;
+            row = next;
+        }
+        left = later_steps(left);
+    }
+    plateaus.push(row)?;
+    Ok(())
+}
+
+/// The plateaus of lists of which no two are of one class.
+pub(crate) fn plateaus_in(
+    alloc: Global,
+    measure: Measure,
+    lists: VecDeque<ClassSteps>,
+) -> Result<Vec<Plateau>, NoMemory>
+    requires ones { HaveNoNeighbours lists.items }
+    requires rise { RisesFrom 0 lists.items }
+    ensures { IfOk result (λ plateaus. IsListOf PlateauBefore (IsPlateauOfSome measure lists.items) plateaus.items) }
+{
+    let mut lists = lists;
+    let mut plateaus = Vec::new(alloc);
+    'lists: while let Some(list) = lists.pop_front() {
+        close(measure, list.class, list.steps.steps(), &mut plateaus)?;
+    }
+    Ok(plateaus)
+}

@@ -1,0 +1,97 @@
+//! One round: of the lists of each class two neighbours go to the workers together, and one that is left is put aside.
+
+ghost use Rattle.std.specs.Prelude.{◌≡◌, ◌*◌, ◌++◌, [], length, map, IfOk, MatchOption};
+ghost use Rattle.std.specs.Arc.{arc_value};
+ghost use Rattle.std.specs.Option.{option_to_list};
+ghost use Rattle.round_core.specs.ClassLists.{StartsOtherwise, HaveNoNeighbours};
+ghost use Rattle.round_core.specs.Rounds.{twos_in, sorted_lists, filled};
+
+use crate::class_steps::ClassSteps;
+use merge_core::Steps;
+use period_core::NoMemory;
+use std::alloc::{AllocError, Global};
+use std::collections::VecDeque;
+use std::sync::Arc;
+
+/// What comes in the place of one list or of two.
+#[derive(Drop)]
+pub(crate) enum Slot {
+    /// A list that has no neighbour to go with.
+    Aside(ClassSteps),
+    /// What the next two lists that go come to, both of this class.
+    OfTwo(u64),
+}
+
+/// The lists of a round, sorted out.
+#[derive(Drop)]
+pub(crate) struct Round {
+    /// What comes next, by rising class.
+    pub slots: VecDeque<Slot>,
+    /// The lists that go, two by two.
+    pub twos: Vec<Steps>,
+}
+
+/// Takes the first list if it is of that class.
+fn take_neighbour(lists: &mut VecDeque<ClassSteps>, class: u64) -> Option<ClassSteps>
+    ensures split { lists.old.items ≡ option_to_list result ++ lists.new.items }
+    ensures class { MatchOption result (StartsOtherwise class lists.new.items) (λ list. list.class ≡ class) }
+{
+    let first = lists.front()?;
+    if first.class == class {
+        lists.pop_front()
+    } else {
+        None
+    }
+}
+
+/// Sorts the lists out, from the first on: two neighbours of one class go, and another list is put aside.
+pub(crate) fn sort_out(alloc: Global, lists: VecDeque<ClassSteps>) -> Result<Round, NoMemory>
+    ensures lists { IfOk result (λ round. sorted_lists round.slots.items round.twos.items ≡ lists.items) }
+    ensures count { IfOk result (λ round. length round.twos.items ≡ twos_in round.slots.items * 2) }
+    ensures done { IfOk result (λ round. round.twos.items ≡ [] → HaveNoNeighbours lists.items) }
+{
+    let mut lists = lists;
+    let mut slots = VecDeque::new(alloc);
+    let mut twos = Vec::new(alloc);
+    'lists: while let Some(first) = lists.pop_front() {
+        let ClassSteps { class, steps } = first;
+        if let Some(second) = take_neighbour(&mut lists, class) {
+            twos.push(steps)?;
+            twos.push(second.steps)?;
+            slots.push_back(Slot::OfTwo(class))?;
+        } else {
+            slots.push_back(Slot::Aside(ClassSteps { class, steps }))?;
+        }
+    }
+    Ok(Round { slots, twos })
+}
+
+/// The lists that are put aside, and among them what each two come to.
+pub(crate) fn fill(
+    alloc: Global,
+    slots: VecDeque<Slot>,
+    made: VecDeque<Arc<Steps>>,
+) -> Result<VecDeque<ClassSteps>, NoMemory>
+    requires { length made.items ≡ twos_in slots.items }
+    ensures { IfOk result (λ lists. lists.items ≡ filled slots.items (map arc_value made.items)) }
+{
+    let mut slots = slots;
+    let mut made = made;
+    let mut lists = VecDeque::new(alloc);
+    'slots: while let Some(slot) = slots.pop_front() {
+        match slot {
+            Slot::Aside(list) => lists.push_back(list)?,
+            Slot::OfTwo(class) => {
+                let Some(list) = made.pop_front() else {
+                    unreachable!()
+                };
+                // Nobody else has it any more, so it can be taken out.
+                let Some(steps) = Arc::into_inner(list) else {
+                    return Err(AllocError);
+                };
+                lists.push_back(ClassSteps { class, steps })?;
+            }
+        }
+    }
+    Ok(lists)
+}

@@ -1,0 +1,110 @@
+//! All lists of a class as one, two by two in rounds.
+
+ghost use Rattle.std.specs.Prelude.{◌≡◌, ◌⊎◌, ◌%◌, ◌<◌, ◌≤◌, length, map, IfOk, IsTrue};
+ghost use Rattle.std.specs.Arc.{arc_value};
+ghost use Rattle.dip_core.specs.Item.{item_limit};
+ghost use Rattle.work_core.specs.Limits.{worker_limit};
+ghost use Rattle.round_core.specs.ClassLists.{weight_of, HaveNoNeighbours, IsRound};
+ghost use Rattle.round_core.specs.Rounds.{AreBoths};
+ghost use Rattle.round_core.specs.Together.{all_weight};
+
+use crate::class_steps::ClassSteps;
+use crate::round::{Round, fill, sort_out};
+use crate::tally_round::TallyRound;
+use merge_core::Steps;
+use period_core::NoMemory;
+use std::alloc::Global;
+use std::collections::VecDeque;
+use std::sync::Arc;
+use std::thread::Threads;
+use work_core::{Gate, Outs, run_pairs};
+
+/// The lists after a round.
+#[derive(Drop)]
+struct Rounded {
+    lists: VecDeque<ClassSteps>,
+    /// Whether no two of them are of one class.
+    done: bool,
+}
+
+/// The values of a job. Its answer is given back at the end, so nobody else has them then.
+fn lists_of(alloc: Global, outs: Outs<Arc<Steps>>) -> Result<VecDeque<Arc<Steps>>, NoMemory>
+    ensures { IfOk result (λ lists. map arc_value lists.items ≡ map arc_value outs) }
+{
+    let mut lists = VecDeque::new(alloc);
+    for i in 0..outs.len() {
+        let Some(list) = outs.get(i) else {
+            unreachable!()
+        };
+        lists.push_back(Arc::try_clone(list)?)?;
+    }
+    Ok(lists)
+}
+
+/// Each two lists as one, by many workers. No thread is started where there are none.
+fn combine_twos<R: Threads + Sync, G: Gate>(
+    rt: &R,
+    alloc: Global,
+    twos: &[Steps],
+    workers: u32,
+    gate: &G,
+) -> Result<VecDeque<Arc<Steps>>, NoMemory>
+    requires workers { (0 < workers) × (workers ≤ worker_limit) }
+    requires even { length twos.now % 2 ≡ 0 }
+    requires few { length twos.now ≤ item_limit }
+    requires light { all_weight twos.now ≤ item_limit }
+    ensures { IfOk result (λ made. AreBoths twos.now (map arc_value made.items)) }
+{
+    if twos.is_empty() {
+        return Ok(VecDeque::new(alloc));
+    }
+    let round = TallyRound::new(twos);
+    let outs = run_pairs(rt, alloc, &round, workers, gate)?;
+    lists_of(alloc, outs)
+}
+
+/// One round.
+fn round<R: Threads + Sync, G: Gate>(
+    rt: &R,
+    alloc: Global,
+    lists: VecDeque<ClassSteps>,
+    workers: u32,
+    gate: &G,
+) -> Result<Rounded, NoMemory>
+    requires workers { (0 < workers) × (workers ≤ worker_limit) }
+    requires few { length lists.items ≤ item_limit }
+    requires light { weight_of lists.items ≤ item_limit }
+    ensures round { IfOk result (λ rounded. IsRound lists.items rounded.lists.items) }
+    ensures done { IfOk result (λ rounded. IsTrue rounded.done → HaveNoNeighbours rounded.lists.items) }
+    ensures fewer { IfOk result (λ rounded. IsTrue rounded.done ⊎ (length rounded.lists.items < length lists.items)) }
+{
+    let Round { slots, twos } = sort_out(alloc, lists)?;
+    let done = twos.is_empty();
+    let made = combine_twos(rt, alloc, &twos, workers, gate)?;
+    let lists = fill(alloc, slots, made)?;
+    Ok(Rounded { lists, done })
+}
+
+/// One list for each class, which gives what all lists of the class come to together.
+pub(crate) fn combine_all<R: Threads + Sync, G: Gate>(
+    rt: &R,
+    alloc: Global,
+    lists: VecDeque<ClassSteps>,
+    workers: u32,
+    gate: &G,
+) -> Result<VecDeque<ClassSteps>, NoMemory>
+    requires workers { (0 < workers) × (workers ≤ worker_limit) }
+    requires few { length lists.items ≤ item_limit }
+    requires light { weight_of lists.items ≤ item_limit }
+    ensures round { IfOk result (λ all. IsRound lists.items all.items) }
+    ensures ones { IfOk result (λ all. HaveNoNeighbours all.items) }
+{
+    let mut lists = lists;
+    let mut done = false;
+    'rounds: while !done {
+        let next = round(rt, alloc, lists, workers, gate)?;
+        lists = next.lists;
+        done = next.done;
+    }
+    Ok(lists)
+}

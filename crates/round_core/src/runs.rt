@@ -1,0 +1,107 @@
+//! The items of each class as lists of steps.
+
+ghost use Rattle.std.specs.Prelude.{◌≡◌, ◌<◌, ◌≤◌, [], ◌∷◌, length, take, drop, All, AllPairs, IfOk, OnOk, MatchOption};
+ghost use Rattle.dip_core.specs.Item.{item_limit};
+ghost use Rattle.dip_core.specs.Division.{all_of};
+ghost use Rattle.round_core.specs.ClassLists.{AddsSteps, RisesFrom, StandForAll};
+
+use crate::class_steps::ClassSteps;
+use dip_core::{Division, Item, Part, create_dip};
+use merge_core::Steps;
+use period_core::NoMemory;
+use std::alloc::Global;
+use std::collections::VecDeque;
+
+/// Adds the steps of a part.
+fn push_part(
+    alloc: Global,
+    class: u64,
+    part: Part<'_>,
+    lists: &mut VecDeque<ClassSteps>,
+) -> Result<(), NoMemory>
+    requires { 0 < length part.items.now }
+    ensures { OnOk result (AddsSteps class part.entry.items.now lists.old.items lists.new.items) }
+{
+    let steps = Steps::of_part(alloc, part)?;
+    lists.push_back(ClassSteps { class, steps })?;
+    Ok(())
+}
+
+/// Adds the steps of each part.
+fn push_parts(
+    alloc: Global,
+    class: u64,
+    division: &Division,
+    lists: &mut VecDeque<ClassSteps>,
+) -> Result<(), NoMemory>
+    ensures { OnOk result (AddsSteps class (all_of division.now) lists.old.items lists.new.items) }
+{
+    for number in 0..division.parts() {
+        push_part(alloc, class, division.part(number), lists)?;
+    }
+    Ok(())
+}
+
+/// Adds the steps of the items of a class, which are divided unless they are a part as they are.
+fn push_run(
+    alloc: Global,
+    class: u64,
+    items: &[Item],
+    lists: &mut VecDeque<ClassSteps>,
+) -> Result<(), NoMemory>
+    requires some { 0 < length items.now }
+    requires few { length items.now ≤ item_limit }
+    ensures { OnOk result (AddsSteps class items.now lists.old.items lists.new.items) }
+{
+    if let Some(part) = Part::new(items) {
+        return push_part(alloc, class, part, lists);
+    }
+    let division = create_dip(alloc, items)?;
+    push_parts(alloc, class, &division, lists)?;
+    Ok(())
+}
+
+/// How many of the items, from the first on, are of the class.
+fn run_len(class: u64, items: &[Item]) -> usize
+    ensures inside { result ≤ length items.now }
+    ensures own { All (λ x. x.class ≡ class) (take result items.now) }
+{
+    let mut len = 0;
+    'items: while len < items.len() && items[len].class == class {
+        len += 1;
+    }
+    len
+}
+
+/// The first item.
+fn first_item(items: &[Item]) -> Option<Item>
+    ensures { MatchOption result (items.now ≡ []) (λ x. items.now ≡ x ∷ drop 1 items.now) }
+{
+    items.first().copied()
+}
+
+/// The items without the first one.
+fn later_items(items: &[Item]) -> &[Item]
+    ensures { result.now ≡ drop 1 items.now }
+{
+    if items.is_empty() { items } else { &items[1..] }
+}
+
+/// Lists of steps for the items of each class, by rising class.
+pub(crate) fn class_lists(alloc: Global, items: &[Item]) -> Result<VecDeque<ClassSteps>, NoMemory>
+    requires few { length items.now ≤ item_limit }
+    requires grouped { AllPairs (λ a b. a.class ≤ b.class) items.now }
+    ensures stand { IfOk result (λ lists. StandForAll items.now lists.items) }
+    ensures rise { IfOk result (λ lists. RisesFrom 0 lists.items) }
+{
+    let mut lists = VecDeque::new(alloc);
+    let mut left = items;
+    'runs: while let Some(first) = first_item(left) {
+        let class = first.class;
+        let len = 1 + run_len(class, later_items(left));
+        let (run, rest) = left.split_at(len);
+        push_run(alloc, class, run, &mut lists)?;
+        left = rest;
+    }
+    Ok(lists)
+}
