@@ -13,8 +13,10 @@ use Rattle.cert_core.specs.declared.verdict.Verdict.TheVariants.{WrongCount, Emp
 use Rattle.dip_core.specs.Division.{part_at}
 use Rattle.dip_core.specs.declared.item.Item.{Item}
 use Rattle.command_core.specs.declared.refusal.Fault.{Fault}
+use Rattle.agg_core.specs.declared.rows.AggRow.{AggRow}
 use Rattle.answer_core.specs.JoinedRows.{JoinedRows}
-use Rattle.answer_core.specs.PrintedRecords.{IsPrintedAs, commit_record, commit_records, dip_record, end_record, errors_in, join_record, join_records, part_record, part_records, row_record, row_records, verdict_record, version_record, version_records}
+use Rattle.answer_core.specs.UnmatchedRows.{UnmatchedRows}
+use Rattle.answer_core.specs.PrintedRecords.{IsPrintedAs, agg_record, agg_records, anti_record, anti_records, commit_record, commit_records, dip_record, end_record, errors_in, join_record, join_records, part_record, part_records, row_record, row_records, verdict_record, version_record, version_records}
 use Rattle.answer_core.specs.Unwritten.{Adds, Unwritten}
 use Rattle.answer_core.specs.declared.answer.Answer.{Answer}
 use Rattle.answer_core.specs.declared.answer.Answer.TheVariants as answer
@@ -106,6 +108,13 @@ errors_in-join_records : (joined : JoinedRows) → errors_in (join_records joine
 errors_in-join_records joined =
     errors_in-list (join_record joined.left joined.right) (λ row. refl) joined.rows (length joined.rows)
 
+errors_in-anti_records : (unmatched : UnmatchedRows) → errors_in (anti_records unmatched) ≡ 0
+errors_in-anti_records unmatched =
+    errors_in-list (anti_record unmatched.left) (λ row. refl) unmatched.rows (length unmatched.rows)
+
+errors_in-agg_records : (rows : List AggRow) → errors_in (agg_records rows) ≡ 0
+errors_in-agg_records rows = errors_in-list agg_record (λ row. refl) rows (length rows)
+
 errors_in-commit_records : (entries : List Entry) → errors_in (commit_records entries) ≡ 0
 errors_in-commit_records entries = errors_in-list commit_record (λ e. refl) entries (length entries)
 
@@ -130,5 +139,7 @@ errors_in-printed (answer.Versions versions) other records is = ap errors_in is 
 errors_in-printed (answer.Division rows parts) other records (instant, of, is) =
     ap errors_in is ∙ errors_in-division rows parts instant
 errors_in-printed (answer.Join joined) other records is = ap errors_in is ∙ errors_in-join_records joined
+errors_in-printed (answer.Anti unmatched) other records is = ap errors_in is ∙ errors_in-anti_records unmatched
+errors_in-printed (answer.Agg rows) other records is = ap errors_in is ∙ errors_in-agg_records rows
 errors_in-printed (answer.Verdict verdict) other records is = ap errors_in is ∙ errors_in-verdict verdict
 errors_in-printed (answer.Log entries) other records is = ap errors_in is ∙ errors_in-commit_records entries

@@ -2,4 +2,5 @@ pub mod AnswerWriter
 pub mod JoinedRows
 pub mod PrintedRecords
 pub mod RecordBytes
+pub mod UnmatchedRows
 pub mod Unwritten

@@ -14,11 +14,14 @@ use Rattle.cert_core.specs.declared.verdict.Verdict.TheVariants.{WrongCount, Emp
 use Rattle.dip_core.specs.Division.{IsInstantOf}
 use Rattle.dip_core.specs.declared.item.Item.{Item}
 use Rattle.join_core.specs.declared.rows.JoinRow.{JoinRow}
+use Rattle.anti_core.specs.declared.rows.AntiRow.{AntiRow}
+use Rattle.agg_core.specs.declared.rows.AggRow.{AggRow}
 use Rattle.command_core.specs.Records.{Record}
 use Rattle.command_core.specs.Refusal.{refusal_text}
 use Rattle.command_core.specs.Words.{begins}
 use Rattle.command_core.specs.declared.refusal.Fault.{Fault}
 use Rattle.answer_core.specs.JoinedRows.{JoinedRows, values_with}
+use Rattle.answer_core.specs.UnmatchedRows.{UnmatchedRows}
 use Rattle.answer_core.specs.declared.answer.Answer.{Answer}
 use Rattle.answer_core.specs.declared.answer.Answer.TheVariants as answer
 
@@ -74,6 +77,34 @@ join_record left right row =
 -- one record for each pair of rows that were joined, and how many there are
 abbrev pub join_records : JoinedRows → List Record
 join_records joined = map (join_record joined.left joined.right) joined.rows ++ end_record (length joined.rows) ∷ []
+
+-- a left row while no right row matched it: its id, the period for which none did, and its values
+abbrev pub anti_record : List Row → AntiRow → Record
+anti_record left row =
+    codes "row" ∷ decimal row.id ∷ point_text row.period.from ∷ point_text row.period.to
+    ∷ map value_text (values_with left row.id)
+
+-- one record for each such row and period, and how many there are
+abbrev pub anti_records : UnmatchedRows → List Record
+anti_records unmatched = map (anti_record unmatched.left) unmatched.rows ++ end_record (length unmatched.rows) ∷ []
+
+-- ---- aggregates
+
+-- a group as it is printed: its value, or no field where all rows are one group
+abbrev pub group_fields : Option Value → Record
+group_fields None = []
+group_fields (Some value) = value_text value ∷ []
+
+-- what a group comes to: the group, a period, and the number that it comes to at each instant of the period
+abbrev pub agg_record : AggRow → Record
+agg_record row =
+    codes "row"
+    ∷ (group_fields row.group
+    ++ point_text row.period.from ∷ point_text row.period.to ∷ signed_decimal row.value ∷ [])
+
+-- one record for each group and period, and how many there are
+abbrev pub agg_records : List AggRow → List Record
+agg_records rows = map agg_record rows ++ end_record (length rows) ∷ []
 
 -- ---- the log
 
@@ -140,6 +171,8 @@ IsPrintedAs (answer.Versions versions) records = records ≡ version_records ver
 IsPrintedAs (answer.Division rows parts) records =
     (instant : Option ℤ) × IsInstantOf parts instant × (records ≡ division_records rows parts instant)
 IsPrintedAs (answer.Join joined) records = records ≡ join_records joined
+IsPrintedAs (answer.Anti unmatched) records = records ≡ anti_records unmatched
+IsPrintedAs (answer.Agg rows) records = records ≡ agg_records rows
 IsPrintedAs (answer.Verdict verdict) records = records ≡ verdict_record verdict ∷ []
 IsPrintedAs (answer.Log entries) records = records ≡ commit_records entries
 

@@ -4,6 +4,8 @@ ghost use Rattle.command_core.specs.Records.{Record};
 ghost use Rattle.answer_core.specs.PrintedRecords.{IsPrintedAs, errors_in};
 
 use crate::joined::Joined;
+use crate::unmatched::Unmatched;
+use agg_core::AggRows;
 use book_core::{Log, VersionList};
 use cert_core::Verdict;
 use command_core::Fault;
@@ -25,6 +27,10 @@ pub enum Answer {
     Division { rows: usize, division: Division },
     /// Rows of two tables that held together.
     Join(Joined),
+    /// Rows of a table when none of another matched them.
+    Anti(Unmatched),
+    /// What the rows of a table come to, by group and start.
+    Agg(AggRows),
     /// What the check of a division says.
     Verdict(Verdict),
     /// What each commit did.

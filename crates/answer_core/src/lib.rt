@@ -4,11 +4,15 @@
 mod answer;
 mod joined;
 mod print;
+mod print_agg;
+mod print_anti;
 mod print_division;
 mod print_join;
 mod print_log;
+mod unmatched;
 mod writer;
 
 pub use answer::Answer;
 pub use joined::Joined;
+pub use unmatched::Unmatched;
 pub use writer::AnswerWriter;

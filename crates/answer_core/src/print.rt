@@ -42,6 +42,8 @@ impl AnswerWriter {
             Answer::Versions(versions) => self.version_list(versions),
             Answer::Division { rows, division } => self.division(*rows, division),
             Answer::Join(joined) => self.joined(joined),
+            Answer::Anti(unmatched) => self.unmatched(unmatched),
+            Answer::Agg(rows) => self.aggregates(rows),
             Answer::Verdict(verdict) => self.verdict(*verdict),
             Answer::Log(log) => self.log(log),
         }
@@ -150,7 +152,7 @@ impl AnswerWriter {
         Ok(())
     }
 
-    fn value(&mut self, value: &Value) -> Result<(), NoMemory>
+    pub(crate) fn value(&mut self, value: &Value) -> Result<(), NoMemory>
         ensures { OnOk result (self.new ≡ record self.old { fields = self.old.fields ++ value_text value.now ∷ [] }) }
     {
         match value {

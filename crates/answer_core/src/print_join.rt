@@ -57,7 +57,7 @@ impl AnswerWriter {
     }
 
     /// The values of the row of that id.
-    fn values_of(&mut self, rows: &RowsById<'_>, id: u64) -> Result<(), NoMemory>
+    pub(crate) fn values_of(&mut self, rows: &RowsById<'_>, id: u64) -> Result<(), NoMemory>
         ensures { OnOk result
             (self.new ≡ record self.old { fields = self.old.fields ++ map value_text (values_with rows.now id) }) }
     {

@@ -105,6 +105,14 @@ impl AnswerWriter {
         push(&mut self.row, digits.format(number).as_bytes())
     }
 
+    /// Adds a number of up to 128 bits that may be negative to the record at hand.
+    pub(crate) fn wide(&mut self, number: i128) -> Result<(), NoMemory>
+        ensures { OnOk result (self.new ≡ record self.old { fields = self.old.fields ++ signed_decimal number ∷ [] }) }
+    {
+        let mut digits = Buffer::new();
+        push(&mut self.row, digits.format(number).as_bytes())
+    }
+
     /// Adds a point to the record at hand.
     pub(crate) fn point(&mut self, point: Point) -> Result<(), NoMemory>
         ensures { OnOk result (self.new ≡ record self.old { fields = self.old.fields ++ point_text point ∷ [] }) }

@@ -3,6 +3,7 @@ use Rattle.std.proofs.Common.{ℕ, ◌+◌, ◌≤◌, [], ◌∷◌, Bool, true
 use Rattle.std.specs.Prelude.{codes, if◌then◌else◌}
 use Rattle.row_core.specs.Refusals.{and_then, map_ok}
 use Rattle.row_core.specs.declared.schema.Column.{Column}
+use Rattle.command_core.specs.Aggregates.{aggregated}
 use Rattle.command_core.specs.Fields.{claimed, dated, name_in, named, period_in, spanned, compared, with_asof}
 use Rattle.command_core.specs.Meaning.{Meaning, TableForm, behind_length, block_meaning, check_meaning, delete_meaning, delete_of, if_formed, load_meaning, make_table, name_table, table_columns, table_form, table_meaning, told, update_meaning, update_of, verb_meaning}
 use Rattle.command_core.specs.Pairs.{named_pairs}
@@ -91,6 +92,8 @@ record-behind number line (Some verb.Between) = made 0 number _ (spanned line) (
 record-behind number line (Some verb.FromTo) = made 0 number _ (spanned line) (λ r. omega arith)
 record-behind number line (Some verb.Dip) = made 0 number _ (with_asof named line) (λ r. omega arith)
 record-behind number line (Some verb.Join) = made 0 number _ (with_asof compared line) (λ r. omega arith)
+record-behind number line (Some verb.Anti) = made 0 number _ (with_asof compared line) (λ r. omega arith)
+record-behind number line (Some verb.Agg) = made 0 number _ (with_asof aggregated line) (λ r. omega arith)
 record-behind number line (Some verb.Log) = log-has number line
 
 -- a block has its body, and its `end`

@@ -6,7 +6,7 @@ use Rattle.command_core.specs.Meaning.{Meaning}
 use Rattle.command_core.specs.Meaning as M
 use Rattle.command_core.specs.PairsIn.{compared_in, pairs_in}
 use Rattle.command_core.specs.declared.command.Command.{Command}
-use Rattle.command_core.specs.declared.command.Command.TheVariants.{Refused, Make, Load, Update, Delete, Rows, At, Between, FromTo, Dip, Join, Check, Log}
+use Rattle.command_core.specs.declared.command.Command.TheVariants.{Refused, Make, Load, Update, Delete, Rows, At, Between, FromTo, Dip, Join, Anti, Agg, Check, Log}
 use Rattle.command_core.specs.declared.refusal.Refusal.{Refusal}
 
 abbrev pub meaning_of : Command → Meaning
@@ -21,6 +21,8 @@ meaning_of (Between table first last) = M.Between table first last
 meaning_of (FromTo table first end) = M.FromTo table first end
 meaning_of (Dip table asof) = M.Dip table asof
 meaning_of (Join tables asof) = M.Join (compared_in tables) asof
+meaning_of (Anti tables asof) = M.Anti (compared_in tables) asof
+meaning_of (Agg aggregate asof) = M.Agg aggregate asof
 meaning_of (Check table parts instant asof body) = M.Check table parts instant asof (lines_in body)
 meaning_of Log = M.Log
 

@@ -1,11 +1,12 @@
+pub mod Aggregates
 pub mod Command
-pub mod Cut
 pub mod Fields
 pub mod Lines
 pub mod Meaning
 pub mod Pairs
 pub mod PairsIn
 pub mod Portions
+pub mod RawAggregates
 pub mod Records
 pub mod Refusal
 pub mod TableCommand

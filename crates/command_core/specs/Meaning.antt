@@ -8,12 +8,14 @@ use Rattle.row_core.specs.Schema.{keyed_of, schema_of}
 use Rattle.row_core.specs.declared.schema.Column.{Column}
 use Rattle.row_core.specs.declared.value.Kind.{Kind}
 use Rattle.row_core.specs.declared.value.Kind.TheVariants as kind
+use Rattle.command_core.specs.Aggregates.{aggregated}
 use Rattle.command_core.specs.Fields.{claimed, compared, dated, name_in, named, period_in, spanned, with_asof}
 use Rattle.command_core.specs.Pairs.{Compared, TextPair, named_pairs}
 use Rattle.command_core.specs.Portions.{conditions_in, settings_in}
 use Rattle.command_core.specs.Records.{Record}
 use Rattle.command_core.specs.Refusal.{fault, key_refusal, schema_refusal}
 use Rattle.command_core.specs.Words.{begins, is_end, opens_block, verb_of}
+use Rattle.command_core.specs.declared.aggregate.Aggregate.{Aggregate}
 use Rattle.command_core.specs.declared.refusal.Fault.{Fault}
 use Rattle.command_core.specs.declared.refusal.Refusal.{Refusal}
 use Rattle.command_core.specs.declared.refusal.Refusal.TheVariants.{BadCommand, BadName, Unended}
@@ -33,6 +35,8 @@ pub data Meaning : Type 0 where
   FromTo : List ℕ → ℕ → ℕ → Meaning
   Dip : List ℕ → Option ℕ → Meaning
   Join : Compared → Option ℕ → Meaning
+  Anti : Compared → Option ℕ → Meaning
+  Agg : Aggregate → Option ℕ → Meaning
   Check : List ℕ → ℕ → Option ℤ → Option ℕ → List Record → Meaning
   Log : Meaning
 
@@ -144,6 +148,12 @@ from_to_meaning line = map_ok (λ r. FromTo r.0 r.1.0 r.1.1) (spanned line)
 abbrev pub join_meaning : Record → Result Meaning Refusal
 join_meaning line = map_ok (λ r. Join r.0 r.1) (with_asof compared line)
 
+abbrev pub anti_meaning : Record → Result Meaning Refusal
+anti_meaning line = map_ok (λ r. Anti r.0 r.1) (with_asof compared line)
+
+abbrev pub agg_meaning : Record → Result Meaning Refusal
+agg_meaning line = map_ok (λ r. Agg r.0 r.1) (with_asof aggregated line)
+
 abbrev pub log_meaning : Record → Result Meaning Refusal
 log_meaning (word ∷ []) = Ok Log
 log_meaning line = Err BadCommand
@@ -162,6 +172,8 @@ verb_meaning line (Some verb.Between) = between_meaning line
 verb_meaning line (Some verb.FromTo) = from_to_meaning line
 verb_meaning line (Some verb.Dip) = dip_meaning line
 verb_meaning line (Some verb.Join) = join_meaning line
+verb_meaning line (Some verb.Anti) = anti_meaning line
+verb_meaning line (Some verb.Agg) = agg_meaning line
 verb_meaning line (Some verb.Log) = log_meaning line
 
 abbrev pub record_meaning : Record → Result Meaning Refusal

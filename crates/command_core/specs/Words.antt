@@ -2,7 +2,7 @@
 use Rattle.std.specs.Prelude.{ℕ, List, [], ◌∷◌, Bool, ◌||◌, false, Option, Some, None, bytes_eq, codes, if◌then◌else◌}
 use Rattle.command_core.specs.Records.{Record}
 use Rattle.command_core.specs.declared.words.Verb.{Verb}
-use Rattle.command_core.specs.declared.words.Verb.TheVariants.{Table, Update, Delete, Rows, At, Between, FromTo, Dip, Join, Log}
+use Rattle.command_core.specs.declared.words.Verb.TheVariants.{Table, Update, Delete, Rows, At, Between, FromTo, Dip, Join, Anti, Agg, Log}
 
 -- the first field is this word
 abbrev pub begins : List ℕ → Record → Bool
@@ -21,6 +21,8 @@ verb_of line =
     else if begins (codes "fromto") line then Some FromTo
     else if begins (codes "dip") line then Some Dip
     else if begins (codes "join") line then Some Join
+    else if begins (codes "anti") line then Some Anti
+    else if begins (codes "agg") line then Some Agg
     else if begins (codes "log") line then Some Log
     else None
 

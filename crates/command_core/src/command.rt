@@ -34,12 +34,14 @@ ghost use Rattle.command_core.specs.Meaning.{
 };
 ghost use Rattle.command_core.specs.Words.{begins, is_end, opens_block};
 
+use crate::aggregate::Aggregate;
 use crate::fields::{claimed, commit_told, named, split_asof};
 use crate::lines::{Line, Lines};
 use crate::pairs::{TextPairs, TwoTables};
 use crate::portions::{read_delete, read_update};
 use crate::queries::{
-    read_at, read_between, read_dip, read_from_to, read_join, read_log, read_rows,
+    read_agg, read_anti, read_at, read_between, read_dip, read_from_to, read_join, read_log,
+    read_rows,
 };
 use crate::refusal::{Fault, Refusal};
 use crate::table_command::read_table;
@@ -110,6 +112,17 @@ pub enum Command<'a> {
         tables: TwoTables<'a>,
         asof: Option<u64>,
     },
+    /// The rows of the left table, for as long as no row of the right one holds that is equal to them in
+    /// each pair of columns.
+    Anti {
+        tables: TwoTables<'a>,
+        asof: Option<u64>,
+    },
+    /// What the rows of each group come to, from instant to instant.
+    Agg {
+        aggregate: Aggregate,
+        asof: Option<u64>,
+    },
     /// A check of a division: its number of parts, its instant, and in the body its parts.
     Check {
         table: Name,
@@ -153,6 +166,8 @@ fn read_record<'a>(alloc: Global, line: Line<'a>) -> Result<Command<'a>, Failure
         Some(Verb::FromTo) => Ok(read_from_to(line)?),
         Some(Verb::Dip) => Ok(read_dip(line)?),
         Some(Verb::Join) => Ok(read_join(line)?),
+        Some(Verb::Anti) => Ok(read_anti(line)?),
+        Some(Verb::Agg) => Ok(read_agg(line)?),
         Some(Verb::Log) => Ok(read_log(line)?),
         None => Err(Failure::Refused(Refusal::BadCommand)),
     }

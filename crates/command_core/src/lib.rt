@@ -1,6 +1,7 @@
 //! The commands of a script: what their records mean, before any table is looked at.
 #![tactic(auto)]
 
+mod aggregate;
 mod command;
 mod fields;
 mod laws;
@@ -13,6 +14,7 @@ mod refusal;
 mod table_command;
 mod words;
 
+pub use aggregate::{Aggregate, Func};
 pub use command::{Command, Cut, next_command};
 pub use fields::natural_in;
 pub use laws::{records_have_one_first_command, script_has_one_list_of_records};

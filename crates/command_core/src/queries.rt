@@ -3,6 +3,8 @@ ghost use Rattle.std.specs.Prelude.{◌≡◌};
 ghost use Rattle.command_core.specs.Command.{meant_by};
 ghost use Rattle.command_core.specs.Lines.{fields_in};
 ghost use Rattle.command_core.specs.Meaning.{
+  agg_meaning,
+  anti_meaning,
   at_meaning,
   between_meaning,
   dip_meaning,
@@ -12,6 +14,7 @@ ghost use Rattle.command_core.specs.Meaning.{
   rows_meaning,
 };
 
+use crate::aggregate::aggregated;
 use crate::command::Command;
 use crate::fields::{commit_told, compared, dated, named, spanned, split_asof};
 use crate::lines::Line;
@@ -59,6 +62,30 @@ pub(crate) fn read_join<'a>(line: Line<'a>) -> Result<Command<'a>, Refusal>
         }),
         Err(refusal) => Err(refusal),
     }
+}
+
+/// What a record means whose word is `anti`.
+pub(crate) fn read_anti<'a>(line: Line<'a>) -> Result<Command<'a>, Refusal>
+    ensures { meant_by result ≡ anti_meaning (fields_in line.entry) }
+{
+    let (front, asof) = split_asof(line);
+    match compared(front) {
+        Ok(tables) => Ok(Command::Anti {
+            tables,
+            asof: commit_told(asof)?,
+        }),
+        Err(refusal) => Err(refusal),
+    }
+}
+
+/// What a record means whose word is `agg`.
+pub(crate) fn read_agg<'a>(line: Line<'a>) -> Result<Command<'a>, Refusal>
+    ensures { meant_by result ≡ agg_meaning (fields_in line.entry) }
+{
+    let (front, asof) = split_asof(line);
+    let aggregate = aggregated(front)?;
+    let asof = commit_told(asof)?;
+    Ok(Command::Agg { aggregate, asof })
 }
 
 /// What a record means whose word is `between`.

@@ -21,12 +21,13 @@ ghost use Rattle.std.specs.Prelude.{
 };
 ghost use Rattle.csv.specs.Reading.{error_kind, stops_reader};
 ghost use Rattle.csv.specs.Records.{fields_of, partial_of};
-ghost use Rattle.command_core.specs.Cut.{cut, start_at, EndsAt};
+ghost use Rattle.list_core.specs.Cut.{cut, EndsAt};
 ghost use Rattle.command_core.specs.Lines.{fields_in};
 ghost use Rattle.command_core.specs.Records.{AreScriptRecords};
 
 use crate::lines::Line;
 use csv::{ByteRecord, Error, ErrorKind, ReaderBuilder};
+use list_core::start_at;
 use period_core::NoMemory;
 use std::alloc::{AllocError, Global};
 use std::marker::Model;
@@ -42,7 +43,7 @@ pub struct Records {
 impl Model for Records {
     ghost use Rattle.std.specs.Prelude.{ℕ, List, length};
     ghost use Rattle.csv.specs.Records.{fields_of};
-    ghost use Rattle.command_core.specs.Cut.{cut, EndsAt};
+    ghost use Rattle.list_core.specs.Cut.{cut, EndsAt};
 
     ghost Value = { List (List (List ℕ)) };
 
@@ -66,14 +67,6 @@ impl Records {
     {
         line_at(&self.fields, &self.ends, place)
     }
-}
-
-/// Where the part at a place starts among parts that end at these places.
-fn start_at(ends: &[usize], place: usize) -> usize
-    requires { place < length ends.now }
-    ensures { result ≡ start_at 0 ends.now place }
-{
-    if place == 0 { 0 } else { ends[place - 1] }
 }
 
 /// The record at a place.

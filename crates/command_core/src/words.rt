@@ -17,6 +17,8 @@ pub(crate) enum Verb {
     FromTo,
     Dip,
     Join,
+    Anti,
+    Agg,
     Log,
 }
 
@@ -52,6 +54,10 @@ pub(crate) fn verb_of(line: Line<'_>) -> Option<Verb>
         Some(Verb::Dip)
     } else if begins(line, b"join") {
         Some(Verb::Join)
+    } else if begins(line, b"anti") {
+        Some(Verb::Anti)
+    } else if begins(line, b"agg") {
+        Some(Verb::Agg)
     } else if begins(line, b"log") {
         Some(Verb::Log)
     } else {

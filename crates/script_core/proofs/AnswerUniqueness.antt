@@ -19,16 +19,20 @@ use Rattle.match_core.specs.Items.{items_of}
 use Rattle.match_core.proofs.ItemIds.{IdsRise-items_of}
 use Rattle.join_core.specs.declared.rows.JoinRow.{JoinRow}
 use Rattle.join_core.proofs.JoinExistence.{one_join}
+use Rattle.anti_core.specs.declared.rows.AntiRow.{AntiRow}
+use Rattle.anti_core.proofs.AntiExistence.{one_anti}
+use Rattle.agg_core.proofs.OrderLemmas.{one_aggregate}
 use Rattle.command_core.specs.Fields.{both}
-use Rattle.command_core.specs.Meaning.{Meaning, Refuse, Make, Load, Update, Delete, Rows, At, Between, FromTo, Dip, Join, Check, Log}
+use Rattle.command_core.specs.Meaning.{Meaning, Refuse, Make, Load, Update, Delete, Rows, At, Between, FromTo, Dip, Join, Anti, Agg, Check, Log}
 use Rattle.command_core.specs.Pairs.{NamePair}
 use Rattle.command_core.specs.Records.{Record}
+use Rattle.command_core.specs.declared.aggregate.Aggregate.{Aggregate}
 use Rattle.command_core.specs.declared.refusal.Fault.{Fault}
 use Rattle.answer_core.specs.PrintedRecords.{IsPrintedAs, division_records}
 use Rattle.answer_core.specs.declared.answer.Answer.{Answer}
 use Rattle.answer_core.specs.declared.answer.Answer.TheVariants as answer
-use Rattle.script_core.specs.Answer.{Answers, AnswersChange, AnswersQuery, IsAnswerTo, IsDipOf, IsJoinOf, IsVerdictOn, IsVersions, Refuses}
-use Rattle.script_core.specs.Effects.{Table, claim_of, delete_in, load_in, make_in, rows_on, rows_told, sides_told, update_in, versions_told}
+use Rattle.script_core.specs.Answer.{Answers, AnswersChange, AnswersQuery, IsAggOf, IsAnswerTo, IsAntiOf, IsDipOf, IsJoinOf, IsVerdictOn, IsVersions, Refuses}
+use Rattle.script_core.specs.Effects.{TableRows, aggregated_told, claim_of, delete_in, func_of, load_in, make_in, rows_on, rows_told, sides_told, update_in, versions_told}
 
 -- ---- what queries are answered
 
@@ -41,12 +45,28 @@ one_versions : (Are : List Version → Type 0) → ((vs ws : List Version) → A
 one_versions Are unique one other p q =
     p.is ∙ (ap answer.Versions (unique p.versions q.versions p.asked q.asked) ∙ sym q.is)
 
-one_join_of : (left right : Table) (on : List NamePair) (one other : Answer) → IsJoinOf left right on one
+one_join_of : (left right : TableRows) (on : List NamePair) (one other : Answer) → IsJoinOf left right on one
     → IsJoinOf left right on other → one ≡ other
 one_join_of left right on one other p q =
     p.is
     ∙ (ap (λ (rows : List JoinRow). answer.Join (record { left = left.1; right = right.1; rows = rows }))
     (one_join left.0 right.0 on left.1 right.1 p.rows q.rows p.joined q.joined)
+    ∙ sym q.is)
+
+one_anti_of : (left right : TableRows) (on : List NamePair) (one other : Answer) → IsAntiOf left right on one
+    → IsAntiOf left right on other → one ≡ other
+one_anti_of left right on one other p q =
+    p.is
+    ∙ (ap (λ (rows : List AntiRow). answer.Anti (record { left = left.1; rows = rows }))
+    (one_anti left.0 right.0 on left.1 right.1 p.rows q.rows p.unmatched q.unmatched)
+    ∙ sym q.is)
+
+one_agg_of : (table : TableRows) (asked : Aggregate) (one other : Answer) → IsAggOf table asked one
+    → IsAggOf table asked other → one ≡ other
+one_agg_of table asked one other p q =
+    p.is
+    ∙ (ap answer.Agg
+    (one_aggregate table.0 (func_of asked.func) asked.by table.1 p.rows q.rows p.aggregated q.aggregated)
     ∙ sym q.is)
 
 one_verdict_on : (items : List Item) (claim : List (List ℕ)) (certificate : Certificate) (one other : Answer)
@@ -133,6 +153,12 @@ one_given before number (Dip name asof) one other f g p q =
 one_given before number (Join tables asof) one other f g p q =
     one_query before (sides_told number before asof tables) (λ sides. IsJoinOf sides.0 sides.1 tables.on)
     (λ sides read. one_join_of sides.0 sides.1 tables.on) one other f g p q
+one_given before number (Anti tables asof) one other f g p q =
+    one_query before (sides_told number before asof tables) (λ sides. IsAntiOf sides.0 sides.1 tables.on)
+    (λ sides read. one_anti_of sides.0 sides.1 tables.on) one other f g p q
+one_given before number (Agg asked asof) one other f g p q =
+    one_query before (aggregated_told number before asof asked) (λ table. IsAggOf table asked)
+    (λ table read. one_agg_of table asked) one other f g p q
 one_given before number (Check name parts instant asof body) one other f g p q =
     let told = rows_told number before asof name in
     let claimed = claim_of (number + 1) body in
@@ -159,6 +185,8 @@ one_print (answer.Versions versions) one other divides p q = p ∙ sym q
 one_print (answer.Division rows parts) one other (items, division) (s, at, is) (t, at', is') =
     is ∙ (ap (division_records rows parts) (one_instant_of items parts s t division at at') ∙ sym is')
 one_print (answer.Join joined) one other divides p q = p ∙ sym q
+one_print (answer.Anti unmatched) one other divides p q = p ∙ sym q
+one_print (answer.Agg rows) one other divides p q = p ∙ sym q
 one_print (answer.Verdict verdict) one other divides p q = p ∙ sym q
 one_print (answer.Log entries) one other divides p q = p ∙ sym q
 
@@ -210,6 +238,12 @@ divides before number (Join tables asof) given after p =
     query-divides before (sides_told number before asof tables) (λ sides. IsJoinOf sides.0 sides.1 tables.on)
     (λ sides given is. plain given
     (answer.Join (record { left = sides.0.1; right = sides.1.1; rows = is.rows })) tt is.is) given after p
+divides before number (Anti tables asof) given after p =
+    query-divides before (sides_told number before asof tables) (λ sides. IsAntiOf sides.0 sides.1 tables.on)
+    (λ sides given is. plain given (answer.Anti (record { left = sides.0.1; rows = is.rows })) tt is.is) given after p
+divides before number (Agg asked asof) given after p =
+    query-divides before (aggregated_told number before asof asked) (λ table. IsAggOf table asked)
+    (λ table given is. plain given (answer.Agg is.rows) tt is.is) given after p
 divides before number (Check name parts instant asof body) given after p =
     query-divides before (both (rows_told number before asof name) (claim_of (number + 1) body))
     (λ read. IsVerdictOn (items_of read.0) read.1 (record { parts = parts; instant = instant }))

@@ -1,12 +1,14 @@
--- Two tables, read one after the other.
+-- A table that is read, and two, one after the other.
 use Rattle.std.proofs.Common.{◌≡◌, ◌∙◌, ℕ, List, Option, None, Ok, ap, refl}
 use Rattle.book_core.specs.History.{History}
 use Rattle.command_core.specs.Pairs.{Compared}
+use Rattle.command_core.specs.declared.aggregate.Aggregate.{Aggregate}
+use Rattle.agg_core.specs.Agg.{agg_refusal}
 use Rattle.match_core.specs.Columns.{columns_refusal}
 use Rattle.row_core.specs.Refusals.{and_then, map_ok}
 use Rattle.row_core.specs.declared.row.Row.{Row}
 use Rattle.row_core.specs.declared.schema.Column.{Column}
-use Rattle.script_core.specs.Effects.{Table, columns_told, rows_told, sides_told, table_told}
+use Rattle.script_core.specs.Effects.{TableRows, aggregated_told, columns_told, func_of, rows_told, sides_told, table_told}
 
 -- its rows and its columns
 pub table-read : (number : ℕ) (h : History) (asof : Option ℕ) (name : List ℕ) (columns : List Column) (rows : List Row)
@@ -19,7 +21,13 @@ table-read number h asof name columns rows read told =
     ∙ ap (map_ok (λ (columns : List Column). (columns, rows))) told
 
 -- both, whose columns may be compared
-pub sides-read : (number : ℕ) (h : History) (asof : Option ℕ) (tables : Compared) (left right : Table)
+pub sides-read : (number : ℕ) (h : History) (asof : Option ℕ) (tables : Compared) (left right : TableRows)
     → table_told number h asof tables.left ≡ Ok left → table_told number h asof tables.right ≡ Ok right
     → columns_refusal left.0 right.0 tables.on ≡ None → sides_told number h asof tables ≡ Ok (left, right)
 sides-read number h asof tables left right one other allowed = rw (one, other, allowed) refl
+
+-- one, whose rows come to what is asked
+pub aggregated-read : (number : ℕ) (h : History) (asof : Option ℕ) (asked : Aggregate) (table : TableRows)
+    → table_told number h asof asked.table ≡ Ok table → agg_refusal table.0 (func_of asked.func) asked.by ≡ None
+    → aggregated_told number h asof asked ≡ Ok table
+aggregated-read number h asof asked table read allowed = rw (read, allowed) refl

@@ -24,22 +24,26 @@ use Rattle.cert_core.proofs.VerdictExistence.{some_verdict}
 use Rattle.match_core.specs.Items.{items_of}
 use Rattle.match_core.proofs.ItemIds.{IdsRise-items_of}
 use Rattle.join_core.proofs.JoinExistence.{some_join}
+use Rattle.anti_core.proofs.AntiExistence.{some_anti}
+use Rattle.agg_core.proofs.AggExistence.{some_aggregate}
 use Rattle.command_core.specs.Fields.{both}
-use Rattle.command_core.specs.Meaning.{FirstCommand, Meaning, Means, Refuse, Make, Load, Update, Delete, Rows, At, Between, FromTo, Dip, Join, Check, Log}
+use Rattle.command_core.specs.Meaning.{FirstCommand, Meaning, Means, Refuse, Make, Load, Update, Delete, Rows, At, Between, FromTo, Dip, Join, Anti, Agg, Check, Log}
 use Rattle.command_core.specs.Pairs.{NamePair}
 use Rattle.command_core.specs.Records.{Record}
 use Rattle.command_core.specs.Refusal.{fault}
+use Rattle.command_core.specs.declared.aggregate.Aggregate.{Aggregate}
 use Rattle.command_core.specs.declared.refusal.Fault.{Fault}
 use Rattle.command_core.proofs.MeaningExistence.{some_meaning}
 use Rattle.command_core.proofs.RecordsExistence.{some_records}
 use Rattle.answer_core.specs.JoinedRows.{JoinedRows}
-use Rattle.answer_core.specs.PrintedRecords.{IsPrintedAs, commit_records, division_records, error_record, join_records, ok_record, row_records, verdict_record, version_records}
+use Rattle.answer_core.specs.UnmatchedRows.{UnmatchedRows}
+use Rattle.answer_core.specs.PrintedRecords.{IsPrintedAs, agg_records, anti_records, commit_records, division_records, error_record, join_records, ok_record, row_records, verdict_record, version_records}
 use Rattle.answer_core.specs.declared.answer.Answer.{Answer}
 use Rattle.answer_core.specs.declared.answer.Answer.TheVariants as answer
-use Rattle.script_core.specs.Answer.{Answers, AnswersChange, AnswersQuery, IsAnswerTo, IsDipOf, IsJoinOf, IsVerdictOn, IsVersions, Refuses}
+use Rattle.script_core.specs.Answer.{Answers, AnswersChange, AnswersQuery, IsAggOf, IsAnswerTo, IsAntiOf, IsDipOf, IsJoinOf, IsVerdictOn, IsVersions, Refuses}
 use Rattle.script_core.specs.Refusal.{book_refusal}
 use Rattle.script_core.specs.Script.{AreCommandsOf, Done, Finished, IsOutput, Place, Steps, output_of, start_of}
-use Rattle.script_core.specs.Effects.{Table, change_in, claim_of, columns_told, delete_in, load_in, make_in, pairs_told, rows_of, rows_on, rows_told, sides_told, update_in, versions_told}
+use Rattle.script_core.specs.Effects.{TableRows, aggregated_told, change_in, claim_of, columns_told, delete_in, func_of, load_in, make_in, pairs_told, rows_of, rows_on, rows_told, sides_told, update_in, versions_told}
 use Rattle.script_core.proofs.AnswerUniqueness.{both-first, not_Ok, rise-told}
 use Rattle.script_core.proofs.OutputUniqueness.{takes_one}
 
@@ -126,7 +130,7 @@ some_dip_answer items rise =
       printed = (instant, at, refl);
     }
 
-some_join_answer : (left right : Table) (on : List NamePair) → Told (IsJoinOf left right on)
+some_join_answer : (left right : TableRows) (on : List NamePair) → Told (IsJoinOf left right on)
 some_join_answer left right on =
     let (rows, joined) = some_join left.0 right.0 on left.1 right.1 in
     let found : JoinedRows = record { left = left.1; right = right.1; rows = rows } in
@@ -134,6 +138,27 @@ some_join_answer left right on =
       given = answer.Join found;
       is = record { rows = rows; joined = joined; is = refl };
       records = join_records found;
+      printed = refl;
+    }
+
+some_anti_answer : (left right : TableRows) (on : List NamePair) → Told (IsAntiOf left right on)
+some_anti_answer left right on =
+    let (rows, unmatched) = some_anti left.0 right.0 on left.1 right.1 in
+    let found : UnmatchedRows = record { left = left.1; rows = rows } in
+    record {
+      given = answer.Anti found;
+      is = record { rows = rows; unmatched = unmatched; is = refl };
+      records = anti_records found;
+      printed = refl;
+    }
+
+some_agg_answer : (table : TableRows) (asked : Aggregate) → Told (IsAggOf table asked)
+some_agg_answer table asked =
+    let (rows, aggregated) = some_aggregate table.0 (func_of asked.func) asked.by table.1 in
+    record {
+      given = answer.Agg rows;
+      is = record { rows = rows; aggregated = aggregated; is = refl };
+      records = agg_records rows;
       printed = refl;
     }
 
@@ -205,6 +230,12 @@ some_reply before number (Dip name asof) legal =
 some_reply before number (Join tables asof) legal =
     some_query before (sides_told number before asof tables) (λ sides. IsJoinOf sides.0 sides.1 tables.on) legal
     (λ sides read. some_join_answer sides.0 sides.1 tables.on)
+some_reply before number (Anti tables asof) legal =
+    some_query before (sides_told number before asof tables) (λ sides. IsAntiOf sides.0 sides.1 tables.on) legal
+    (λ sides read. some_anti_answer sides.0 sides.1 tables.on)
+some_reply before number (Agg asked asof) legal =
+    some_query before (aggregated_told number before asof asked) (λ table. IsAggOf table asked) legal
+    (λ table read. some_agg_answer table asked)
 some_reply before number (Check name parts instant asof body) legal =
     let told = rows_told number before asof name in
     let claimed = claim_of (number + 1) body in

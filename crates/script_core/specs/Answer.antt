@@ -12,15 +12,20 @@ use Rattle.match_core.specs.Items.{items_of}
 use Rattle.match_core.specs.Columns.{MatchesOn}
 use Rattle.join_core.specs.Join.{IsJoin}
 use Rattle.join_core.specs.declared.rows.JoinRow.{JoinRow}
+use Rattle.anti_core.specs.Anti.{IsAnti}
+use Rattle.anti_core.specs.declared.rows.AntiRow.{AntiRow}
+use Rattle.agg_core.specs.Agg.{IsAgg}
+use Rattle.agg_core.specs.declared.rows.AggRow.{AggRow}
 use Rattle.command_core.specs.Fields.{both}
-use Rattle.command_core.specs.Meaning.{Meaning, Refuse, Make, Load, Update, Delete, Rows, At, Between, FromTo, Dip, Join, Check, Log}
+use Rattle.command_core.specs.Meaning.{Meaning, Refuse, Make, Load, Update, Delete, Rows, At, Between, FromTo, Dip, Join, Anti, Agg, Check, Log}
 use Rattle.command_core.specs.Pairs.{NamePair}
 use Rattle.command_core.specs.Records.{Record}
+use Rattle.command_core.specs.declared.aggregate.Aggregate.{Aggregate}
 use Rattle.command_core.specs.declared.refusal.Fault.{Fault}
 use Rattle.answer_core.specs.PrintedRecords.{IsPrintedAs}
 use Rattle.answer_core.specs.declared.answer.Answer.{Answer}
 use Rattle.answer_core.specs.declared.answer.Answer.TheVariants as answer
-use Rattle.script_core.specs.Effects.{Table, claim_of, delete_in, load_in, make_in, rows_on, rows_told, sides_told, update_in, versions_told}
+use Rattle.script_core.specs.Effects.{TableRows, aggregated_told, claim_of, delete_in, func_of, load_in, make_in, rows_on, rows_told, sides_told, update_in, versions_told}
 
 -- the answer is the dip of the items
 pub record IsDipOf (items : List Item) (given : Answer) : Type 0 where
@@ -29,10 +34,23 @@ pub record IsDipOf (items : List Item) (given : Answer) : Type 0 where
   pub is : given ≡ answer.Division (length items) parts
 
 -- the answer is the join of two tables' rows that are equal in each pair of columns
-pub record IsJoinOf (left right : Table) (on : List NamePair) (given : Answer) : Type 0 where
+pub record IsJoinOf (left right : TableRows) (on : List NamePair) (given : Answer) : Type 0 where
   pub rows : List JoinRow
   pub joined : IsJoin (MatchesOn left.0 right.0 on) left.1 right.1 rows
   pub is : given ≡ answer.Join (record { left = left.1; right = right.1; rows = rows })
+
+-- the answer is the anti-join of two tables' rows: when those of the left table hold, and no right row does that is
+-- equal to them in each pair of columns
+pub record IsAntiOf (left right : TableRows) (on : List NamePair) (given : Answer) : Type 0 where
+  pub rows : List AntiRow
+  pub unmatched : IsAnti (MatchesOn left.0 right.0 on) left.1 right.1 rows
+  pub is : given ≡ answer.Anti (record { left = left.1; rows = rows })
+
+-- the answer is what the rows of a table come to, group by group
+pub record IsAggOf (table : TableRows) (asked : Aggregate) (given : Answer) : Type 0 where
+  pub rows : List AggRow
+  pub aggregated : IsAgg table.0 (func_of asked.func) asked.by table.1 rows
+  pub is : given ≡ answer.Agg rows
 
 -- the answer is the versions that are asked for
 pub record IsVersions (Are : List Version → Type 0) (given : Answer) : Type 0 where
@@ -83,6 +101,10 @@ IsAnswerTo before number (Dip name asof) =
     AnswersQuery before (rows_told number before asof name) (λ rows. IsDipOf (items_of rows))
 IsAnswerTo before number (Join tables asof) =
     AnswersQuery before (sides_told number before asof tables) (λ sides. IsJoinOf sides.0 sides.1 tables.on)
+IsAnswerTo before number (Anti tables asof) =
+    AnswersQuery before (sides_told number before asof tables) (λ sides. IsAntiOf sides.0 sides.1 tables.on)
+IsAnswerTo before number (Agg asked asof) =
+    AnswersQuery before (aggregated_told number before asof asked) (λ table. IsAggOf table asked)
 IsAnswerTo before number (Check name parts instant asof body) =
     AnswersQuery before (both (rows_told number before asof name) (claim_of (number + 1) body))
     (λ read. IsVerdictOn (items_of read.0) read.1 (record { parts = parts; instant = instant }))

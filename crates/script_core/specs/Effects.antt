@@ -24,6 +24,12 @@ use Rattle.command_core.specs.Pairs.{Compared, TextPair}
 use Rattle.command_core.specs.Records.{Record}
 use Rattle.command_core.specs.Refusal.{fault}
 use Rattle.command_core.specs.Words.{begins}
+use Rattle.command_core.specs.declared.aggregate.Aggregate.{Aggregate}
+use Rattle.command_core.specs.declared.aggregate.Func.{Func}
+use Rattle.command_core.specs.declared.aggregate.Func.TheVariants.{Count, Sum, Min, Max}
+use Rattle.agg_core.specs.Agg.{agg_refusal}
+use Rattle.agg_core.specs.declared.func.Func as agg
+use Rattle.agg_core.specs.declared.func.Func.TheVariants as func
 use Rattle.command_core.specs.declared.refusal.Fault.{Fault}
 use Rattle.command_core.specs.declared.refusal.Refusal.{Refusal}
 use Rattle.command_core.specs.declared.refusal.Refusal.TheVariants.{BadCommand, NoColumn, NoTable}
@@ -106,24 +112,40 @@ rows_told number h asof name =
     map_err (λ refused. fault number (rows_refusal refused)) (rows_given h (unwrap_or asof (length h)) name)
 
 -- a table: its columns, and its rows
-abbrev pub Table : Type 0
-Table = List Column × List Row
+abbrev pub TableRows : Type 0
+TableRows = List Column × List Row
 
 -- a table with the rows that a commit shows, the newest where none is told, or the fault of the command of this
 -- number
-abbrev pub table_told : ℕ → History → Option ℕ → List ℕ → Result Table Fault
+abbrev pub table_told : ℕ → History → Option ℕ → List ℕ → Result TableRows Fault
 table_told number h asof name =
     and_then (rows_told number h asof name) (λ rows. map_ok (λ columns. (columns, rows)) (columns_told number h name))
 
 -- two tables whose rows may be compared, or the fault of the command of this number: of the left table, of the
 -- right one, or of the columns
-abbrev pub sides_told : ℕ → History → Option ℕ → Compared → Result (Table × Table) Fault
+abbrev pub sides_told : ℕ → History → Option ℕ → Compared → Result (TableRows × TableRows) Fault
 sides_told number h asof tables =
     and_then (table_told number h asof tables.left) (λ left.
     and_then (table_told number h asof tables.right) (λ right.
     refused_or
     (option_map (λ refused. fault number (query_refusal refused)) (columns_refusal left.0 right.0 tables.on))
     (left, right)))
+
+-- what is asked of the rows that hold, as a command tells it
+abbrev pub func_of : Func → agg.Func
+func_of Count = func.Count
+func_of (Sum column) = func.Sum column
+func_of (Min column) = func.Min column
+func_of (Max column) = func.Max column
+
+-- a table whose rows come to what is asked, or the fault of the command of this number: of the table, or of the
+-- columns
+abbrev pub aggregated_told : ℕ → History → Option ℕ → Aggregate → Result TableRows Fault
+aggregated_told number h asof asked =
+    and_then (table_told number h asof asked.table) (λ table.
+    refused_or
+    (option_map (λ refused. fault number (query_refusal refused)) (agg_refusal table.0 (func_of asked.func) asked.by))
+    table)
 
 -- the rows that hold at a point
 abbrev pub rows_on : ℤ → List Row → List Row

@@ -4,23 +4,26 @@ ghost use Rattle.book_core.specs.Versions.{AreBetween, AreFromTo, log_of};
 ghost use Rattle.command_core.specs.Fields.{both};
 ghost use Rattle.command_core.specs.Lines.{lines_in};
 ghost use Rattle.command_core.specs.PairsIn.{compared_in, name_pairs_in};
+ghost use Rattle.version_core.specs.Limits.{version_limit};
 ghost use Rattle.work_core.specs.Limits.{worker_limit};
 ghost use Rattle.match_core.specs.Items.{items_of};
 ghost use Rattle.row_core.specs.Rows.{IdsRise};
 ghost use Rattle.row_core.specs.Schema.{fits};
-ghost use Rattle.script_core.specs.Answer.{IsDipOf, IsJoinOf, IsVerdictOn, IsVersions};
+ghost use Rattle.script_core.specs.Answer.{IsAggOf, IsAntiOf, IsDipOf, IsJoinOf, IsVerdictOn, IsVersions};
 ghost use Rattle.script_core.specs.Performing.{Gives};
 ghost use Rattle.row_core.specs.declared.failure.Failure.TheVariants.{NoMemory};
-ghost use Rattle.script_core.specs.Effects.{claim_of, columns_told, rows_on, rows_told, sides_told, versions_told};
+ghost use Rattle.script_core.specs.Effects.{aggregated_told, claim_of, columns_told, func_of, rows_on, rows_told, sides_told, versions_told};
 ghost use Rattle.answer_core.specs.declared.answer.Answer.TheVariants.{Log, Rows};
 
 use crate::claims::read_claim;
 use crate::failure::{Failure, failure_at, refused};
 use crate::pairs::name_pairs;
-use answer_core::{Answer, Joined};
+use agg_core::agg;
+use answer_core::{Answer, Joined, Unmatched};
+use anti_core::anti;
 use book_core::Book;
 use cert_core::{Certificate, check_division};
-use command_core::{Lines, Refusal, TwoTables};
+use command_core::{Aggregate, Func, Lines, Refusal, TwoTables};
 use join_core::join;
 use period_core::Point;
 use query_core::{Side, at, dip, items};
@@ -39,7 +42,7 @@ fn shown_table<'a>(
 ) -> Result<(&'a Schema, RowList), Failure>
     ensures gives { Gives (rows_told number book.now asof table) (λ rows read. read.1 ≡ rows) result }
     ensures columns { IfOk result (λ read. columns_told number book.now table ≡ Ok read.0.now) }
-    ensures few { IfOk result (λ read. length read.1 ≤ 1_000_000) }
+    ensures few { IfOk result (λ read. length read.1 ≤ version_limit) }
     ensures rise { IfOk result (λ read. IdsRise read.1) }
     ensures fit { IfOk result (λ read. All (λ row. IsTrue (fits read.0.now row.values)) read.1) }
 {
@@ -134,6 +137,75 @@ pub(crate) fn join_tables<T: Threads + Sync>(
     match join(rt, alloc, left_side, right_side, &on, workers, &OpenGate) {
         Ok(found) => Ok(Answer::Join(Joined::new(left, right, found.rows))),
         Err(why) => Err(failure_at(number, why)),
+    }
+}
+
+/// When the rows of a table hold and no row of another does that is equal to them in each pair of columns, by so
+/// many workers.
+pub(crate) fn anti_tables<T: Threads + Sync>(
+    rt: &T,
+    alloc: Global,
+    book: &Book,
+    number: u64,
+    tables: TwoTables<'_>,
+    asof: Option<u64>,
+    workers: u32,
+) -> Result<Answer, Failure>
+    requires { (0 < workers) × (workers ≤ worker_limit) }
+    ensures { Gives (sides_told number book.now asof (compared_in tables.entry))
+        (λ sides. IsAntiOf sides.0 sides.1 (name_pairs_in tables.entry.on)) result }
+{
+    let (left_columns, left) = shown_table(book, number, tables.left, asof)?;
+    let (right_columns, right) = shown_table(book, number, tables.right, asof)?;
+    let on = name_pairs(alloc, tables.on)?;
+    let left_side = Side {
+        schema: left_columns,
+        rows: &left,
+    };
+    let right_side = Side {
+        schema: right_columns,
+        rows: &right,
+    };
+    match anti(rt, alloc, left_side, right_side, &on, workers, &OpenGate) {
+        Ok(rows) => Ok(Answer::Anti(Unmatched::new(left, rows))),
+        Err(why) => Err(failure_at(number, why)),
+    }
+}
+
+/// What the rows of a table come to, group by group, by so many workers.
+pub(crate) fn agg_table<T: Threads + Sync>(
+    rt: &T,
+    alloc: Global,
+    book: &Book,
+    number: u64,
+    aggregate: Aggregate,
+    asof: Option<u64>,
+    workers: u32,
+) -> Result<Answer, Failure>
+    requires { (0 < workers) × (workers ≤ worker_limit) }
+    ensures { Gives (aggregated_told number book.now asof aggregate) (λ table. IsAggOf table aggregate) result }
+{
+    let func = func_of(&aggregate.func);
+    let (schema, rows) = shown_table(book, number, aggregate.table, asof)?;
+    let side = Side {
+        schema,
+        rows: &rows,
+    };
+    match agg(rt, alloc, side, func, aggregate.by, workers, &OpenGate) {
+        Ok(rows) => Ok(Answer::Agg(rows)),
+        Err(why) => Err(failure_at(number, why)),
+    }
+}
+
+/// What is asked of the rows that hold, as a command tells it.
+fn func_of(func: &Func) -> agg_core::Func
+    ensures { result ≡ func_of func.now }
+{
+    match func {
+        Func::Count => agg_core::Func::Count,
+        Func::Sum(column) => agg_core::Func::Sum(*column),
+        Func::Min(column) => agg_core::Func::Min(*column),
+        Func::Max(column) => agg_core::Func::Max(*column),
     }
 }
 

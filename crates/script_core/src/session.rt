@@ -15,7 +15,9 @@ ghost use Rattle.script_core.specs.Writing.{AnswersAll, ExplainsAnswering};
 use crate::changes::{delete, load, make, update};
 use crate::failure::Failure;
 use crate::outcome::Outcome;
-use crate::queries::{between, check, divide, from_to, join_tables, log, rows, rows_on};
+use crate::queries::{
+    agg_table, anti_tables, between, check, divide, from_to, join_tables, log, rows, rows_on,
+};
 use answer_core::{Answer, AnswerWriter};
 use book_core::Book;
 use cert_core::Certificate;
@@ -61,6 +63,12 @@ fn perform<T: Threads + Sync>(
         Command::Dip { table, asof } => divide(alloc, book, number, table, asof),
         Command::Join { tables, asof } => {
             join_tables(rt, alloc, book, number, tables, asof, workers)
+        }
+        Command::Anti { tables, asof } => {
+            anti_tables(rt, alloc, book, number, tables, asof, workers)
+        }
+        Command::Agg { aggregate, asof } => {
+            agg_table(rt, alloc, book, number, aggregate, asof, workers)
         }
         Command::Check {
             table,
@@ -161,8 +169,8 @@ fn answer_all<T: Threads + Sync, W: Write>(
 /// answers how many commands there were, and how many `error` records were written.
 ///
 /// A script has at most 67,108,864 bytes. A read or a write that was interrupted is tried again, at
-/// most 1,000 times in a run. The writer is not flushed. Joins are run by 1 to 64 workers, and answer the
-/// same by any number of them.
+/// most 1,000 times in a run. The writer is not flushed. Joins, anti-joins and aggregates are run by 1 to
+/// 64 workers, and answer the same by any number of them.
 ///
 /// # Errors
 ///

@@ -1,5 +1,5 @@
 use Rattle.csv.specs.Records.{fields_of}
-use Rattle.command_core.proofs.Cutting.{EndsAt-part, slice_get-cut}
+use Rattle.list_core.proofs.CutLemmas.{EndsAt-part, slice_get-cut}
 use Rattle.command_core.proofs.records.line_at.Goals as goal
 
 pub new-requires-clause-ordered : goal.new-requires-clause-ordered

@@ -3,8 +3,8 @@ use Rattle.csv.specs.Reading.{Reached, default_config, reader_state, strip_bom}
 use Rattle.csv.specs.Records.{fields_of}
 use Rattle.csv.specs.declared.parser.State.TheVariants as st
 use Rattle.csv.proofs.ReadFacts.{rows-more}
-use Rattle.command_core.specs.Cut.{cut}
-use Rattle.command_core.proofs.Cutting.{EndsAt-more, cut-more}
+use Rattle.list_core.specs.Cut.{cut}
+use Rattle.list_core.proofs.CutLemmas.{EndsAt-more, cut-more}
 use Rattle.command_core.proofs.Faults.{flexible-stops}
 use Rattle.command_core.proofs.Shrinking.{Reached-shrinks}
 use Rattle.command_core.proofs.records.read_records.Goals as goal

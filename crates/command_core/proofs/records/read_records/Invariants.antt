@@ -6,7 +6,7 @@ use Rattle.csv.specs.Reading.{Reached, Ready, default_config, is_flexible, reade
 use Rattle.csv.specs.Records.{fields_of, partial_of}
 use Rattle.csv.specs.declared.parser.State.TheVariants as st
 use Rattle.csv.specs.declared.reader.Trim.TheVariants as trim
-use Rattle.command_core.specs.Cut.{cut, EndsAt}
+use Rattle.list_core.specs.Cut.{cut, EndsAt}
 use Rattle.command_core.proofs.records.read_records.Given as goal
 
 abbrev pub invariant-loop-fields : goal.invariant-loop-fields

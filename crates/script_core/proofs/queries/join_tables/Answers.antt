@@ -1,7 +1,7 @@
 use Rattle.std.proofs.Common.{◌≡◌, ◌∙◌, Ok, ap, sym}
 use Rattle.command_core.specs.PairsIn.{compared_in, name_pairs_in}
 use Rattle.answer_core.specs.declared.answer.Answer.TheVariants as answer
-use Rattle.script_core.specs.Effects.{Table}
+use Rattle.script_core.specs.Effects.{TableRows}
 use Rattle.script_core.proofs.Comparing.{sides-read, table-read}
 use Rattle.script_core.proofs.queries.join_tables.Goals as goal
 
@@ -11,8 +11,8 @@ returns-in-Ok g c =
     let h = c.args.book.now in
     let asof = c.args.asof in
     let tables = compared_in c.args.tables in
-    let left : Table = (c.in_ok-left_columns.left_columns.now, c.in_ok-left_columns.left) in
-    let right : Table = (c.in_ok-right_columns.right_columns.now, c.in_ok-right_columns.right) in
+    let left : TableRows = (c.in_ok-left_columns.left_columns.now, c.in_ok-left_columns.left) in
+    let right : TableRows = (c.in_ok-right_columns.right_columns.now, c.in_ok-right_columns.right) in
     let (_, told, is) = c.in_ok-left_columns.ensures.gives in
     let (_, told', is') = c.in_ok-right_columns.ensures.gives in
     let one = table-read number h asof tables.left left.0 left.1 (told ∙ ap Ok (sym is))

@@ -5,11 +5,11 @@ use Rattle.cert_core.specs.declared.verdict.Certificate.{Certificate}
 use Rattle.match_core.specs.Items.{items_of}
 use Rattle.command_core.specs.Fields.{both}
 use Rattle.command_core.specs.Lines.{lines_in}
-use Rattle.command_core.specs.Meaning.{At, Between, Check, Delete, Dip, FromTo, Join, Load, Make, Rows, Update}
+use Rattle.command_core.specs.Meaning.{Agg, Anti, At, Between, Check, Delete, Dip, FromTo, Join, Load, Make, Rows, Update}
 use Rattle.command_core.specs.PairsIn.{compared_in, pairs_in}
 use Rattle.answer_core.specs.declared.answer.Answer.TheVariants as answer
-use Rattle.script_core.specs.Answer.{IsDipOf, IsJoinOf, IsVerdictOn, IsVersions}
-use Rattle.script_core.specs.Effects.{claim_of, delete_in, load_in, make_in, rows_on, rows_told, sides_told, update_in, versions_told}
+use Rattle.script_core.specs.Answer.{IsAggOf, IsAntiOf, IsDipOf, IsJoinOf, IsVerdictOn, IsVersions}
+use Rattle.script_core.specs.Effects.{aggregated_told, claim_of, delete_in, load_in, make_in, rows_on, rows_told, sides_told, update_in, versions_told}
 use Rattle.script_core.proofs.Answering.{change-answered, query-answered}
 use Rattle.script_core.proofs.session.perform.Goals as goal
 
@@ -133,3 +133,21 @@ returns-in-Join g c =
     let asof = c.in-Join.asof in
     rw c.in-Join.is (query-answered number (Join tables asof) before (sides_told number before asof tables)
     (λ sides. IsJoinOf sides.0 sides.1 tables.on) c.join_tables.result (λ given it. it) c.join_tables.ensures)
+
+pub returns-in-Anti : goal.returns-in-Anti
+returns-in-Anti g c =
+    let number = c.args.number in
+    let before = c.args.book.now in
+    let tables = compared_in c.in-Anti.tables in
+    let asof = c.in-Anti.asof in
+    rw c.in-Anti.is (query-answered number (Anti tables asof) before (sides_told number before asof tables)
+    (λ sides. IsAntiOf sides.0 sides.1 tables.on) c.anti_tables.result (λ given it. it) c.anti_tables.ensures)
+
+pub returns-in-Agg : goal.returns-in-Agg
+returns-in-Agg g c =
+    let number = c.args.number in
+    let before = c.args.book.now in
+    let asked = c.in-Agg.aggregate in
+    let asof = c.in-Agg.asof in
+    rw c.in-Agg.is (query-answered number (Agg asked asof) before (aggregated_told number before asof asked)
+    (λ table. IsAggOf table asked) c.agg_table.result (λ given it. it) c.agg_table.ensures)

@@ -1,6 +1,6 @@
 use Rattle.std.proofs.Common.{arith, ap, length}
 use Rattle.csv.specs.Records.{fields_of}
-use Rattle.command_core.proofs.Cutting.{length-cut}
+use Rattle.list_core.proofs.CutLemmas.{length-cut}
 use Rattle.command_core.proofs.records.Records.len.Goals as goal
 
 pub returns : goal.returns

@@ -1,7 +1,7 @@
 use Rattle.std.proofs.Common.{◌≡◌, arith, ap, length}
 use Rattle.csv.specs.Records.{fields_of}
-use Rattle.command_core.specs.Cut.{cut}
-use Rattle.command_core.proofs.Cutting.{length-cut}
+use Rattle.list_core.specs.Cut.{cut}
+use Rattle.list_core.proofs.CutLemmas.{length-cut}
 use Rattle.command_core.proofs.records.Records.line.Goals as goal
 
 pub line_at-requires-clause-place : goal.line_at-requires-clause-place

@@ -1,0 +1,44 @@
+//! Prints rows of a table when none of another matched them.
+ghost use Rattle.std.specs.Prelude.{◌≡◌, ◌∷◌, [], OnOk, map};
+ghost use Rattle.answer_core.specs.PrintedRecords.{anti_record, anti_records};
+ghost use Rattle.answer_core.specs.Unwritten.{Adds};
+
+use crate::unmatched::Unmatched;
+use crate::writer::AnswerWriter;
+use anti_core::AntiRow;
+use period_core::NoMemory;
+use query_core::RowsById;
+
+impl AnswerWriter {
+    /// The rows with the periods in which none matched them, and how many there are.
+    pub(crate) fn unmatched(&mut self, unmatched: &Unmatched) -> Result<(), NoMemory>
+        requires { self.old.fields ≡ [] }
+        ensures { OnOk result (Adds self.old self.new (anti_records unmatched.now)) }
+    {
+        let left = unmatched.left_by_id(self.alloc())?;
+        self.anti_rows(unmatched.rows(), &left)?;
+        self.end(unmatched.rows().len() as u64)
+    }
+
+    fn anti_rows(&mut self, rows: &[AntiRow], left: &RowsById<'_>) -> Result<(), NoMemory>
+        requires { self.old.fields ≡ [] }
+        ensures { OnOk result (Adds self.old self.new (map (anti_record left.now) rows.now)) }
+    {
+        for row in rows {
+            self.anti_row(row, left)?;
+        }
+        Ok(())
+    }
+
+    fn anti_row(&mut self, row: &AntiRow, left: &RowsById<'_>) -> Result<(), NoMemory>
+        requires { self.old.fields ≡ [] }
+        ensures { OnOk result (Adds self.old self.new (anti_record left.now row.now ∷ [])) }
+    {
+        self.field(b"row")?;
+        self.number(row.id)?;
+        self.point(row.period.from)?;
+        self.point(row.period.to)?;
+        self.values_of(left, row.id)?;
+        self.end_record()
+    }
+}

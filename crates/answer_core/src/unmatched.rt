@@ -1,0 +1,52 @@
+//! Rows of a table when none of another matched them.
+ghost use Rattle.std.specs.Prelude.{◌≡◌, IfOk};
+ghost use Rattle.row_core.specs.Rows.{IdsRise};
+
+use anti_core::{AntiRow, AntiRows};
+use period_core::NoMemory;
+use query_core::RowsById;
+use row_core::RowList;
+use std::alloc::Global;
+use std::marker::Model;
+
+/// The left table's rows, by rising id, and when each held with no right row that matched it.
+#[derive(Drop)]
+pub struct Unmatched {
+    left: RowList,
+    rows: AntiRows,
+}
+
+impl Model for Unmatched {
+    ghost use Rattle.answer_core.specs.UnmatchedRows.{UnmatchedRows};
+    ghost use Rattle.row_core.specs.Rows.{IdsRise};
+
+    ghost Value = { UnmatchedRows };
+
+    ghost view = { λ u. record { left = u.left; rows = u.rows } };
+
+    ghost invariant = { λ u. IdsRise u.left };
+}
+
+impl Unmatched {
+    /// The left table's rows, and when each held with no right row that matched it.
+    pub fn new(left: RowList, rows: AntiRows) -> Unmatched
+        requires { IdsRise left }
+        ensures { result ≡ record { left = left; rows = rows } }
+    {
+        Unmatched { left, rows }
+    }
+
+    /// When they held with no match.
+    pub(crate) fn rows(&self) -> &[AntiRow]
+        ensures { result.now ≡ self.now.rows }
+    {
+        self.rows.as_slice()
+    }
+
+    /// The left table's rows, to be found by their ids.
+    pub(crate) fn left_by_id(&self, alloc: Global) -> Result<RowsById<'_>, NoMemory>
+        ensures { IfOk result (λ found. found ≡ self.now.left) }
+    {
+        RowsById::new(alloc, &self.left)
+    }
+}

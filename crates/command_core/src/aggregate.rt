@@ -1,0 +1,165 @@
+//! Aggregates, and the fields that tell them.
+ghost use Rattle.std.specs.Prelude.{◌≡◌, option_map};
+ghost use Rattle.command_core.specs.Aggregates.{
+  aggregate_form,
+  aggregated,
+  column_form,
+  column_func,
+  group_told,
+  grouped,
+  named_aggregate,
+  named_func,
+  named_group,
+};
+ghost use Rattle.command_core.specs.Lines.{fields_in};
+ghost use Rattle.command_core.specs.RawAggregates.{aggregate_of, func_of};
+
+use crate::fields::name_in;
+use crate::lines::Line;
+use crate::refusal::Refusal;
+use crate::words::begins;
+use row_core::Name;
+
+/// What is asked of the rows that hold an instant.
+#[derive(Clone, Copy, Debug)]
+pub enum Func {
+    /// How many they are.
+    Count,
+    /// The sum of their numbers in that column.
+    Sum(Name),
+    /// The least of their numbers in that column.
+    Min(Name),
+    /// The greatest of their numbers in that column.
+    Max(Name),
+}
+
+/// A function of the rows of a table, group by group.
+#[derive(Clone, Copy, Debug)]
+pub struct Aggregate {
+    /// The table's name.
+    pub table: Name,
+    /// What is asked of each group's rows.
+    pub func: Func,
+    /// The column that the rows are grouped by; without one all are one group.
+    pub by: Option<Name>,
+}
+
+/// An aggregate as its record tells it, where no name has been tested.
+#[derive(Clone, Copy)]
+struct RawAggregate<'a> {
+    table: &'a [u8],
+    func: RawFunc<'a>,
+    by: Option<&'a [u8]>,
+}
+
+/// A function, and its column's name, which may be none.
+#[derive(Clone, Copy)]
+enum RawFunc<'a> {
+    Count,
+    Sum(&'a [u8]),
+    Min(&'a [u8]),
+    Max(&'a [u8]),
+}
+
+/// The function of that word over a column's numbers.
+fn column_func<'a>(word: &[u8], column: &'a [u8]) -> Option<RawFunc<'a>>
+    ensures { option_map func_of result ≡ column_func word.now column.entry.now }
+{
+    if word == b"sum".as_slice() {
+        Some(RawFunc::Sum(column))
+    } else if word == b"min".as_slice() {
+        Some(RawFunc::Min(column))
+    } else if word == b"max".as_slice() {
+        Some(RawFunc::Max(column))
+    } else {
+        None
+    }
+}
+
+/// The column that rows are grouped by, told behind `by`; where there is no field at all, none is told.
+fn group_told<'a>(fields: Line<'a>) -> Option<Option<&'a [u8]>>
+    ensures { option_map (option_map (λ column. column.now)) result ≡ group_told (fields_in fields.entry) }
+{
+    if fields.len() == 0 {
+        return Some(None);
+    }
+    if fields.len() == 2 && begins(fields, b"by") {
+        Some(fields.get(1))
+    } else {
+        None
+    }
+}
+
+/// A function of a table's rows, and the grouping that the fields behind it tell.
+fn grouped<'a>(table: &'a [u8], fields: Line<'a>, func: RawFunc<'a>) -> Option<RawAggregate<'a>>
+    ensures { option_map aggregate_of result ≡ grouped table.entry.now (fields_in fields.entry) (func_of func.entry) }
+{
+    let by = group_told(fields)?;
+    Some(RawAggregate { table, func, by })
+}
+
+/// The aggregate of a column's numbers: the column, and then the grouping.
+fn column_form<'a>(table: &'a [u8], word: &[u8], fields: Line<'a>) -> Option<RawAggregate<'a>>
+    ensures { option_map aggregate_of result ≡ column_form table.entry.now word.now (fields_in fields.entry) }
+{
+    let column = fields.get(0)?;
+    let func = column_func(word, column)?;
+    grouped(table, fields.range(1, fields.len()), func)
+}
+
+/// The aggregate of a record that has the form for one: a count takes no column, the other functions
+/// take one.
+fn aggregate_form<'a>(line: Line<'a>) -> Option<RawAggregate<'a>>
+    ensures { option_map aggregate_of result ≡ aggregate_form (fields_in line.entry) }
+{
+    let table = line.get(1)?;
+    let word = line.get(2)?;
+    let fields = line.range(3, line.len());
+    if word == b"count".as_slice() {
+        grouped(table, fields, RawFunc::Count)
+    } else {
+        column_form(table, word, fields)
+    }
+}
+
+/// The function, where its column, if it has one, has a name that is one.
+fn named_func(func: RawFunc<'_>) -> Result<Func, Refusal>
+    ensures { result ≡ named_func (func_of func.entry) }
+{
+    match func {
+        RawFunc::Count => Ok(Func::Count),
+        RawFunc::Sum(column) => Ok(Func::Sum(name_in(column)?)),
+        RawFunc::Min(column) => Ok(Func::Min(name_in(column)?)),
+        RawFunc::Max(column) => Ok(Func::Max(name_in(column)?)),
+    }
+}
+
+/// The column that rows are grouped by, if there is one, where it has a name that is one.
+fn named_group(column: Option<&[u8]>) -> Result<Option<Name>, Refusal>
+    ensures { result ≡ named_group (option_map (λ text. text.now) column.entry) }
+{
+    match column {
+        Some(column) => Ok(Some(name_in(column)?)),
+        None => Ok(None),
+    }
+}
+
+/// The aggregate, where its table and its columns have names that are names.
+fn named_aggregate(raw: RawAggregate<'_>) -> Result<Aggregate, Refusal>
+    ensures { result ≡ named_aggregate (aggregate_of raw.entry) }
+{
+    let table = name_in(raw.table)?;
+    let func = named_func(raw.func)?;
+    let by = named_group(raw.by)?;
+    Ok(Aggregate { table, func, by })
+}
+
+/// The aggregate that a record tells: its form is tested before its names.
+pub(crate) fn aggregated(line: Line<'_>) -> Result<Aggregate, Refusal>
+    ensures { result ≡ aggregated (fields_in line.entry) }
+{
+    match aggregate_form(line) {
+        Some(aggregate) => named_aggregate(aggregate),
+        None => Err(Refusal::BadCommand),
+    }
+}

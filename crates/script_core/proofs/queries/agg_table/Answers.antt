@@ -1,0 +1,20 @@
+use Rattle.std.proofs.Common.{◌∙◌, Ok, ap, refl, sym}
+use Rattle.script_core.specs.Effects.{TableRows}
+use Rattle.script_core.proofs.Comparing.{aggregated-read, table-read}
+use Rattle.script_core.proofs.queries.agg_table.Goals as goal
+
+pub returns-in-Ok : goal.returns-in-Ok
+returns-in-Ok g c =
+    let number = c.args.number in
+    let h = c.args.book.now in
+    let asof = c.args.asof in
+    let asked = c.args.aggregate in
+    let table : TableRows = (c.in_ok-schema.schema.now, c.in_ok-schema.rows) in
+    let (_, told, is) = c.in_ok-schema.ensures.gives in
+    let read = table-read number h asof asked.table table.0 table.1 (told ∙ ap Ok (sym is))
+    c.in_ok-schema.ensures.columns in
+    let answered = rw c.func_of-func.ensures at c.in-Ok.ensures in (
+      table,
+      aggregated-read number h asof asked table read answered.0,
+      record { rows = c.in-Ok.rows; aggregated = answered.1; is = refl },
+    )
