@@ -5,7 +5,7 @@
 //!
 //! Rows start on random days of a range that grows with their number, so that on each day about
 //! `overlap` of them hold. Columns are a text and a number in turn, of which the first is the row's own
-//! name; the first `key` of them are the table's key. All kinds but `join` begin with the table, and then:
+//! name; the first `key` of them are the table's key. All kinds begin with the table, but for the last three, and then:
 //!
 //! - `rows`, `at`, `dip`, `log`: a load of the rows, and so many queries;
 //! - `between`: a load of the rows, a change of all of them, and queries for all versions;
@@ -15,8 +15,11 @@
 //! - `portions`: a load of the rows, and so many updates of a portion of 30 days, without conditions;
 //! - `past`: a load of half of the rows, a change of all of them, and queries as of the load.
 //!
-//! A script of `join` has two tables with half of the rows each, and so many joins of them: by their one
-//! column, which is one of so many numbers as there are groups, or without columns where these are 0.
+//! A script of `join` has two tables with so many rows each, and so many joins of them: by their one column, which
+//! is one of so many numbers as there are groups, or without columns where these are 0. One of `together` has two
+//! such tables whose rows all hold on one day, so each row is a part of its own, and without columns each row joins
+//! each. One of `apart` has two tables without columns, whose rows all hold on one day, another one for each table:
+//! so each row is a part of its own, and no two rows join.
 
 use bench::point::Point;
 use std::fmt::Display;
@@ -105,6 +108,14 @@ impl<W: Write> Script<W> {
         write!(self.out, "row,{},{}", self.day(from), self.day(from + len))
     }
 
+    /// A period that holds the day in the middle of the range, as all others do.
+    fn period_of_all(&mut self) -> io::Result<()> {
+        let middle = self.range() / 2;
+        let from = self.numbers.below(middle + 1);
+        let to = middle + 1 + self.numbers.below(middle + 1);
+        write!(self.out, "row,{},{}", self.day(from), self.day(to))
+    }
+
     fn row(&mut self, number: u64) -> io::Result<()> {
         self.period()?;
         for column in 0..self.options.columns {
@@ -168,13 +179,13 @@ impl<W: Write> Script<W> {
         Ok(())
     }
 
-    fn sides(&mut self) -> io::Result<()> {
+    fn sides(&mut self, period: fn(&mut Self) -> io::Result<()>) -> io::Result<()> {
         let groups = self.options.groups;
         let column = if groups == 0 { "" } else { ",c,int" };
         for table in ["t", "u"] {
             writeln!(self.out, "table,{table}{column}\nload,{table}")?;
-            for _ in 0..self.options.rows / 2 {
-                self.period()?;
+            for _ in 0..self.options.rows {
+                period(self)?;
                 if groups > 0 {
                     write!(self.out, ",{}", self.numbers.below(groups))?;
                 }
@@ -185,13 +196,25 @@ impl<W: Write> Script<W> {
         Ok(())
     }
 
-    fn join(&mut self) -> io::Result<()> {
-        self.sides()?;
+    fn join(&mut self, period: fn(&mut Self) -> io::Result<()>) -> io::Result<()> {
+        self.sides(period)?;
         self.queries(if self.options.groups == 0 {
             "join,t,u"
         } else {
             "join,t,u,on,c,c"
         })
+    }
+
+    fn apart(&mut self) -> io::Result<()> {
+        for (day, table) in ["t", "u"].into_iter().enumerate() {
+            writeln!(self.out, "table,{table}\nload,{table}")?;
+            let (from, to) = (self.day(day as u64), self.day(day as u64 + 1));
+            for _ in 0..self.options.rows {
+                writeln!(self.out, "row,{from},{to}")?;
+            }
+            writeln!(self.out, "end")?;
+        }
+        self.queries("join,t,u")
     }
 
     fn change_all(&mut self) -> io::Result<()> {
@@ -215,11 +238,13 @@ impl<W: Write> Script<W> {
 
     fn write(&mut self, kind: &str) -> io::Result<()> {
         let rows = self.options.rows;
-        if kind != "join" {
+        if !matches!(kind, "join" | "together" | "apart") {
             self.table()?;
         }
         match kind {
-            "join" => self.join(),
+            "join" => self.join(Self::period),
+            "together" => self.join(Self::period_of_all),
+            "apart" => self.apart(),
             "rows" => self.load(rows).and_then(|()| self.queries("rows,t")),
             "at" => self.load(rows).and_then(|()| self.days()),
             "dip" => self.load(rows).and_then(|()| self.queries("dip,t")),

@@ -6,6 +6,8 @@ mod classes;
 #[cfg(test)]
 mod gates;
 #[cfg(test)]
+mod generated;
+#[cfg(test)]
 mod joins;
 #[cfg(test)]
 mod lookups;

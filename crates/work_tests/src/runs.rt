@@ -1,9 +1,13 @@
 //! Runs of jobs on some workers: their values, and which pairs the gate saw.
 
+ghost use Rattle.std.specs.Prelude.{◌<◌, length};
+
 use crate::sums::{Sums, check_values};
+use std::alloc::Global;
 use std::process::Abort;
 use std::sync::atomic::{AtomicU64, Ordering};
 use std::test::Fail;
+use std::thread::Threads;
 use work_core::{Gate, OpenGate, PairName, run_pairs};
 
 // Seven numbers, each a pair with the number 10.
@@ -116,6 +120,31 @@ fn numbers_pairs_row_by_row(rt: HostRuntime) -> Result<(), Fail> {
     Ok(())
 }
 
+// The values that a job gives by two workers, of which one is held at a pair until all others are left.
+fn check_held(
+    rt: &(impl Abort + Alloc<A = Global> + Threads + Sync),
+    job: &Sums<'_>,
+    held: u32,
+    want: &[u64],
+) -> Result<(), Fail>
+    requires { 0 < length want.now }
+{
+    let gate = Holds {
+        held: PairName {
+            left: held,
+            right: 0,
+        },
+        others: want.len() as u64 - 1,
+        left: AtomicU64::new(0),
+        turns: 10_000_000,
+        failed: AtomicU64::new(0),
+    };
+    let outs = run_pairs(rt, rt.alloc(), job, 2, &gate)?;
+    check_values(rt, &outs, want);
+    assert_eq!(rt; gate.failed.load(Ordering::SeqCst), 0, "with {held} held");
+    Ok(())
+}
+
 // A worker that is held up keeps no other pair from being run, so pairs have no worker of their own.
 #[test]
 fn any_pair_may_wait_for_the_others(rt: HostRuntime) -> Result<(), Fail> {
@@ -125,19 +154,21 @@ fn any_pair_may_wait_for_the_others(rt: HostRuntime) -> Result<(), Fail> {
         refused: None,
     };
     for held in 0..7 {
-        let gate = Holds {
-            held: PairName {
-                left: held,
-                right: 0,
-            },
-            others: 6,
-            left: AtomicU64::new(0),
-            turns: 10_000_000,
-            failed: AtomicU64::new(0),
-        };
-        let outs = run_pairs(&rt, rt.alloc(), &job, 2, &gate)?;
-        check_values(&rt, &outs, &[11, 12, 13, 14, 15, 16, 17]);
-        assert_eq!(rt; gate.failed.load(Ordering::SeqCst), 0, "with {held} held");
+        check_held(&rt, &job, held, &[11, 12, 13, 14, 15, 16, 17])?;
+    }
+    Ok(())
+}
+
+// With as many workers as pairs, each of two pairs is run while the other is held.
+#[test]
+fn of_two_pairs_either_may_wait_for_the_other(rt: HostRuntime) -> Result<(), Fail> {
+    let job = Sums {
+        left: &[1, 2],
+        right: TEN,
+        refused: None,
+    };
+    for held in 0..2 {
+        check_held(&rt, &job, held, &[11, 12])?;
     }
     Ok(())
 }
