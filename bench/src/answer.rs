@@ -1,5 +1,7 @@
 //! The records of answers.
 
+use crate::aggregate::Total;
+use crate::anti::Unmatched;
 use crate::book::{ChangeKind, Commit};
 use crate::check::Verdict;
 use crate::csv::Writer;
@@ -74,6 +76,33 @@ impl<W: Write> Answer<W> {
             self.end_record()?;
         }
         self.end(rows.len())
+    }
+
+    pub fn unmatched(&mut self, left: &Table, rows: &[Unmatched]) -> io::Result<()> {
+        for row in rows {
+            self.word(b"row");
+            self.number(u64::from(row.left) + 1);
+            self.period(row.period);
+            self.values(left, row.left as usize);
+            self.end_record()?;
+        }
+        self.end(rows.len())
+    }
+
+    pub fn totals(&mut self, totals: &[Total<'_>]) -> io::Result<()> {
+        for total in totals {
+            self.word(b"row");
+            if let Some(group) = total.group {
+                self.value(group);
+            }
+            self.period(total.period);
+            match i64::try_from(total.value) {
+                Ok(value) => self.signed(value),
+                Err(_) => self.word(total.value.to_string().as_bytes()),
+            }
+            self.end_record()?;
+        }
+        self.end(totals.len())
     }
 
     pub fn division(&mut self, division: &Division) -> io::Result<()> {
@@ -156,10 +185,14 @@ impl<W: Write> Answer<W> {
 
     fn values(&mut self, table: &Table, place: usize) {
         for column in &table.columns {
-            match column.values.get(place) {
-                Value::Int(number) => self.signed(number),
-                Value::Text(text) => self.field(text),
-            }
+            self.value(column.values.get(place));
+        }
+    }
+
+    fn value(&mut self, value: Value<'_>) {
+        match value {
+            Value::Int(number) => self.signed(number),
+            Value::Text(text) => self.field(text),
         }
     }
 }

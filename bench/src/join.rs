@@ -61,7 +61,11 @@ pub fn join(left: &Side<'_>, right: &Side<'_>) -> Vec<Joined> {
 }
 
 /// The number of the class of a row: of rows that are equal in the columns, the same.
-fn class_of<'a>(classes: &mut HashMap<Vec<Value<'a>>, u32>, side: &Side<'a>, place: usize) -> u32 {
+pub fn class_of<'a>(
+    classes: &mut HashMap<Vec<Value<'a>>, u32>,
+    side: &Side<'a>,
+    place: usize,
+) -> u32 {
     let columns = side.columns.iter();
     let values = columns.map(|column| side.table.columns[*column].values.get(place));
     let next = classes.len() as u32;

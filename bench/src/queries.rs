@@ -1,6 +1,8 @@
 //! The commands that change nothing.
 
+use crate::aggregate::{Aggregate, Func};
 use crate::answer::Answer;
+use crate::anti;
 use crate::book::Book;
 use crate::check::{Certificate, Claim, first_fault};
 use crate::csv::{Reader, Record};
@@ -9,6 +11,7 @@ use crate::fields::{behind, commit, instant, is_end, name, natural, point, split
 use crate::join::{self, Side};
 use crate::refusal::{Fault, Refusal, Stop};
 use crate::table::Table;
+use crate::values::Kind;
 use std::io::Write;
 
 /// `rows,T`
@@ -103,8 +106,8 @@ fn compared_columns(
     Ok(places)
 }
 
-/// `join,L,R`, and behind `on` a column of each for each pair that is compared.
-pub fn join<W: Write>(record: Record<'_>, book: &Book, answer: &mut Answer<W>) -> Result<(), Stop> {
+/// What a record says of two tables, and behind `on` of a column of each for each pair that is compared.
+fn sides<'a>(record: Record<'_>, book: &'a Book) -> Result<(Side<'a>, Side<'a>), Refusal> {
     let (front, asof) = split_asof(record);
     let names = compared(front)?;
     let (left, right) = (name(front.field(1))?, name(front.field(2))?);
@@ -120,8 +123,64 @@ pub fn join<W: Write>(record: Record<'_>, book: &Book, answer: &mut Answer<W>) -
         commit,
         columns,
     };
-    let rows = join::join(&side(left, columns.0), &side(right, columns.1));
-    Ok(answer.joined(left, right, &rows)?)
+    Ok((side(left, columns.0), side(right, columns.1)))
+}
+
+/// `join,L,R`, and behind `on` the columns.
+pub fn join<W: Write>(record: Record<'_>, book: &Book, answer: &mut Answer<W>) -> Result<(), Stop> {
+    let (left, right) = sides(record, book)?;
+    let rows = join::join(&left, &right);
+    Ok(answer.joined(left.table, right.table, &rows)?)
+}
+
+/// `anti,L,R`, and behind `on` the columns.
+pub fn anti<W: Write>(record: Record<'_>, book: &Book, answer: &mut Answer<W>) -> Result<(), Stop> {
+    let (left, right) = sides(record, book)?;
+    let rows = anti::anti(&left, &right);
+    Ok(answer.unmatched(left.table, &rows)?)
+}
+
+/// The function of a record of an aggregate, its column where it has one, and that behind `by`.
+fn asked(front: Record<'_>) -> Result<(Func, Option<&[u8]>, Option<&[u8]>), Refusal> {
+    let func = match (front.len() > 2).then(|| front.field(2)) {
+        Some(b"count") => Func::Count,
+        Some(b"sum") => Func::Sum,
+        Some(b"min") => Func::Min,
+        Some(b"max") => Func::Max,
+        _ => return Err(Refusal::BadCommand),
+    };
+    let behind = if func == Func::Count { 3 } else { 4 };
+    let column = (func != Func::Count && front.len() > 3).then(|| front.field(3));
+    match front.len().checked_sub(behind) {
+        Some(0) => Ok((func, column, None)),
+        Some(2) if front.field(behind) == b"by" => {
+            Ok((func, column, Some(front.field(behind + 1))))
+        }
+        _ => Err(Refusal::BadCommand),
+    }
+}
+
+/// `agg,T,count` or `agg,T,FUNC,COLUMN`, and behind `by` a column.
+pub fn agg<W: Write>(record: Record<'_>, book: &Book, answer: &mut Answer<W>) -> Result<(), Stop> {
+    let (front, asof) = split_asof(record);
+    let (func, column, by) = asked(front)?;
+    let table = name(front.field(1))?;
+    let (column, by) = (column.map(name).transpose()?, by.map(name).transpose()?);
+    let (table, commit) = book.read(table, commit(asof)?)?;
+    let place = |column| table.column(column).ok_or(Refusal::NoColumn);
+    let column = column.map(place).transpose()?;
+    if column.is_some_and(|column| table.columns[column].values.kind() != Kind::Int) {
+        return Err(Refusal::WrongKind.into());
+    }
+    let by = by.map(place).transpose()?;
+    let aggregate = Aggregate {
+        table,
+        commit,
+        func,
+        column,
+        by,
+    };
+    Ok(answer.totals(&aggregate.totals())?)
 }
 
 /// `log`

@@ -91,6 +91,8 @@ fn answer_record<W: Write>(
         b"fromto" => return queries::from_to(record, book, answer),
         b"dip" => return queries::dip(record, book, answer),
         b"join" => return queries::join(record, book, answer),
+        b"anti" => return queries::anti(record, book, answer),
+        b"agg" => return queries::agg(record, book, answer),
         b"log" => return queries::log(record, book, answer),
         _ => return Err(Refusal::BadCommand.into()),
     }

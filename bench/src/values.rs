@@ -13,7 +13,7 @@ pub enum Kind {
     Text,
 }
 
-#[derive(Clone, Copy, Debug, PartialEq, Eq, Hash)]
+#[derive(Clone, Copy, Debug, PartialEq, Eq, PartialOrd, Ord, Hash)]
 pub enum Value<'a> {
     Int(i64),
     Text(&'a [u8]),

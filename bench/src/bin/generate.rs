@@ -5,7 +5,7 @@
 //!
 //! Rows start on random days of a range that grows with their number, so that on each day about
 //! `overlap` of them hold. Columns are a text and a number in turn, of which the first is the row's own
-//! name; the first `key` of them are the table's key. All kinds begin with the table, but for the last three, and then:
+//! name; the first `key` of them are the table's key. Most kinds begin with the table, and then:
 //!
 //! - `rows`, `at`, `dip`, `log`: a load of the rows, and so many queries;
 //! - `between`: a load of the rows, a change of all of them, and queries for all versions;
@@ -15,8 +15,10 @@
 //! - `portions`: a load of the rows, and so many updates of a portion of 30 days, without conditions;
 //! - `past`: a load of half of the rows, a change of all of them, and queries as of the load.
 //!
-//! A script of `join` has two tables with so many rows each, and so many joins of them: by their one column, which
-//! is one of so many numbers as there are groups, or without columns where these are 0. One of `together` has two
+//! A script of `join` or `anti` has two tables with so many rows each, and so many joins or anti-joins of them: by
+//! their one column, which is one of so many numbers as there are groups, or without columns where these are 0. One
+//! of `agg` has a table of groups of equal size and of numbers, and so many sums of these by groups, or of all where
+//! there are 0. One of `together` has two
 //! such tables whose rows all hold on one day, so each row is a part of its own, and without columns each row joins
 //! each. One of `apart` has two tables without columns, whose rows all hold on one day, another one for each table:
 //! so each row is a part of its own, and no two rows join.
@@ -196,12 +198,30 @@ impl<W: Write> Script<W> {
         Ok(())
     }
 
-    fn join(&mut self, period: fn(&mut Self) -> io::Result<()>) -> io::Result<()> {
+    /// Two tables, and joins or anti-joins of them.
+    fn compared(&mut self, word: &str, period: fn(&mut Self) -> io::Result<()>) -> io::Result<()> {
         self.sides(period)?;
-        self.queries(if self.options.groups == 0 {
-            "join,t,u"
+        let columns = if self.options.groups == 0 {
+            ""
         } else {
-            "join,t,u,on,c,c"
+            ",on,c,c"
+        };
+        self.queries(&format!("{word},t,u{columns}"))
+    }
+
+    fn aggregate(&mut self) -> io::Result<()> {
+        let groups = self.options.groups;
+        writeln!(self.out, "table,t,c,int,n,int\nload,t")?;
+        for number in 0..self.options.rows {
+            self.period()?;
+            let amount = self.numbers.below(100_000);
+            writeln!(self.out, ",{},{amount}", number % groups.max(1))?;
+        }
+        writeln!(self.out, "end")?;
+        self.queries(if groups == 0 {
+            "agg,t,sum,n"
+        } else {
+            "agg,t,sum,n,by,c"
         })
     }
 
@@ -238,12 +258,13 @@ impl<W: Write> Script<W> {
 
     fn write(&mut self, kind: &str) -> io::Result<()> {
         let rows = self.options.rows;
-        if !matches!(kind, "join" | "together" | "apart") {
+        if !matches!(kind, "join" | "anti" | "agg" | "together" | "apart") {
             self.table()?;
         }
         match kind {
-            "join" => self.join(Self::period),
-            "together" => self.join(Self::period_of_all),
+            "join" | "anti" => self.compared(kind, Self::period),
+            "together" => self.compared("join", Self::period_of_all),
+            "agg" => self.aggregate(),
             "apart" => self.apart(),
             "rows" => self.load(rows).and_then(|()| self.queries("rows,t")),
             "at" => self.load(rows).and_then(|()| self.days()),
