@@ -13,7 +13,7 @@ It reads a script of CSV records on standard input, and writes the answers to
 its commands on standard output, as CSV records too. Each run begins with no
 tables and keeps nothing: what is kept is the script.
 
-  --workers N   the most threads that a join, anti or agg may use, 1 to 64; without it 4.
+  --workers N   the most threads that a query may use, 1 to 64; without it 4.
                 The answers are the same by any number.
   --help        prints this page.
 
