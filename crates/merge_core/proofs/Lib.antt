@@ -6,6 +6,7 @@ pub mod SweepLemmas
 pub mod GapLemmas
 pub mod WholeLemmas
 pub mod MeetLemmas
+pub mod MaximalAround
 pub mod BothLemmas
 pub mod StepLemmas
 pub mod TallyLemmas

@@ -1,5 +1,7 @@
 -- Rows that touch with one value are closed up to the longest periods of one value.
-use Rattle.std.proofs.Common.{◌≡◌, ℕ, List, [], ◌∷◌, ◌++◌, Bool, true, false, cond, Option, Some, None, inl, inr, refl, sym, subst, ap, ◌∙◌, arith, append-nil, append_assoc}
+use Rattle.std.proofs.Common.{◌≡◌, ℕ, List, length, [], ◌∷◌, ◌++◌, Bool, true, false, cond, Option, Some, None, inl, inr, refl, sym, subst, ap, ◌∙◌, arith, append-nil, append_assoc}
+use Rattle.std.proofs.lemmas.List.{nil_from_length}
+use Rattle.std.proofs.lemmas.Option.{none-some, same_Some}
 use Rattle.std.specs.Prelude.{ℤ, pos, ◌-ℤ◌, ◌≤ℤ◌, ◌<ℤ◌, Contains}
 use Rattle.std.proofs.lemmas.Int.{ints}
 use Rattle.period_core.specs.Period.{holds_at}
@@ -15,19 +17,13 @@ use Rattle.merge_core.proofs.SweepLemmas.{IsMaximal-same}
 use Rattle.round_core.specs.declared.measure.Measure.{Measure}
 use Rattle.round_core.specs.declared.plateau.Plateau.{Plateau}
 use Rattle.round_core.specs.Plateaus.{value_of, PlateauBefore}
-use Rattle.round_core.proofs.RoundLemmas.{IsThere}
 use Rattle.round_core.specs.Closing.{GivesValue, IsStepPlateau, valued_step, valued, value_at, HasValueAt, IsClosed, ListsClosed, AreApart, Continues, IsJoined}
 
--- the value, if there is one
-abbrev the_value : Option ℤ → ℤ
-the_value None = pos 0
-the_value (Some a) = a
-
 none_some : (o : Option ℤ) (a : ℤ) → o ≡ None → o ≡ Some a → ⊥
-none_some o a e f = subst IsThere (sym f ∙ e) tt
+none_some o a e f = none-some a (sym e ∙ f)
 
 some_same : (o : Option ℤ) (a b : ℤ) → o ≡ Some a → o ≡ Some b → a ≡ b
-some_same o a b e f = ap the_value (sym e ∙ f)
+some_same o a b e f = same_Some a b (sym e ∙ f)
 
 -- a plateau is its class, its period and its value
 pub Plateau-same : (a b : Plateau) → a.class ≡ b.class → a.period ≡ b.period → a.value ≡ b.value → a ≡ b
@@ -297,7 +293,7 @@ valued_at measure class (s ∷ steps) v t h = split (holds_at t s.period) (value
     split : (b : Bool) → (HasValueAt (valued measure class steps) v t → GivesValue measure steps v t)
         → cond b (Some (value_of measure s.tally)) (value_at (valued measure class steps) t) ≡ Some v
         → (a : Tally) × (cond b (Some s.tally) (tally_at steps t) ≡ Some a) × (value_of measure a ≡ v)
-    split true later e = (s.tally, refl, ap the_value e)
+    split true later e = (s.tally, refl, same_Some _ _ e)
     split false later e = later e
 
 -- what is asked of a tally, if there is one
@@ -361,6 +357,13 @@ pub record IsClosing
   pub goes_on : (rest : List Plateau) → ListsClosed class (row ∷ valued measure class left) rest
       → ListsClosed class (valued measure class steps) (made ++ rest)
   pub apart : AreApart (row ∷ valued measure class left)
+
+pub closing_none : (measure : Measure) (class : ℕ) (steps : List Step) (old : List Plateau) → length steps ≡ 0
+    → AddsAll PlateauBefore (IsStepPlateau measure class steps) old old
+closing_none measure class steps old none =
+    subst (λ z. AddsAll PlateauBefore (IsStepPlateau measure class z) old old) (sym (nil_from_length steps none))
+    (step_plateaus measure class [] old old [] (sym (append-nil old))
+    (IsListOf-none PlateauBefore (IsClosed class []) (none_closed class)))
 
 pub closing_start : (measure : Measure) (class : ℕ) (steps : List Step) (x : Step) (left : List Step) (row : Plateau)
     (old : List Plateau) → steps ≡ x ∷ left → row ≡ valued_step measure class x → AreStepsApart steps

@@ -1,5 +1,6 @@
 -- The plateaus of lists of which no two are of one class are those of the items that the lists stand for.
 use Rattle.std.proofs.Common.{◌≡◌, ◌<◌, ◌≤◌, ℕ, List, [], ◌∷◌, ◌++◌, cond, Option, Some, None, inl, inr, refl, sym, subst, ap, ◌∙◌, arith, append-nil, append_assoc}
+use Rattle.std.proofs.lemmas.Option.{none-some}
 use Rattle.std.specs.Prelude.{ℤ, pos, Contains}
 use Rattle.std.proofs.lemmas.Int.{ints}
 use Rattle.std.proofs.lemmas.Bool.{cases_eq}
@@ -20,7 +21,6 @@ use Rattle.round_core.specs.declared.plateau.Plateau.{Plateau}
 use Rattle.round_core.specs.Plateaus.{of_class, value_of, HasValue, IsPlateau, PlateauBefore, ArePlateaus}
 use Rattle.round_core.specs.ClassLists.{class_at, RisesFrom, HaveNoNeighbours, StandForAll, IsRound}
 use Rattle.round_core.specs.Closing.{GivesValue, IsStepPlateau, IsPlateauOfSome}
-use Rattle.round_core.proofs.RoundLemmas.{IsThere}
 use Rattle.round_core.proofs.RunLemmas.{both-none, eq_self, eq_other}
 
 -- ---- the lists are of distinct classes
@@ -79,7 +79,7 @@ own_at (k ∷ ls) l t r h = elim (Contains-cons_cases k ls l h) [
 -- a class that comes to something has a list
 list_of_class : (class : ℕ) (ls : List ClassSteps) (t : ℤ) (a : Tally) → class_at class ls t ≡ Some a
     → (l : ClassSteps) × Contains ls l × (l.class ≡ class)
-list_of_class class [] t a e = absurd (subst IsThere (sym e) tt)
+list_of_class class [] t a e = absurd (none-some a e)
 list_of_class class (l ∷ ls) t a e = elim (cases_eq l.class class) [
   | inl same ↦ (l, Contains-head l ls, same)
   | inr other ↦

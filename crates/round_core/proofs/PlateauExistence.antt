@@ -20,6 +20,7 @@ use Rattle.list_core.proofs.WantedExistence.{IsUnorderedListOf, IsUnorderedListO
 use Rattle.merge_core.specs.declared.tally.Tally.{Tally}
 use Rattle.merge_core.specs.Gaps.{IsMaximal}
 use Rattle.merge_core.specs.Tallies.{held, IsTally, IsTallyAt, both}
+use Rattle.merge_core.proofs.MaximalAround.{maximal_around}
 use Rattle.merge_core.proofs.SharedLemmas.{by_order, first_held, Period-same}
 use Rattle.merge_core.proofs.TallyLemmas.{IsTallyAt-append}
 use Rattle.merge_core.proofs.WeightLemmas.{lone_tallies}
@@ -29,84 +30,6 @@ use Rattle.round_core.specs.Plateaus.{of_class, value_of, HasValue, IsPlateau, P
 use Rattle.round_core.proofs.ClosingLemmas.{Plateau-same}
 use Rattle.round_core.proofs.CollectLemmas.{IsTally-unique, no_tally}
 use Rattle.round_core.proofs.PermutedLemmas.{has_held, amount_from}
-
--- ---- around an instant of a bounded set that can be tested there is a maximal period
-
-module _ (S : ℤ → Type 0) (test : (t : ℤ) → S t ⊎ (S t → ⊥)) where
-  -- from t up, at most n instants on, the set ends
-  ends_above : (n : ℕ) (t : ℤ) → S t → (S (t +ℤ pos n) → ⊥)
-      → (e : ℤ) × (t <ℤ e) × ((u : ℤ) → t ≤ℤ u → u <ℤ e → S u) × (S e → ⊥)
-  ends_above zero t s out = absurd (out (subst S (omega (arith, ints)) s))
-  ends_above (suc n) t s out =
-      elim (test (t +ℤ pos 1)) [
-        | inl m ↦ (
-            let far : S ((t +ℤ pos 1) +ℤ pos n) → ⊥ =
-            λ r. out (let e : (t +ℤ pos 1) +ℤ pos n ≡ t +ℤ pos (suc n) = omega (arith, ints) in subst S e r) in
-            let k = ends_above n (t +ℤ pos 1) m far in (
-              k.0,
-              omega (arith, ints, k.1),
-              (λ u lo hi. elim (by_order u t) [
-                | inl h ↦ (let e : t ≡ u = omega (arith, ints) in subst S e s)
-                | inr h ↦ k.2 u (omega (arith, ints)) hi
-              ]),
-              k.3,
-            ))
-        | inr m ↦ (
-          t +ℤ pos 1,
-          omega (arith, ints),
-          (λ u lo hi. let e : t ≡ u = omega (arith, ints) in subst S e s),
-          m,
-        )
-      ]
-
-  -- from t down, at most n instants on, the set starts
-  starts_below : (n : ℕ) (t : ℤ) → S t → (S (t -ℤ pos n) → ⊥)
-      → (b : ℤ) × (b ≤ℤ t) × ((u : ℤ) → b ≤ℤ u → u ≤ℤ t → S u) × (S (b -ℤ pos 1) → ⊥)
-  starts_below zero t s out = absurd (out (subst S (omega (arith, ints)) s))
-  starts_below (suc n) t s out =
-      elim (test (t -ℤ pos 1)) [
-        | inl m ↦ (
-            let far : S ((t -ℤ pos 1) -ℤ pos n) → ⊥ =
-            λ r. out (let e : (t -ℤ pos 1) -ℤ pos n ≡ t -ℤ pos (suc n) = omega (arith, ints) in subst S e r) in
-            let k = starts_below n (t -ℤ pos 1) m far in (
-              k.0,
-              omega (arith, ints, k.1),
-              (λ u lo hi. elim (by_order t u) [
-                | inl h ↦ (let e : t ≡ u = omega (arith, ints) in subst S e s)
-                | inr h ↦ k.2 u lo (omega (arith, ints))
-              ]),
-              k.3,
-            ))
-        | inr m ↦ (t, omega (arith, ints), (λ u lo hi. let e : t ≡ u = omega (arith, ints) in subst S e s), m)
-      ]
-
-  maximal_around : (lo hi : ℤ) → ((t : ℤ) → S t → lo ≤ℤ t) → ((t : ℤ) → S t → t <ℤ hi) → (t : ℤ) → S t
-      → (p : Period) × Holds p t × IsMaximal S p
-  maximal_around lo hi above below t s =
-      let up = ends_above (nat_abs (hi -ℤ t)) t s (λ r. past hi t (below t s) (below _ r)) in
-      let down = starts_below (nat_abs ((t -ℤ lo) +ℤ pos 1)) t s (λ r. before lo t (above t s) (above _ r)) in (
-        record { from = down.0; to = up.0; ordered = omega (arith, ints, down.1, up.1) },
-        (down.1, up.1),
-        record {
-          inside = λ u h. elim (by_order u t) [ inl k ↦ down.2 u h.0 k | inr k ↦ up.2 u (omega (arith, ints)) h.1 ];
-          before = down.3;
-          after = up.3;
-        },
-      )
-    where
-      past : (hi t : ℤ) → t <ℤ hi → (t +ℤ pos (nat_abs (hi -ℤ t))) <ℤ hi → ⊥
-      past hi t a b =
-          let n : T (non_neg (hi -ℤ t)) = yes_non_neg (omega (arith, ints)) in
-          let e : pos (nat_abs (hi -ℤ t)) ≡ hi -ℤ t = pos-nat_abs (hi -ℤ t) n in
-          let c : (t +ℤ (hi -ℤ t)) <ℤ hi = subst (λ v. (t +ℤ v) <ℤ hi) e b in
-          omega (arith, ints)
-
-      before : (lo t : ℤ) → lo ≤ℤ t → lo ≤ℤ (t -ℤ pos (nat_abs ((t -ℤ lo) +ℤ pos 1))) → ⊥
-      before lo t a b =
-          let n : T (non_neg ((t -ℤ lo) +ℤ pos 1)) = yes_non_neg (omega (arith, ints)) in
-          let e : pos (nat_abs ((t -ℤ lo) +ℤ pos 1)) ≡ (t -ℤ lo) +ℤ pos 1 = pos-nat_abs ((t -ℤ lo) +ℤ pos 1) n in
-          let c : lo ≤ℤ (t -ℤ ((t -ℤ lo) +ℤ pos 1)) = subst (λ v. lo ≤ℤ (t -ℤ v)) e b in
-          omega (arith, ints)
 
 -- maximal periods of one set that share an instant are one
 module _ (S : ℤ → Type 0) (p q : Period) (t : ℤ) (m : IsMaximal S p) (n : IsMaximal S q) (h : Holds p t)

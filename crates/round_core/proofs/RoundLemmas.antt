@@ -1,9 +1,8 @@
 -- What a round makes of the lists.
-use Rattle.std.proofs.Common.{◌≡◌, ◌+◌, ◌*◌, ◌<◌, ◌≤◌, ℕ, zero, suc, Bool, true, false, cond, Option, Some, None, List, [], ◌∷◌, ◌++◌, length, map, take, IsTrue, ◌⊎◌, inl, inr, refl, sym, subst, ap, ◌∙◌, arith}
+use Rattle.std.proofs.Common.{◌≡◌, ◌+◌, ◌*◌, ◌<◌, ◌≤◌, ℕ, suc, Bool, true, false, cond, Option, Some, None, List, [], ◌∷◌, length, IsTrue, ◌⊎◌, inl, inr, refl, sym, subst, ap, ◌∙◌, arith}
 use Rattle.std.specs.Prelude.{ℤ, ◌==◌, slice_get}
 use Rattle.std.specs.Int.{int_min, int_max}
 use Rattle.std.proofs.lemmas.Int.{ints, clamps}
-use Rattle.std.proofs.lemmas.List.{map-append}
 use Rattle.merge_core.specs.declared.tally.Tally.{Tally}
 use Rattle.merge_core.specs.Tallies.{both}
 use Rattle.merge_core.specs.Steps.{StepList, IsBoth, tally_at}
@@ -48,41 +47,23 @@ boths-length (a ∷ (b ∷ twos)) [] are = absurd are
 boths-length (a ∷ (b ∷ twos)) (o ∷ made) are = let e = boths-length twos made are.1 in omega (arith, e)
 
 -- values of the pairs by number are values of each two
-pub boths_by_number : {X : Type 0} (value : X → StepList) (twos : List StepList) (outs : List X)
-    → length outs * 2 ≡ length twos
-    → ((i : ℕ) (o : X) → slice_get outs i ≡ Some o → IsBoth (list_at twos (i * 2)) (list_at twos (i * 2 + 1)) (value o))
-    → AreBoths twos (map value outs)
-boths_by_number value [] [] e each = tt
-boths_by_number value [] (o ∷ outs) e each = absurd (omega arith)
-boths_by_number value (a ∷ []) [] e each = absurd (omega arith)
-boths_by_number value (a ∷ []) (o ∷ outs) e each = absurd (omega arith)
-boths_by_number value (a ∷ (b ∷ twos)) [] e each = absurd (omega arith)
-boths_by_number value (a ∷ (b ∷ twos)) (o ∷ outs) e each = (
+pub boths_by_number : (twos made : List StepList) → length made * 2 ≡ length twos
+    → ((i : ℕ) (o : StepList) → slice_get made i ≡ Some o → IsBoth (list_at twos (i * 2)) (list_at twos (i * 2 + 1)) o)
+    → AreBoths twos made
+boths_by_number [] [] e each = tt
+boths_by_number [] (o ∷ made) e each = absurd (omega arith)
+boths_by_number (a ∷ []) [] e each = absurd (omega arith)
+boths_by_number (a ∷ []) (o ∷ made) e each = absurd (omega arith)
+boths_by_number (a ∷ (b ∷ twos)) [] e each = absurd (omega arith)
+boths_by_number (a ∷ (b ∷ twos)) (o ∷ made) e each = (
   each 0 o refl,
-  boths_by_number value twos outs (omega arith) (λ i x h.
+  boths_by_number twos made (omega arith) (λ i x h.
       let l : suc i * 2 ≡ suc (suc (i * 2)) = omega arith in
       let r : suc i * 2 + 1 ≡ suc (suc (i * 2 + 1)) = omega arith in
-      subst (λ (n : ℕ). IsBoth (list_at twos (i * 2)) (list_at (a ∷ (b ∷ twos)) n) (value x)) r
-      (subst (λ (n : ℕ). IsBoth (list_at (a ∷ (b ∷ twos)) n) (list_at (a ∷ (b ∷ twos)) (suc i * 2 + 1)) (value x)) l
+      subst (λ (n : ℕ). IsBoth (list_at twos (i * 2)) (list_at (a ∷ (b ∷ twos)) n) x) r
+      (subst (λ (n : ℕ). IsBoth (list_at (a ∷ (b ∷ twos)) n) (list_at (a ∷ (b ∷ twos)) (suc i * 2 + 1)) x) l
       (each (suc i) x h))),
 )
-
--- the value, if there is one
-abbrev the_or : {X : Type 0} → X → Option X → X
-the_or d None = d
-the_or d (Some x) = x
-
--- there is a value
-abbrev pub IsThere : {X : Type 0} → Option X → Type 0
-IsThere None = ⊥
-IsThere (Some x) = Unit {0}
-
--- the first things, with one more
-pub take-one_more : {X : Type 0} (xs : List X) (i : ℕ) (x : X) → slice_get xs i ≡ Some x
-    → take (suc i) xs ≡ take i xs ++ x ∷ []
-take-one_more [] i x e = absurd (subst IsThere (sym e) tt)
-take-one_more (y ∷ xs) zero x e = ap (λ z. z ∷ []) (ap (the_or y) e)
-take-one_more (y ∷ xs) (suc i) x e = ap (λ z. y ∷ z) (take-one_more xs i x e)
 
 -- ---- what comes of a round
 
@@ -195,16 +176,6 @@ filled_with all slots twos made e are n some =
     let m = boths-length twos made are in
     let l : length (sorted_lists slots twos) ≡ length all = ap length e in
     omega (arith, k, m, l, some)
-
--- the lists that were read so far, with one more
-pub lists_more : {X : Type 0} (value : X → StepList) (lists lists' outs : List X) (i : ℕ) (x y : X)
-    → lists' ≡ lists ++ x ∷ [] → value x ≡ value y → Some y ≡ slice_get outs i
-    → map value lists ≡ map value (take i outs) → map value lists' ≡ map value (take (i + 1) outs)
-lists_more value lists lists' outs i x y e same at so_far =
-    let next : i + 1 ≡ suc i = omega arith in
-    ap (map value) e ∙ map-append value lists (x ∷ []) ∙ ap (λ z. z ++ value x ∷ []) so_far
-    ∙ ap (λ z. map value (take i outs) ++ z ∷ []) same ∙ sym (map-append value (take i outs) (y ∷ []))
-    ∙ ap (map value) (sym (take-one_more outs i y (sym at))) ∙ ap (λ n. map value (take n outs)) (sym next)
 
 -- a test holds, or something follows where it doesn't
 pub fewer_or : (done : Bool) (Less : Type 0) → (done ≡ false → Less) → IsTrue done ⊎ Less

@@ -268,13 +268,12 @@ listing_run all left rest first run lists lists' e own adds was =
     }
 
 -- the same of a run of which its length is known
-pub listing_more : (all left run rest : List Item) (first : Item) (n : ℕ) (lists lists' : List ClassSteps)
-    → left ≡ first ∷ drop 1 left → run ≡ take (1 + n) left → rest ≡ drop (1 + n) left
-    → All (λ (x : Item). x.class ≡ first.class) (take n (drop 1 left)) → AddsSteps first.class run lists lists'
+pub listing_more : (all left behind run rest : List Item) (first : Item) (n : ℕ) (lists lists' : List ClassSteps)
+    → left ≡ first ∷ behind → run ≡ take (1 + n) left → rest ≡ drop (1 + n) left
+    → All (λ (x : Item). x.class ≡ first.class) (take n behind) → AddsSteps first.class run lists lists'
     → IsListing all left lists → IsListing all rest lists'
-listing_more all left run rest first n lists lists' e f g own adds was =
+listing_more all left behind run rest first n lists lists' e f g own adds was =
     let next : 1 + n ≡ suc n = omega arith in
-    let behind = drop 1 left in
     let f' : run ≡ first ∷ take n behind =
     f ∙ ap (λ k. take k left) next ∙ ap (λ z. take (suc n) z) e in
     let g' : rest ≡ drop n behind = g ∙ ap (λ k. drop k left) next ∙ ap (λ z. drop (suc n) z) e in

@@ -1,6 +1,6 @@
 //! Steps closed up to plateaus.
 
-ghost use Rattle.std.specs.Prelude.{◌≡◌, [], ◌∷◌, drop, MatchOption, IfOk, OnOk};
+ghost use Rattle.std.specs.Prelude.{◌≡◌, MatchOption, IfOk, OnOk};
 ghost use Rattle.list_core.specs.Wanted.{AddsAll, IsListOf};
 ghost use Rattle.merge_core.specs.Steps.{AreStepsApart};
 ghost use Rattle.round_core.specs.ClassLists.{HaveNoNeighbours, RisesFrom};
@@ -55,20 +55,6 @@ fn joined(one: &Plateau, next: &Plateau) -> Option<Plateau>
     None
 }
 
-/// The first step of a list.
-fn first_step(steps: &[Step]) -> Option<Step>
-    ensures { MatchOption result (steps.now ≡ []) (λ x. steps.now ≡ x ∷ drop 1 steps.now) }
-{
-    steps.first().copied()
-}
-
-/// A list without its first step.
-fn later_steps(steps: &[Step]) -> &[Step]
-    ensures { result.now ≡ drop 1 steps.now }
-{
-    if steps.is_empty() { steps } else { &steps[1..] }
-}
-
 /// Adds the plateaus of a class, from its steps: neighbours that touch and have one value are one.
 fn close(
     measure: Measure,
@@ -80,20 +66,20 @@ fn close(
     ensures { OnOk result (AddsAll PlateauBefore (IsStepPlateau measure class steps.now)
         plateaus.old.items plateaus.new.items) }
 {
-    let Some(first) = first_step(steps) else {
+    let Some((first, later)) = steps.split_first() else {
         return Ok(());
     };
-    let mut row = plateau_of(measure, class, &first);
-    let mut left = later_steps(steps);
-    'steps: while let Some(step) = first_step(left) {
-        let next = plateau_of(measure, class, &step);
+    let mut row = plateau_of(measure, class, first);
+    let mut left = later;
+    'steps: while let Some((step, later)) = left.split_first() {
+        let next = plateau_of(measure, class, step);
         if let Some(both) = joined(&row, &next) {
             row = both;
         } else {
             plateaus.push(row)?;
             row = next;
         }
-        left = later_steps(left);
+        left = later;
     }
     plateaus.push(row)?;
     Ok(())

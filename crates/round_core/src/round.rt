@@ -1,7 +1,6 @@
 //! One round: of the lists of each class two neighbours go to the workers together, and one that is left is put aside.
 
-ghost use Rattle.std.specs.Prelude.{◌≡◌, ◌*◌, ◌++◌, [], length, map, IfOk, MatchOption};
-ghost use Rattle.std.specs.Arc.{arc_value};
+ghost use Rattle.std.specs.Prelude.{◌≡◌, ◌*◌, ◌++◌, [], length, IfOk, MatchOption};
 ghost use Rattle.std.specs.Option.{option_to_list};
 ghost use Rattle.round_core.specs.ClassLists.{StartsOtherwise, HaveNoNeighbours};
 ghost use Rattle.round_core.specs.Rounds.{twos_in, sorted_lists, filled};
@@ -9,9 +8,8 @@ ghost use Rattle.round_core.specs.Rounds.{twos_in, sorted_lists, filled};
 use crate::class_steps::ClassSteps;
 use merge_core::Steps;
 use period_core::NoMemory;
-use std::alloc::{AllocError, Global};
+use std::alloc::Global;
 use std::collections::VecDeque;
-use std::sync::Arc;
 
 /// What comes in the place of one list or of two.
 #[derive(Drop)]
@@ -70,24 +68,20 @@ pub(crate) fn sort_out(alloc: Global, lists: VecDeque<ClassSteps>) -> Result<Rou
 pub(crate) fn fill(
     alloc: Global,
     slots: VecDeque<Slot>,
-    made: VecDeque<Arc<Steps>>,
+    made: Vec<Steps>,
 ) -> Result<VecDeque<ClassSteps>, NoMemory>
     requires { length made.items ≡ twos_in slots.items }
-    ensures { IfOk result (λ lists. lists.items ≡ filled slots.items (map arc_value made.items)) }
+    ensures { IfOk result (λ lists. lists.items ≡ filled slots.items made.items) }
 {
     let mut slots = slots;
-    let mut made = made;
+    let mut made = made.into_iter();
     let mut lists = VecDeque::new(alloc);
     'slots: while let Some(slot) = slots.pop_front() {
         match slot {
             Slot::Aside(list) => lists.push_back(list)?,
             Slot::OfTwo(class) => {
-                let Some(list) = made.pop_front() else {
+                let Some(steps) = made.next() else {
                     unreachable!()
-                };
-                // Nobody else has it any more, so it can be taken out.
-                let Some(steps) = Arc::into_inner(list) else {
-                    return Err(AllocError);
                 };
                 lists.push_back(ClassSteps { class, steps })?;
             }

@@ -1,7 +1,6 @@
 //! All lists of a class as one, two by two in rounds.
 
-ghost use Rattle.std.specs.Prelude.{◌≡◌, ◌⊎◌, ◌%◌, ◌<◌, ◌≤◌, length, map, IfOk, IsTrue};
-ghost use Rattle.std.specs.Arc.{arc_value};
+ghost use Rattle.std.specs.Prelude.{◌≡◌, ◌⊎◌, ◌%◌, ◌<◌, ◌≤◌, length, IfOk, IsTrue};
 ghost use Rattle.dip_core.specs.Item.{item_limit};
 ghost use Rattle.work_core.specs.Limits.{worker_limit};
 ghost use Rattle.round_core.specs.ClassLists.{weight_of, HaveNoNeighbours, IsRound};
@@ -15,9 +14,8 @@ use merge_core::Steps;
 use period_core::NoMemory;
 use std::alloc::Global;
 use std::collections::VecDeque;
-use std::sync::Arc;
 use std::thread::Threads;
-use work_core::{Gate, Outs, run_pairs};
+use work_core::{Gate, run_pairs};
 
 /// The lists after a round.
 #[derive(Drop)]
@@ -27,20 +25,6 @@ struct Rounded {
     done: bool,
 }
 
-/// The values of a job. Its answer is given back at the end, so nobody else has them then.
-fn lists_of(alloc: Global, outs: Outs<Arc<Steps>>) -> Result<VecDeque<Arc<Steps>>, NoMemory>
-    ensures { IfOk result (λ lists. map arc_value lists.items ≡ map arc_value outs) }
-{
-    let mut lists = VecDeque::new(alloc);
-    for i in 0..outs.len() {
-        let Some(list) = outs.get(i) else {
-            unreachable!()
-        };
-        lists.push_back(Arc::try_clone(list)?)?;
-    }
-    Ok(lists)
-}
-
 /// Each two lists as one, by many workers. No thread is started where there are none.
 fn combine_twos<R: Threads + Sync, G: Gate>(
     rt: &R,
@@ -48,19 +32,19 @@ fn combine_twos<R: Threads + Sync, G: Gate>(
     twos: &[Steps],
     workers: u32,
     gate: &G,
-) -> Result<VecDeque<Arc<Steps>>, NoMemory>
+) -> Result<Vec<Steps>, NoMemory>
     requires workers { (0 < workers) × (workers ≤ worker_limit) }
     requires even { length twos.now % 2 ≡ 0 }
     requires few { length twos.now ≤ item_limit }
     requires light { all_weight twos.now ≤ item_limit }
-    ensures { IfOk result (λ made. AreBoths twos.now (map arc_value made.items)) }
+    ensures { IfOk result (λ made. AreBoths twos.now made.items) }
 {
     if twos.is_empty() {
-        return Ok(VecDeque::new(alloc));
+        return Ok(Vec::new(alloc));
     }
     let round = TallyRound::new(twos);
     let outs = run_pairs(rt, alloc, &round, workers, gate)?;
-    lists_of(alloc, outs)
+    outs.into_vec(alloc)
 }
 
 /// One round.

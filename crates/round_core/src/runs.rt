@@ -1,6 +1,6 @@
 //! The items of each class as lists of steps.
 
-ghost use Rattle.std.specs.Prelude.{◌≡◌, ◌<◌, ◌≤◌, [], ◌∷◌, length, take, drop, All, AllPairs, IfOk, OnOk, MatchOption};
+ghost use Rattle.std.specs.Prelude.{◌≡◌, ◌<◌, ◌≤◌, length, take, All, AllPairs, IfOk, OnOk};
 ghost use Rattle.dip_core.specs.Item.{item_limit};
 ghost use Rattle.dip_core.specs.Division.{all_of};
 ghost use Rattle.round_core.specs.ClassLists.{AddsSteps, RisesFrom, StandForAll};
@@ -73,20 +73,6 @@ fn run_len(class: u64, items: &[Item]) -> usize
     len
 }
 
-/// The first item.
-fn first_item(items: &[Item]) -> Option<Item>
-    ensures { MatchOption result (items.now ≡ []) (λ x. items.now ≡ x ∷ drop 1 items.now) }
-{
-    items.first().copied()
-}
-
-/// The items without the first one.
-fn later_items(items: &[Item]) -> &[Item]
-    ensures { result.now ≡ drop 1 items.now }
-{
-    if items.is_empty() { items } else { &items[1..] }
-}
-
 /// Lists of steps for the items of each class, by rising class.
 pub(crate) fn class_lists(alloc: Global, items: &[Item]) -> Result<VecDeque<ClassSteps>, NoMemory>
     requires few { length items.now ≤ item_limit }
@@ -96,9 +82,9 @@ pub(crate) fn class_lists(alloc: Global, items: &[Item]) -> Result<VecDeque<Clas
 {
     let mut lists = VecDeque::new(alloc);
     let mut left = items;
-    'runs: while let Some(first) = first_item(left) {
+    'runs: while let Some((first, later)) = left.split_first() {
         let class = first.class;
-        let len = 1 + run_len(class, later_items(left));
+        let len = 1 + run_len(class, later);
         let (run, rest) = left.split_at(len);
         push_run(alloc, class, run, &mut lists)?;
         left = rest;

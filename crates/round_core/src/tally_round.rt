@@ -1,7 +1,6 @@
 //! Lists of steps in twos, as a job for workers.
 
 ghost use Rattle.std.specs.Prelude.{◌≡◌, ◌↔◌, ◌/◌, ◌+◌, ◌<◌, ◌≤◌, length, IsTrue, IfOk};
-ghost use Rattle.std.specs.Arc.{arc_value};
 ghost use Rattle.dip_core.specs.Item.{item_limit};
 ghost use Rattle.merge_core.specs.Steps.{StepList, IsBoth};
 ghost use Rattle.round_core.specs.Together.{all_weight};
@@ -11,13 +10,10 @@ ghost use Rattle.round_core.specs.Twos.{list_at, two_name, two_place};
 use merge_core::{Step, Steps, combine};
 use period_core::NoMemory;
 use std::alloc::Global;
-use std::sync::Arc;
 use work_core::{PairName, PairWork};
 
 /// At most 1,000,000 lists of steps, of as many items in all, in twos: pair i is lists 2i and 2i + 1, and its
 /// value is both taken together. An odd last list is in no pair.
-///
-/// A value is shared, since the answer of a job only lends its values: who has it alone can take it out.
 #[derive(Clone, Copy)]
 pub struct TallyRound<'a> {
     /// The lists.
@@ -38,7 +34,7 @@ impl<'a> TallyRound<'a> {
 }
 
 impl<'a> PairWork for TallyRound<'a> {
-    type Out = Arc<Steps>;
+    type Out = Steps;
 
     ghost Inputs = { StepList × StepList };
 
@@ -50,7 +46,7 @@ impl<'a> PairWork for TallyRound<'a> {
 
     ghost inputs_of = { λ w p. (list_at w.lists.now p.left, list_at w.lists.now p.right) };
 
-    ghost IsValue = { λ x steps. IsBoth x.0 x.1 (arc_value steps) };
+    ghost IsValue = { λ x steps. IsBoth x.0 x.1 steps };
 
     ghost few = { λ w. few_twos (length w.lists.now) w.few };
 
@@ -58,7 +54,7 @@ impl<'a> PairWork for TallyRound<'a> {
 
     ghost named = { λ w p i e. two_named (length w.lists.now) p i e };
 
-    ghost value_prop = { λ x o. both_prop x.0 x.1 (arc_value o) };
+    ghost value_prop = { λ x o. both_prop x.0 x.1 o };
 
     fn count(&self) -> u64 {
         (self.lists.len() / 2) as u64
@@ -83,9 +79,8 @@ impl<'a> PairWork for TallyRound<'a> {
         }
     }
 
-    fn run(&self, alloc: Global, pair: PairName) -> Result<Arc<Steps>, NoMemory> {
-        let steps = combine_two(alloc, self.lists, pair)?;
-        Ok(Arc::new(alloc, steps)?)
+    fn run(&self, alloc: Global, pair: PairName) -> Result<Steps, NoMemory> {
+        combine_two(alloc, self.lists, pair)
     }
 
     fn same(&self, other: &Self, pair: PairName) -> bool {

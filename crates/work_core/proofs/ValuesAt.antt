@@ -1,6 +1,6 @@
 -- Values that stand each at its place.
-use Rattle.std.proofs.Common.{◌≡◌, ℕ, ◌<◌, ◌≤◌, All, List, [], ◌∷◌, Option, Some, None, IsSome, length, map, slice_get, slice_index_or, arith, ap, ◌∙◌, sym, refl}
-use Rattle.std.proofs.lemmas.List.{length-map}
+use Rattle.std.proofs.Common.{◌≡◌, ℕ, ◌<◌, ◌≤◌, All, List, [], ◌∷◌, ◌++◌, Option, Some, None, IsSome, length, map, slice_get, slice_index_or, arith, ap, ◌∙◌, sym, refl}
+use Rattle.std.proofs.lemmas.List.{append_assoc, length-map}
 use Rattle.std.proofs.lemmas.List.Elements.{All-head, All-tail}
 use Rattle.std.proofs.lemmas.Option.{slice_get-map, slice_get_read, slice_get_past, same_Some, none-some}
 use Rattle.std.specs.Option.{option_map}
@@ -45,3 +45,11 @@ pub get-values_past : {T : Type 0} (places : List (Option T)) (i : ℕ) → All 
     → slice_get (values_at places) i ≡ None
 get-values_past places i all past =
     let e = length-values_at places all in slice_get_past (values_at places) i (omega (arith, e, past))
+
+-- a value that is there is put behind those before it
+pub values_at-next : {T : Type 0} (all values values' : List T) (places rest : List (Option T)) (x : T)
+    → Some x ∷ rest ≡ places → values' ≡ values ++ x ∷ [] → values ++ values_at places ≡ all
+    → values' ++ values_at rest ≡ all
+values_at-next {T} all values values' places rest x split more was =
+    ap (λ (l : List T). l ++ values_at rest) more ∙ append_assoc values (x ∷ []) (values_at rest)
+    ∙ ap (λ (l : List (Option T)). values ++ values_at l) split ∙ was

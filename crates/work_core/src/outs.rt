@@ -1,8 +1,9 @@
 //! The values of all pairs of a job.
 
-ghost use Rattle.std.specs.Prelude.{◌≡◌, ◌==◌, All, IsSome, Some, map, length, slice_get};
+ghost use Rattle.std.specs.Prelude.{◌≡◌, ◌==◌, All, IfOk, IsSome, Some, map, length, slice_get};
 ghost use Rattle.std.specs.Option.{option_copied};
 
+use std::alloc::{AllocError, Global};
 use std::marker::Model;
 
 /// The values of a job's pairs, by pair number. Contracts see the list of them.
@@ -54,5 +55,20 @@ impl<T> Outs<T> {
         } else {
             None
         }
+    }
+}
+
+impl<T: Drop> Outs<T> {
+    /// The values alone, by pair number.
+    pub fn into_vec(self, alloc: Global) -> Result<Vec<T>, AllocError>
+        ensures { IfOk result (λ values. values.items ≡ self) }
+    {
+        let Outs { places } = self;
+        let mut values = Vec::with_capacity(alloc, places.len())?;
+        for place in places {
+            let Some(value) = place else { unreachable!() };
+            values.push(value)?;
+        }
+        Ok(values)
     }
 }
