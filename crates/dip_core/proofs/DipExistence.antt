@@ -1,5 +1,5 @@
 -- Items of distinct ids have a placed division: sorted, and placed one after another.
-use Rattle.std.proofs.Common.{◌≡◌, ℕ, zero, suc, ◌+◌, ◌-◌, ◌<◌, ◌≤◌, ℤ, ◌≤ℤ◌, ◌<ℤ◌, List, [], ◌∷◌, ◌++◌, length, get_or, Option, Some, None, arith, refl, sym, ap, ◌∙◌, inl, inr, ◌⊎◌, subst, append_assoc}
+use Rattle.std.proofs.Common.{◌≡◌, ℕ, zero, suc, ◌-◌, ◌<◌, ◌≤◌, ℤ, ◌≤ℤ◌, ◌<ℤ◌, List, [], ◌∷◌, ◌++◌, length, get_or, Option, Some, None, arith, refl, sym, ap, ◌∙◌, inl, inr, ◌⊎◌, subst, append_assoc}
 use Rattle.std.specs.Prelude.{All, IsPermutation}
 use Rattle.std.specs.Option.{ForSome}
 use Rattle.std.specs.Ordering.{is_lt}
@@ -7,7 +7,7 @@ use Rattle.std.proofs.lemmas.Bool.{both_ways, cases_Bool, cases_lt, true≢false
 use Rattle.std.proofs.lemmas.Int.{ints, by_lt_z}
 use Rattle.std.proofs.lemmas.Option.{none-some}
 use Rattle.std.proofs.lemmas.List.{append-nil, nil_from_length}
-use Rattle.std.proofs.lemmas.List.Elements.{All-cons, All-get_or, All-head, All-nil}
+use Rattle.std.proofs.lemmas.List.Elements.{All-cons, All-get_or, All-head, All-nil, All-tail}
 use Rattle.std.proofs.lemmas.List.Kept.{AllPairs-cons}
 use Rattle.std.proofs.lemmas.List.Sorted.{All-permutation, IsPermutation-append_left, IsPermutation-cons, IsPermutation-middle, IsPermutation-refl, IsPermutation-sym, IsPermutation-trans}
 use Rattle.list_core.proofs.RisingLemmas.{AllPairs-tail}
@@ -15,15 +15,13 @@ use Rattle.dip_core.specs.declared.item.Item.{Item}
 use Rattle.dip_core.specs.Item.{item_cmp, HasDistinctIds, IsBelow, IsChain, IsRising}
 use Rattle.dip_core.specs.Division.{all_of, part_at, IsDip, IsDivision, IsInstant, IsInstantOf, IsLeast, IsLeastDivision, IsPlaced}
 use Rattle.dip_core.specs.Invariants.{ArePlaced, opener}
-use Rattle.dip_core.specs.Placing.{IsGreatest, IsPlaceFor, added, last_end}
-use Rattle.dip_core.specs.Search.{IsBestPartBelow, NoPartIsFreeBelow}
+use Rattle.dip_core.specs.Placing.{IsBestPart, IsGreatest, IsPlaceFor, NoPartIsFree, added, last_end}
 use Rattle.dip_core.proofs.AddedLemmas.{all_of-added}
-use Rattle.dip_core.proofs.BestLemmas.{best-all, best-better, best-first, none-all, same_end, split_last}
 use Rattle.dip_core.proofs.CrowdLemmas.{crowd-permutation}
 use Rattle.dip_core.proofs.DivisionLemmas.{HasDistinctIds-permutation, IsDivision-from_placed, IsDivision-permutation, IsInstant-from_placed, IsLeast-from_placed, IsLeast-permutation, IsLeastDivision-from_placed, IsLeastDivision-permutation, some_item}
 use Rattle.dip_core.proofs.DipUniqueness.{less-from_test, one_placed}
 use Rattle.dip_core.proofs.OrderLemmas.{not_below-trans, not_below_back}
-use Rattle.dip_core.proofs.PlacedLemmas.{last_end_is}
+use Rattle.dip_core.proofs.LastLemmas.{last_end_is, same_end}
 use Rattle.dip_core.proofs.StepLemmas.{ArePlaced-added, IsGreatest-added}
 
 -- ---- the items in their order
@@ -67,67 +65,87 @@ sorted_items (x ∷ items) =
 
 -- ---- the part that an item goes into
 
--- what is found among the first n parts
-abbrev Found : List (List Item) → ℤ → ℕ → Type 0
-Found parts start n = NoPartIsFreeBelow parts start n ⊎ ((k : ℕ) × (end : ℤ) × IsBestPartBelow parts start n k end)
+-- what is found among the parts
+abbrev Found : List (List Item) → ℤ → Type 0
+Found parts start = NoPartIsFree parts start ⊎ ((k : ℕ) × IsBestPart parts start k)
 
-module _ (parts : List (List Item)) (start : ℤ) (n : ℕ) (end : ℤ) (ends : last_end (part_at parts n) ≡ Some end) where
-  none_more : NoPartIsFreeBelow parts start n → start <ℤ end → NoPartIsFreeBelow parts start (n + 1)
-  none_more none late j f h e =
-      split_last (λ j. last_end (part_at parts j) ≡ Some f → start <ℤ f) n (λ j less e. none j f less e)
-      (λ e. let same : end ≡ f = same_end (part_at parts n) end f ends e in omega (arith, ints)) j h e
+-- one more part before them
+module _ (part : List Item) (parts : List (List Item)) (start : ℤ) (end : ℤ) (ends : last_end part ≡ Some end) where
+  none_still : NoPartIsFree parts start → start <ℤ end → NoPartIsFree (part ∷ parts) start
+  none_still none late zero f e = let same : end ≡ f = same_end part end f ends e in omega (arith, ints)
+  none_still none late (suc j) f e = none j f e
 
-  best_stays : (k : ℕ) (least : ℤ) → IsBestPartBelow parts start n k least → (end ≤ℤ start → least ≤ℤ end)
-      → IsBestPartBelow parts start (n + 1) k least
-  best_stays k least so_far no_better = record {
-    within = let w : k < n = so_far.within in omega arith;
-    ends = so_far.ends;
-    over = so_far.over;
-    best = λ j f h e free.
-        split_last (λ j. last_end (part_at parts j) ≡ Some f → (least <ℤ f) ⊎ ((least ≡ f) × (k ≤ j))) n
-        (λ j less e. so_far.best j f less e free)
-        (λ e.
-        let same : end ≡ f = same_end (part_at parts n) end f ends e in
-        let most : least ≤ℤ end = no_better (omega (arith, ints)) in
-        let w : k < n = so_far.within in
-        by_lt_z least f (λ less. inl less) (λ more. inr (omega (arith, ints), omega arith)))
-        j h e;
+  first_alone : NoPartIsFree parts start → end ≤ℤ start → IsBestPart (part ∷ parts) start 0
+  first_alone none over = record {
+    end = end;
+    ends = ends;
+    over = over;
+    best = λ j f e free. rest j f e free;
   }
+    where
+      rest : (j : ℕ) (f : ℤ) → last_end (part_at (part ∷ parts) j) ≡ Some f → f ≤ℤ start
+          → (end <ℤ f) ⊎ ((end ≡ f) × (0 ≤ j))
+      rest zero f e free = inr (same_end part end f ends e, omega arith)
+      rest (suc j) f e free = let late : start <ℤ f = none j f e in absurd (omega (arith, ints))
 
-  found_more : Found parts start n → Found parts start (n + 1)
-  found_more found = by_lt_z start end
-      (λ late. elim found [
-        | inl none ↦ inl (none_more none late)
-        | inr best ↦ let (k, least, so_far) =
-            best in inr (k, least, best_stays k least so_far (λ over. absurd (omega (arith, ints))))
+  first_best : (k : ℕ) (best : IsBestPart parts start k) → end ≤ℤ best.end → IsBestPart (part ∷ parts) start 0
+  first_best k best sooner = record {
+    end = end;
+    ends = ends;
+    over = let o : best.end ≤ℤ start = best.over in omega (arith, ints);
+    best = λ j f e free. rest j f e free;
+  }
+    where
+      rest : (j : ℕ) (f : ℤ) → last_end (part_at (part ∷ parts) j) ≡ Some f → f ≤ℤ start
+          → (end <ℤ f) ⊎ ((end ≡ f) × (0 ≤ j))
+      rest zero f e free = inr (same_end part end f ends e, omega arith)
+      rest (suc j) f e free = by_lt_z end f (λ less. inl less) (λ more. elim (best.best j f e free) [
+        | inl below ↦ absurd (omega (arith, ints))
+        | inr tied ↦ let t : best.end ≡ f = tied.0 in inr (omega (arith, ints), omega arith)
       ])
-      (λ over. elim found [
-        | inl none ↦ inr (n, end, best-first parts start n end none ends over)
-        | inr best ↦
-            let (k, least, so_far) = best in
-            by_lt_z end least
-            (λ less. inr (n, end, best-better parts start n k least end so_far ends less))
-            (λ most. inr (k, least, best_stays k least so_far (λ over. most)))
-      ])
+
+  best_still : (k : ℕ) (best : IsBestPart parts start k) → (end ≤ℤ start → best.end <ℤ end)
+      → IsBestPart (part ∷ parts) start (suc k)
+  best_still k best later = record {
+    end = best.end;
+    ends = best.ends;
+    over = best.over;
+    best = λ j f e free. rest j f e free;
+  }
+    where
+      rest : (j : ℕ) (f : ℤ) → last_end (part_at (part ∷ parts) j) ≡ Some f → f ≤ℤ start
+          → (best.end <ℤ f) ⊎ ((best.end ≡ f) × (suc k ≤ j))
+      rest zero f e free =
+          let same : end ≡ f = same_end part end f ends e in
+          let less : best.end <ℤ end = later (omega (arith, ints)) in
+          inl (omega (arith, ints))
+      rest (suc j) f e free = elim (best.best j f e free) [
+        | inl below ↦ inl below
+        | inr tied ↦ inr (tied.0, omega (arith, tied.1))
+      ]
+
+  found_more : Found parts start → Found (part ∷ parts) start
+  found_more (inl none) =
+      by_lt_z start end (λ late. inl (none_still none late)) (λ over. inr (0, first_alone none over))
+  found_more (inr (k, best)) = by_lt_z best.end end
+      (λ later. inr (suc k, best_still k best (λ over. later)))
+      (λ sooner. inr (0, first_best k best sooner))
 
 some_end : (part : List Item) → 0 < length part → (end : ℤ) × (last_end part ≡ Some end)
 some_end part filled =
     let d : Item = some_item part filled in ((get_or part (length part - 1) d).period.to, last_end_is part d filled)
 
-found_below : (parts : List (List Item)) (start : ℤ) → All (λ part. 0 < length part) parts → (n : ℕ) → n ≤ length parts
-    → Found parts start n
-found_below parts start filled zero le = inl (λ j f h. absurd (omega arith))
-found_below parts start filled (suc n) le =
-    let (end, ends) =
-    some_end (part_at parts n) (All-get_or (λ part. 0 < length part) parts n [] (omega arith) filled) in
-    let next : n + 1 ≡ suc n = omega arith in
-    subst (Found parts start) next (found_more parts start n end ends (found_below parts start filled n (omega arith)))
+found : (parts : List (List Item)) (start : ℤ) → All (λ part. 0 < length part) parts → Found parts start
+found [] start filled = inl (λ j f e. absurd (cc))
+found (part ∷ parts) start filled =
+    let (end, ends) = some_end part (All-head (λ part. 0 < length part) part parts filled) in
+    found_more part parts start end ends (found parts start (All-tail (λ part. 0 < length part) part parts filled))
 
 some_place : (parts : List (List Item)) (start : ℤ) → All (λ part. 0 < length part) parts → (k : ℕ)
     × IsPlaceFor parts start k
-some_place parts start filled = elim (found_below parts start filled (length parts) (omega arith)) [
-  | inl none ↦ (length parts, inr (refl, none-all parts start none))
-  | inr best ↦ let (k, end, below) = best in (k, inl (best-all parts start k end below))
+some_place parts start filled = elim (found parts start filled) [
+  | inl none ↦ (length parts, inr (refl, none))
+  | inr best ↦ (best.0, inl best.1)
 ]
 
 -- ---- all items, one after another

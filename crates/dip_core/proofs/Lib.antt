@@ -1,5 +1,8 @@
 pub mod AddedLemmas
-pub mod BestLemmas
+pub mod LastLemmas
+pub mod DigitsLemmas
+pub mod HeapLemmas
+pub mod EndsLemmas
 pub mod ChainLemmas
 pub mod CrowdLemmas
 pub mod GrownLemmas

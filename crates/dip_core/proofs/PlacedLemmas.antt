@@ -1,26 +1,19 @@
 -- A division stays placed when an item that comes after all others goes into its place.
 use Rattle.std.proofs.Common.{◌≡◌, ◌≢◌, ℕ, ◌+◌, ◌-◌, ◌<◌, ◌≤◌, ℤ, ◌≤ℤ◌, ◌<ℤ◌, List, [], ◌∷◌, ◌++◌, length, get_or, Some, arith, refl, sym, ap, ◌∙◌, inl, inr, ◌⊎◌, subst}
-use Rattle.std.specs.Prelude.{All, Any, Contains, option_map}
+use Rattle.std.specs.Prelude.{All, Any, Contains}
 use Rattle.std.proofs.lemmas.Bool.{cases_lt}
 use Rattle.std.proofs.lemmas.Int.{ints}
-use Rattle.std.proofs.lemmas.Option.{slice_get-get_or}
 use Rattle.std.proofs.lemmas.List.{get_or_default}
 use Rattle.std.proofs.lemmas.List.Elements.{All-get_or, All-nil, All-cons, Contains-get_or}
 use Rattle.dip_core.specs.declared.item.Item.{Item}
 use Rattle.dip_core.specs.Item.{IsBefore, IsChain}
 use Rattle.dip_core.specs.Division.{part_at, IsFree, IsLatestEnd, IsFirstOf, IsPlaced, LiesInBestFree, OpensPart}
 use Rattle.dip_core.specs.Placing.{added, last_end, IsPlaceFor}
-use Rattle.dip_core.proofs.BestLemmas.{is_part}
+use Rattle.dip_core.proofs.LastLemmas.{is_part, last_end_is}
 use Rattle.dip_core.proofs.AddedLemmas.{part_at-added_same, part_at-added_other, part_at-past, length-added_joined, length-added_opened}
 use Rattle.dip_core.proofs.ChainLemmas.{chain_far}
 use Rattle.dip_core.proofs.GrownLemmas.{Grown, free_old, free_new, latest_old, latest_new, first_old, first_new, contains_old}
 use Rattle.dip_core.proofs.OrderLemmas.{not_before_itself, not_before_back}
-
--- the last item of a part, whatever the default
-pub last_end_is : (part : List Item) (d : Item) → 0 < length part
-    → last_end part ≡ Some (get_or part (length part - 1) d).period.to
-last_end_is part d filled =
-    ap (λ o. option_map (λ (x : Item). x.period.to) o) (slice_get-get_or part (length part - 1) d (omega arith))
 
 last_end_of : (part : List Item) (d : Item) (e : ℤ) → 0 < length part → last_end part ≡ Some e
     → e ≡ (get_or part (length part - 1) d).period.to

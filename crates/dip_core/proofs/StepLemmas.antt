@@ -13,12 +13,12 @@ use Rattle.dip_core.specs.declared.item.Item.{Item}
 use Rattle.dip_core.specs.Item.{crowd, IsBelow, IsChain, HasDistinctIds}
 use Rattle.dip_core.specs.Division.{all_of, part_at}
 use Rattle.dip_core.specs.Placing.{added, IsPlaceFor, NoPartIsFree, IsGreatest}
-use Rattle.dip_core.proofs.BestLemmas.{is_part}
+use Rattle.dip_core.proofs.LastLemmas.{is_part, last_end_is}
 use Rattle.dip_core.specs.Invariants.{opener, LastPartIsCrowded, ArePlaced}
 use Rattle.dip_core.proofs.AddedLemmas.{part_at-added_same, part_at-added_other, part_at-past, length-added_joined, length-added_opened, sum_by-added, all_of-added, All-added}
 use Rattle.dip_core.proofs.CrowdLemmas.{test-from_holds, crowd-all_of}
 use Rattle.dip_core.proofs.OrderLemmas.{not_below-trans, not_below_itself, from_le, before-from_not_below}
-use Rattle.dip_core.proofs.PlacedLemmas.{IsPlaced-added, last_end_is, same_or_other}
+use Rattle.dip_core.proofs.PlacedLemmas.{IsPlaced-added, same_or_other}
 
 -- no item placed so far is above x
 none_above : (parts : List (List Item)) (last : Option Item) (x : Item) → IsGreatest parts last

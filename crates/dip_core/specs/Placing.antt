@@ -4,10 +4,12 @@ use Rattle.dip_core.specs.declared.item.Item.{Item}
 use Rattle.dip_core.specs.Item.{IsBelow}
 use Rattle.dip_core.specs.Division.{all_of, part_at}
 
--- what contracts see of a placer: its parts, and the item that was placed last
+-- what contracts see of a placer: its parts, the item that was placed last, and how many comparisons of a
+-- last end with a start, or of two last ends and their numbers, its items took
 pub record Placing : Type 0 where
   pub parts : List (List Item)
   pub last : Option Item
+  pub looks : ℕ
 
 -- the end of the part's last item
 abbrev pub last_end : List Item → Option ℤ

@@ -4,8 +4,10 @@
 //! many items hold as there are parts.
 
 mod division;
+mod heap;
 mod ids;
 mod item;
+mod last_end;
 mod laws;
 mod part;
 mod part_items;

@@ -1,28 +1,24 @@
-ghost use Rattle.std.specs.Prelude.{◌≡◌, [], ◌∷◌, ◌++◌, Some, IfOk, OnOk, OnErr};
-ghost use Rattle.dip_core.specs.Placing.{last_end};
+//! The items of one part.
+
+ghost use Rattle.std.specs.Prelude.{◌≡◌, [], ◌∷◌, ◌++◌, IfOk, OnOk, OnErr};
 
 use crate::{Item, NoMemory};
-use period_core::Point;
 use std::alloc::Global;
 use std::marker::Model;
 
-/// A part's items, at least one, with the last end at hand for placing. Contracts see their list.
+/// A part's items, at least one. Contracts see their list.
 #[derive(Drop)]
 pub(crate) struct PartItems {
     items: Vec<Item>,
-    end: Point,
 }
 
 impl Model for PartItems {
-    ghost use Rattle.std.specs.Prelude.{◌≡◌, Some, List};
+    ghost use Rattle.std.specs.Prelude.{List};
     ghost use Rattle.dip_core.specs.declared.item.Item.{Item};
-    ghost use Rattle.dip_core.specs.Placing.{last_end};
 
     ghost Value = { List Item };
 
     ghost view = { λ c. c.items.items };
-
-    ghost invariant = { λ c. last_end c.items.items ≡ Some c.end };
 }
 
 impl PartItems {
@@ -32,10 +28,7 @@ impl PartItems {
     {
         let mut items = Vec::new(alloc);
         items.push(*item)?;
-        Ok(PartItems {
-            items,
-            end: item.period.to,
-        })
+        Ok(PartItems { items })
     }
 
     /// Adds the item at the end. On NoMemory the part is as before, so it can be placed again.
@@ -44,15 +37,7 @@ impl PartItems {
         ensures err { OnErr result (self.new ≡ self.old) }
     {
         self.items.push(*item)?;
-        self.end = item.period.to;
         Ok(())
-    }
-
-    /// From when on the part can take an item: where its last one ends.
-    pub fn last_end(&self) -> Point
-        ensures { last_end self.now ≡ Some result }
-    {
-        self.end
     }
 
     /// Lent to the parts of a division, which copy none.

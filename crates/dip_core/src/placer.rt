@@ -1,9 +1,13 @@
-ghost use Rattle.std.specs.Prelude.{◌≡◌, ◌<◌, ◌≤◌, [], length, Some, None, IfOk, OnErr};
+//! Items placed one after another.
+
+ghost use Rattle.std.specs.Prelude.{◌≡◌, ℕ, ◌+◌, ◌*◌, ◌<◌, ◌≤◌, [], length, Some, None, IfOk, OnOk, OnErr};
 ghost use Rattle.std.specs.Option.{ForSome};
 ghost use Rattle.dip_core.specs.Item.{IsBelow, HasDistinctIds, item_limit};
 ghost use Rattle.dip_core.specs.Division.{all_of, IsDip, IsLeastDivision};
 ghost use Rattle.dip_core.specs.Placing.{IsGreatest, IsPlaceFor, added};
+ghost use Rattle.dip_core.specs.Digits.{HasBinaryDigits};
 
+use crate::heap::Heap;
 use crate::part_items::PartItems;
 use crate::placing::place_item;
 use crate::{Division, Item, NoMemory};
@@ -11,13 +15,15 @@ use std::alloc::Global;
 use std::marker::Model;
 
 /// Places items one after another, none below the one before it, into parts without overlaps. Contracts see
-/// the parts and the item that was placed last.
+/// the parts, the item that was placed last, and how many comparisons of last ends that took.
 #[derive(Drop)]
 pub struct Placer {
     alloc: Global,
     parts: Vec<PartItems>,
+    ends: Heap,
     last: Option<Item>,
     len: u64,
+    looks: u64,
 }
 
 impl Model for Placer {
@@ -26,21 +32,23 @@ impl Model for Placer {
 
     ghost Value = { Placing };
 
-    ghost view = { λ p. record { parts = p.parts.items; last = p.last } };
+    ghost view = { λ p. record { parts = p.parts.items; last = p.last; looks = p.looks } };
 
-    ghost invariant = { λ p. IsPlacing p.parts.items p.last p.len };
+    ghost invariant = { λ p. IsPlacing p.parts.items p.ends p.last p.len p.looks };
 }
 
 impl Placer {
     /// A placer without parts.
     pub fn new(alloc: Global) -> Placer
-        ensures { result ≡ record { parts = []; last = None } }
+        ensures { result ≡ record { parts = []; last = None; looks = 0 } }
     {
         Placer {
             alloc,
             parts: Vec::new(alloc),
+            ends: Heap::new(alloc),
             last: None,
             len: 0,
+            looks: 0,
         }
     }
 
@@ -60,6 +68,14 @@ impl Placer {
         self.len
     }
 
+    /// How many comparisons of a last end with a start, or of two last ends and their numbers, the calls of
+    /// `place` that were Ok have taken.
+    pub fn looks(&self) -> u64
+        ensures { result ≡ self.now.looks }
+    {
+        self.looks
+    }
+
     /// Places the item, and answers the number of its part: of those that have ended by its start the one
     /// that ended first, of several such the lowest, and where there is none a new part. On NoMemory
     /// nothing is changed.
@@ -67,10 +83,22 @@ impl Placer {
         requires rises { ForSome self.old.last (λ last. ¬ IsBelow item last) }
         requires room { length (all_of self.old.parts) < item_limit }
         ensures place { IfOk result (IsPlaceFor self.old.parts item.period.from) }
-        ensures added { IfOk result (λ number. self.new ≡ record { parts = added self.old.parts number item; last = Some item }) }
+        ensures added { IfOk result (λ number. self.new ≡ record { parts = added self.old.parts number item; last = Some item; looks = self.new.looks }) }
         ensures err { OnErr result (self.new ≡ self.old) }
+
+        // At most two looks for each binary digit of the number of parts, and one at least where there is one.
+        ensures looked { OnOk result (0 < length self.old.parts → self.old.looks < self.new.looks) }
+        ensures few_looks { OnOk result ((digits : ℕ) × HasBinaryDigits (length self.old.parts) digits × (self.new.looks ≤ self.old.looks + 2 * digits)) }
     {
-        let number = place_item(self.alloc, &mut self.parts, &item)?;
+        let mut looks = self.looks;
+        let number = place_item(
+            self.alloc,
+            &mut self.parts,
+            &mut self.ends,
+            &item,
+            &mut looks,
+        )?;
+        self.looks = looks;
         self.last = Some(item);
         self.len += 1;
         Ok(number as u32)
@@ -85,8 +113,10 @@ impl Placer {
         let Placer {
             alloc: _,
             parts,
+            ends: _,
             last: _,
             len: _,
+            looks: _,
         } = self;
         Division::from_parts(parts)
     }

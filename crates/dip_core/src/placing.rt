@@ -1,86 +1,90 @@
-ghost use Rattle.std.specs.Prelude.{◌≡◌, ◌+◌, ◌<◌, MatchOption, IfOk, OnErr, OnOk, length, vec_len};
-ghost use Rattle.dip_core.specs.Placing.{IsPlaceFor, IsBestPart, NoPartIsFree, added};
-ghost use Rattle.dip_core.specs.Search.{IsBestPartBelow, NoPartIsFreeBelow};
+//! One item more in a placer's parts, and in the heap of their last ends.
 
+ghost use Rattle.std.specs.Prelude.{◌≡◌, ℕ, ◌+◌, ◌*◌, ◌^◌, ◌<◌, ◌≤◌, IfOk, OnErr, OnOk, length, vec_len};
+ghost use Rattle.std.specs.List.{HoldsAt};
+ghost use Rattle.dip_core.specs.Placing.{IsPlaceFor, added};
+ghost use Rattle.dip_core.specs.Heap.{HoldLastEnds};
+
+use crate::heap::Heap;
+use crate::last_end::LastEnd;
 use crate::part_items::PartItems;
 use crate::{Item, NoMemory};
-use period_core::Point;
 use std::alloc::Global;
 
-/// A part and where it ends, so that the best part's end is not looked up at each step.
-#[derive(Clone, Copy)]
-struct Ended {
+/// Adds the item to the part of that number, which ends first, and answers the number as `open_part` does.
+fn join_part(
+    parts: &mut Vec<PartItems>,
+    ends: &mut Heap,
     number: usize,
-    end: Point,
-}
-
-/// One step of `best_part`. Of equal ends the first stays, so the lowest number is found.
-fn better(parts: &[PartItems], start: Point, number: usize, best: Option<Ended>) -> Option<Ended>
-    requires number_in { number < length parts.now }
-    requires best_so_far { MatchOption best (NoPartIsFreeBelow parts.now start number) (λ b. IsBestPartBelow parts.now start number b.number b.end) }
-    ensures { MatchOption result (NoPartIsFreeBelow parts.now start (number + 1)) (λ b. IsBestPartBelow parts.now start (number + 1) b.number b.end) }
-{
-    let end = parts[number].last_end();
-    if end > start {
-        return best;
-    }
-    let Some(least) = best else {
-        return Some(Ended { number, end });
-    };
-    if end < least.end {
-        Some(Ended { number, end })
-    } else {
-        Some(least)
-    }
-}
-
-/// The placing rule's choice among the parts that have ended by `start`: first to end, then lowest.
-fn best_part(parts: &[PartItems], start: Point) -> Option<usize>
-    ensures { MatchOption result (NoPartIsFree parts.now start) (IsBestPart parts.now start) }
-{
-    let mut best = None;
-    for number in 0..parts.len() {
-        best = better(parts, start, number, best);
-    }
-    let best = best?;
-    Some(best.number)
-}
-
-/// Adds the item to that part, and answers the number as `open_part` does.
-fn join_part(parts: &mut Vec<PartItems>, number: usize, item: &Item) -> Result<usize, NoMemory>
-    requires { number < vec_len parts.old }
+    item: &Item,
+    looks: &mut u64,
+) -> Result<usize, NoMemory>
+    requires some { 0 < length ends.old }
+    requires first { HoldsAt (λ e. e.number ≡ number) ends.old 0 }
+    requires last_ends { HoldLastEnds parts.old.items ends.old }
+    requires room { looks.old + 2 * length ends.old < 2 ^ 64 }
     ensures number { IfOk result (λ k. k ≡ number) }
-    ensures ok { OnOk result (parts.new.items ≡ added parts.old.items number item.now) }
-    ensures err { OnErr result (parts.new.items ≡ parts.old.items) }
+    ensures added { OnOk result (parts.new.items ≡ added parts.old.items number item.now) }
+    ensures last_ends { OnOk result (HoldLastEnds parts.new.items ends.new) }
+    ensures grows { looks.old ≤ looks.new }
+    ensures few { OnOk result ((digits : ℕ) → length ends.old < 2 ^ digits → looks.new + 2 ≤ looks.old + 2 * digits) }
+    ensures parts_err { OnErr result (parts.new.items ≡ parts.old.items) }
+    ensures ends_err { OnErr result (ends.new ≡ ends.old) }
 {
     parts[number].push(item)?;
+    ends.replace_first(LastEnd::new(item.period.to, number), looks);
     Ok(number)
 }
 
-/// Adds the item as a new last part, so that the others keep their numbers.
-fn open_part(alloc: Global, parts: &mut Vec<PartItems>, item: &Item) -> Result<usize, NoMemory>
+/// Adds the item as a new last part, so that the others keep their numbers, and answers the new part's.
+fn open_part(
+    alloc: Global,
+    parts: &mut Vec<PartItems>,
+    ends: &mut Heap,
+    item: &Item,
+    looks: &mut u64,
+) -> Result<usize, NoMemory>
+    requires last_ends { HoldLastEnds parts.old.items ends.old }
+    requires room { looks.old + length ends.old + 1 < 2 ^ 64 }
     ensures number { IfOk result (λ k. k ≡ vec_len parts.old) }
-    ensures ok { OnOk result (parts.new.items ≡ added parts.old.items (vec_len parts.old) item.now) }
-    ensures err { OnErr result (parts.new.items ≡ parts.old.items) }
+    ensures added { OnOk result (parts.new.items ≡ added parts.old.items (vec_len parts.old) item.now) }
+    ensures last_ends { OnOk result (HoldLastEnds parts.new.items ends.new) }
+    ensures grows { looks.old ≤ looks.new }
+    ensures few { OnOk result ((digits : ℕ) → length ends.old < 2 ^ digits → looks.new ≤ looks.old + digits) }
+    ensures parts_err { OnErr result (parts.new.items ≡ parts.old.items) }
+    ensures ends_err { OnErr result (ends.new ≡ ends.old) }
 {
     let number = parts.len();
     let part = PartItems::open(alloc, item)?;
-    parts.push(part)?;
-    Ok(number)
+    parts.reserve(1)?;
+    ends.push(LastEnd::new(item.period.to, number), looks)?;
+    match parts.push(part) {
+        Ok(()) => Ok(number),
+        Err(_) => unreachable!(),
+    }
 }
 
 /// Adds the item where the placing rule says, and answers the number of that part.
 pub(crate) fn place_item(
     alloc: Global,
     parts: &mut Vec<PartItems>,
+    ends: &mut Heap,
     item: &Item,
+    looks: &mut u64,
 ) -> Result<usize, NoMemory>
+    requires last_ends { HoldLastEnds parts.old.items ends.old }
+    requires room { looks.old + 2 * vec_len parts.old + 2 < 2 ^ 64 }
     ensures place { IfOk result (IsPlaceFor parts.old.items item.now.period.from) }
     ensures added { IfOk result (λ k. parts.new.items ≡ added parts.old.items k item.now) }
-    ensures err { OnErr result (parts.new.items ≡ parts.old.items) }
+    ensures last_ends { OnOk result (HoldLastEnds parts.new.items ends.new) }
+    ensures looked { 0 < vec_len parts.old → looks.old < looks.new }
+    ensures grows { looks.old ≤ looks.new }
+    ensures few { OnOk result ((digits : ℕ) → vec_len parts.old < 2 ^ digits → looks.new ≤ looks.old + 2 * digits) }
+    ensures parts_err { OnErr result (parts.new.items ≡ parts.old.items) }
+    ensures ends_err { OnErr result (ends.new ≡ ends.old) }
 {
-    match best_part(parts, item.period.from) {
-        Some(number) => join_part(parts, number, item),
-        None => open_part(alloc, parts, item),
+    match ends.first_over(item.period.from, looks) {
+        Some(number) => join_part(parts, ends, number, item, looks),
+        None => open_part(alloc, parts, ends, item, looks),
     }
 }

@@ -5,6 +5,7 @@ ghost use Rattle.std.specs.Option.{ForSome};
 ghost use Rattle.dip_core.specs.Item.{IsBelow};
 
 use dip_core::{Item, Part, Placer, create_dip};
+use jiff::civil::Date;
 use period_core::{Period, Point};
 use std::alloc::Global;
 use std::cmp::Ordering;
@@ -38,7 +39,8 @@ fn may_follow(last: Option<Item>, item: &Item) -> bool
     }
 }
 
-// The numbers of the parts that a placer puts the items into, and the division that comes of it.
+// The numbers of the parts that a placer puts the items into, and the division that comes of it. Only the
+// first item takes no look at a last end.
 fn check_placing(
     rt: &(impl Abort + Alloc<A = Global>),
     items: &[Item],
@@ -49,6 +51,7 @@ fn check_placing(
         assert!(rt; may_follow(placer.last(), item));
         assert!(rt; placer.len() < 1_000_000);
         assert_eq!(rt; placer.place(*item)?, *place);
+        assert_eq!(rt; placer.looks() == 0, placer.len() == 1);
     }
     assert_eq!(rt; placer.len(), items.len() as u64);
     let placed = placer.finish();
@@ -93,6 +96,53 @@ fn takes_the_part_that_ended_first(rt: HostRuntime) -> Result<(), Fail> {
         item(&rt, 3, b"03", b"04"),
     ];
     check_placing(&rt, &together, &[0, 1, 0])
+}
+
+// So many days, from 1970-01-01 on.
+fn days(rt: &impl Alloc<A = Global>, count: u32) -> Result<Vec<Point>, Fail> {
+    let mut days = Vec::new(rt.alloc());
+    let mut date = Date::new(1970, 1, 1)?;
+    for _ in 0..count {
+        let text = format!(in rt.alloc(); "{date}")?;
+        days.push(Point::parse(text.as_bytes())?)?;
+        date = date.tomorrow()?;
+    }
+    Ok(days)
+}
+
+// 5,000 items of ten days, of which each starts a day before the one that comes ahead of it.
+fn falling(rt: &impl Alloc<A = Global>) -> Result<Vec<Item>, Fail> {
+    let days = days(rt, 5_010)?;
+    let mut items = Vec::new(rt.alloc());
+    for (id, (from, to)) in (1..=5_000).zip(days.iter().zip(days.iter().skip(10))) {
+        items.push(Item {
+            period: Period::new(*from, *to)?,
+            id,
+            class: 0,
+            amount: 0,
+        })?;
+    }
+    items.reverse();
+    Ok(items)
+}
+
+#[test]
+fn divides_a_row_of_5_000(rt: HostRuntime) -> Result<(), Fail> {
+    let items = falling(&rt)?;
+    assert_eq!(rt; items.len(), 5_000);
+    let division = create_dip(rt.alloc(), &items)?;
+    assert_eq!(rt; division.parts(), 10);
+    for number in 0..10 {
+        assert!(rt; number < division.parts());
+        let part = division.part(number).items();
+        assert_eq!(rt; part.len(), 500);
+        for (place, item) in (0..500u32).zip(part) {
+            assert_eq!(rt; item.id, number as u64 + 10 * place as u64 + 1);
+        }
+    }
+    let tenth = Point::parse(b"1970-01-10")?;
+    assert_eq!(rt; division.instant(), Some(tenth));
+    Ok(())
 }
 
 #[test]

@@ -1,27 +1,34 @@
-use Rattle.std.proofs.Common.{◌≡◌, ◌∙◌, subst, sym, ap}
-use Rattle.dip_core.specs.Division.{all_of, IsLeastDivision, IsPlaced}
+use Rattle.std.proofs.Common.{◌≡◌, ◌∙◌, List, subst, sym, ap}
+use Rattle.dip_core.specs.declared.item.Item.{Item}
+use Rattle.dip_core.specs.Item.{HasDistinctIds}
+use Rattle.dip_core.specs.Division.{all_of, IsDip, IsLeastDivision, IsPlaced}
 use Rattle.dip_core.specs.Placing.{Placing}
 use Rattle.dip_core.specs.Invariants.{ArePlaced}
 use Rattle.dip_core.proofs.DivisionLemmas.{IsLeastDivision-from_placed}
 use Rattle.dip_core.proofs.placer.Placer.finish.Goals as goal
-use Rattle.dip_core.proofs.placer.Placer.finish.Goals.{After-from_parts}
 
-parts_were : (c : After-from_parts) → c.self.inside.parts.items ≡ c.args.self.parts
-parts_were c = ap (λ (p : Placing). p.parts) c.self.view_is
+-- the parts that a placer kept are those that contracts see, and those of the division
+least_of : (kept parts result : List (List Item)) → kept ≡ parts → result ≡ kept → ArePlaced kept
+    → IsLeastDivision (all_of parts) result
+least_of kept parts result were is placed =
+    subst (IsLeastDivision (all_of parts)) (sym (is ∙ were))
+    (IsLeastDivision-from_placed parts (subst ArePlaced were placed))
 
-are_placed : (c : After-from_parts) → ArePlaced c.args.self.parts
-are_placed c = subst ArePlaced (parts_were c) c.self.invariant.are_placed
-
-result_is : (c : After-from_parts) → c.args.self.parts ≡ c.from_parts.result
-result_is c = sym (c.from_parts.ensures ∙ parts_were c)
+dip_of : (kept parts result : List (List Item)) → kept ≡ parts → result ≡ kept → ArePlaced kept
+    → HasDistinctIds (all_of parts) → IsDip (all_of parts) result
+dip_of kept parts result were is placed distinct = record {
+  divided = least_of kept parts result were is placed;
+  placed = subst IsPlaced (sym (is ∙ were)) ((subst ArePlaced were placed).placed distinct);
+}
 
 pub returns-clause-least : goal.returns-clause-least
 returns-clause-least c =
-    subst (IsLeastDivision (all_of c.args.self.parts)) (result_is c)
-    (IsLeastDivision-from_placed c.args.self.parts (are_placed c))
+    least_of c.self.inside.parts.items c.args.self.parts c.from_parts.result
+    (ap (λ (p : Placing). p.parts) c.self.view_is)
+    c.from_parts.ensures c.self.invariant.are_placed
 
 pub returns-clause-dip : goal.returns-clause-dip
-returns-clause-dip c = λ distinct. record {
-  divided = returns-clause-least c;
-  placed = subst IsPlaced (result_is c) ((are_placed c).placed distinct);
-}
+returns-clause-dip c =
+    dip_of c.self.inside.parts.items c.args.self.parts c.from_parts.result
+    (ap (λ (p : Placing). p.parts) c.self.view_is)
+    c.from_parts.ensures c.self.invariant.are_placed
