@@ -7,3 +7,4 @@ pub mod OrderLemmas
 pub mod PartLemmas
 pub mod RowLemmas
 pub mod SupplyLemmas
+pub mod UnitedLemmas

@@ -1,3 +1,4 @@
 pub mod Anti
 pub mod ItemAnti
 pub mod PairGaps
+pub mod United

@@ -10,6 +10,7 @@ mod part_gaps;
 mod parted;
 mod rows;
 mod supply;
+mod united;
 
 pub use anti_joins::anti;
 pub use laws::{anti_has_one_list, unmet_periods_are_bordered};

@@ -9,6 +9,7 @@ ghost use Rattle.anti_core.specs.ItemAnti.{AreItemsRows, IsItemsAnti};
 use crate::pairs::GapPairs;
 use crate::part_gaps::gaps_of_part;
 use crate::rows::{AntiRow, AntiRows, add_rows};
+use crate::united::united_items;
 use dip_core::{Division, Item, create_dip};
 use period_core::NoMemory;
 use std::alloc::Global;
@@ -55,22 +56,24 @@ fn anti_parts<R: Threads + Sync, G: Gate>(
     Ok(AntiRows::from(rows))
 }
 
-/// The anti-join of two lists of items, which match where their classes are equal.
+/// The anti-join of two lists of items, which match where their classes are equal. The right items are united before
+/// they are divided: of those that hold at once each class has one, however many there were.
 pub(crate) fn anti_items<R: Threads + Sync, G: Gate>(
     rt: &R,
     alloc: Global,
     left: &[Item],
-    right: &[Item],
+    right: Vec<Item>,
     workers: u32,
     gate: &G,
 ) -> Result<AntiRows, NoMemory>
     requires workers { (0 < workers) × (workers ≤ worker_limit) }
     requires left_few { length left.now ≤ item_limit }
-    requires right_few { length right.now ≤ item_limit }
+    requires right_few { length right.items ≤ item_limit }
     requires left_ids { HasDistinctIds left.now }
-    ensures { IfOk result (IsItemsAnti left.now right.now) }
+    ensures { IfOk result (IsItemsAnti left.now right.items) }
 {
+    let united = united_items(alloc, right)?;
     let lefts = create_dip(alloc, left)?;
-    let rights = create_dip(alloc, right)?;
+    let rights = create_dip(alloc, &united)?;
     anti_parts(rt, alloc, &lefts, &rights, workers, gate)
 }

@@ -1,4 +1,4 @@
-use Rattle.std.proofs.Common.{◌≡◌, ◌+◌, ◌≤◌, List, length, take, drop, subst, arith}
+use Rattle.std.proofs.Common.{◌≡◌, ◌+◌, ◌≤◌, List, length, take, drop, refl, subst, arith}
 use Rattle.std.proofs.lemmas.Result.{IfOk-weaker}
 use Rattle.dip_core.specs.declared.item.Item.{Item}
 use Rattle.match_core.specs.Items.{items_with}
@@ -8,11 +8,11 @@ use Rattle.match_core.proofs.Tell.{classes_tell}
 use Rattle.anti_core.specs.ItemAnti.{IsItemsAnti}
 use Rattle.anti_core.proofs.RowLemmas.{IsAnti-of_items, side-distinct}
 use Rattle.anti_core.proofs.anti_joins.anti_rows.Goals as goal
-use Rattle.anti_core.proofs.anti_joins.anti_rows.Goals.{After-deref-3}
+use Rattle.anti_core.proofs.anti_joins.anti_rows.Goals.{After-deref-2}
 use Rattle.anti_core.proofs.anti_joins.anti_rows.Given.{Over}
 
 -- the items of the left rows
-left_items : (g : Over) (c : After-deref-3 g)
+left_items : (g : Over) (c : After-deref-2 g)
     → IsSide c.args.left.rows.now (take (length c.args.left.rows.now) c.in_ok-classes.classes.items)
     c.deref-2.result.now
 left_items g c =
@@ -24,15 +24,15 @@ left_items g c =
     c.split_at.ensures.front c.deref.ensures.value c.len.ensures (omega (arith, count))
 
 -- the items of the right rows
-right_items : (g : Over) (c : After-deref-3 g)
+right_items : (g : Over) (c : After-deref-2 g)
     → IsSide c.args.right.rows.now (drop (length c.args.left.rows.now) c.in_ok-classes.classes.items)
-    c.deref-3.result.now
+    c.in_ok-rights.rights.items
 right_items g c =
     let rows = c.args.right.rows.now in
     let classes = c.in_ok-classes.classes.items in
     let count : length classes ≡ length c.args.left.rows.now + length rows = c.in_ok-classes.ensures.count in
     right_side (length c.args.left.rows.now) rows c.as_slice-2.result.now classes c.deref.result.now
-    c.split_at.result.1.now c.len.result c.deref-3.result.now c.in_ok-rights.rights.items c.deref-3.ensures.value
+    c.split_at.result.1.now c.len.result c.in_ok-rights.rights.items c.in_ok-rights.rights.items refl
     c.in_ok-rights.ensures c.as_slice-2.ensures c.split_at.ensures.back c.deref.ensures.value c.len.ensures count
 
 pub anti_items-requires-clause-left_few : goal.anti_items-requires-clause-left_few
@@ -44,7 +44,7 @@ anti_items-requires-clause-left_few g c =
 pub anti_items-requires-clause-right_few : goal.anti_items-requires-clause-right_few
 anti_items-requires-clause-right_few g c =
     let few : length c.args.right.rows.now ≤ 1_000_000 = c.args.right.few in
-    let same = side_len c.args.right.rows.now _ c.deref-3.result.now (right_items g c) in
+    let same = side_len c.args.right.rows.now _ c.in_ok-rights.rights.items (right_items g c) in
     omega (arith, same, few)
 
 pub anti_items-requires-clause-left_ids : goal.anti_items-requires-clause-left_ids
@@ -53,7 +53,7 @@ anti_items-requires-clause-left_ids g c = λ κs outlives.
 
 pub returns : goal.returns
 returns g c =
-    let at = (goal.at.returns g c).After-deref-3 in
+    let at = (goal.at.returns g c).After-deref-2 in
     let one = left_items g at in
     let other = right_items g at in
     let lefts = c.args.left.rows.now in
@@ -67,5 +67,5 @@ returns g c =
     IsAnti-of_items (MatchesOn left right on) lefts rights (take (length lefts) classes) (drop (length lefts) classes)
     one.enough other.enough (classes_tell left right lefts rights on classes c.in_ok-classes.ensures) rows
     (subst (λ (b : List Item). IsItemsAnti (items_with lefts (take (length lefts) classes)) b rows) other.are
-    (subst (λ (a : List Item). IsItemsAnti a c.deref-3.result.now rows) one.are lists)))
+    (subst (λ (a : List Item). IsItemsAnti a c.in_ok-rights.rights.items rows) one.are lists)))
     c.anti_items.ensures

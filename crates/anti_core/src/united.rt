@@ -1,0 +1,77 @@
+//! The right items of each class united, before they are divided: all that counts is which instants they hold.
+
+ghost use Rattle.std.specs.Prelude.{IfOk, IsPermutation, MatchOption};
+ghost use Rattle.anti_core.specs.United.{Continues, IsJoined, IsPlain, IsUnion, StandByClass};
+
+use dip_core::Item;
+use period_core::{NoMemory, Period};
+use std::alloc::Global;
+
+/// The longest periods in which some item of each class holds, as items of their class, by class and start. They have
+/// no ids: each has the id 0, and the amount 0.
+pub(crate) fn united_items(alloc: Global, mut items: Vec<Item>) -> Result<Vec<Item>, NoMemory>
+    ensures { IfOk result (λ united. IsUnion items.items united.items) }
+{
+    sort_by_class(&mut items);
+    unite(alloc, &items)
+}
+
+/// Puts the items by class, and those of one class by start.
+fn sort_by_class(items: &mut Vec<Item>)
+    ensures permutation { IsPermutation items.old.items items.new.items }
+    ensures sorted { StandByClass items.new.items }
+{
+    items.sort_unstable_by_key(|item| (item.class, item.period.from));
+}
+
+/// The items without ids and amounts, each as one with those behind it that continue it.
+fn unite(alloc: Global, items: &[Item]) -> Result<Vec<Item>, NoMemory>
+    requires { StandByClass items.now }
+    ensures { IfOk result (λ united. IsUnion items.now united.items) }
+{
+    let mut united = Vec::new(alloc);
+    let Some((first, later)) = items.split_first() else {
+        return Ok(united);
+    };
+    let mut last = plain(first);
+    for next in later {
+        if let Some(both) = joined(&last, next) {
+            last = both;
+        } else {
+            united.push(last)?;
+            last = plain(next);
+        }
+    }
+    united.push(last)?;
+    Ok(united)
+}
+
+/// An item's class and period.
+fn plain(item: &Item) -> Item
+    ensures { IsPlain item.now result }
+{
+    Item {
+        period: item.period,
+        id: 0,
+        class: item.class,
+        amount: 0,
+    }
+}
+
+/// Both as one, where the second is of the first one's class and starts no later than it ends. It may end sooner.
+fn joined(last: &Item, next: &Item) -> Option<Item>
+    ensures { MatchOption result (Continues last.now next.now → ⊥)
+        (λ both. Continues last.now next.now × IsJoined last.now next.now both) }
+{
+    if last.class == next.class && next.period.from <= last.period.to {
+        let from = last.period.from;
+        let to = last.period.to.max(next.period.to);
+        return Some(Item {
+            period: Period { from, to },
+            id: 0,
+            class: last.class,
+            amount: 0,
+        });
+    }
+    None
+}
