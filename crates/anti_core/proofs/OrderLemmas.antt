@@ -56,7 +56,7 @@ int_tie : (a b : ℤ) → int_cmp a b ≡ Equal → a ≡ b
 int_tie a b e = grind (arith, ints)
 
 -- so are natural numbers
-nat_tie : (a b : ℕ) → nat_cmp a b ≡ Equal → a ≡ b
+pub nat_tie : (a b : ℕ) → nat_cmp a b ≡ Equal → a ≡ b
 nat_tie a b e = grind (arith, nat_tests)
 
 -- rows that tie are one

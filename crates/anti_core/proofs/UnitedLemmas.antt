@@ -23,6 +23,7 @@ use Rattle.anti_core.specs.Anti.{AntiRowBefore}
 use Rattle.anti_core.specs.ItemAnti.{IsItemsRow, IsItemsAnti}
 use Rattle.anti_core.specs.United.{IsUnited, IsUnion, StandsBefore, CoverAlike, StandByClass, Continues, IsPlain, IsJoined}
 use Rattle.anti_core.proofs.MaximalLemmas.{maximal-once}
+use Rattle.anti_core.proofs.OrderLemmas.{nat_tie}
 
 -- an item is determined by its fields
 Item-same : (a b : Item) → a.period ≡ b.period → a.id ≡ b.id → a.class ≡ b.class → a.amount ≡ b.amount → a ≡ b
@@ -30,14 +31,17 @@ Item-same a b p i c m = λ k. record { period = p k; id = i k; class = c k; amou
 
 -- ---- what some items cover
 
+-- what the first one of a class covers
 covered_first : (y : Item) (ys : List Item) (x : Item) (t : ℤ) → y.class ≡ x.class → Holds y.period t
     → IsCovered (y ∷ ys) x t
 covered_first y ys x t same h = record { by = y; by_in = Contains-head y ys; matches = same; holds = h }
 
+-- what later ones cover
 covered_later : (y : Item) (ys : List Item) (x : Item) (t : ℤ) → IsCovered ys x t → IsCovered (y ∷ ys) x t
 covered_later y ys x t c =
     record { by = c.by; by_in = Contains-cons y ys c.by c.by_in; matches = c.matches; holds = c.holds }
 
+-- there is nothing else
 covered_cases : (y : Item) (ys : List Item) (x : Item) (t : ℤ) → IsCovered (y ∷ ys) x t
     → ((y.class ≡ x.class) × Holds y.period t) ⊎ IsCovered ys x t
 covered_cases y ys x t c = elim (Contains-cons_cases y ys c.by c.by_in) [
@@ -227,9 +231,11 @@ module _ (x : Item) (l : List Item) (id : x.id ≡ 0) (amount : x.amount ≡ pos
 abbrev IsNotAfter : Item → Item → Type 0
 IsNotAfter a b = (a.class < b.class) ⊎ ((a.class ≡ b.class) × (a.period.from ≤ℤ b.period.from))
 
+-- of the first one and a later one
 not_after : (x : Item) (l : List Item) (y : Item) → StandByClass (x ∷ l) → Contains l y → IsNotAfter x y
 not_after x l y order h = AllPairs-head IsNotAfter x l y order h
 
+-- so classes rise, and in a class the starts
 upwards : (a b : Item) → IsNotAfter a b → a.class ≤ b.class
 upwards a b h = elim h [ inl less ↦ omega (arith, less) | inr (same, on) ↦ omega (arith, same) ]
 
@@ -322,6 +328,7 @@ cut_off x y l order not z h same =
 
 -- ---- sorted by class and start
 
+-- the order by class and start, which is total
 class_cmp : Item → Item → Ordering
 class_cmp a b = ordering_then (nat_cmp a.class b.class) (int_cmp a.period.from b.period.from)
 
@@ -329,21 +336,21 @@ class_total : IsTotalOrder class_cmp
 unfolding class_cmp
 class_total = then_total (on_total (λ x. x.class) nat_cmp_total) (on_total (λ x. x.period.from) int_cmp_total)
 
-nat_tie : (m n : ℕ) → nat_cmp m n ≡ Equal → m ≡ n
-nat_tie m n e = grind (arith, nat_tests)
-
+-- what the answers of comparisons tell
 nat_over : (m n : ℕ) → nat_cmp m n ≡ Greater → n < m
 nat_over m n e = grind (arith, nat_tests)
 
 int_upto : (a b : ℤ) → is_lt (int_cmp a b) ≡ false → b ≤ℤ a
 int_upto a b h = grind (arith, ints)
 
+-- so what is not below an item comes not before it
 not_after-by : (a b : Item) (r : Ordering) → nat_cmp b.class a.class ≡ r
     → is_lt (ordering_then r (int_cmp b.period.from a.period.from)) ≡ false → IsNotAfter a b
 not_after-by a b Less e h = cc
 not_after-by a b Equal e h = inr (sym (nat_tie b.class a.class e), int_upto b.period.from a.period.from h)
 not_after-by a b Greater e h = inl (nat_over b.class a.class e)
 
+-- so sorted items stand by class
 pub stand_sorted : (items : List Item)
     → IsSortedBy (λ (a b : Item). is_lt (ordering_then (nat_cmp a.class b.class) (int_cmp a.period.from b.period.from))) items
     → StandByClass items
@@ -362,6 +369,7 @@ pub record IsUniting (items left : List Item) (last : Item) (united : List Item)
   pub id : last.id ≡ 0
   pub amount : last.amount ≡ pos 0
 
+-- at first the last one is the first item
 pub uniting_start : (items left : List Item) (first last : Item) (united : List Item) → items ≡ first ∷ left
     → IsPlain first last → united ≡ [] → StandByClass items → IsUniting items left last united
 uniting_start items left first last united e plain none order =
@@ -380,6 +388,7 @@ uniting_start items left first last united e plain none order =
       amount = plain.amount;
     }))
 
+-- an item that continues the last one
 pub uniting_joined : (items left left' : List Item) (was x both : Item) (united : List Item) → left ≡ x ∷ left'
     → Continues was x → IsJoined was x both → IsUniting items left was united → IsUniting items left' both united
 uniting_joined items left left' was x both united e c j i =
@@ -393,6 +402,7 @@ uniting_joined items left left' was x both united e c j i =
       amount = j.amount;
     }
 
+-- one that does not
 pub uniting_cut : (items left left' : List Item) (was x next : Item) (united new : List Item) → left ≡ x ∷ left'
     → (Continues was x → ⊥) → IsPlain x next → new ≡ united ++ was ∷ [] → IsUniting items left was united
     → IsUniting items left' next new
@@ -428,6 +438,7 @@ uniting_end items left was united new e g i =
 
 -- ---- in another order
 
+-- items in another order cover alike
 covered_moved : (items moved : List Item) → IsPermutation items moved → CoverAlike moved items
 covered_moved items moved p x t = (
   λ c. record {
@@ -444,6 +455,7 @@ covered_moved items moved p x t = (
   },
 )
 
+-- so they have the same united items
 pub union_moved : (items moved united : List Item) → IsPermutation items moved → IsUnion moved united
     → IsUnion items united
 union_moved items moved united p u =
@@ -457,9 +469,11 @@ uncovered_alike : (items others : List Item) → CoverAlike items others → (x 
     → IsUncovered others x t
 uncovered_alike items others same x t u = record { held = u.held; uncovered = λ c. u.uncovered ((same x t).1 c) }
 
+-- the other way round
 turned : (items others : List Item) → CoverAlike items others → CoverAlike others items
 turned items others same x t = ((same x t).1, (same x t).0)
 
+-- a row against the one list is one against the other
 row_alike : (left items others : List Item) → CoverAlike items others → (row : AntiRow) → IsItemsRow left items row
     → IsItemsRow left others row
 row_alike left items others same row is = record {

@@ -17,8 +17,8 @@ use work_core::Gate;
 
 /// When each left row holds and no right row does that is equal to it in each named pair of columns: the id of the
 /// left row and each such period that is as long as can be, by id and start, the same rows for every number of
-/// workers. Without names each right row matches. Both sides are divided, and the gate is called before and after
-/// each pair of parts.
+/// workers. Without names each right row matches. The periods of right rows that are equal in the named columns are
+/// united, then both sides are divided, and the gate is called before and after each pair of parts.
 ///
 /// # Errors
 ///

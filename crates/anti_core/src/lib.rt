@@ -1,7 +1,8 @@
 #![tactic(auto)]
 
-//! When the rows of a table held with no row of another that matches them: both are divided, the gaps of each part
-//! of the one against each part of the other are made by many workers, and those of one left part are met.
+//! When the rows of a table held with no row of another that matches them: the rows of the other are united, both are
+//! divided, the gaps of each part of the one against each part of the other are made by many workers, and those of one
+//! left part are met.
 
 mod anti_joins;
 mod laws;
