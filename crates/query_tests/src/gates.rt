@@ -1,7 +1,9 @@
-//! Which pairs of parts a join runs, and that none waits for another, as gates see it.
+//! Which pairs of parts queries run, and that none waits for another, as gates see it.
 
-use crate::joins::worked_rows;
-use crate::tables::{days, numbers, side, without_columns};
+use crate::joins::{worked_rows, worked_tables};
+use crate::tables::{days, january, side, without_columns};
+use agg_core::{AggRow, Func, agg};
+use anti_core::{AntiRow, anti};
 use join_core::join;
 use period_core::Period;
 use row_core::Name;
@@ -111,32 +113,96 @@ impl Gate for Holds {
     }
 }
 
-// Of two pairs either may wait for the other.
-#[test]
-fn holds_up_no_other_pair(rt: HostRuntime) -> Result<(), Fail> {
-    let left = numbers(&rt, &[(1, 10, 1), (5, 8, 2)])?;
-    let right = numbers(&rt, &[(3, 6, 1), (6, 20, 1), (7, 8, 2)])?;
-    let column = Name::parse(b"c")?;
-    let want = worked_rows(&rt);
-    for (held, awaited) in [(0, 1), (1, 0)] {
-        let gate = Holds {
+impl Holds {
+    // Holds a pair until another has left; of both the left and the right part.
+    fn new(held: (u32, u32), awaited: (u32, u32)) -> Holds {
+        Holds {
             held: PairName {
-                left: 0,
-                right: held,
+                left: held.0,
+                right: held.1,
             },
             awaited: PairName {
-                left: 0,
-                right: awaited,
+                left: awaited.0,
+                right: awaited.1,
             },
             left: AtomicU64::new(0),
             turns: 10_000_000,
             failed: AtomicU64::new(0),
-        };
+        }
+    }
+}
+
+// Each of two pairs is held until the other has left.
+fn both_ways(one: (u32, u32), other: (u32, u32)) -> [Holds; 2] {
+    [Holds::new(one, other), Holds::new(other, one)]
+}
+
+// The pair that was awaited has left, and no one gave up.
+fn check_left(rt: &impl Abort, gate: &Holds) {
+    assert_eq!(rt; gate.left.load(Ordering::SeqCst), 1);
+    assert_eq!(rt;
+        gate.failed.load(Ordering::SeqCst),
+        0,
+        "with {:?} held",
+        gate.held
+    );
+}
+
+// Of two pairs either may wait for the other.
+#[test]
+fn joins_while_a_pair_is_held(rt: HostRuntime) -> Result<(), Fail> {
+    let (left, right) = worked_tables(&rt)?;
+    let column = Name::parse(b"c")?;
+    let want = worked_rows(&rt);
+    for gate in &both_ways((0, 0), (0, 1)) {
         let (one, other) = (side(&rt, &left), side(&rt, &right));
         let on = [(column, column)];
-        let answer = join(&rt, rt.alloc(), one, other, &on, 2, &gate)?;
-        assert_eq!(rt; answer.rows.as_slice(), want.as_slice(), "with {held} held");
-        assert_eq!(rt; gate.failed.load(Ordering::SeqCst), 0, "with {held} held");
+        let answer = join(&rt, rt.alloc(), one, other, &on, 2, gate)?;
+        assert_eq!(rt; answer.rows.as_slice(), want.as_slice());
+        check_left(&rt, gate);
+    }
+    Ok(())
+}
+
+#[test]
+fn anti_joins_while_a_pair_is_held(rt: HostRuntime) -> Result<(), Fail> {
+    let (left, right) = worked_tables(&rt)?;
+    let column = Name::parse(b"c")?;
+    let want = [
+        AntiRow {
+            id: 1,
+            period: january(&rt, 1, 3),
+        },
+        AntiRow {
+            id: 2,
+            period: january(&rt, 5, 7),
+        },
+    ];
+    for gate in &both_ways((0, 0), (0, 1)) {
+        let (one, other) = (side(&rt, &left), side(&rt, &right));
+        let on = [(column, column)];
+        let rows = anti(&rt, rt.alloc(), one, other, &on, 2, gate)?;
+        assert_eq!(rt; rows.as_slice(), want.as_slice());
+        check_left(&rt, gate);
+    }
+    Ok(())
+}
+
+// Four rows of one day, which come to one row: each is a list of its own, and two pairs of them are taken together.
+#[test]
+fn aggregates_while_a_pair_is_held(rt: HostRuntime) -> Result<(), Fail> {
+    let day = january(&rt, 1, 2);
+    let table = without_columns(&rt, &[day; 4])?;
+    let want = [AggRow {
+        group: None,
+        period: day,
+        value: 4,
+    }];
+    for gate in &both_ways((0, 1), (2, 3)) {
+        let one = side(&rt, &table);
+        let rows = agg(&rt, rt.alloc(), one, Func::Count, None, 2, gate)?;
+        assert_eq!(rt; rows.as_slice(), want.as_slice());
+        check_left(&rt, gate);
     }
     Ok(())
 }

@@ -1,30 +1,26 @@
-//! Joins of generated tables, against what each day shows of each two rows.
+//! Generated rows and their tables, and the runs of days of one value.
 
 ghost use Rattle.std.specs.Prelude.{◌<◌};
 
-use crate::tables::{Table, days, side};
-use join_core::{JoinRow, join};
+use crate::tables::Table;
 use period_core::{Period, Point};
 use row_core::{Kind, Name, Row, RowList, Schema, Text, Value, Values};
 use std::alloc::{AllocError, Global};
-use std::process::Abort;
 use std::test::Fail;
-use std::thread::Threads;
-use work_core::OpenGate;
 
-// Rows hold on some of so many days, of which the first is 2024-01-01.
-const DAYS: u64 = 20;
+/// Rows hold on some of so many days, of which the first is 2024-01-01.
+pub const DAYS: u64 = 20;
 
-// A column of both tables, whatever its names.
+/// A column, whatever its name.
 #[derive(Clone, Copy, PartialEq, Eq)]
-enum Field {
+pub enum Field {
     Code,
     Word,
     Size,
 }
 
-// The columns of the left tables.
-const LEFT: [(&[u8], Field); 3] = [
+/// The columns of left tables.
+pub const LEFT: [(&[u8], Field); 3] = [
     (b"code", Field::Code),
     (b"word", Field::Word),
     (b"size", Field::Size),
@@ -37,46 +33,65 @@ const RIGHT: [(&[u8], Field); 3] = [
     (b"c", Field::Code),
 ];
 
-// A row, by the numbers of its first day and of the day behind its last.
-#[derive(Clone, Copy)]
-struct PlainRow {
-    id: u64,
-    from: u64,
-    to: u64,
-    code: i64,
-    word: &'static [u8],
-    size: i64,
+/// What a row has in a column.
+#[derive(Clone, Copy, PartialEq, Eq)]
+pub enum Cell {
+    Number(i64),
+    Word(&'static [u8]),
 }
 
-impl PlainRow {
-    // Whether the row holds on the day.
-    fn holds(&self, day: u64) -> bool {
-        self.from <= day && day < self.to
-    }
-
-    // Whether both rows have the same in the column.
-    fn equals(&self, other: &PlainRow, field: Field) -> bool {
-        match field {
-            Field::Code => self.code == other.code,
-            Field::Word => self.word == other.word,
-            Field::Size => self.size == other.size,
-        }
-    }
-
-    // What the row has in the column.
-    fn value(&self, alloc: Global, field: Field) -> Result<Value, Fail> {
-        Ok(match field {
-            Field::Code => Value::Int(self.code),
-            Field::Word => Value::Text(Text::new(alloc, self.word)?),
-            Field::Size => Value::Int(self.size),
+impl Cell {
+    /// The same as a value of a row.
+    pub fn value(self, alloc: Global) -> Result<Value, Fail> {
+        Ok(match self {
+            Cell::Number(number) => Value::Int(number),
+            Cell::Word(word) => Value::Text(Text::new(alloc, word)?),
         })
     }
 }
 
-// A linear congruential generator.
+/// A row, by the numbers of its first day and of the day behind its last.
+#[derive(Clone, Copy)]
+pub struct PlainRow {
+    pub id: u64,
+    pub from: u64,
+    pub to: u64,
+    pub code: i64,
+    pub word: &'static [u8],
+    pub size: i64,
+}
+
+impl PlainRow {
+    /// Whether the row holds on the day.
+    pub fn holds(&self, day: u64) -> bool {
+        self.from <= day && day < self.to
+    }
+
+    /// What the row has in the column.
+    pub fn cell(&self, field: Field) -> Cell {
+        match field {
+            Field::Code => Cell::Number(self.code),
+            Field::Word => Cell::Word(self.word),
+            Field::Size => Cell::Number(self.size),
+        }
+    }
+
+    /// What the row has in the column by which rows are grouped; None where they aren't.
+    pub fn group(&self, by: Option<Field>) -> Option<Cell> {
+        by.map(|field| self.cell(field))
+    }
+
+    /// Whether both rows have the same in each of the columns.
+    pub fn matches(&self, other: &PlainRow, on: &[Field]) -> bool {
+        on.iter()
+            .all(|field| self.cell(*field) == other.cell(*field))
+    }
+}
+
+/// A linear congruential generator.
 #[derive(Drop)]
-struct Dice {
-    state: u64,
+pub struct Dice {
+    pub state: u64,
 }
 
 impl Dice {
@@ -100,14 +115,14 @@ impl Dice {
             id,
             from,
             to: from + len,
-            code: self.roll(2) as i64,
+            code: self.roll(2) as i64 - 1,
             word: &b"xy"[..self.roll(3) as usize],
-            size: self.roll(2) as i64,
+            size: 3 * self.roll(2) as i64 - 1,
         }
     }
 
-    // Up to twelve rows, by rising ids.
-    fn roll_rows(&mut self, alloc: Global) -> Result<Vec<PlainRow>, AllocError> {
+    /// Up to twelve rows, by rising ids.
+    pub fn roll_rows(&mut self, alloc: Global) -> Result<Vec<PlainRow>, AllocError> {
         let mut rows = Vec::new(alloc);
         for i in 0..self.roll(13) {
             let id = 3 * i + 1 + self.roll(3);
@@ -117,8 +132,22 @@ impl Dice {
     }
 }
 
-// From one day on and before another.
-fn period(days: &[Point], from: u64, to: u64) -> Result<Period, Fail> {
+/// All that rows can have in the column by which they are grouped, in its order; None where they aren't.
+pub fn groups(alloc: Global, by: Option<Field>) -> Result<Vec<Option<Cell>>, AllocError> {
+    Ok(match by {
+        None => vec![in alloc; None]?,
+        Some(Field::Code) => vec![in alloc; Some(Cell::Number(-1)), Some(Cell::Number(0))]?,
+        Some(Field::Size) => vec![in alloc; Some(Cell::Number(-1)), Some(Cell::Number(2))]?,
+        Some(Field::Word) => vec![in alloc;
+            Some(Cell::Word(b"")),
+            Some(Cell::Word(b"x")),
+            Some(Cell::Word(b"xy")),
+        ]?,
+    })
+}
+
+/// From one day on and before another.
+pub fn period(days: &[Point], from: u64, to: u64) -> Result<Period, Fail> {
     let from = days.get(from as usize).ok_or("a day")?;
     let to = days.get(to as usize).ok_or("a day")?;
     Ok(Period::new(*from, *to)?)
@@ -137,8 +166,8 @@ fn schema(alloc: Global, columns: &[(&[u8], Field)]) -> Result<Schema, Fail> {
     Ok(Schema::new(alloc, &pairs)?)
 }
 
-// The rows as a table with these columns.
-fn table(
+/// The rows as a table with these columns.
+pub fn table(
     alloc: Global,
     columns: &[(&[u8], Field)],
     rows: &[PlainRow],
@@ -148,7 +177,7 @@ fn table(
     for row in rows {
         let mut values = Values::new(alloc);
         for (_, field) in columns {
-            values.push(row.value(alloc, *field)?)?;
+            values.push(row.cell(*field).value(alloc)?)?;
         }
         list.push(Row {
             id: row.id,
@@ -162,101 +191,75 @@ fn table(
     })
 }
 
-// The first of the days that both rows hold, and the day behind the last. They follow one another.
-fn shared_days(rt: &impl Abort, left: &PlainRow, right: &PlainRow) -> Option<(u64, u64)> {
-    let mut shared = None;
-    for day in 0..DAYS {
-        if left.holds(day) && right.holds(day) {
-            let (from, to) = shared.unwrap_or((day, day));
-            assert_eq!(rt; to, day);
-            shared = Some((from, day + 1));
-        }
-    }
-    shared
-}
-
-// The rows that are to come out, by start, end, left id and right id.
-fn joined_by_day(
-    rt: &(impl Abort + Alloc<A = Global>),
-    lefts: &[PlainRow],
-    rights: &[PlainRow],
-    on: &[Field],
-    days: &[Point],
-) -> Result<Vec<JoinRow>, Fail> {
-    let mut found = Vec::new(rt.alloc());
-    for left in lefts {
-        for right in rights {
-            if on.iter().all(|field| left.equals(right, *field))
-                && let Some((from, to)) = shared_days(rt, left, right)
-            {
-                found.push((from, to, left.id, right.id))?;
-            }
-        }
-    }
-    found.sort_unstable();
-    let mut rows = Vec::new(rt.alloc());
-    for (from, to, left, right) in found {
-        rows.push(JoinRow {
-            period: period(days, from, to)?,
-            left,
-            right,
-        })?;
-    }
-    Ok(rows)
-}
-
-// The column's name among these.
-fn name(columns: &[(&[u8], Field)], field: Field) -> Result<Name, Fail> {
+/// The column's name among these.
+pub fn name(columns: &[(&[u8], Field)], field: Field) -> Result<Name, Fail> {
     let column = columns.iter().find(|column| column.1 == field);
     Ok(Name::parse(column.ok_or("a column")?.0)?)
 }
 
-// Joins two generated tables on some fields by 1, 2 and 7 workers. Tells how many rows come out.
-fn check_join(
-    rt: &(impl Abort + Alloc<A = Global> + Threads + Sync),
-    dice: &mut Dice,
-    on: &[Field],
-    days: &[Point],
-) -> Result<usize, Fail> {
-    let (lefts, rights) = (dice.roll_rows(rt.alloc())?, dice.roll_rows(rt.alloc())?);
-    let want = joined_by_day(rt, &lefts, &rights, on, days)?;
-    let left = table(rt.alloc(), &LEFT, &lefts, days)?;
-    let right = table(rt.alloc(), &RIGHT, &rights, days)?;
-    let mut names = Vec::new(rt.alloc());
-    for field in on {
-        names.push((name(&LEFT, *field)?, name(&RIGHT, *field)?))?;
-    }
-    for workers in [1, 2, 7] {
-        let (one, other) = (side(rt, &left), side(rt, &right));
-        let answer = join(rt, rt.alloc(), one, other, &names, workers, &OpenGate)?;
-        assert_eq!(rt;
-            answer.rows.as_slice(),
-            want.as_slice(),
-            "with {workers} workers"
-        );
-    }
-    Ok(want.len())
+/// Two tables with their rows, and the columns by which rows are compared.
+#[derive(Drop)]
+pub struct Pair {
+    pub lefts: Vec<PlainRow>,
+    pub rights: Vec<PlainRow>,
+    pub on: Vec<Field>,
+    pub left: Table,
+    pub right: Table,
+    pub names: Vec<(Name, Name)>,
 }
 
-// Ten pairs of tables without columns that are compared, and ten with one, with two and with three.
-#[test]
-fn joins_what_each_day_shows(rt: HostRuntime) -> Result<(), Fail> {
-    let days = days(rt.alloc())?;
-    let fields = [Field::Code, Field::Word, Field::Size];
-    let mut dice = Dice { state: 3 };
-    for count in 0..4 {
-        let mut rows = 0usize;
-        for first in 0..10 {
-            let mut on = Vec::new(rt.alloc());
-            for field in fields.iter().cycle().skip(first).take(count) {
-                on.push(*field)?;
-            }
-            rows = rows.saturating_add(check_join(&rt, &mut dice, &on, &days)?);
+impl Pair {
+    /// Two generated tables, to be compared by so many columns from one of them on.
+    pub fn roll(
+        alloc: Global,
+        dice: &mut Dice,
+        first: usize,
+        count: usize,
+        days: &[Point],
+    ) -> Result<Pair, Fail> {
+        let (lefts, rights) = (dice.roll_rows(alloc)?, dice.roll_rows(alloc)?);
+        let left = table(alloc, &LEFT, &lefts, days)?;
+        let right = table(alloc, &RIGHT, &rights, days)?;
+        let mut on = Vec::new(alloc);
+        let mut names = Vec::new(alloc);
+        for (_, field) in LEFT.iter().cycle().skip(first).take(count) {
+            on.push(*field)?;
+            names.push((name(&LEFT, *field)?, name(&RIGHT, *field)?))?;
         }
-        assert!(rt;
-            rows >= 10,
-            "joins on {count} columns have only {rows} rows"
-        );
+        Ok(Pair {
+            lefts,
+            rights,
+            on,
+            left,
+            right,
+            names,
+        })
     }
-    Ok(())
+}
+
+/// Days that follow one another, as the numbers of the first and of the one behind the last, and a value.
+#[derive(Clone, Copy)]
+pub struct Run {
+    pub from: u64,
+    pub to: u64,
+    pub value: i128,
+}
+
+/// The longest runs of days of one value, by rising start, of what each day has.
+pub fn runs(alloc: Global, values: &[Option<i128>]) -> Result<Vec<Run>, AllocError> {
+    let mut runs: Vec<Run> = Vec::new(alloc);
+    for day in 0..DAYS {
+        let Some(value) = values.get(day as usize).copied().flatten() else {
+            continue;
+        };
+        match runs.last_mut() {
+            Some(run) if run.to == day && run.value == value => run.to = day + 1,
+            _ => runs.push(Run {
+                from: day,
+                to: day + 1,
+                value,
+            })?,
+        }
+    }
+    Ok(runs)
 }

@@ -4,11 +4,19 @@ use crate::tables::{Table, january, numbers, side, without_columns};
 use join_core::{JoinRow, join};
 use match_core::QueryRefused;
 use row_core::{Failure, Kind, Name, RowList, Schema};
+use std::alloc::Global;
 use std::process::Abort;
 use std::test::Fail;
 use work_core::OpenGate;
 
-/// The rows of the worked join, of two rows with three on a column.
+/// The tables of the worked join, of two rows and of three.
+pub fn worked_tables(rt: &(impl Abort + Alloc<A = Global>)) -> Result<(Table, Table), Fail> {
+    let left = numbers(rt, &[(1, 10, 1), (5, 8, 2)])?;
+    let right = numbers(rt, &[(3, 6, 1), (6, 20, 1), (7, 8, 2)])?;
+    Ok((left, right))
+}
+
+/// The rows of the worked join on a column.
 pub fn worked_rows(rt: &impl Abort) -> [JoinRow; 3] {
     [
         JoinRow {
@@ -31,8 +39,7 @@ pub fn worked_rows(rt: &impl Abort) -> [JoinRow; 3] {
 
 #[test]
 fn joins_on_a_column(rt: HostRuntime) -> Result<(), Fail> {
-    let left = numbers(&rt, &[(1, 10, 1), (5, 8, 2)])?;
-    let right = numbers(&rt, &[(3, 6, 1), (6, 20, 1), (7, 8, 2)])?;
+    let (left, right) = worked_tables(&rt)?;
     let column = Name::parse(b"c")?;
     let want = worked_rows(&rt);
     for workers in [1, 2, 7, 64] {
@@ -55,8 +62,7 @@ fn joins_on_a_column(rt: HostRuntime) -> Result<(), Fail> {
 
 #[test]
 fn joins_without_columns(rt: HostRuntime) -> Result<(), Fail> {
-    let left = numbers(&rt, &[(1, 10, 1), (5, 8, 2)])?;
-    let right = numbers(&rt, &[(3, 6, 1), (6, 20, 1), (7, 8, 2)])?;
+    let (left, right) = worked_tables(&rt)?;
     for workers in [1, 2, 7, 64] {
         let (one, other) = (side(&rt, &left), side(&rt, &right));
         let answer = join(&rt, rt.alloc(), one, other, &[], workers, &OpenGate)?;

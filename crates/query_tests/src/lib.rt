@@ -1,4 +1,5 @@
-//! Tests from outside of queries: what parts share and leave, joins by many workers, and rows by their ids.
+//! Tests from outside of queries: what parts share and leave, joins, anti-joins and aggregates by many workers, and
+//! rows by their ids.
 #![tactic(auto)]
 
 #[cfg(test)]
@@ -7,6 +8,12 @@ mod classes;
 mod gates;
 #[cfg(test)]
 mod generated;
+#[cfg(test)]
+mod generated_aggregates;
+#[cfg(test)]
+mod generated_anti_joins;
+#[cfg(test)]
+mod generated_joins;
 #[cfg(test)]
 mod joins;
 #[cfg(test)]

@@ -1,32 +1,35 @@
-//! Pieces of a join's pairs, in any order, twice, and from another join.
+//! Pieces of the pairs of a job of a query, in any order, twice, and from another job.
+
+ghost use Rattle.std.specs.Prelude.{◌≡◌, IfOk};
+ghost use Rattle.round_core.specs.Together.{all_weight};
 
 use crate::tables::{item, january};
-use dip_core::{Division, Item, create_dip};
+use anti_core::GapPairs;
+use dip_core::{Division, Item, Part, create_dip};
 use join_core::{JoinOut, JoinPairs};
-use merge_core::Hit;
+use merge_core::{Gap, Gaps, Hit, Step, Steps, Tally};
+use round_core::TallyRound;
 use std::alloc::Global;
 use std::process::Abort;
 use std::test::Fail;
 use work_core::{Collector, Outs, PairName, PairWork, Piece, Refused, Why};
 
-// The piece of a pair that the join has.
-fn piece<'j>(
+// The piece of a pair that the job has.
+fn piece<'j, W: PairWork>(
     rt: &(impl Abort + Alloc<A = Global>),
-    pairs: &'j JoinPairs<'j>,
-    left: u32,
-    right: u32,
-) -> Result<Piece<'j, JoinPairs<'j>>, Fail> {
+    job: &'j W,
+    (left, right): (u32, u32),
+) -> Result<Piece<'j, W>, Fail> {
     let name = PairName { left, right };
-    assert!(rt; pairs.place(name).is_some());
-    Ok(Piece::make(rt.alloc(), pairs, name)?)
+    assert!(rt; job.place(name).is_some());
+    Ok(Piece::make(rt.alloc(), job, name)?)
 }
 
 // A piece that must be refused, for this reason, and comes back with its name.
-fn check_refusal<'j>(
+fn check_refusal<'j, W: PairWork>(
     rt: &impl Abort,
-    answer: Result<(), Refused<'j, JoinPairs<'j>>>,
-    left: u32,
-    right: u32,
+    answer: Result<(), Refused<'j, W>>,
+    (left, right): (u32, u32),
     why: Why,
 ) {
     let Err(refused) = answer else {
@@ -34,6 +37,37 @@ fn check_refusal<'j>(
     };
     assert_eq!(rt; refused.why, why);
     assert_eq!(rt; refused.piece.name(), PairName { left, right });
+}
+
+// Collects the pieces of a job in this order, but for one that another job makes of equal inputs, and one that comes
+// last, of which that job has other inputs.
+fn collect<'j, W: PairWork>(
+    rt: &(impl Abort + Alloc<A = Global>),
+    job: &'j W,
+    changed: &'j W,
+    order: &[(u32, u32)],
+    equal: (u32, u32),
+    last: (u32, u32),
+) -> Result<Outs<W::Out>, Fail> {
+    let mut collector = Collector::new(rt.alloc(), job)?;
+    for pair in order {
+        assert!(rt; collector.accept(piece(rt, job, *pair)?).is_ok());
+    }
+    assert!(rt; collector.accept(piece(rt, changed, equal)?).is_ok());
+    let Err(unfinished) = collector.finish() else {
+        panic!(rt; "a pair is missing")
+    };
+    assert_eq!(rt; (unfinished.first.left, unfinished.first.right), last);
+    let mut collector = unfinished.collector;
+    let double = collector.accept(piece(rt, job, equal)?);
+    check_refusal(rt, double, equal, Why::Double);
+    let stranger = collector.accept(piece(rt, changed, last)?);
+    check_refusal(rt, stranger, last, Why::Stranger);
+    assert!(rt; collector.accept(piece(rt, job, last)?).is_ok());
+    let Ok(outs) = collector.finish() else {
+        panic!(rt; "all pieces are there")
+    };
+    Ok(outs)
 }
 
 // Two items that overlap, of two classes.
@@ -50,9 +84,12 @@ fn rights(rt: &impl Abort, class: u64) -> [Item; 3] {
     ]
 }
 
+// The items in two parts.
 fn divide(rt: &(impl Abort + Alloc<A = Global>), items: &[Item]) -> Result<Division, Fail> {
     assert!(rt; items.len() <= 1_000_000);
-    Ok(create_dip(rt.alloc(), items)?)
+    let division = create_dip(rt.alloc(), items)?;
+    assert_eq!(rt; division.parts(), 2);
+    Ok(division)
 }
 
 // What the parts of one pair share.
@@ -89,46 +126,95 @@ fn check_values(rt: &impl Abort, outs: &Outs<JoinOut>) {
     check_hits(rt, outs, 3, &last);
 }
 
-// Collects the pieces of a join of two times two parts, with others of a join with one row changed.
-fn collect<'j>(
-    rt: &(impl Abort + Alloc<A = Global>),
-    pairs: &'j JoinPairs<'j>,
-    changed: &'j JoinPairs<'j>,
-) -> Result<(), Fail> {
-    let mut collector = Collector::new(rt.alloc(), pairs)?;
-    for (left, right) in [(1, 1), (0, 0), (1, 0)] {
-        assert!(rt; collector.accept(piece(rt, pairs, left, right)?).is_ok());
-    }
-    let Err(unfinished) = collector.finish() else {
-        panic!(rt; "a pair is missing")
-    };
-    assert_eq!(rt; unfinished.first, PairName { left: 0, right: 1 });
-    let mut collector = unfinished.collector;
-    let double = collector.accept(piece(rt, pairs, 1, 1)?);
-    check_refusal(rt, double, 1, 1, Why::Double);
-    let stranger = collector.accept(piece(rt, changed, 0, 1)?);
-    check_refusal(rt, stranger, 0, 1, Why::Stranger);
-    let equal = collector.accept(piece(rt, changed, 0, 0)?);
-    check_refusal(rt, equal, 0, 0, Why::Double);
-    assert!(rt; collector.accept(piece(rt, pairs, 0, 1)?).is_ok());
-    let Ok(outs) = collector.finish() else {
-        panic!(rt; "all pieces are there")
-    };
-    check_values(rt, &outs);
-    Ok(())
-}
-
+// Two times two parts, and the same with the class of a right item changed, so that the first right part is the same.
 #[test]
 fn collects_a_join_of_pieces(rt: HostRuntime) -> Result<(), Fail> {
     let left = divide(&rt, &lefts(&rt))?;
     let right = divide(&rt, &rights(&rt, 2))?;
     let changed = divide(&rt, &rights(&rt, 1))?;
-    assert_eq!(rt; left.parts(), 2);
-    assert_eq!(rt; right.parts(), 2);
-    assert_eq!(rt; changed.parts(), 2);
-    collect(
-        &rt,
-        &JoinPairs::new(&left, &right),
-        &JoinPairs::new(&left, &changed),
-    )
+    let job = JoinPairs::new(&left, &right);
+    let changed = JoinPairs::new(&left, &changed);
+    let outs = collect(&rt, &job, &changed, &[(1, 1), (1, 0)], (0, 0), (0, 1))?;
+    check_values(&rt, &outs);
+    Ok(())
+}
+
+// The one gap of a pair of parts: some days of January.
+fn check_gap(rt: &impl Abort, outs: &Outs<Gaps>, number: usize, left: &Item, from: u8, to: u8) {
+    let gaps = outs.get(number).expect(rt, "a value");
+    let want = [Gap {
+        left: *left,
+        period: january(rt, from, to),
+    }];
+    assert_eq!(rt; gaps.as_slice(), want.as_slice());
+}
+
+#[test]
+fn collects_an_anti_join_of_pieces(rt: HostRuntime) -> Result<(), Fail> {
+    let left = divide(&rt, &lefts(&rt))?;
+    let right = divide(&rt, &rights(&rt, 2))?;
+    let changed = divide(&rt, &rights(&rt, 1))?;
+    let job = GapPairs::new(&left, &right);
+    let changed = GapPairs::new(&left, &changed);
+    let outs = collect(&rt, &job, &changed, &[(1, 1), (1, 0)], (0, 0), (0, 1))?;
+    assert_eq!(rt; outs.len(), 4);
+    let lefts = lefts(&rt);
+    check_gap(&rt, &outs, 0, &lefts[0], 1, 3);
+    check_gap(&rt, &outs, 1, &lefts[0], 1, 10);
+    check_gap(&rt, &outs, 2, &lefts[1], 5, 8);
+    check_gap(&rt, &outs, 3, &lefts[1], 5, 7);
+    Ok(())
+}
+
+// The steps of one item.
+fn steps(rt: &(impl Abort + Alloc<A = Global>), from: u8, to: u8) -> Result<Steps, Fail>
+    ensures { IfOk result (λ steps. steps.weight ≡ 1) }
+{
+    let items = [item(rt, 1, from, to, 1)];
+    let part = Part::new(&items).expect(rt, "an item");
+    Ok(Steps::of_part(rt.alloc(), part)?)
+}
+
+// Three times the steps of two items: those of the first two hold from the first of January on, the second of them
+// to some day.
+fn lists(rt: &(impl Abort + Alloc<A = Global>), to: u8) -> Result<[Steps; 6], Fail>
+    ensures { IfOk result (λ lists. all_weight lists ≡ 6) }
+{
+    Ok([
+        steps(rt, 1, 2)?,
+        steps(rt, 1, to)?,
+        steps(rt, 2, 3)?,
+        steps(rt, 2, 3)?,
+        steps(rt, 3, 4)?,
+        steps(rt, 3, 4)?,
+    ])
+}
+
+// What two items of one day come to.
+fn check_both(rt: &impl Abort, outs: &Outs<Steps>, number: usize, from: u8, to: u8) {
+    let both = outs.get(number).expect(rt, "a value");
+    let want = [Step {
+        period: january(rt, from, to),
+        tally: Tally {
+            count: 2,
+            sum: 0,
+            min: 0,
+            max: 0,
+        },
+    }];
+    assert_eq!(rt; both.steps(), want.as_slice());
+}
+
+#[test]
+fn collects_a_round_of_pieces(rt: HostRuntime) -> Result<(), Fail> {
+    let all = lists(&rt, 2)?;
+    let changed = lists(&rt, 9)?;
+    let job = TallyRound::new(&all);
+    let changed = TallyRound::new(&changed);
+    let outs = collect(&rt, &job, &changed, &[(4, 5)], (2, 3), (0, 1))?;
+    assert_eq!(rt; outs.len(), 3);
+    check_both(&rt, &outs, 0, 1, 2);
+    check_both(&rt, &outs, 1, 2, 3);
+    check_both(&rt, &outs, 2, 3, 4);
+    Ok(())
 }
