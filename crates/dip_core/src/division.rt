@@ -1,14 +1,16 @@
-ghost use Rattle.std.specs.Prelude.{◌≡◌, ◌<◌, ◌≤◌, ◌↔◌, List, [], length, All, IsNone, IfSome, IfOk};
+ghost use Rattle.std.specs.Prelude.{◌≡◌, ◌<◌, ◌≤◌, ◌↔◌, List, [], length, All, IsNone, IfSome, IfOk, IsPermutation, IsSorted};
 ghost use Rattle.dip_core.specs.declared.item.Item.{Item};
-ghost use Rattle.dip_core.specs.Item.{IsChain, IsRising, HasDistinctIds, item_limit};
+ghost use Rattle.dip_core.specs.Item.{IsChain, IsRising, HasDistinctIds, item_cmp, item_limit};
 ghost use Rattle.dip_core.specs.Division.{all_of, part_at, IsDip, IsDivision, IsInstant, IsInstantOf, IsLeast, IsLeastDivision};
 ghost use Rattle.dip_core.specs.Invariants.{ArePlaced, IsDivided};
 
 use crate::part_items::PartItems;
 use crate::{Item, NoMemory, Part, Placer};
 use period_core::Point;
+use sort_core::sort_unstable;
 use std::alloc::Global;
 use std::marker::Model;
+use std::thread::Threads;
 
 /// At most 1,000,000 items in the least number of parts without overlaps. Contracts see the list of its parts.
 #[derive(Drop)]
@@ -87,19 +89,33 @@ fn instant_of(parts: &[PartItems]) -> Option<Point>
     Some(items[0].period.from)
 }
 
-/// Divides the items, which are at most 1,000,000, into the least number of parts without overlaps. Items
-/// of distinct ids are placed one after another, by start, end and id, as `Placer::place` does.
-pub fn create_dip(alloc: Global, items: &[Item]) -> Result<Division, NoMemory>
-    requires { length items.now ≤ item_limit }
-    ensures least { IfOk result (IsLeastDivision items.now) }
-    ensures dip { IfOk result (λ division. HasDistinctIds items.now → IsDip items.now division) }
-    ensures empty { IfOk result (λ division. (division ≡ []) ↔ (items.now ≡ [])) }
+/// Places items that stand in their order, one after another.
+fn place_all(alloc: Global, sorted: &[Item]) -> Result<Placer, NoMemory>
+    requires sorted { IsSorted item_cmp sorted.now }
+    requires few { length sorted.now ≤ item_limit }
+    ensures { IfOk result (λ placer. IsPermutation sorted.now (all_of placer.parts)) }
 {
-    let mut sorted = Vec::from_slice(alloc, items)?;
-    sorted.sort_unstable();
     let mut placer = Placer::new(alloc);
-    for item in &sorted {
+    for item in sorted {
         placer.place(*item)?;
     }
+    Ok(placer)
+}
+
+/// Divides the items, which are at most 1,000,000, into the least number of parts without overlaps. Items
+/// of distinct ids are placed one after another, by start, end and id, as `Placer::place` does. Many are sorted
+/// on several threads.
+pub fn create_dip<R: Threads + Sync>(
+    rt: &R,
+    alloc: Global,
+    mut items: Vec<Item>,
+) -> Result<Division, NoMemory>
+    requires { length items.items ≤ item_limit }
+    ensures least { IfOk result (IsLeastDivision items.items) }
+    ensures dip { IfOk result (λ division. HasDistinctIds items.items → IsDip items.items division) }
+    ensures empty { IfOk result (λ division. (division ≡ []) ↔ (items.items ≡ [])) }
+{
+    sort_unstable(rt, &mut items);
+    let placer = place_all(alloc, &items)?;
     Ok(placer.finish())
 }

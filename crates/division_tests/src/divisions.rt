@@ -11,6 +11,7 @@ use std::alloc::Global;
 use std::cmp::Ordering;
 use std::process::Abort;
 use std::test::Fail;
+use std::thread::Threads;
 
 /// A row of January 2024, by the days of its start and its end.
 pub fn item(rt: &impl Abort, id: u64, from: &[u8; 2], to: &[u8; 2]) -> Item {
@@ -42,7 +43,7 @@ fn may_follow(last: Option<Item>, item: &Item) -> bool
 // The numbers of the parts that a placer puts the items into, and the division that comes of it. Only the
 // first item takes no look at a last end.
 fn check_placing(
-    rt: &(impl Abort + Alloc<A = Global>),
+    rt: &(impl Abort + Alloc<A = Global> + Threads + Sync),
     items: &[Item],
     places: &[u32],
 ) -> Result<(), Fail> {
@@ -56,7 +57,7 @@ fn check_placing(
     assert_eq!(rt; placer.len(), items.len() as u64);
     let placed = placer.finish();
     assert!(rt; items.len() <= 1_000_000);
-    let divided = create_dip(rt.alloc(), items)?;
+    let divided = create_dip(rt, rt.alloc(), Vec::from_slice(rt.alloc(), items)?)?;
     assert_eq!(rt; placed.instant(), divided.instant());
     assert_eq!(rt; placed.parts(), divided.parts());
     for number in 0..placed.parts() {
@@ -76,7 +77,7 @@ fn places_rows(rt: HostRuntime) -> Result<(), Fail> {
         item(&rt, 4, b"05", b"06"),
     ];
     check_placing(&rt, &rows, &[0, 1, 2, 1, 0])?;
-    let division = create_dip(rt.alloc(), &rows)?;
+    let division = create_dip(&rt, rt.alloc(), Vec::from_slice(rt.alloc(), &rows)?)?;
     let third = Point::parse(b"2024-01-03")?;
     assert_eq!(rt; division.instant(), Some(third));
     Ok(())
@@ -130,7 +131,7 @@ fn falling(rt: &impl Alloc<A = Global>) -> Result<Vec<Item>, Fail> {
 fn divides_a_row_of_5_000(rt: HostRuntime) -> Result<(), Fail> {
     let items = falling(&rt)?;
     assert_eq!(rt; items.len(), 5_000);
-    let division = create_dip(rt.alloc(), &items)?;
+    let division = create_dip(&rt, rt.alloc(), items)?;
     assert_eq!(rt; division.parts(), 10);
     for number in 0..10 {
         assert!(rt; number < division.parts());

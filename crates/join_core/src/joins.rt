@@ -68,5 +68,5 @@ fn join_rows<R: Threads + Sync, G: Gate>(
     let (left_classes, right_classes) = classes.split_at(left.rows.len());
     let lefts = items_with(alloc, left.rows.as_slice(), left_classes)?;
     let rights = items_with(alloc, right.rows.as_slice(), right_classes)?;
-    join_items(rt, alloc, &lefts, &rights, workers, gate)
+    join_items(rt, alloc, lefts, rights, workers, gate)
 }

@@ -14,6 +14,7 @@ use crate::rows::JoinRows;
 use crate::stretches::{PairRows, rows_of_pairs};
 use dip_core::{Division, Item, create_dip};
 use period_core::NoMemory;
+use sort_core::sort_unstable;
 use std::alloc::Global;
 use std::thread::Threads;
 use work_core::Gate;
@@ -46,7 +47,7 @@ fn join_parts<R: Threads + Sync, G: Gate>(
     let _ = right.parts();
     let pairs = JoinPairs::new(left, right);
     let PairRows { mut rows, turns } = rows_of_pairs(rt, alloc, &pairs, workers, gate)?;
-    rows.sort_unstable();
+    sort_unstable(rt, &mut rows);
     Ok(JoinAnswer {
         rows: JoinRows::from(rows),
         turns,
@@ -57,22 +58,22 @@ fn join_parts<R: Threads + Sync, G: Gate>(
 pub(crate) fn join_items<R: Threads + Sync, G: Gate>(
     rt: &R,
     alloc: Global,
-    left: &[Item],
-    right: &[Item],
+    left: Vec<Item>,
+    right: Vec<Item>,
     workers: u32,
     gate: &G,
 ) -> Result<JoinAnswer, NoMemory>
     requires workers { (0 < workers) × (workers ≤ worker_limit) }
-    requires left_few { length left.now ≤ item_limit }
-    requires right_few { length right.now ≤ item_limit }
-    requires left_ids { HasDistinctIds left.now }
-    requires right_ids { HasDistinctIds right.now }
-    ensures rows { IfOk result (λ answer. IsItemsJoin left.now right.now answer.rows) }
-    ensures turns { IfOk result (λ answer. (k m : ℕ) → IsLeast (map unclassed left.now) k
-        → IsLeast (map unclassed right.now) m → IsWithin k m (length left.now) (length right.now) answer.turns) }
+    requires left_few { length left.items ≤ item_limit }
+    requires right_few { length right.items ≤ item_limit }
+    requires left_ids { HasDistinctIds left.items }
+    requires right_ids { HasDistinctIds right.items }
+    ensures rows { IfOk result (λ answer. IsItemsJoin left.items right.items answer.rows) }
+    ensures turns { IfOk result (λ answer. (k m : ℕ) → IsLeast (map unclassed left.items) k
+        → IsLeast (map unclassed right.items) m → IsWithin k m (length left.items) (length right.items) answer.turns) }
 {
-    let lefts = create_dip(alloc, left)?;
-    let rights = create_dip(alloc, right)?;
+    let lefts = create_dip(rt, alloc, left)?;
+    let rights = create_dip(rt, alloc, right)?;
     // An instant that as many items hold as there are parts shows that there are no fewer.
     let _ = lefts.instant();
     let _ = rights.instant();

@@ -12,6 +12,7 @@ use round_core::TallyRound;
 use std::alloc::Global;
 use std::process::Abort;
 use std::test::Fail;
+use std::thread::Threads;
 use work_core::{Collector, Outs, PairName, PairWork, Piece, Refused, Why};
 
 // The piece of a pair that the job has.
@@ -85,9 +86,12 @@ fn rights(rt: &impl Abort, class: u64) -> [Item; 3] {
 }
 
 // The items in two parts.
-fn divide(rt: &(impl Abort + Alloc<A = Global>), items: &[Item]) -> Result<Division, Fail> {
+fn divide(
+    rt: &(impl Abort + Alloc<A = Global> + Threads + Sync),
+    items: &[Item],
+) -> Result<Division, Fail> {
     assert!(rt; items.len() <= 1_000_000);
-    let division = create_dip(rt.alloc(), items)?;
+    let division = create_dip(rt, rt.alloc(), Vec::from_slice(rt.alloc(), items)?)?;
     assert_eq!(rt; division.parts(), 2);
     Ok(division)
 }

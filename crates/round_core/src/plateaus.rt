@@ -36,7 +36,7 @@ pub fn plateaus_of<R: Threads + Sync, G: Gate>(
     requires grouped { AllPairs (λ a b. a.class ≤ b.class) items.now }
     ensures { IfOk result (λ plateaus. ArePlateaus measure items.now plateaus.items) }
 {
-    let lists = class_lists(alloc, items)?;
+    let lists = class_lists(rt, alloc, items)?;
     let all = combine_all(rt, alloc, lists, workers, gate)?;
     plateaus_in(alloc, measure, all)
 }

@@ -11,6 +11,7 @@ use merge_core::Steps;
 use period_core::NoMemory;
 use std::alloc::Global;
 use std::collections::VecDeque;
+use std::thread::Threads;
 
 /// Adds the steps of a part.
 fn push_part(
@@ -43,7 +44,8 @@ fn push_parts(
 }
 
 /// Adds the steps of the items of a class, which are divided unless they are a part as they are.
-fn push_run(
+fn push_run<R: Threads + Sync>(
+    rt: &R,
     alloc: Global,
     class: u64,
     items: &[Item],
@@ -56,7 +58,8 @@ fn push_run(
     if let Some(part) = Part::new(items) {
         return push_part(alloc, class, part, lists);
     }
-    let division = create_dip(alloc, items)?;
+    let own = Vec::from_slice(alloc, items)?;
+    let division = create_dip(rt, alloc, own)?;
     push_parts(alloc, class, &division, lists)?;
     Ok(())
 }
@@ -74,7 +77,11 @@ fn run_len(class: u64, items: &[Item]) -> usize
 }
 
 /// Lists of steps for the items of each class, by rising class.
-pub(crate) fn class_lists(alloc: Global, items: &[Item]) -> Result<VecDeque<ClassSteps>, NoMemory>
+pub(crate) fn class_lists<R: Threads + Sync>(
+    rt: &R,
+    alloc: Global,
+    items: &[Item],
+) -> Result<VecDeque<ClassSteps>, NoMemory>
     requires few { length items.now ≤ item_limit }
     requires grouped { AllPairs (λ a b. a.class ≤ b.class) items.now }
     ensures stand { IfOk result (λ lists. StandForAll items.now lists.items) }
@@ -86,7 +93,7 @@ pub(crate) fn class_lists(alloc: Global, items: &[Item]) -> Result<VecDeque<Clas
         let class = first.class;
         let len = 1 + run_len(class, later);
         let (run, rest) = left.split_at(len);
-        push_run(alloc, class, run, &mut lists)?;
+        push_run(rt, alloc, class, run, &mut lists)?;
         left = rest;
     }
     Ok(lists)

@@ -89,7 +89,8 @@ pub(crate) fn rows_on(
 }
 
 /// The division of a table's rows.
-pub(crate) fn divide(
+pub(crate) fn divide<T: Threads + Sync>(
+    rt: &T,
     alloc: Global,
     book: &Book,
     number: u64,
@@ -105,7 +106,7 @@ pub(crate) fn divide(
     };
     Ok(Answer::Division {
         rows: rows.len(),
-        division: dip(alloc, side)?,
+        division: dip(rt, alloc, side)?,
     })
 }
 

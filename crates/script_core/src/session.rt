@@ -60,7 +60,7 @@ fn perform<T: Threads + Sync>(
         Command::At { table, point, asof } => rows_on(alloc, book, number, table, point, asof),
         Command::Between { table, first, last } => between(book, number, table, first, last),
         Command::FromTo { table, first, end } => from_to(book, number, table, first, end),
-        Command::Dip { table, asof } => divide(alloc, book, number, table, asof),
+        Command::Dip { table, asof } => divide(rt, alloc, book, number, table, asof),
         Command::Join { tables, asof } => {
             join_tables(rt, alloc, book, number, tables, asof, workers)
         }

@@ -7,14 +7,14 @@ use Rattle.join_core.proofs.parted.join_items.Goals as goal
 pub returns-clause-rows : goal.returns-clause-rows
 returns-clause-rows g c =
     IfOk-weaker c.join_parts.result _ _
-    (λ answer h. h c.args.left.now c.args.right.now c.in_ok-lefts.ensures.least.division.together
+    (λ answer h. h c.args.left.items c.args.right.items c.in_ok-lefts.ensures.least.division.together
     c.in_ok-rights.ensures.least.division.together c.requires.left_ids c.requires.right_ids)
     c.join_parts.ensures.rows
 
 pub returns-clause-turns : goal.returns-clause-turns
 returns-clause-turns g c =
-    let left = c.args.left.now in
-    let right = c.args.right.now in
+    let left = c.args.left.items in
+    let right = c.args.right.items in
     let ps = c.in_ok-lefts.lefts in
     let qs = c.in_ok-rights.rights in
     let da = c.in_ok-lefts.ensures.least.division in

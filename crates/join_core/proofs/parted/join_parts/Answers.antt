@@ -15,8 +15,8 @@ returns-clause-rows g c = λ a b pa pb da db.
     c.new-pairs.ensures.right c.in_ok-rows.ensures in
     subst (IsItemsJoin a b) (sym c.from.ensures)
     (IsItemsJoin-sorted a b c.args.left.now c.args.right.now is.outs is.len is.values pa pb da db
-    c.sort_unstable.new.self.items
-    (subst (λ (l : List JoinRow). IsPermutation l c.sort_unstable.new.self.items) is.rows_are
+    c.sort_unstable.new.items.items
+    (subst (λ (l : List JoinRow). IsPermutation l c.sort_unstable.new.items.items) is.rows_are
     c.sort_unstable.ensures.permutation)
     c.sort_unstable.ensures.sorted))
 

@@ -3,7 +3,7 @@ use Rattle.round_core.proofs.RunLemmas.{IsListing}
 use Rattle.round_core.proofs.runs.class_lists.Given as goal
 
 abbrev pub invariant-runs : goal.invariant-runs
-invariant-runs l = IsListing l.items l.left l.lists.items
+invariant-runs g l = IsListing l.items l.left l.lists.items
 
 abbrev pub decreases-runs : goal.decreases-runs
-decreases-runs l = length l.left
+decreases-runs g l = length l.left

@@ -1,12 +1,12 @@
 use Rattle.std.proofs.Common.{◌≡◌, ◌-◌, ◌<◌, take, get_or}
 use Rattle.std.specs.Prelude.{IsPermutation, MatchOption}
 use Rattle.dip_core.specs.Division.{all_of}
-use Rattle.dip_core.proofs.division.create_dip.Given as goal
+use Rattle.dip_core.proofs.division.place_all.Given as goal
 
 -- the items so far are placed, and the last of them is the last one
 abbrev pub invariant-loop-item : goal.invariant-loop-item
 invariant-loop-item l = record {
-  placed : IsPermutation (take l.item-index l.item-items) (all_of l.placer.parts);
+  placed : IsPermutation (take l.item-index l.sorted) (all_of l.placer.parts);
   last : MatchOption l.placer.last (l.item-index ≡ 0)
-      (λ y. (0 < l.item-index) × (y ≡ get_or l.item-items (l.item-index - 1) y));
+      (λ y. (0 < l.item-index) × (y ≡ get_or l.sorted (l.item-index - 1) y));
 }
