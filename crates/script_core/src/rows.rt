@@ -1,5 +1,5 @@
 //! The rows of a load.
-ghost use Rattle.std.specs.Prelude.{◌≡◌, ◌+◌, ◌<◌, ◌^◌, IfOk, Ok, MatchResult, drop, length, map};
+ghost use Rattle.std.specs.Prelude.{◌≡◌, ◌+◌, ◌<◌, ◌^◌, OnOk, Ok, MatchResult, drop, length, map};
 ghost use Rattle.script_core.specs.Failure.{IsFailureOf, IsRecordFailure};
 ghost use Rattle.command_core.specs.Lines.{fields_in, lines_in};
 ghost use Rattle.script_core.specs.Effects.{row_of, rows_of};
@@ -9,21 +9,28 @@ use command_core::{Line, Lines, Refusal, begins};
 use row_core::{Draft, Drafts, Schema};
 use std::alloc::{AllocError, Global};
 
-/// The fields behind a record's word.
-fn fields_behind<'a>(alloc: Global, line: Line<'a>) -> Result<Vec<&'a [u8]>, AllocError>
-    ensures { IfOk result (λ fields. map (λ f. f.now) fields.items ≡ drop 1 (fields_in line.entry)) }
+/// Puts the fields behind a record's word in place of those that are there.
+fn take_fields<'a>(fields: &mut Vec<&'a [u8]>, line: Line<'a>) -> Result<(), AllocError>
+    ensures { OnOk result (map (λ f. f.now) fields.new.items ≡ drop 1 (fields_in line.entry)) }
 {
-    let mut fields = Vec::new(alloc);
+    fields.clear();
     for place in 1..line.len() {
         if let Some(field) = line.get(place) {
             fields.push(field)?;
         }
     }
-    Ok(fields)
+    Ok(())
 }
 
-/// The row that a record of a load gives, whose number is this one.
-fn row_of(alloc: Global, schema: &Schema, line: Line<'_>, number: u64) -> Result<Draft, Failure>
+/// The row that a record of a load gives, whose number is this one. The record's fields are kept in `fields`, whose
+/// room serves one record after another.
+fn row_of<'a>(
+    alloc: Global,
+    schema: &Schema,
+    fields: &mut Vec<&'a [u8]>,
+    line: Line<'a>,
+    number: u64,
+) -> Result<Draft, Failure>
     ensures { MatchResult result
         (λ row. row_of schema.now (fields_in line.entry) ≡ Ok row)
         (IsRecordFailure number (row_of schema.now (fields_in line.entry))) }
@@ -31,9 +38,9 @@ fn row_of(alloc: Global, schema: &Schema, line: Line<'_>, number: u64) -> Result
     if !begins(line, b"row") {
         return Err(refused(number, Refusal::BadCommand));
     }
-    let fields = fields_behind(alloc, line)?;
+    take_fields(fields, line)?;
     schema
-        .read_row(alloc, &fields)
+        .read_row(alloc, fields)
         .map_err(|why| failure_at(number, why))
 }
 
@@ -50,8 +57,10 @@ pub(crate) fn rows_of(
         (IsFailureOf (rows_of schema.now number (lines_in lines.entry))) }
 {
     let mut rows = Drafts::new(alloc);
+    let mut fields = Vec::new(alloc);
     for place in 0..lines.len() {
-        let row = row_of(alloc, schema, lines.get(place), number + place as u64)?;
+        let line = lines.get(place);
+        let row = row_of(alloc, schema, &mut fields, line, number + place as u64)?;
         rows.push(row)?;
     }
     Ok(rows)

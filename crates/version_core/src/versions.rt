@@ -418,12 +418,24 @@ fn add_versions(
     ensures err { OnErr result (versions.new.items ≡ versions.old.items) }
     ensures err_places { OnErr result (places.new ≡ places.old) }
 {
-    let mut new = new;
     let open = places.len();
     places.push_range(versions.len(), new.len())?;
-    if let Err(error) = versions.append(&mut new) {
+    if let Err(error) = append(versions, new) {
         places.truncate(open);
-        return Err(error.into());
+        return Err(error);
+    }
+    Ok(())
+}
+
+/// Adds versions at the end. The first of a table stay where they were made.
+fn append(versions: &mut Vec<Version>, mut new: Vec<Version>) -> Result<(), NoMemory>
+    ensures ok { OnOk result (versions.new.items ≡ versions.old.items ++ new.items) }
+    ensures err { OnErr result (versions.new.items ≡ versions.old.items) }
+{
+    if versions.is_empty() {
+        *versions = new;
+    } else {
+        versions.append(&mut new)?;
     }
     Ok(())
 }

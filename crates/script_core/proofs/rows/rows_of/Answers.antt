@@ -12,8 +12,8 @@ returns-in_err-row c =
     let p = err_from_is_err_and c.from_residual.result c.from_residual.ensures.1 in
     rw (p.1, p.2)
     (behind-failed (row_of columns) c.args.number c.loop-place.place lines
-    (fields_in c.get.result) c.loop-place.rows
-    (rows_of columns c.args.number lines) c.in_err-row.field-0.0 c.get.ensures c.loop-place.invariant
+    (fields_in c.get-line.result) c.loop-place.rows
+    (rows_of columns c.args.number lines) c.in_err-row.field-0.0 c.get-line.ensures c.loop-place.invariant
     c.in_err-row.ensures)
 
 pub loop-place-preserved : goal.loop-place-preserved
@@ -21,4 +21,4 @@ loop-place-preserved c =
     rw c.in_ok-push.ensures.ok
     (c.loop-place.invariant
     ∙ behind-more (row_of c.args.schema.now) c.args.number c.loop-place.place (lines_in c.args.lines)
-    (fields_in c.get.result) c.loop-place.rows c.in_ok-row.row c.get.ensures c.in_ok-row.ensures)
+    (fields_in c.get-line.result) c.loop-place.rows c.in_ok-row.row c.get-line.ensures c.in_ok-row.ensures)

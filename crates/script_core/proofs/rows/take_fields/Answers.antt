@@ -3,8 +3,8 @@ use Rattle.std.specs.List.{slice_get}
 use Rattle.std.proofs.lemmas.List.{map-append}
 use Rattle.command_core.specs.Lines.{fields_in}
 use Rattle.command_core.proofs.Cutting.{slice_get-drop, slice_get-there, take-slice_get}
-use Rattle.script_core.proofs.rows.fields_behind.Goals as goal
-use Rattle.script_core.proofs.rows.fields_behind.Goals.{in-Some+in_ok-push, in_default}
+use Rattle.script_core.proofs.rows.take_fields.Goals as goal
+use Rattle.script_core.proofs.rows.take_fields.Goals.{in-Some+in_ok-push, in_default}
 
 -- one more of the fields behind the first
 next_field : (fields : List (List ℕ)) (place : ℕ) (field : List ℕ) → 0 < place → slice_get fields place ≡ Some field
