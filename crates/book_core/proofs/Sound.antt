@@ -3,7 +3,8 @@ use Rattle.std.proofs.Common.{◌≡◌, ℕ, ◌+◌, ◌≤◌, List, [], ◌�
 use Rattle.std.specs.Prelude.{All, IfSome, IsTrue, filter, flat_map, fold, is_none, option_map, option_and_then, slice_get, slice_set, unwrap_or, bytes_eq}
 use Rattle.std.specs.List.{AllByRecursion, cons_option, list_all}
 use Rattle.std.proofs.lemmas.Bool.{and_parts, ltb-false, or_parts}
-use Rattle.std.proofs.lemmas.List.Elements.{All-from_recursion}
+use Rattle.std.proofs.lemmas.List.Elements.{All-filter, All-from_recursion}
+use Rattle.std.proofs.lemmas.List.Sums.{count_by-le-length, length-filter}
 use Rattle.std.proofs.lemmas.Option.{slice_get-get_or}
 use Rattle.period_core.specs.Period.{before, meet, after as later}
 use Rattle.period_core.specs.declared.period.Period.{Period}
@@ -33,7 +34,7 @@ use Rattle.book_core.specs.declared.refusal.BookRefused.TheVariants.{Full, Wrong
 use Rattle.book_core.specs.declared.commit.Commit.{Commit}
 use Rattle.book_core.proofs.Accepted.{first-none}
 use Rattle.book_core.proofs.Applying.{few, first_of-none, last_of}
-use Rattle.book_core.proofs.Ids.{RiseIn, shown_rise_all}
+use Rattle.book_core.proofs.Ids.{RiseIn, RiseIn-filter, shown_rise_all}
 use Rattle.book_core.proofs.Shown.{Ties, Ties-after, Ties-none, length-kept_table_after}
 
 -- a list's values fit the columns
@@ -332,3 +333,33 @@ rows-fit h name t n rows table e =
     rw (columns, e)
     (All-from_recursion (λ (row : Row). fits t.schema row.values ≡ true) (shown n t.versions)
     (shown-fits n t.schema t.versions table.sound.fit))
+
+-- of the rows that a commit shows and that pass a test: the same
+pub held-few : (h : History) (name : List ℕ) (t : StoredTable) (n : ℕ) (test : Row → Bool) (rows : List Row)
+    → IsTableOf h name t → rows ≡ filter test (shown n t.versions) → length rows ≤ version_limit
+held-few h name t n test rows table e =
+    omega (
+      arith,
+      ap length e,
+      length-filter test (shown n t.versions),
+      count_by-le-length test (shown n t.versions),
+      few_shown n t.versions,
+      table.sound.few,
+    )
+
+pub held-rise : (h : History) (name : List ℕ) (t : StoredTable) (n : ℕ) (test : Row → Bool) (rows : List Row)
+    → IsTableOf h name t → rows ≡ filter test (shown n t.versions) → IdsRise rows
+held-rise h name t n test rows table e =
+    rw e
+    (rising-rows 0 (length t.versions) (filter test (shown n t.versions))
+    (RiseIn-filter test 0 (length t.versions) (shown n t.versions) (shown_rise_all n t.versions table.well.ids)))
+
+pub held-fit : (h : History) (name : List ℕ) (t : StoredTable) (n : ℕ) (test : Row → Bool) (rows : List Row)
+    → IsTableOf h name t → rows ≡ filter test (shown n t.versions)
+    → IfSome (schema_in h name) (λ columns. All (λ row. IsTrue (fits columns row.values)) rows)
+held-fit h name t n test rows table e =
+    let columns : schema_in h name ≡ Some t.schema = ap (option_map (λ (u : Table). u.schema)) table.newest in
+    rw (columns, e)
+    (All-filter test (λ (row : Row). fits t.schema row.values ≡ true) (shown n t.versions)
+    (All-from_recursion (λ (row : Row). fits t.schema row.values ≡ true) (shown n t.versions)
+    (shown-fits n t.schema t.versions table.sound.fit)))

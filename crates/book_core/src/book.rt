@@ -1,11 +1,14 @@
 //! Books: the history of accepted changes, what refuses one more, and what each commit shows.
 
-ghost use Rattle.std.specs.Prelude.{◌≡◌, ◌+◌, ◌≤◌, ℕ, List, [], ◌∷◌, ◌++◌, length, map, take, All, IfOk, IsTrue, IfSome, IfNone, OnOk, OnErr, IsOkUnless, nat_lt, nat_le};
-ghost use Rattle.row_core.specs.Refusals.{IsAnswer};
+ghost use Rattle.std.specs.Prelude.{◌≡◌, ◌+◌, ◌≤◌, ℕ, List, [], ◌∷◌, ◌++◌, filter, length, map, take, All, IfErr, IfOk, IsTrue, IfSome, IfNone, OnOk, OnErr, IsOkUnless, nat_lt, nat_le};
+ghost use Rattle.period_core.specs.Period.{holds_at};
+ghost use Rattle.row_core.specs.Refusals.{IsAnswer, map_ok};
 ghost use Rattle.row_core.specs.Rows.{IdsRise};
 ghost use Rattle.row_core.specs.Schema.{fits};
 ghost use Rattle.row_core.specs.declared.failure.Failure.TheVariants.{NoMemory, Refused};
+ghost use Rattle.row_core.specs.declared.row.Row.{Row};
 ghost use Rattle.version_core.specs.Limits.{version_limit};
+ghost use Rattle.version_core.specs.Shown.{shown};
 ghost use Rattle.book_core.specs.History.{History, IsLegal, state_after, rows_at, rows_given, versions_refusal, schema_in};
 ghost use Rattle.book_core.specs.Limits.{commit_limit};
 ghost use Rattle.book_core.specs.State.{KeyHolds, first_refusal, refusal_of, table_of, IsRefusedAs};
@@ -18,10 +21,11 @@ use crate::log::{Entry, Log, entry_of};
 use crate::refusal::{BookRefused, NoTable, RowsRefused, VersionsRefused, overlap_failure};
 use crate::table::{Table, find_table};
 use list_core::copy_each;
+use period_core::Point;
 use row_core::{Failure, Name, NoMemory, RowList, Schema};
 use std::alloc::Global;
 use std::marker::Model;
-use version_core::{Change, VersionList, rows_shown, versions_seen};
+use version_core::{Change, VersionList, rows_holding, rows_shown, versions_seen};
 
 /// The most tables of a book.
 const TABLE_LIMIT: usize = 64;
@@ -188,12 +192,50 @@ impl Book {
         ensures fit { IfOk result (λ rows. IfSome (schema_in self.now name)
             (λ columns. All (λ row. IsTrue (fits columns row.values)) rows)) }
     {
+        match self.table_at(n, name) {
+            Ok(table) => Ok(rows_shown(self.alloc, table.versions.as_slice(), n)?),
+            Err(refused) => Err(Failure::Refused(refused)),
+        }
+    }
+
+    /// The rows of a table that commit n shows and that hold at the point, by rising id.
+    ///
+    /// # Errors
+    ///
+    /// `Future` where there are fewer than n commits; `NoTable`; `NoMemory`, in this order.
+    pub fn rows_holding(
+        &self,
+        n: u64,
+        name: Name,
+        point: Point,
+    ) -> Result<RowList, Failure<RowsRefused>>
+        // Of the rows that `rows_at` gives, those that hold.
+        ensures given { IsAnswer
+            (map_ok (filter (λ (row : Row). holds_at point row.period)) (rows_given self.now n name)) result }
+
+        ensures few { IfOk result (λ rows. length rows ≤ version_limit) }
+        ensures rise { IfOk result IdsRise }
+        ensures fit { IfOk result (λ rows. IfSome (schema_in self.now name)
+            (λ columns. All (λ row. IsTrue (fits columns row.values)) rows)) }
+    {
+        match self.table_at(n, name) {
+            Ok(table) => Ok(rows_holding(self.alloc, table.versions.as_slice(), n, point)?),
+            Err(refused) => Err(Failure::Refused(refused)),
+        }
+    }
+
+    /// The table of that name, where commit n can be read.
+    fn table_at(&self, n: u64, name: Name) -> Result<&Table, RowsRefused>
+        ensures found { IfOk result (λ table. IsTableOf self.now name table.now) }
+        ensures given { IfOk result (λ table. rows_given self.now n name ≡ Ok (shown n table.now.versions)) }
+        ensures refused { IfErr result (λ refused. rows_given self.now n name ≡ Err refused) }
+    {
         if n > self.commits() {
-            return Err(Failure::Refused(RowsRefused::Future));
+            return Err(RowsRefused::Future);
         }
         match self.table(name) {
-            None => Err(Failure::Refused(RowsRefused::NoTable)),
-            Some(table) => Ok(rows_shown(self.alloc, table.versions.as_slice(), n)?),
+            Some(table) => Ok(table),
+            None => Err(RowsRefused::NoTable),
         }
     }
 

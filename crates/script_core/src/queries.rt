@@ -26,7 +26,7 @@ use cert_core::{Certificate, check_division};
 use command_core::{Aggregate, Func, Lines, Refusal, TwoTables};
 use join_core::join;
 use period_core::Point;
-use query_core::{Side, at, dip, items};
+use query_core::{Side, dip, items};
 use row_core::{Name, RowList, Schema};
 use std::alloc::Global;
 use std::thread::Threads;
@@ -71,7 +71,6 @@ pub(crate) fn rows(
 
 /// The rows of a table that hold at a point.
 pub(crate) fn rows_on(
-    alloc: Global,
     book: &Book,
     number: u64,
     table: Name,
@@ -80,12 +79,10 @@ pub(crate) fn rows_on(
 ) -> Result<Answer, Failure>
     ensures { Gives (rows_told number book.now asof table) (λ rows answer. answer ≡ Rows (rows_on point rows)) result }
 {
-    let (schema, rows) = shown_table(book, number, table, asof)?;
-    let side = Side {
-        schema,
-        rows: &rows,
-    };
-    Ok(Answer::Rows(at(alloc, side, point)?))
+    match book.rows_holding(asof.unwrap_or(book.commits()), table, point) {
+        Ok(rows) => Ok(Answer::Rows(rows)),
+        Err(why) => Err(failure_at(number, why)),
+    }
 }
 
 /// The division of a table's rows.

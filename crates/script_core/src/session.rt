@@ -57,7 +57,7 @@ fn perform<T: Threads + Sync>(
             conds,
         } => delete(alloc, book, number, table, portion, conds),
         Command::Rows { table, asof } => rows(book, number, table, asof),
-        Command::At { table, point, asof } => rows_on(alloc, book, number, table, point, asof),
+        Command::At { table, point, asof } => rows_on(book, number, table, point, asof),
         Command::Between { table, first, last } => between(book, number, table, first, last),
         Command::FromTo { table, first, end } => from_to(book, number, table, first, end),
         Command::Dip { table, asof } => divide(rt, alloc, book, number, table, asof),

@@ -1,8 +1,8 @@
--- The versions that the first commits show.
-use Rattle.std.proofs.Common.{◌≡◌, ℕ, ◌+◌, ◌<◌, List, [], ◌∷◌, ◌++◌, length, true, false, cond, Some, None, ap, sym, ◌∙◌, take, get_or, ◌&&◌, leb}
-use Rattle.std.specs.List.{cons_option}
+-- The versions that the first commits show, and the rows that one shows.
+use Rattle.std.proofs.Common.{◌≡◌, ℕ, ◌+◌, ◌<◌, List, [], ◌∷◌, ◌++◌, length, Bool, true, false, cond, Some, None, refl, ap, sym, ◌∙◌, take, get_or, ◌&&◌, leb}
+use Rattle.std.specs.List.{cons_option, filter}
 use Rattle.std.proofs.lemmas.List.{append-nil, take_more}
-use Rattle.std.proofs.lemmas.List.Elements.{filter_map-append}
+use Rattle.std.proofs.lemmas.List.Elements.{filter-append, filter_map-append}
 use Rattle.row_core.specs.declared.row.Row.{Row}
 use Rattle.version_core.specs.Shown.{shows, row_shown, shown, is_behind, end_at, version_seen, seen}
 use Rattle.version_core.specs.declared.version.Version.{Version}
@@ -52,3 +52,34 @@ pub shown-same : (n i : ℕ) (vs : List Version) (v : Version) (rows : List Row)
 shown-same n i vs v rows h e t k =
     k ∙ sym (shown-take_more n i vs v h e
     ∙ ap (λ b. shown n (take i vs) ++ cons_option (cond b (Some v.row) None) []) t ∙ append-nil _)
+
+-- the row of one version, where it is shown and passes
+held-one : (test : Row → Bool) (row : Row) (is_shown : Bool)
+    → filter test (cons_option (cond is_shown (Some row) None) []) ≡ cond (is_shown && test row) (row ∷ []) []
+held-one test row true = refl
+held-one test row false = refl
+
+held-take_more : (n i : ℕ) (test : Row → Bool) (vs : List Version) (v : Version) → i < length vs → v ≡ get_or vs i v
+    → filter test (shown n (take (i + 1) vs))
+    ≡ filter test (shown n (take i vs)) ++ cond (shows n v && test v.row) (v.row ∷ []) []
+held-take_more n i test vs v h e =
+    ap (filter test) (shown-take_more n i vs v h e)
+    ∙ filter-append test (shown n (take i vs)) (cons_option (row_shown n v) [])
+    ∙ ap (λ rows. filter test (shown n (take i vs)) ++ rows) (held-one test v.row (shows n v))
+
+-- a version that is shown, and whose row passes the test, adds that row
+pub held-more : (n i : ℕ) (test : Row → Bool) (vs : List Version) (v : Version) (rows : List Row) → i < length vs
+    → v ≡ get_or vs i v → (shows n v && test v.row) ≡ true → rows ≡ filter test (shown n (take i vs))
+    → rows ++ v.row ∷ [] ≡ filter test (shown n (take (i + 1) vs))
+held-more n i test vs v rows h e t k =
+    ap (λ l. l ++ v.row ∷ []) k
+    ∙ sym (held-take_more n i test vs v h e
+    ∙ ap (λ b. filter test (shown n (take i vs)) ++ cond b (v.row ∷ []) []) t)
+
+-- another adds none
+pub held-same : (n i : ℕ) (test : Row → Bool) (vs : List Version) (v : Version) (rows : List Row) → i < length vs
+    → v ≡ get_or vs i v → (shows n v && test v.row) ≡ false → rows ≡ filter test (shown n (take i vs))
+    → rows ≡ filter test (shown n (take (i + 1) vs))
+held-same n i test vs v rows h e t k =
+    k ∙ sym (held-take_more n i test vs v h e
+    ∙ ap (λ b. filter test (shown n (take i vs)) ++ cond b (v.row ∷ []) []) t ∙ append-nil _)

@@ -1,5 +1,7 @@
 -- Lists of places, by which a change finds the versions that it closes.
-use Rattle.std.specs.Prelude.{◌≡◌, ℕ, ◌+◌, ◌<◌, List, [], length, filter, Bool, ◌&&◌, if◌then◌else◌, option_map, slice_get, unwrap_or, Option, ◌*◌, ◌%◌, ◌≤◌, get_or, fold, All, true, false, None, ◌==◌, unsigned_abs}
+use Rattle.std.specs.Prelude.{◌≡◌, ℕ, ◌+◌, ◌<◌, List, [], length, filter, Bool, ◌&&◌, if◌then◌else◌, option_map, slice_get, unwrap_or, Option, ◌*◌, ◌%◌, ◌≤◌, get_or, fold, All, true, false, None, ◌==◌, unsigned_abs, is_some, map}
+use Rattle.period_core.specs.Period.{meet}
+use Rattle.period_core.specs.declared.period.Period.{Period}
 use Rattle.row_core.specs.Schema.{column_of}
 use Rattle.row_core.specs.declared.row.Row.{Row}
 use Rattle.row_core.specs.declared.schema.Column.{Column}
@@ -9,6 +11,7 @@ use Rattle.version_core.specs.Limits.{bucket_count, sought_limit}
 use Rattle.version_core.specs.Rows.{Pair, removes}
 use Rattle.version_core.specs.OpenVersions.{is_open, places_from, is_taken}
 use Rattle.version_core.specs.declared.change.Change.{Change}
+use Rattle.version_core.specs.declared.change.Change.TheVariants.{Make, Load, Update, Delete}
 use Rattle.version_core.specs.declared.version.Version.{Version}
 use Rattle.version_core.specs.declared.index.Index.{Index}
 use Rattle.version_core.specs.declared.index.Lookup.{Lookup}
@@ -62,6 +65,26 @@ pub record IsIndex (vs : List Version) (index : Index) : Type 0 where
 pub record AreFound (vs : List Version) (places : List ℕ) (indexes : List Index) : Type 0 where
   pub all : ListsOpen vs any_row places
   pub by_value : All (IsIndex vs) indexes
+
+-- the period of a version's row
+abbrev pub period_of : Version → Period
+period_of v = v.row.period
+
+-- the periods are those of the versions' rows, in their order
+abbrev pub ArePeriods : List Version → List Period → Type 0
+ArePeriods vs periods = periods ≡ map period_of vs
+
+-- what is kept beside versions: their periods, and what finds the open ones
+pub record AreBeside (vs : List Version) (periods : List Period) (places : List ℕ) (indexes : List Index) : Type 0 where
+  pub times : ArePeriods vs periods
+  pub found : AreFound vs places indexes
+
+-- the change is one of a portion that shares an instant with the period
+abbrev pub reaches : Change → Period → Bool
+reaches (Make table schema) period = false
+reaches (Load table rows) period = false
+reaches (Update table portion sets conds) period = is_some (meet period portion)
+reaches (Delete table portion conds) period = is_some (meet period portion)
 
 -- the values of all rows that the change takes out fall into the bucket
 abbrev pub IsLookupOf : Change → List Column → Lookup → Type 0

@@ -6,7 +6,7 @@ ghost use Rattle.period_core.specs.Period.{before, meet, after as later};
 ghost use Rattle.key_core.specs.Keys.{same_value};
 ghost use Rattle.row_core.specs.Schema.{column_of};
 ghost use Rattle.row_core.specs.declared.schema.Column.{Column};
-ghost use Rattle.version_core.specs.Finding.{AreSought};
+ghost use Rattle.version_core.specs.Finding.{AreSought, reaches};
 ghost use Rattle.version_core.specs.Made.{AddsDrafts};
 ghost use Rattle.version_core.specs.Rows.{conds_of, is_touched, is_equal_at, removes, part, parts_of, set_at};
 
@@ -191,6 +191,20 @@ fn columns_named(schema: &Schema, pairs: &[(Name, Value)]) -> [Option<u32>; SOUG
         columns[i] = schema.column(pairs[i].0);
     }
     columns
+}
+
+/// Whether the change is one of a portion that shares an instant with the period. It takes out no row where it
+/// isn't.
+#[inline(always)]
+pub(crate) fn reaches(change: &Change, period: &Period) -> bool
+    ensures { result ≡ reaches change.now period.now }
+{
+    match change {
+        Change::Make { .. } => false,
+        Change::Load { .. } => false,
+        Change::Update { portion, .. } => period.meet(portion).is_some(),
+        Change::Delete { portion, .. } => period.meet(portion).is_some(),
+    }
 }
 
 /// Whether the change takes out the row. `columns` are those that its conditions name. This and what

@@ -1,10 +1,13 @@
 //! Versions of rows, and those that a commit or a range of commits shows.
 
-ghost use Rattle.std.specs.Prelude.{◌≡◌, ◌&&◌, ◌==◌, IfOk, length, slice_get, nat_le};
+ghost use Rattle.std.specs.Prelude.{◌≡◌, ◌&&◌, ◌==◌, IfOk, filter, length, slice_get, nat_le};
 ghost use Rattle.std.specs.Option.{option_copied};
+ghost use Rattle.period_core.specs.Period.{holds_at};
+ghost use Rattle.row_core.specs.declared.row.Row.{Row};
 ghost use Rattle.version_core.specs.Shown.{shows, shown, seen, end_at, is_behind};
 
 use list_core::{DeepCopy, List};
+use period_core::Point;
 use row_core::{NoMemory, Row, RowList};
 use std::alloc::Global;
 
@@ -41,6 +44,31 @@ pub fn rows_shown(alloc: Global, versions: &[Version], n: u64) -> Result<RowList
     let mut rows = RowList::new(alloc);
     for version in versions {
         if is_shown(version, n) {
+            rows.push(version.row.copy(alloc)?)?;
+        }
+    }
+    Ok(rows)
+}
+
+/// Whether commit n shows the version and its row holds at the point.
+fn is_shown_holding(version: &Version, n: u64, point: Point) -> bool
+    ensures { result ≡ (shows n version.now && holds_at point version.now.row.period) }
+{
+    is_shown(version, n) && version.row.period.holds(point)
+}
+
+/// The rows that commit n shows and that hold at the point. No other row is copied.
+pub fn rows_holding(
+    alloc: Global,
+    versions: &[Version],
+    n: u64,
+    point: Point,
+) -> Result<RowList, NoMemory>
+    ensures { IfOk result (λ rows. rows ≡ filter (λ row. holds_at point row.period) (shown n versions.now)) }
+{
+    let mut rows = RowList::new(alloc);
+    for version in versions {
+        if is_shown_holding(version, n, point) {
             rows.push(version.row.copy(alloc)?)?;
         }
     }

@@ -6,7 +6,7 @@ ghost use Rattle.key_core.specs.Keys.{collide, have_collision};
 ghost use Rattle.row_core.specs.Schema.{key_of};
 ghost use Rattle.row_core.specs.declared.failure.Failure.TheVariants.{NoMemory};
 ghost use Rattle.row_core.specs.declared.schema.Column.{Column};
-ghost use Rattle.version_core.specs.Finding.{AreCandidates, IsIndex, IsLookupOf, AreSought};
+ghost use Rattle.version_core.specs.Finding.{AreCandidates, ArePeriods, IsIndex, IsLookupOf, AreSought, period_of};
 ghost use Rattle.version_core.specs.Keys.{is_column_of, overlap_after, rows_left, break_key};
 ghost use Rattle.version_core.specs.Limits.{bucket_count, version_limit};
 ghost use Rattle.version_core.specs.Made.{made, draft_of};
@@ -22,9 +22,10 @@ use crate::index::{
 use crate::keys::{KeyOverlap, any_collides, collide_among, collide_among_all, may_overlap};
 use crate::making::{NewVersions, versions_of};
 use crate::places::Places;
-use crate::portion::{SOUGHT_LIMIT, columns_sought, count_of, is_removed, push_parts};
+use crate::portion::{SOUGHT_LIMIT, columns_sought, count_of, is_removed, push_parts, reaches};
 use crate::version::Version;
 use list_core::{DeepCopy, copy_each};
+use period_core::Period;
 use row_core::{Failure, NoMemory, Schema};
 use std::alloc::Global;
 use std::marker::Model;
@@ -43,6 +44,8 @@ pub struct VersionCounts {
 #[derive(Debug, Drop)]
 pub struct Versions {
     items: Vec<Version>,
+    /// The period of each one's row. A change goes over these, and reads only versions that its portion meets.
+    periods: Vec<Period>,
     /// The places of the open ones, and of closed ones that a change has not come across.
     open_at: Places,
     /// How many were closed since those places were only of open ones.
@@ -54,13 +57,13 @@ pub struct Versions {
 impl Model for Versions {
     ghost use Rattle.std.specs.Prelude.{List};
     ghost use Rattle.version_core.specs.declared.version.Version.{Version};
-    ghost use Rattle.version_core.specs.Finding.{AreFound};
+    ghost use Rattle.version_core.specs.Finding.{AreBeside};
 
     ghost Value = { List Version };
 
     ghost view = { λ v. v.items.items };
 
-    ghost invariant = { λ v. AreFound v.items.items v.open_at v.indexes.items };
+    ghost invariant = { λ v. AreBeside v.items.items v.periods.items v.open_at v.indexes.items };
 }
 
 impl DeepCopy for Versions {
@@ -68,6 +71,7 @@ impl DeepCopy for Versions {
     fn copy(&self, alloc: Global) -> Result<Versions, NoMemory> {
         Ok(Versions {
             items: copy_each(alloc, &self.items)?,
+            periods: Vec::from_slice(alloc, &self.periods)?,
             open_at: self.open_at.copy(alloc)?,
             closed: self.closed,
             indexes: Vec::new(alloc),
@@ -82,6 +86,7 @@ impl Versions {
     {
         Versions {
             items: Vec::new(alloc),
+            periods: Vec::new(alloc),
             open_at: Places::new(alloc),
             closed: 0,
             indexes: Vec::new(alloc),
@@ -118,7 +123,7 @@ impl Versions {
     {
         let lookup = lookup_of(&self.indexes, schema, change);
         let places = candidates(self.open_at.as_slice(), &self.indexes, lookup);
-        count_parts(schema, &self.items, places, change)
+        count_parts(schema, &self.items, &self.periods, places, change)
     }
 
     /// Closes the versions whose rows the change takes out, and adds those that it makes, unless rows of
@@ -206,7 +211,15 @@ impl Versions {
     {
         let before = self.items.len();
         let places = candidates(self.open_at.as_slice(), &self.indexes, lookup);
-        let plan = plan_change(alloc, schema, &self.items, places, commit, change)?;
+        let plan = plan_change(
+            alloc,
+            schema,
+            &self.items,
+            &self.periods,
+            places,
+            commit,
+            change,
+        )?;
         if self.leaves_overlap(alloc, schema, columns, change, &plan.new)? {
             return Err(Failure::Refused(KeyOverlap));
         }
@@ -215,7 +228,7 @@ impl Versions {
             added: new.len() as u64,
             closed: taken.len() as u64,
         };
-        add_versions(&mut self.items, &mut self.open_at, new)?;
+        add_versions(&mut self.items, &mut self.periods, &mut self.open_at, new)?;
         close_all(&mut self.items, &taken, commit);
         self.closed = self.closed.saturating_add(taken.len());
         extend_indexes(&mut self.indexes, &self.items, before);
@@ -307,11 +320,13 @@ fn plan_change(
     alloc: Global,
     schema: &Schema,
     versions: &[Version],
+    periods: &[Period],
     places: &[usize],
     commit: u64,
     change: &Change,
 ) -> Result<Plan, NoMemory>
     requires few { length versions.now ≤ version_limit }
+    requires periods { ArePeriods versions.now periods.now }
     requires places { AreCandidates change.now schema.now versions.now places.now }
     ensures new { IfOk result (λ plan. plan.new.items ≡ made commit
         (numbered (length versions.now) (drafts_of change.now schema.now (current versions.now)))) }
@@ -324,8 +339,12 @@ fn plan_change(
             let new = versions_of(alloc, versions.len(), commit, rows.as_slice())?;
             Ok(Plan::of(alloc, new))
         }
-        Change::Update { .. } => plan_portion(alloc, schema, versions, places, commit, change),
-        Change::Delete { .. } => plan_portion(alloc, schema, versions, places, commit, change),
+        Change::Update { .. } => plan_portion(
+            alloc, schema, versions, periods, places, commit, change,
+        ),
+        Change::Delete { .. } => plan_portion(
+            alloc, schema, versions, periods, places, commit, change,
+        ),
     }
 }
 
@@ -347,11 +366,13 @@ fn plan_portion(
     alloc: Global,
     schema: &Schema,
     versions: &[Version],
+    periods: &[Period],
     places: &[usize],
     commit: u64,
     change: &Change,
 ) -> Result<Plan, NoMemory>
     requires few { length versions.now ≤ version_limit }
+    requires periods { ArePeriods versions.now periods.now }
     requires places { AreCandidates change.now schema.now versions.now places.now }
     ensures new { IfOk result (λ plan. plan.new.items ≡ made commit
         (numbered (length versions.now) (parts_in change.now schema.now (current versions.now)))) }
@@ -363,7 +384,7 @@ fn plan_portion(
     let columns = columns_sought(schema, change);
     for place in places {
         let version = &versions[*place];
-        if is_taken(schema, change, &columns, version) {
+        if is_taken(schema, change, &columns, &periods[*place], version) {
             push_parts(alloc, &mut new, schema, change, &version.row)?;
             taken.push(*place)?;
         }
@@ -375,8 +396,15 @@ fn plan_portion(
 }
 
 /// How many rows come in the place of those that the change takes out.
-fn count_parts(schema: &Schema, versions: &[Version], places: &[usize], change: &Change) -> usize
+fn count_parts(
+    schema: &Schema,
+    versions: &[Version],
+    periods: &[Period],
+    places: &[usize],
+    change: &Change,
+) -> usize
     requires few { length versions.now ≤ version_limit }
+    requires periods { ArePeriods versions.now periods.now }
     requires places { AreCandidates change.now schema.now versions.now places.now }
     ensures { result ≡ length (parts_in change.now schema.now (current versions.now)) }
 {
@@ -384,43 +412,58 @@ fn count_parts(schema: &Schema, versions: &[Version], places: &[usize], change: 
     let columns = columns_sought(schema, change);
     for place in places {
         let version = &versions[*place];
-        if is_taken(schema, change, &columns, version) {
+        if is_taken(schema, change, &columns, &periods[*place], version) {
             count += count_of(change, &version.row);
         }
     }
     count
 }
 
-/// Whether the version is open, and the change takes out its row.
+/// Whether the version, whose row has that period, is open, and the change takes out its row. It is read only
+/// where the period tells that this may be.
 #[inline(always)]
 fn is_taken(
     schema: &Schema,
     change: &Change,
     columns: &[Option<u32>; SOUGHT_LIMIT],
+    period: &Period,
     version: &Version,
 ) -> bool
-    requires { AreSought schema.now (conds_of change.now) columns.now }
+    requires period { period.now ≡ version.now.row.period }
+    requires sought { AreSought schema.now (conds_of change.now) columns.now }
     ensures { result ≡ is_taken change.now schema.now version.now }
 {
-    version.systo.is_none() && is_removed(schema, change, columns, &version.row)
+    reaches(change, period)
+        && version.systo.is_none()
+        && is_removed(schema, change, columns, &version.row)
 }
 
-/// Adds versions and their places. On refusal there are none more.
+/// Adds versions, their periods and their places. On refusal there are none more.
 fn add_versions(
     versions: &mut Vec<Version>,
+    periods: &mut Vec<Period>,
     places: &mut Places,
     new: Vec<Version>,
 ) -> Result<(), NoMemory>
-    requires { length versions.old.items ≤ version_limit }
+    requires few { length versions.old.items ≤ version_limit }
+    requires periods { length periods.old.items ≡ length versions.old.items }
     ensures ok { OnOk result (versions.new.items ≡ versions.old.items ++ new.items) }
+    ensures periods { OnOk result (periods.new.items ≡ periods.old.items ++ map period_of new.items) }
     ensures places { OnOk result (places.new
         ≡ places.old ++ range_with_len (length versions.old.items) (length new.items)) }
     ensures err { OnErr result (versions.new.items ≡ versions.old.items) }
+    ensures err_periods { OnErr result (periods.new.items ≡ periods.old.items) }
     ensures err_places { OnErr result (places.new ≡ places.old) }
 {
+    let before = periods.len();
     let open = places.len();
-    places.push_range(versions.len(), new.len())?;
+    push_periods(periods, &new)?;
+    if let Err(error) = places.push_range(versions.len(), new.len()) {
+        periods.truncate(before);
+        return Err(error);
+    }
     if let Err(error) = append(versions, new) {
+        periods.truncate(before);
         places.truncate(open);
         return Err(error);
     }
@@ -436,6 +479,21 @@ fn append(versions: &mut Vec<Version>, mut new: Vec<Version>) -> Result<(), NoMe
         *versions = new;
     } else {
         versions.append(&mut new)?;
+    }
+    Ok(())
+}
+
+/// Adds the periods of the versions' rows. On refusal there are none more.
+fn push_periods(periods: &mut Vec<Period>, versions: &[Version]) -> Result<(), NoMemory>
+    ensures ok { OnOk result (periods.new.items ≡ periods.old.items ++ map period_of versions.now) }
+    ensures err { OnErr result (periods.new.items ≡ periods.old.items) }
+{
+    let before = periods.len();
+    for version in versions {
+        if let Err(error) = periods.push(version.row.period) {
+            periods.truncate(before);
+            return Err(error.into());
+        }
     }
     Ok(())
 }

@@ -3,21 +3,21 @@ use Rattle.version_core.specs.Shown.{shown}
 use Rattle.book_core.proofs.Sound.{rows-few, rows-fit, rows-rise}
 use Rattle.book_core.proofs.book.Book.rows_at.Goals as goal
 
-pub returns-in_ok-rows_shown-in-Some-clause-few : goal.returns-in_ok-rows_shown-in-Some-clause-few
-returns-in_ok-rows_shown-in-Some-clause-few c =
-    rows-few c.args.self.now c.args.name c.in-Some.table.now c.args.n _ c.in-Some.ensures.found
-    (c.in_ok-rows_shown-in-Some.ensures
-    ∙ ap (shown c.args.n) (c.as_slice.ensures ∙ ap (λ t. t.versions) c.table-in-Some.view_is))
+pub returns-in_ok-rows_shown-in-Ok-clause-few : goal.returns-in_ok-rows_shown-in-Ok-clause-few
+returns-in_ok-rows_shown-in-Ok-clause-few c =
+    rows-few c.args.self.now c.args.name c.in-Ok.table.now c.args.n _ c.in-Ok.ensures.found
+    (c.in_ok-rows_shown-in-Ok.ensures
+    ∙ ap (shown c.args.n) (c.as_slice.ensures ∙ ap (λ t. t.versions) c.table.view_is))
 
-pub returns-in_ok-rows_shown-in-Some-clause-rise :
-    goal.returns-in_ok-rows_shown-in-Some-clause-rise
-returns-in_ok-rows_shown-in-Some-clause-rise c =
-    rows-rise c.args.self.now c.args.name c.in-Some.table.now c.args.n _ c.in-Some.ensures.found
-    (c.in_ok-rows_shown-in-Some.ensures
-    ∙ ap (shown c.args.n) (c.as_slice.ensures ∙ ap (λ t. t.versions) c.table-in-Some.view_is))
+pub returns-in_ok-rows_shown-in-Ok-clause-rise :
+    goal.returns-in_ok-rows_shown-in-Ok-clause-rise
+returns-in_ok-rows_shown-in-Ok-clause-rise c =
+    rows-rise c.args.self.now c.args.name c.in-Ok.table.now c.args.n _ c.in-Ok.ensures.found
+    (c.in_ok-rows_shown-in-Ok.ensures
+    ∙ ap (shown c.args.n) (c.as_slice.ensures ∙ ap (λ t. t.versions) c.table.view_is))
 
-pub returns-in_ok-rows_shown-in-Some-clause-fit : goal.returns-in_ok-rows_shown-in-Some-clause-fit
-returns-in_ok-rows_shown-in-Some-clause-fit c =
-    rows-fit c.args.self.now c.args.name c.in-Some.table.now c.args.n _ c.in-Some.ensures.found
-    (c.in_ok-rows_shown-in-Some.ensures
-    ∙ ap (shown c.args.n) (c.as_slice.ensures ∙ ap (λ t. t.versions) c.table-in-Some.view_is))
+pub returns-in_ok-rows_shown-in-Ok-clause-fit : goal.returns-in_ok-rows_shown-in-Ok-clause-fit
+returns-in_ok-rows_shown-in-Ok-clause-fit c =
+    rows-fit c.args.self.now c.args.name c.in-Ok.table.now c.args.n _ c.in-Ok.ensures.found
+    (c.in_ok-rows_shown-in-Ok.ensures
+    ∙ ap (shown c.args.n) (c.as_slice.ensures ∙ ap (λ t. t.versions) c.table.view_is))

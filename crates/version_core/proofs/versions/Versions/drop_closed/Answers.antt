@@ -10,6 +10,10 @@ invariant_of-self-then-self-len c =
     let swept = c.drop_closed.ensures
     ∙ ap (λ vs. filter (passes vs is_open) c.self.inside.open_at) c.deref-then-self-len.ensures.value in
     record {
-      all = rw swept (ListsOpen-swept c.self.inside.items.items any_row c.self.inside.open_at c.self.invariant.all);
-      by_value = rw c.deref-then-self-len-2.ensures.value at c.sweep_indexes.ensures;
+      times = c.self.invariant.times;
+      found = record {
+        all = rw
+            swept (ListsOpen-swept c.self.inside.items.items any_row c.self.inside.open_at c.self.invariant.found.all);
+        by_value = rw c.deref-then-self-len-2.ensures.value at c.sweep_indexes.ensures;
+      };
     }

@@ -19,7 +19,7 @@ any_meets-requires-clause-index c =
     omega (arith, c.in-Some.ensures.inside, ap length c.deref.ensures.value) in
     let P : Index → Type 0 = λ index. IsIndex c.args.self.now index in
     let all : All (IsIndex c.args.self.now) c.self.inside.indexes.items =
-    rw c.self.view_is at c.self.invariant.by_value in
+    rw c.self.view_is at c.self.invariant.found.by_value in
     subst P (sym c.index.ensures) (all c.in-Some.i c.index.result.now inside)
 
 pub any_meets-requires-clause-column : goal.any_meets-requires-clause-column
@@ -53,7 +53,7 @@ returns-else-among_new c =
     (left-apart c.args.change.now c.args.schema.now c.args.columns.now (current c.args.self.now) c.requires.unbroken)
 
 pub collide_among_all-requires : goal.collide_among_all-requires
-collide_among_all-requires c = rw (c.deref-in-None.ensures.value, c.as_slice-open_at.ensures) c.self.invariant.all
+collide_among_all-requires c = rw (c.deref-in-None.ensures.value, c.as_slice-open_at.ensures) c.self.invariant.found.all
 
 pub returns-in-None : goal.returns-in-None
 returns-in-None c =
