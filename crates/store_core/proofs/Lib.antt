@@ -1,0 +1,3 @@
+mod Alone
+mod Opened
+mod Refusing

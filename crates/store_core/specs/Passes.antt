@@ -1,0 +1,136 @@
+-- What a pass knows, and what each call of the store replies to it.
+use Rattle.std.specs.Prelude.{◌≡◌, ℕ, ◌+◌, List, [], ◌∷◌, ◌++◌, length, slice_get, Ok, Err, Option, None, Some, Result}
+use mathlib.Core.List.{IsPrefix}
+use Rattle.row_core.specs.declared.failure.Failure.{Failure}
+use Rattle.row_core.specs.declared.failure.Failure.TheVariants.{Refused, NoMemory}
+use Rattle.version_core.specs.declared.change.Change.{Change}
+use Rattle.book_core.specs.History.{History, IsLegal}
+use Rattle.book_core.specs.Versions.{log_of}
+use Rattle.book_core.specs.declared.commit.Commit.{Commit}
+use Rattle.book_core.specs.declared.log.Entry.{Entry}
+use Rattle.turn_core.specs.Entries.{own, IsNumbered}
+use Rattle.turn_core.specs.Seats.{IsSeatOf, view_of}
+use Rattle.turn_core.specs.declared.view.View.{View}
+use Rattle.store_core.specs.Histories.{by_of, commit, refusal_after}
+use Rattle.store_core.specs.Snapshots.{Shows}
+use Rattle.store_core.specs.declared.pass.Note.{Note}
+use Rattle.store_core.specs.declared.pass.Pass.{Pass}
+use Rattle.store_core.specs.declared.refusal.PassSpent.{PassSpent}
+use Rattle.store_core.specs.declared.refusal.SnapshotRefused.{SnapshotRefused}
+use Rattle.store_core.specs.declared.refusal.SnapshotRefused.TheVariants as snapshot
+use Rattle.store_core.specs.declared.refusal.StoreRefused.{StoreRefused}
+use Rattle.store_core.specs.declared.refusal.StoreRefused.TheVariants as store
+use Rattle.store_core.specs.declared.snapshot.Snapshot.{Snapshot}
+use Rattle.store_core.specs.declared.store.Store.{Store}
+
+-- what its seat knows
+abbrev pub view : Pass → View Commit
+view p = view_of p.seat
+
+-- the history that it has seen
+abbrev pub seen : Pass → History
+seen p = (view p).seen
+
+-- its own accepted changes
+abbrev pub mine : Pass → History
+mine p = (view p).mine
+
+-- its number
+abbrev pub number_of : Pass → ℕ
+number_of p = (view p).number
+
+-- how many passes its store has
+abbrev pub passes_of : Pass → ℕ
+passes_of p = (view p).mark
+
+-- how many calls it has left
+abbrev pub calls_left : Pass → ℕ
+calls_left p = p.left
+
+-- the pass is one of this store
+abbrev pub IsPassOf : Store → Pass → Type 0
+IsPassOf s p = IsSeatOf s.turn p.seat
+
+-- what a pass knows after a call: it has seen what it had seen, and maybe more, in one legal history, which has its
+-- own changes, each once, and else only those of other passes
+pub record Sees (p q : Pass) : Type 0 where
+  pub number : number_of q ≡ number_of p
+  pub passes : passes_of q ≡ passes_of p
+  pub before : IsPrefix (seen p) (seen q)
+  pub legal : IsLegal (seen q)
+  pub own : own by_of (number_of q) (seen q) ≡ mine q
+  pub numbered : IsNumbered by_of (passes_of q) (seen q)
+
+-- the same of a call that counts, by which these changes of its own came
+pub record Counts (p q : Pass) (added : History) : Type 0 where
+  pub left : calls_left q + 1 ≡ calls_left p
+  pub sees : Sees p q
+  pub mine : mine q ≡ mine p ++ added
+
+-- the pass has no call left, and nothing changed
+abbrev pub IsSpent : Pass → Pass → Type 0
+IsSpent p q = (calls_left p ≡ 0) × (q ≡ p)
+
+-- what a pass is replied when it commits a change: its change is the last that it has seen, accepted in its place,
+-- or it is refused as after all that it has seen
+abbrev pub Commits : Pass → Change → Result ℕ (Failure StoreRefused) → Pass → Type 0
+Commits p change (Ok n) q = Counts p q (commit (number_of p) change ∷ [])
+    × ((before : History) × (seen q ≡ before ++ commit (number_of p) change ∷ []) × (refusal_after before change ≡ None))
+    × (n ≡ length (seen q))
+Commits p change (Err (Refused store.PassSpent)) q = IsSpent p q
+Commits p change (Err (Refused (store.Book why))) q = Counts p q [] × (refusal_after (seen q) change ≡ Some why)
+Commits p change (Err NoMemory) q = Counts p q []
+
+-- and when it takes a snapshot: one of all that it has seen
+abbrev pub Takes : Pass → Option ℕ → Result Snapshot (Failure SnapshotRefused) → Pass → Type 0
+Takes p n (Ok s) q = Counts p q [] × Shows (seen q) n (Ok s)
+Takes p n (Err (Refused snapshot.PassSpent)) q = IsSpent p q
+Takes p n (Err (Refused snapshot.Future)) q = Counts p q [] × Shows (seen q) n (Err (Refused record {}))
+Takes p n (Err NoMemory) q = Counts p q [] × Shows (seen q) n (Err NoMemory)
+
+-- and when it reads the log: that of all that it has seen
+abbrev pub Reads : Pass → Result (List Entry) (Failure PassSpent) → Pass → Type 0
+Reads p (Ok log) q = Counts p q [] × (log ≡ log_of (seen q))
+Reads p (Err (Refused spent)) q = IsSpent p q
+Reads p (Err NoMemory) q = Counts p q []
+
+-- a pass that has seen nothing and made nothing, of this number, of so many, with so many calls
+pub record IsFresh (k n calls : ℕ) (p : Pass) : Type 0 where
+  pub number : number_of p ≡ k
+  pub passes : passes_of p ≡ n
+  pub left : calls_left p ≡ calls
+  pub seen : seen p ≡ []
+  pub mine : mine p ≡ []
+
+-- the passes of a new store: so many, each with so many calls, and at place i the one with number i + 1
+pub record AreNew (n calls : ℕ) (s : Store) (ps : List Pass) : Type 0 where
+  pub count : length ps ≡ n
+  pub each : (i : ℕ) (p : Pass) → slice_get ps i ≡ Some p → IsPassOf s p × IsFresh (i + 1) n calls p
+
+-- what a note tells: the number of the pass that made it, what it had seen, and its own changes
+abbrev pub told : Note → View Commit
+told n = view_of n.seat
+
+-- the note is of a pass of this store
+abbrev pub IsNoteOf : Store → Note → Type 0
+IsNoteOf s n = IsSeatOf s.turn n.seat
+
+-- the note tells what the pass knows, which stays as it is
+pub record Tells (s : Store) (p q : Pass) (n : Note) : Type 0 where
+  pub pass : IsPassOf s q
+  pub note : IsNoteOf s n
+  pub left : calls_left q ≡ calls_left p
+  pub same : view q ≡ view p
+  pub number : (told n).source ≡ number_of p
+  pub seen : (told n).seen ≡ seen p
+  pub mine : (told n).mine ≡ mine p
+
+-- the pass has seen all that it had seen, and all that the note tells, in one legal history, in which the changes of
+-- both stand, each once; its own changes and its calls stay
+pub record TakesIn (s : Store) (p : Pass) (n : Note) (q : Pass) : Type 0 where
+  pub pass : IsPassOf s q
+  pub left : calls_left q ≡ calls_left p
+  pub mine : mine q ≡ mine p
+  pub sees : Sees p q
+  pub heard : IsPrefix (told n).seen (seen q)
+  pub theirs : own by_of (told n).source (told n).seen ≡ (told n).mine

@@ -1,0 +1,13 @@
+-- What contracts read of a shelf.
+use Rattle.std.specs.Prelude.{ℕ}
+use Rattle.std.specs.Arc.{arc_value}
+use Rattle.book_core.specs.History.{History}
+use Rattle.store_core.specs.declared.shelf.Shelf.{Shelf}
+
+-- the history of its book
+abbrev pub held : Shelf → History
+held shelf = arc_value shelf.book
+
+-- how many passes it is for
+abbrev pub passes_in : Shelf → ℕ
+passes_in shelf = shelf.passes

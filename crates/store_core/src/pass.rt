@@ -1,0 +1,53 @@
+//! Passes and notes: what a caller has seen of a store.
+
+ghost use Rattle.std.specs.Prelude.{◌≡◌, ◌<◌, ◌≤◌};
+ghost use Rattle.book_core.specs.History.{IsLegal};
+ghost use Rattle.turn_core.specs.Seats.{view_of};
+ghost use Rattle.store_core.specs.Histories.{IsLegal-prop};
+
+use crate::shelf::Shelf;
+use turn_core::Seat;
+
+/// A caller's right to so many calls of a store. Contracts see its number, the history that it has seen, and which
+/// of its changes are its own.
+#[derive(Drop)]
+pub struct Pass {
+    pub(crate) left: u64,
+    pub(crate) seat: Seat<Shelf>,
+    ghost left_is: { left ≤ (view_of seat).left },
+    // Its number is 1 or more.
+    pub ghost some: { 0 < (view_of seat).number },
+    // All that it has seen was accepted in its place.
+    pub ghost legal: { IsLegal (view_of seat).seen } by { IsLegal-prop (view_of seat).seen },
+}
+
+/// What a pass had seen when it made the note, for another pass to hear.
+#[derive(Drop)]
+pub struct Note {
+    pub(crate) seat: Seat<Shelf>,
+    // All that it tells was accepted in its place.
+    pub ghost legal: { IsLegal (view_of seat).seen } by { IsLegal-prop (view_of seat).seen },
+}
+
+impl Pass {
+    ghost use Rattle.store_core.specs.Passes.{calls_left, mine, number_of, passes_of, seen};
+
+    /// Its number, from 1 on.
+    pub fn number(&self) -> u32
+        ensures { result ≡ number_of self.now }
+    {
+        self.seat.number()
+    }
+
+    /// How many calls it has left.
+    pub fn left(&self) -> u64
+        ensures { result ≡ calls_left self.now }
+    {
+        self.left
+    }
+
+    /// A law: in a store of one pass, all that the pass has seen is its own.
+    pub fn has_seen_its_own(&self)
+        ensures { passes_of self.now ≡ 1 → (number_of self.now ≡ 1) × (seen self.now ≡ mine self.now) }
+    {}
+}

@@ -1,0 +1,147 @@
+//! The shelf: a book, and the snapshots that share it.
+
+ghost use Rattle.std.specs.Prelude.{◌≡◌, ◌<◌, ◌≤◌, [], ◌∷◌, ◌++◌, IfOk, IfErr, OnOk};
+ghost use Rattle.std.specs.Arc.{arc_value};
+ghost use Rattle.book_core.specs.History.{IsLegal};
+ghost use Rattle.book_core.specs.Versions.{log_of};
+ghost use Rattle.turn_core.specs.Entries.{IsNumbered};
+ghost use Rattle.turn_core.specs.Limits.{seat_limit};
+ghost use Rattle.store_core.specs.Histories.{by_of, commit, CommitsTo, IsLegal-prop, refusal_after, Refuses};
+ghost use Rattle.store_core.specs.Snapshots.{Shows};
+
+use crate::refusal::Future;
+use crate::snapshot::Snapshot;
+use book_core::{Book, BookRefused, Change, Commit, Log};
+use row_core::{Failure, NoMemory};
+use std::alloc::Global;
+use std::sync::Arc;
+use turn_core::Kept;
+
+/// The book of a store that has so many passes. Snapshots share it. Contracts see the book's history, and the
+/// number of passes.
+#[derive(Drop)]
+pub struct Shelf {
+    alloc: Global,
+    passes: u32,
+    book: Arc<Book>,
+    // Each commit was accepted in its place.
+    pub ghost legal: { IsLegal (arc_value book) } by { IsLegal-prop (arc_value book) },
+    // Each commit is of a pass.
+    pub ghost numbered: { IsNumbered by_of passes (arc_value book) },
+}
+
+impl Kept for Shelf {
+    ghost use Rattle.store_core.specs.Shelves.{held, passes_in};
+
+    type Entry = Commit;
+
+    ghost entries = { held };
+
+    ghost by = { by_of };
+
+    ghost mark = { passes_in };
+}
+
+// A copy of a book, with one more change.
+fn changed_copy(
+    alloc: Global,
+    book: &Book,
+    by: u32,
+    change: Change,
+) -> Result<Arc<Book>, Failure<BookRefused>>
+    ensures ok { IfOk result (λ changed. (refusal_after book.now change ≡ None)
+        × (arc_value changed ≡ book.now ++ commit by change ∷ [])) }
+    ensures err { IfErr result (Refuses book.now change) }
+{
+    let mut copy = book.copy(alloc)?;
+    copy.apply(by, change)?;
+    Ok(Arc::new(alloc, copy)?)
+}
+
+// Makes a change of a shared book. Where others share it, a copy is changed, and takes its place here.
+fn change_book(
+    alloc: Global,
+    shared: &mut Arc<Book>,
+    by: u32,
+    change: Change,
+) -> Result<(), Failure<BookRefused>>
+    ensures ok { OnOk result ((refusal_after (arc_value shared.old) change ≡ None)
+        × (arc_value shared.new ≡ arc_value shared.old ++ commit by change ∷ [])) }
+    ensures err { IfErr result (λ why. (arc_value shared.new ≡ arc_value shared.old)
+        × Refuses (arc_value shared.old) change why) }
+{
+    match Arc::get_mut(shared) {
+        Some(book) => {
+            book.apply(by, change)?;
+            Ok(())
+        }
+        None => {
+            *shared = changed_copy(alloc, shared, by, change)?;
+            Ok(())
+        }
+    }
+}
+
+impl Shelf {
+    ghost use Rattle.store_core.specs.Shelves.{held, passes_in};
+
+    /// The shelf of a book without a table, for so many passes.
+    pub fn new(alloc: Global, passes: u32) -> Result<Shelf, NoMemory>
+        requires { (1 ≤ passes) × (passes ≤ seat_limit) }
+        ensures { IfOk result (λ shelf. (held shelf ≡ []) × (passes_in shelf ≡ passes)) }
+    {
+        let book = Book::new(alloc);
+        let _ = book.commits();
+        let book = Arc::new(alloc, book)?;
+        Ok(Shelf {
+            alloc,
+            passes,
+            book,
+        })
+    }
+
+    /// Makes a change of the pass with the number `by`, and answers the commit's number, from 1 on. Where a
+    /// snapshot is alive the book is copied first; else nothing is copied.
+    ///
+    /// # Errors
+    ///
+    /// `NoMemory` where that copy is refused; then as for the book. After a refusal the shelf is unchanged, and
+    /// the change is dropped.
+    pub fn commit(&mut self, by: u32, change: Change) -> Result<u64, Failure<BookRefused>>
+        requires { (0 < by) × (by ≤ passes_in self.old) }
+        ensures reply { CommitsTo (held self.old) by change result (held self.new) }
+        ensures passes { passes_in self.new ≡ passes_in self.old }
+        ensures legal { IsLegal (held self.new) }
+    {
+        let Shelf { alloc, book, .. } = self;
+        change_book(*alloc, book, by, change)?;
+        Ok(book.commits())
+    }
+
+    /// What the book shows now of the first n commits; of all where none is told.
+    ///
+    /// # Errors
+    ///
+    /// `Future` where there are fewer than n commits; `NoMemory` where the book can't have more sharers. It asks
+    /// for no memory.
+    pub fn snapshot(&self, n: Option<u64>) -> Result<Snapshot, Failure<Future>>
+        ensures { Shows (held self.now) n result }
+    {
+        let newest = self.book.commits();
+        let number = n.unwrap_or(newest);
+        if number > newest {
+            return Err(Failure::Refused(Future));
+        }
+        match Arc::try_clone(&self.book) {
+            Ok(book) => Ok(Snapshot::of(number, book)),
+            Err(_) => Err(Failure::NoMemory),
+        }
+    }
+
+    /// The commits, oldest first, each with the number of versions that it made and closed.
+    pub fn log(&self) -> Result<Log, NoMemory>
+        ensures { IfOk result (λ log. log ≡ log_of (held self.now)) }
+    {
+        self.book.log()
+    }
+}

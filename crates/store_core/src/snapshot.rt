@@ -1,0 +1,135 @@
+//! Snapshots: what the first commits of a history show.
+
+ghost use Rattle.std.specs.Prelude.{◌≡◌, ◌≤◌, length, map, All, IfOk, IsTrue, IfSome, OnErr, None, Some, nat_lt, nat_le};
+ghost use Rattle.std.specs.Arc.{arc_value};
+ghost use Rattle.row_core.specs.Refusals.{AnswersOr, IsAnswer};
+ghost use Rattle.row_core.specs.Rows.{IdsRise};
+ghost use Rattle.row_core.specs.Schema.{fits};
+ghost use Rattle.version_core.specs.Limits.{version_limit};
+ghost use Rattle.book_core.specs.History.{IsLegal, rows_at, schema_in};
+ghost use Rattle.book_core.specs.Versions.{AreBetween, AreFromTo};
+ghost use Rattle.store_core.specs.Histories.{IsLegal-prop};
+
+use crate::refusal::RangeRefused;
+use book_core::{Book, NoTable, RowsRefused, VersionList, VersionsRefused};
+use row_core::{Failure, Name, RowList, Schema};
+use std::sync::Arc;
+
+/// What the first commits of a history show. It shares the book, and stays as it is, whatever is committed later.
+/// Contracts see the history as it was when the snapshot was taken, and the number of commits that it shows.
+///
+/// Which tables there are, and their columns, is told by the newest state of that history; a table that is newer
+/// than the commits shown has no rows.
+#[derive(Drop)]
+pub struct Snapshot {
+    number: u64,
+    book: Arc<Book>,
+    // It shows no more commits than there are.
+    pub ghost within: { number ≤ length (arc_value book) },
+    // Each commit was accepted in its place.
+    pub ghost legal: { IsLegal (arc_value book) } by { IsLegal-prop (arc_value book) },
+}
+
+impl Snapshot {
+    ghost use Rattle.store_core.specs.Snapshots.{history, number_shown, rows_given, range_refusal};
+
+    /// The first commits of a shared book.
+    pub(crate) fn of(number: u64, book: Arc<Book>) -> Snapshot
+        requires within { number ≤ length (arc_value book) }
+        requires legal { IsLegal (arc_value book) }
+        ensures { (number_shown result ≡ number) × (history result ≡ arc_value book) }
+    {
+        Snapshot { number, book }
+    }
+
+    /// How many commits it shows.
+    pub fn number(&self) -> u64
+        ensures number { result ≡ number_shown self.now }
+        ensures within { result ≤ length (history self.now) }
+
+        // Each commit was accepted in its place.
+        ensures legal { IsLegal (history self.now) }
+    {
+        self.number
+    }
+
+    /// The columns of a table.
+    pub fn schema(&self, name: Name) -> Result<&Schema, NoTable>
+        ensures found { IfOk result (λ schema. schema_in (history self.now) name ≡ Some schema.now) }
+        ensures absent { OnErr result (schema_in (history self.now) name ≡ None) }
+    {
+        self.book.schema(name)
+    }
+
+    /// The rows of a table, by rising id.
+    ///
+    /// # Errors
+    ///
+    /// `NoTable`; `NoMemory`, in this order.
+    pub fn rows(&self, name: Name) -> Result<RowList, Failure<NoTable>>
+        ensures given { IsAnswer (rows_given (history self.now) (number_shown self.now) name) result }
+
+        // They are at most 1,000,000, and each fits the table's columns.
+        ensures few { IfOk result (λ rows. length rows ≤ version_limit) }
+        ensures rise { IfOk result IdsRise }
+        ensures fit { IfOk result (λ rows. IfSome (schema_in (history self.now) name)
+            (λ columns. All (λ row. IsTrue (fits columns row.values)) rows)) }
+    {
+        match self.book.rows_at(self.number, name) {
+            Ok(rows) => Ok(rows),
+            Err(Failure::Refused(RowsRefused::Future)) => unreachable!(),
+            Err(Failure::Refused(RowsRefused::NoTable)) => Err(Failure::Refused(NoTable)),
+            Err(Failure::NoMemory) => Err(Failure::NoMemory),
+        }
+    }
+
+    /// The versions that some commit from m to n shows, by rising id. An end past the snapshot is shown as open.
+    /// m and n may lie past it: an open version counts as shown there.
+    ///
+    /// # Errors
+    ///
+    /// `BadPeriod` where m is greater than n; `NoTable`; `NoMemory`, in this order.
+    pub fn between(&self, m: u64, n: u64, name: Name) -> Result<VersionList, Failure<RangeRefused>>
+        ensures given { AnswersOr (range_refusal (history self.now) (nat_lt n m) name)
+            (AreBetween (history self.now) (number_shown self.now) m n name) result }
+
+        // At one commit they are those whose rows it shows.
+        ensures at_once { m ≡ n → n ≤ number_shown self.now
+            → IfOk result (λ versions. map (λ v. v.row) versions ≡ rows_at (history self.now) n name) }
+    {
+        match self.book.between(self.number, m, n, name) {
+            Ok(versions) => Ok(versions),
+            Err(Failure::Refused(VersionsRefused::Future)) => unreachable!(),
+            Err(Failure::Refused(VersionsRefused::BadPeriod)) => Err(Failure::Refused(
+                RangeRefused::BadPeriod,
+            )),
+            Err(Failure::Refused(VersionsRefused::NoTable)) => Err(Failure::Refused(
+                RangeRefused::NoTable,
+            )),
+            Err(Failure::NoMemory) => Err(Failure::NoMemory),
+        }
+    }
+
+    /// The versions that some commit from m on and before n shows, by rising id. An end past the snapshot is shown
+    /// as open. m and n may lie past it, as for `between`.
+    ///
+    /// # Errors
+    ///
+    /// `BadPeriod` where m isn't less than n; `NoTable`; `NoMemory`, in this order.
+    pub fn from_to(&self, m: u64, n: u64, name: Name) -> Result<VersionList, Failure<RangeRefused>>
+        ensures given { AnswersOr (range_refusal (history self.now) (nat_le n m) name)
+            (AreFromTo (history self.now) (number_shown self.now) m n name) result }
+    {
+        match self.book.from_to(self.number, m, n, name) {
+            Ok(versions) => Ok(versions),
+            Err(Failure::Refused(VersionsRefused::Future)) => unreachable!(),
+            Err(Failure::Refused(VersionsRefused::BadPeriod)) => Err(Failure::Refused(
+                RangeRefused::BadPeriod,
+            )),
+            Err(Failure::Refused(VersionsRefused::NoTable)) => Err(Failure::Refused(
+                RangeRefused::NoTable,
+            )),
+            Err(Failure::NoMemory) => Err(Failure::NoMemory),
+        }
+    }
+}

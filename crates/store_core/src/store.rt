@@ -1,0 +1,192 @@
+//! The store, and the calls of its passes.
+
+ghost use Rattle.std.specs.Prelude.{◌≡◌, ◌<◌, ◌≤◌, [], map, All, vec_len, vec_capacity, IfOk};
+ghost use Rattle.book_core.specs.History.{IsLegal};
+ghost use Rattle.book_core.specs.Versions.{log_of};
+ghost use Rattle.row_core.specs.Refusals.{AnswersOr};
+ghost use Rattle.turn_core.specs.Seats.{view_of};
+ghost use Rattle.store_core.specs.Counts.{bad_count};
+ghost use Rattle.store_core.specs.Histories.{CommitsTo};
+ghost use Rattle.store_core.specs.Shelves.{held, passes_in};
+ghost use Rattle.store_core.specs.Snapshots.{Shows};
+
+use crate::pass::{Note, Pass};
+use crate::refusal::{BadCount, Future, PassSpent, SnapshotRefused, StoreRefused};
+use crate::shelf::Shelf;
+use crate::snapshot::Snapshot;
+use book_core::{BookRefused, Change, Log};
+use row_core::{Failure, NoMemory};
+use std::alloc::Global;
+use std::sync::Wait;
+use turn_core::{CALL_LIMIT, SEAT_LIMIT, Seat, Turn};
+
+/// A book that callers on their own threads share, each with a pass of its own. That a pass or a note is of this
+/// store is the caller's condition.
+#[derive(Drop)]
+pub struct Store {
+    turn: Turn<Shelf>,
+}
+
+// A pass for each new seat.
+fn passes_of(seats: Vec<Seat<Shelf>>, calls_each: u64, list: &mut Vec<Pass>)
+    requires room { (list.old.items ≡ []) × (vec_len seats ≤ vec_capacity list.old) }
+    requires new { All (λ seat. (0 < (view_of seat).number) × (calls_each ≤ (view_of seat).left)
+        × ((view_of seat).seen ≡ [])) seats.items }
+    ensures seats { map (λ pass. pass.seat) list.new.items ≡ seats.items }
+    ensures left { All (λ pass. pass.left ≡ calls_each) list.new.items }
+{
+    for seat in seats {
+        list.push_reserved(Pass {
+            left: calls_each,
+            seat,
+        });
+    }
+}
+
+impl Store {
+    ghost use Rattle.store_core.specs.Passes.{AreNew, Commits, IsNoteOf, IsPassOf, Reads, Takes, TakesIn, Tells};
+
+    /// A store without a table, and its passes: the one with number i + 1 stands at place i.
+    ///
+    /// # Errors
+    ///
+    /// `BadCount`; `NoMemory`, in this order.
+    pub fn new(
+        alloc: Global,
+        passes: u32,
+        calls_each: u64,
+    ) -> Result<(Store, Vec<Pass>), Failure<BadCount>>
+        ensures { AnswersOr (bad_count passes calls_each) (λ made. AreNew passes calls_each made.0 made.1.items) result }
+    {
+        if passes < 1 || passes > SEAT_LIMIT || calls_each < 1 || calls_each > CALL_LIMIT {
+            return Err(Failure::Refused(BadCount));
+        }
+        let shelf = Shelf::new(alloc, passes)?;
+        let mut list = Vec::with_capacity(alloc, passes as usize)?;
+        let (turn, seats) = Turn::new(alloc, shelf, passes)?;
+        passes_of(seats, calls_each, &mut list);
+        Ok((Store { turn }, list))
+    }
+
+    /// Commits a change, and answers the commit's number, from 1 on. Where a snapshot is alive the book is copied
+    /// first; else nothing is copied.
+    ///
+    /// # Errors
+    ///
+    /// `PassSpent`, which counts no call; `NoMemory` where the copy of a shared book is refused; then as for the
+    /// book. A refused change is dropped, and the history is as it was.
+    pub fn commit<R: Wait>(
+        &self,
+        rt: &R,
+        pass: &mut Pass,
+        change: Change,
+    ) -> Result<u64, Failure<StoreRefused>>
+        requires { IsPassOf self.now pass.old }
+        ensures store { IsPassOf self.now pass.new }
+        ensures reply { Commits pass.old change result pass.new }
+    {
+        if pass.left == 0 {
+            return Err(Failure::Refused(StoreRefused::PassSpent));
+        }
+        let by = pass.seat.number();
+        pass.left -= 1;
+        let reply = self.turn.with(
+            rt,
+            &mut pass.seat,
+            move |shelf: &mut Shelf| -> Result<u64, Failure<BookRefused>>
+                requires { (0 < by) × (by ≤ passes_in shelf.old) }
+                ensures passes { passes_in shelf.new ≡ passes_in shelf.old }
+                ensures reply { CommitsTo (held shelf.old) by change result (held shelf.new) }
+                ensures legal { IsLegal (held shelf.new) }
+            { shelf.commit(by, change) },
+        );
+        match reply {
+            Ok(number) => Ok(number),
+            Err(Failure::Refused(why)) => Err(Failure::Refused(StoreRefused::Book(why))),
+            Err(Failure::NoMemory) => Err(Failure::NoMemory),
+        }
+    }
+
+    /// What the store shows now of the first n commits; of all where none is told.
+    ///
+    /// # Errors
+    ///
+    /// `PassSpent`, which counts no call; `Future` where there are fewer than n commits; `NoMemory` where the book
+    /// can't have more sharers. It asks for no memory.
+    pub fn snapshot<R: Wait>(
+        &self,
+        rt: &R,
+        pass: &mut Pass,
+        n: Option<u64>,
+    ) -> Result<Snapshot, Failure<SnapshotRefused>>
+        requires { IsPassOf self.now pass.old }
+        ensures store { IsPassOf self.now pass.new }
+        ensures reply { Takes pass.old n result pass.new }
+    {
+        if pass.left == 0 {
+            return Err(Failure::Refused(SnapshotRefused::PassSpent));
+        }
+        pass.left -= 1;
+        let reply = self.turn.with(
+            rt,
+            &mut pass.seat,
+            move |shelf: &mut Shelf| -> Result<Snapshot, Failure<Future>>
+                ensures same { shelf.new ≡ shelf.old }
+                ensures reply { Shows (held shelf.old) n result }
+            { shelf.snapshot(n) },
+        );
+        match reply {
+            Ok(snapshot) => Ok(snapshot),
+            Err(Failure::Refused(Future)) => Err(Failure::Refused(SnapshotRefused::Future)),
+            Err(Failure::NoMemory) => Err(Failure::NoMemory),
+        }
+    }
+
+    /// The commits, oldest first, each with the number of versions that it made and closed.
+    ///
+    /// # Errors
+    ///
+    /// `PassSpent`, which counts no call; `NoMemory`, in this order.
+    pub fn log<R: Wait>(&self, rt: &R, pass: &mut Pass) -> Result<Log, Failure<PassSpent>>
+        requires { IsPassOf self.now pass.old }
+        ensures store { IsPassOf self.now pass.new }
+        ensures reply { Reads pass.old result pass.new }
+    {
+        if pass.left == 0 {
+            return Err(Failure::Refused(PassSpent));
+        }
+        pass.left -= 1;
+        let reply = self.turn.with(
+            rt,
+            &mut pass.seat,
+            move |shelf: &mut Shelf| -> Result<Log, NoMemory>
+                ensures same { shelf.new ≡ shelf.old }
+                ensures reply { IfOk result (λ log. log ≡ log_of (held shelf.old)) }
+            { shelf.log() },
+        );
+        match reply {
+            Ok(log) => Ok(log),
+            Err(_) => Err(Failure::NoMemory),
+        }
+    }
+
+    /// What the pass has seen, for another pass to hear. No call is counted.
+    pub fn note(&self, pass: &mut Pass) -> Note
+        requires { IsPassOf self.now pass.old }
+        ensures { Tells self.now pass.old pass.new result }
+    {
+        Note {
+            seat: self.turn.split(&mut pass.seat),
+        }
+    }
+
+    /// From now on the pass has seen no less than the note tells. No call is counted.
+    pub fn hear(&self, pass: &mut Pass, note: Note)
+        requires pass { IsPassOf self.now pass.old }
+        requires note { IsNoteOf self.now note }
+        ensures { TakesIn self.now pass.old note pass.new }
+    {
+        let Note { seat } = note;
+        self.turn.join(&mut pass.seat, seat);
+    }
+}

@@ -1,0 +1,20 @@
+-- What contracts read of a turn and of a seat.
+use Rattle.std.specs.Prelude.{◌≡◌}
+use Rattle.atomic_table.specs.Seated.{TableId}
+use Rattle.turn_core.specs.declared.kept.Kept.{Ghosts}
+use Rattle.turn_core.specs.declared.seat.Seat.{Seat}
+use Rattle.turn_core.specs.declared.turn.Turn.{Turn}
+use Rattle.turn_core.specs.declared.view.View.{View}
+
+-- which table the turn is played at
+abbrev pub table_of : {S E : Type 0} → Turn S E → TableId
+table_of turn = turn.table.shared.table_id
+
+module _ {S E : Type 0} {kept : Ghosts S E} where
+  -- what the seat knows
+  abbrev pub view_of : Seat S E kept → View E
+  view_of seat = seat.seat.me.0
+
+  -- the seat is one of this turn, or was split off one
+  abbrev pub IsSeatOf : Turn S E → Seat S E kept → Type 0
+  IsSeatOf turn seat = seat.seat.table_id ≡ table_of turn

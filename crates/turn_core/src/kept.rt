@@ -1,0 +1,18 @@
+//! What a turn lends.
+
+ghost use Rattle.std.specs.Prelude.{ℕ, List};
+
+/// A state that stands for a list of entries.
+pub trait Kept: Drop {
+    /// What callers add.
+    type Entry;
+
+    // The entries, oldest first.
+    ghost entries: { Self → List Self.Entry };
+
+    // The number of the caller that added an entry.
+    ghost by: { Self.Entry → ℕ };
+
+    // The greatest number of a caller.
+    ghost mark: { Self → ℕ };
+}
