@@ -102,6 +102,7 @@ fn copies_go_their_own_way(rt: HostRuntime) -> Result<(), Fail> {
     assert_eq!(rt; book.apply(1, change.copy(rt.alloc())?), Ok(2));
     let mut copy = book.copy(rt.alloc())?;
     assert_eq!(rt; copy.commits(), 2);
+    assert_eq!(rt; copy.log()?.as_slice(), book.log()?.as_slice());
     assert_eq!(rt; copy.apply(1, change), Ok(3));
     assert_eq!(rt; book.commits(), 2);
     for (shown, want) in [

@@ -119,6 +119,7 @@ fn reads_values(rt: HostRuntime) -> Result<(), Fail> {
     let number = schema.read_value(rt.alloc(), 0, b"7")?;
     assert_eq!(rt; number, Value::Int(7));
     let text = schema.read_value(rt.alloc(), 1, b"7")?;
+    assert_eq!(rt; text.copy(rt.alloc())?, text);
     assert_eq!(rt; text, Value::Text(Text::new(rt.alloc(), b"7")?));
     assert!(rt; number < text);
     let refused = schema.read_value(rt.alloc(), 0, b"y");
@@ -154,35 +155,45 @@ fn orders_numbers_by_value_before_texts_by_bytes(rt: HostRuntime) -> Result<(), 
     Ok(())
 }
 
-#[test]
-fn adds_one_at_the_end_and_copies(rt: HostRuntime) -> Result<(), Fail> {
-    let mut values = Values::new(rt.alloc());
+// The values 1 and `a`.
+fn values(alloc: Global) -> Result<Values, Fail> {
+    let mut values = Values::new(alloc);
     values.push(Value::Int(1))?;
-    let text = Value::Text(Text::new(rt.alloc(), b"a")?);
-    assert_eq!(rt; text.copy(rt.alloc())?, text);
-    values.push(text)?;
+    values.push(Value::Text(Text::new(alloc, b"a")?))?;
+    Ok(values)
+}
+
+// A day.
+fn day() -> Result<Period, Fail> {
+    let from = Point::parse(b"2024-01-01")?;
+    Ok(Period::new(from, Point::parse(b"2024-01-02")?)?)
+}
+
+#[test]
+fn adds_values_and_drafts(rt: HostRuntime) -> Result<(), Fail> {
+    let values = values(rt.alloc())?;
     assert_eq!(rt; values.len(), 2);
     assert_eq!(rt; values.get(0), Some(&Value::Int(1)));
-    let from = Point::parse(b"2024-01-01")?;
-    let period = Period::new(from, Point::parse(b"2024-01-02")?)?;
     let mut drafts = Drafts::new(rt.alloc());
     drafts.push(Draft {
-        period,
+        period: day()?,
         values: values.copy(rt.alloc())?,
     })?;
     let added = drafts.get(0).map(|draft| draft.values.as_slice());
     assert_eq!(rt; added, Some(values.as_slice()));
+    Ok(())
+}
+
+#[test]
+fn adds_a_row_that_is_a_copy(rt: HostRuntime) -> Result<(), Fail> {
     let row = Row {
         id: 5,
-        period,
-        values,
+        period: day()?,
+        values: values(rt.alloc())?,
     };
     let mut rows = RowList::new(rt.alloc());
     rows.push(row.copy(rt.alloc())?)?;
-    assert_eq!(rt; rows.len(), 1);
-    let copied = rows.get(0).map(|copy| (copy.id, copy.period));
-    assert_eq!(rt; copied, Some((5, period)));
-    let copied = rows.get(0).map(|copy| copy.values.as_slice());
-    assert_eq!(rt; copied, Some(row.values.as_slice()));
+    let added = rows.get(0).map(|copy| (copy.id, copy.period, copy.values.as_slice()));
+    assert_eq!(rt; added, Some((5, row.period, row.values.as_slice())));
     Ok(())
 }
