@@ -7,13 +7,14 @@ use Rattle.std.proofs.lemmas.List.Sorted.{Contains-permutation, IsPermutation-sy
 use Rattle.dip_core.specs.declared.item.Item.{Item}
 use Rattle.dip_core.specs.Item.{HasDistinctIds}
 use Rattle.dip_core.specs.Division.{all_of, part_at}
+use Rattle.list_core.specs.Wanted.{IsListOf}
 use Rattle.list_core.proofs.RisingLemmas.{Contains-none}
 use Rattle.list_core.proofs.WantedLemmas.{IsListOf-append, IsListOf-none, IsListOf-same}
 use Rattle.merge_core.specs.declared.gap.Gap.{Gap}
 use Rattle.merge_core.specs.Gaps.{IsCovered, IsUncovered, IsGap, GapStartsBefore, ListsGaps}
 use Rattle.merge_core.proofs.SweepLemmas.{IsMaximal-same}
 use Rattle.anti_core.specs.declared.rows.AntiRow.{AntiRow}
-use Rattle.anti_core.specs.Anti.{anti_cmp, AntiRowBefore}
+use Rattle.anti_core.specs.Anti.{anti_cmp}
 use Rattle.anti_core.specs.ItemAnti.{row_of_gap, IsItemsRow, AreItemsRows, IsItemsAnti}
 use Rattle.anti_core.proofs.ListLemmas.{Contains-map, Contains-map_source, AllPairs-map}
 use Rattle.anti_core.proofs.OrderLemmas.{AntiRow-same_fields, sorted_rows}
@@ -106,7 +107,7 @@ IsItemsAnti-sorted left right found rows all moved sorted = record {
 -- ---- of the items that were divided
 
 -- what covers an instant is there in the other list too
-covered-there : (right other : List Item) → ((y : Item) → Contains right y → Contains other y) → (x : Item) (t : ℤ)
+pub covered-there : (right other : List Item) → ((y : Item) → Contains right y → Contains other y) → (x : Item) (t : ℤ)
     → IsCovered right x t → IsCovered other x t
 covered-there right other there x t is =
     record { by = is.by; by_in = there is.by is.by_in; matches = is.matches; holds = is.holds }
@@ -146,8 +147,7 @@ module _ (left other_left right other_right : List Item) (lefts : IsPermutation 
         (uncovered-there is.x) is.maximal;
   }
 
-  pub IsItemsAnti-permutation : (rows : List AntiRow) → IsItemsAnti other_left other_right rows
-      → IsItemsAnti left right rows
-  IsItemsAnti-permutation rows lists =
-      IsListOf-same AntiRowBefore (IsItemsRow other_left other_right) (IsItemsRow left right) rows row-back row-there
-      lists
+  pub rows-permutation : (Before : AntiRow → AntiRow → Type 0) (rows : List AntiRow)
+      → IsListOf Before (IsItemsRow other_left other_right) rows → IsListOf Before (IsItemsRow left right) rows
+  rows-permutation Before rows lists =
+      IsListOf-same Before (IsItemsRow other_left other_right) (IsItemsRow left right) rows row-back row-there lists

@@ -1,5 +1,6 @@
 pub mod AntiExistence
 pub mod BorderLemmas
+pub mod BundleLemmas
 pub mod ItemLemmas
 pub mod ListLemmas
 pub mod MaximalLemmas

@@ -51,21 +51,21 @@ count_of-append : (i : ℕ) (xs ys : List Item) → count_of i (xs ++ ys) ≡ co
 count_of-append i xs ys = sum_by-append (λ (y : Item). cond (y.id == i) 1 0) xs ys
 
 -- where ids are distinct in two lists together, they are in the first
-distinct-earlier : (xs ys : List Item) → HasDistinctIds (xs ++ ys) → HasDistinctIds xs
+pub distinct-earlier : (xs ys : List Item) → HasDistinctIds (xs ++ ys) → HasDistinctIds xs
 distinct-earlier xs ys distinct i =
     let both = count_of-append i xs ys in
     let most = distinct i in
     omega (arith, most, both)
 
 -- and in the second
-distinct-later : (xs ys : List Item) → HasDistinctIds (xs ++ ys) → HasDistinctIds ys
+pub distinct-later : (xs ys : List Item) → HasDistinctIds (xs ++ ys) → HasDistinctIds ys
 distinct-later xs ys distinct i =
     let both = count_of-append i xs ys in
     let most = distinct i in
     omega (arith, most, both)
 
 -- and no item of the one has the id of an item of the other
-ids-apart : (xs ys : List Item) (x y : Item) → HasDistinctIds (xs ++ ys) → Contains xs x → Contains ys y
+pub ids-apart : (xs ys : List Item) (x y : Item) → HasDistinctIds (xs ++ ys) → Contains xs x → Contains ys y
     → x.id ≡ y.id → ⊥
 ids-apart xs ys x y distinct h k e =
     let one : 1 ≤ count_of x.id xs = has_id xs x x.id h refl in

@@ -6,7 +6,7 @@ ghost use Rattle.match_core.specs.Columns.{MatchesOn, columns_refusal};
 ghost use Rattle.work_core.specs.Limits.{worker_limit};
 ghost use Rattle.anti_core.specs.Anti.{IsAnti};
 
-use crate::parted::anti_items;
+use crate::bundles::anti_items;
 use crate::rows::AntiRows;
 use match_core::{QueryRefused, Side, classes_of, items_with, refusal_of_pairs};
 use period_core::NoMemory;
@@ -18,7 +18,8 @@ use work_core::Gate;
 /// When each left row holds and no right row does that is equal to it in each named pair of columns: the id of the
 /// left row and each such period that is as long as can be, by id and start, the same rows for every number of
 /// workers. Without names each right row matches. The periods of right rows that are equal in the named columns are
-/// united, then both sides are divided, and the gate is called before and after each pair of parts.
+/// united, then both sides are divided, the rows of some values of the columns at a time, and the gate is called before
+/// and after each pair of parts. Pairs are numbered anew in each such bundle.
 ///
 /// # Errors
 ///
@@ -63,5 +64,5 @@ fn anti_rows<R: Threads + Sync, G: Gate>(
     let (left_classes, right_classes) = classes.split_at(left.rows.len());
     let lefts = items_with(alloc, left.rows.as_slice(), left_classes)?;
     let rights = items_with(alloc, right.rows.as_slice(), right_classes)?;
-    anti_items(rt, alloc, &lefts, rights, workers, gate)
+    anti_items(rt, alloc, lefts, rights, workers, gate)
 }

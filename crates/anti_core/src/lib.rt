@@ -1,10 +1,11 @@
 #![tactic(auto)]
 
 //! When the rows of a table held with no row of another that matches them: the rows of the other are united, both are
-//! divided, the gaps of each part of the one against each part of the other are made by many workers, and those of one
-//! left part are met.
+//! divided, some classes at a time, the gaps of each part of the one against each part of the other are made by many
+//! workers, and those of one left part are met.
 
 mod anti_joins;
+mod bundles;
 mod laws;
 mod pairs;
 mod part_gaps;

@@ -1,9 +1,10 @@
-//! Anti-joins of generated tables, against what each day shows of each left row.
+//! Anti-joins of generated tables, against what each day shows of each left row, and of tables of many values.
 
 use crate::generated::{DAYS, Dice, Pair, PlainRow, period, runs};
-use crate::tables::{days, side};
+use crate::tables::{days, january, numbers, side};
 use anti_core::{AntiRow, anti};
 use period_core::Point;
+use row_core::Name;
 use std::alloc::{AllocError, Global};
 use std::process::Abort;
 use std::test::Fail;
@@ -71,6 +72,35 @@ fn leaves_what_each_day_shows(rt: HostRuntime) -> Result<(), Fail> {
             rows >= 20,
             "anti-joins on {count} columns have only {rows} rows"
         );
+    }
+    Ok(())
+}
+
+// Three rows of each of three thousand values, which are more than are taken at a time. Every other value has a right
+// row, which holds on the second of their two days.
+#[test]
+fn leaves_rows_of_many_values(rt: HostRuntime) -> Result<(), Fail> {
+    let (mut lefts, mut rights) = (Vec::new(rt.alloc()), Vec::new(rt.alloc()));
+    let mut want = Vec::new(rt.alloc());
+    for i in 0..9_000u64 {
+        let value = (i / 3) as i64;
+        let to = if value % 2 == 0 { 2 } else { 3 };
+        lefts.push((1, 3, value))?;
+        if value % 2 == 0 && i % 3 == 0 {
+            rights.push((2, 4, value))?;
+        }
+        want.push(AntiRow {
+            id: i + 1,
+            period: january(&rt, 1, to),
+        })?;
+    }
+    let (left, right) = (numbers(&rt, &lefts)?, numbers(&rt, &rights)?);
+    let column = Name::parse(b"c")?;
+    for workers in [1, 2] {
+        let (one, other) = (side(&rt, &left), side(&rt, &right));
+        let on = [(column, column)];
+        let rows = anti(&rt, rt.alloc(), one, other, &on, workers, &OpenGate)?;
+        assert_eq!(rt; rows.as_slice(), want.as_slice(), "with {workers} workers");
     }
     Ok(())
 }

@@ -8,23 +8,23 @@ use Rattle.match_core.proofs.Tell.{classes_tell}
 use Rattle.anti_core.specs.ItemAnti.{IsItemsAnti}
 use Rattle.anti_core.proofs.RowLemmas.{IsAnti-of_items, side-distinct}
 use Rattle.anti_core.proofs.anti_joins.anti_rows.Goals as goal
-use Rattle.anti_core.proofs.anti_joins.anti_rows.Goals.{After-deref-2}
+use Rattle.anti_core.proofs.anti_joins.anti_rows.Goals.{In_ok-rights}
 use Rattle.anti_core.proofs.anti_joins.anti_rows.Given.{Over}
 
 -- the items of the left rows
-left_items : (g : Over) (c : After-deref-2 g)
+left_items : (g : Over) (c : In_ok-rights g)
     → IsSide c.args.left.rows.now (take (length c.args.left.rows.now) c.in_ok-classes.classes.items)
-    c.deref-2.result.now
+    c.in_ok-lefts.lefts.items
 left_items g c =
     let rows = c.args.left.rows.now in
     let classes = c.in_ok-classes.classes.items in
     let count : length classes ≡ length rows + length c.args.right.rows.now = c.in_ok-classes.ensures.count in
     left_side rows c.as_slice.result.now classes c.deref.result.now c.split_at.result.0.now c.len.result
-    c.deref-2.result.now c.in_ok-lefts.lefts.items c.deref-2.ensures.value c.in_ok-lefts.ensures c.as_slice.ensures
+    c.in_ok-lefts.lefts.items c.in_ok-lefts.lefts.items refl c.in_ok-lefts.ensures c.as_slice.ensures
     c.split_at.ensures.front c.deref.ensures.value c.len.ensures (omega (arith, count))
 
 -- the items of the right rows
-right_items : (g : Over) (c : After-deref-2 g)
+right_items : (g : Over) (c : In_ok-rights g)
     → IsSide c.args.right.rows.now (drop (length c.args.left.rows.now) c.in_ok-classes.classes.items)
     c.in_ok-rights.rights.items
 right_items g c =
@@ -38,7 +38,7 @@ right_items g c =
 pub anti_items-requires-clause-left_few : goal.anti_items-requires-clause-left_few
 anti_items-requires-clause-left_few g c =
     let few : length c.args.left.rows.now ≤ 1_000_000 = c.args.left.few in
-    let same = side_len c.args.left.rows.now _ c.deref-2.result.now (left_items g c) in
+    let same = side_len c.args.left.rows.now _ c.in_ok-lefts.lefts.items (left_items g c) in
     omega (arith, same, few)
 
 pub anti_items-requires-clause-right_few : goal.anti_items-requires-clause-right_few
@@ -49,11 +49,11 @@ anti_items-requires-clause-right_few g c =
 
 pub anti_items-requires-clause-left_ids : goal.anti_items-requires-clause-left_ids
 anti_items-requires-clause-left_ids g c = λ κs outlives.
-    side-distinct c.args.left.rows.now _ c.deref-2.result.now (left_items g c) c.args.left.rise
+    side-distinct c.args.left.rows.now _ c.in_ok-lefts.lefts.items (left_items g c) c.args.left.rise
 
 pub returns : goal.returns
 returns g c =
-    let at = (goal.at.returns g c).After-deref-2 in
+    let at = (goal.at.returns g c).In_ok-rights in
     let one = left_items g at in
     let other = right_items g at in
     let lefts = c.args.left.rows.now in

@@ -1,0 +1,209 @@
+-- The rows of all items, from those of the items of some classes and of all higher ones.
+use Rattle.std.proofs.Common.{◌≡◌, ◌≢◌, ◌⊎◌, ℕ, ◌+◌, ◌<◌, ◌≤◌, ℤ, List, [], ◌∷◌, ◌++◌, length, take, drop, get_or, true, false, leb, leb-true, sym, subst, ap, None, ◌∙◌, refl, inl, inr, arith, append-nil, length-append}
+use Rattle.std.specs.Prelude.{Contains, AllPairs, slice_get}
+use Rattle.std.specs.List.Sorted.{IsPartitionPoint}
+use Rattle.std.proofs.lemmas.Bool.{leb-false}
+use Rattle.std.proofs.lemmas.List.{append_assoc, get_or-take, get_or-drop, length-drop, length-take, take-append-drop}
+use Rattle.std.proofs.lemmas.List.Elements.{All-contains, Contains-append_left, Contains-append_right, Contains-append_cases}
+use Rattle.std.proofs.lemmas.List.Sorted.{IsNonDecreasingBy-drop}
+use Rattle.std.proofs.Math.Seq.{drop-append_seam}
+use Rattle.dip_core.specs.declared.item.Item.{Item}
+use Rattle.dip_core.specs.Item.{HasDistinctIds}
+use Rattle.list_core.proofs.WantedLemmas.{IsListOf-append}
+use Rattle.merge_core.specs.Gaps.{IsCovered, IsUncovered}
+use Rattle.merge_core.proofs.SweepLemmas.{IsMaximal-same}
+use Rattle.anti_core.specs.declared.rows.AntiRow.{AntiRow}
+use Rattle.anti_core.specs.Bundles.{ArePartedBehind, ClassesRise}
+use Rattle.anti_core.specs.ItemAnti.{IsItemsRow, AreItemsRows}
+use Rattle.anti_core.specs.United.{StandsBefore}
+use Rattle.anti_core.proofs.ItemLemmas.{AreItemsRows-none, covered-there}
+use Rattle.anti_core.proofs.PartLemmas.{distinct-earlier, distinct-later, ids-apart}
+
+-- ---- parted items
+
+-- those before and behind the place from which a test for higher classes fails
+pub parted-from_point : (class : ℕ) (items low high : List Item) (n : ℕ) → n ≤ length items
+    → IsPartitionPoint (λ y. leb y.class class ≡ true) (λ y. leb y.class class ≡ false) items n → low ≡ take n items
+    → high ≡ drop n items → ArePartedBehind class items low high
+parted-from_point class items low high n inside point front back = rw (front, back) (record {
+  whole = sym (take-append-drop n items);
+  upto = λ k d h.
+      let within : k < n = omega (arith, h, inside, length-take n items) in
+      subst (λ (x : Item). x.class ≤ class) (sym (get_or-take n items k d within))
+      (leb-true (get_or items k d).class class (point.0 k d (omega arith) within));
+  above = λ k d h.
+      let within : n + k < length items = omega (arith, h, inside, length-drop n items) in
+      subst (λ (x : Item). class < x.class) (sym (get_or-drop n items k d))
+      (leb-false (get_or items (n + k) d).class class (point.1 (n + k) d (omega arith) within));
+})
+
+-- united items rise by class
+pub united-rise : (items : List Item) → AllPairs StandsBefore items → ClassesRise items
+united-rise items ordered = λ i j d upto inside.
+    (elim (equal_or_less i j upto) [
+      | inl e ↦ subst (λ (k : ℕ). (get_or items i d).class ≤ (get_or items k d).class) e (omega arith)
+      | inr less ↦ elim (ordered i j d less inside) [
+        | inl lower ↦ omega (arith, lower)
+        | inr (same, earlier) ↦ omega (arith, same)
+      ]
+    ])
+  where
+    equal_or_less : (m n : ℕ) → m ≤ n → (m ≡ n) ⊎ (m < n)
+    equal_or_less m n h = grind arith
+
+-- where there is no first item there is none
+pub none_first : (items : List Item) → None ≡ slice_get items 0 → items ≡ []
+none_first [] e = refl
+none_first (y ∷ items) e = absurd cc
+
+module _ (class : ℕ) (items low high : List Item) (parted : ArePartedBehind class items low high) where
+  -- ids that are distinct in all are so in each
+  pub low-distinct : HasDistinctIds items → HasDistinctIds low
+  low-distinct distinct = distinct-earlier low high (subst HasDistinctIds parted.whole distinct)
+
+  pub high-distinct : HasDistinctIds items → HasDistinctIds high
+  high-distinct distinct = distinct-later low high (subst HasDistinctIds parted.whole distinct)
+
+  -- and the higher classes still rise
+  pub high-rise : ClassesRise items → ClassesRise high
+  high-rise rise =
+      subst ClassesRise (ap (drop (length low)) parted.whole ∙ drop-append_seam low high)
+      (IsNonDecreasingBy-drop (λ (x : Item). x.class) (length low) items rise)
+
+-- ---- the rows of a bundle, and of the items behind it
+
+-- a row of one left item is one of the same item in another list, where right items cover it alike
+row-moved : (xs ys right other : List Item) (row : AntiRow) (is : IsItemsRow xs right row) → Contains ys is.x
+    → ((t : ℤ) → IsCovered right is.x t → IsCovered other is.x t)
+    → ((t : ℤ) → IsCovered other is.x t → IsCovered right is.x t) → IsItemsRow ys other row
+row-moved xs ys right other row is there to back = record {
+  x = is.x;
+  x_in = there;
+  id = is.id;
+  maximal = IsMaximal-same (IsUncovered right is.x) (IsUncovered other is.x) row.period
+      (λ t u. record { held = u.held; uncovered = λ c. u.uncovered (back t c) })
+      (λ t u. record { held = u.held; uncovered = λ c. u.uncovered (to t c) })
+      is.maximal;
+}
+
+module _ (class : ℕ) (left low_left high_left right low_right high_right : List Item)
+    (lefts : ArePartedBehind class left low_left high_left)
+    (rights : ArePartedBehind class right low_right high_right) where
+  -- right items of higher classes don't cover an item of a lower one
+  covered-low : (x : Item) → Contains low_left x → (t : ℤ) → IsCovered (low_right ++ high_right) x t
+      → IsCovered low_right x t
+  covered-low x h t is = elim (Contains-append_cases low_right high_right is.by is.by_in) [
+    | inl k ↦ record { by = is.by; by_in = k; matches = is.matches; holds = is.holds }
+    | inr k ↦
+        let low : x.class ≤ class = All-contains (λ (y : Item). y.class ≤ class) low_left x lefts.upto h in
+        let high : class < is.by.class =
+        All-contains (λ (y : Item). class < y.class) high_right is.by rights.above k in
+        let same : is.by.class ≡ x.class = is.matches in
+        absurd (omega (arith, low, high, same))
+  ]
+
+  -- nor the other way round
+  covered-high : (x : Item) → Contains high_left x → (t : ℤ) → IsCovered (low_right ++ high_right) x t
+      → IsCovered high_right x t
+  covered-high x h t is = elim (Contains-append_cases low_right high_right is.by is.by_in) [
+    | inl k ↦
+        let high : class < x.class = All-contains (λ (y : Item). class < y.class) high_left x lefts.above h in
+        let low : is.by.class ≤ class =
+        All-contains (λ (y : Item). y.class ≤ class) low_right is.by rights.upto k in
+        let same : is.by.class ≡ x.class = is.matches in
+        absurd (omega (arith, low, high, same))
+    | inr k ↦ record { by = is.by; by_in = k; matches = is.matches; holds = is.holds }
+  ]
+
+  -- what covers an item in one of both lists does so in both together
+  low-covered : (x : Item) (t : ℤ) → IsCovered low_right x t → IsCovered (low_right ++ high_right) x t
+  low-covered x t is =
+      covered-there low_right (low_right ++ high_right) (Contains-append_left low_right high_right) x t is
+
+  high-covered : (x : Item) (t : ℤ) → IsCovered high_right x t → IsCovered (low_right ++ high_right) x t
+  high-covered x t is =
+      covered-there high_right (low_right ++ high_right) (Contains-append_right low_right high_right) x t is
+
+  -- the rows of both
+  rows-together : (rows more : List AntiRow) → HasDistinctIds (low_left ++ high_left)
+      → AreItemsRows low_left low_right rows → AreItemsRows high_left high_right more
+      → AreItemsRows (low_left ++ high_left) (low_right ++ high_right) (rows ++ more)
+  rows-together rows more distinct one other =
+      IsListOf-append (λ (a b : AntiRow). a ≢ b) (IsItemsRow low_left low_right) (IsItemsRow high_left high_right)
+      (IsItemsRow (low_left ++ high_left) (low_right ++ high_right)) rows more one other
+      (λ a b i j same.
+      ids-apart low_left high_left i.x j.x distinct i.x_in j.x_in (sym i.id ∙ ap (λ (v : AntiRow). v.id) same ∙ j.id))
+      (λ row is.
+      row-moved low_left (low_left ++ high_left) low_right (low_right ++ high_right) row is
+      (Contains-append_left low_left high_left is.x is.x_in) (low-covered is.x) (covered-low is.x is.x_in))
+      (λ row is.
+      row-moved high_left (low_left ++ high_left) high_right (low_right ++ high_right) row is
+      (Contains-append_right low_left high_left is.x is.x_in) (high-covered is.x) (covered-high is.x is.x_in))
+      (λ row is. elim (Contains-append_cases low_left high_left is.x is.x_in) [
+        | inl k ↦ inl (row-moved (low_left ++ high_left) low_left (low_right ++ high_right) low_right row is k
+            (covered-low is.x k) (low-covered is.x))
+        | inr k ↦ inr (row-moved (low_left ++ high_left) high_left (low_right ++ high_right) high_right row is k
+            (covered-high is.x k) (high-covered is.x))
+      ])
+
+  pub AreItemsRows-parted : (rows more : List AntiRow) → HasDistinctIds left → AreItemsRows low_left low_right rows
+      → AreItemsRows high_left high_right more → AreItemsRows left right (rows ++ more)
+  AreItemsRows-parted rows more distinct one other =
+      subst (λ (xs : List Item). AreItemsRows xs right (rows ++ more)) (sym lefts.whole)
+      (subst (λ (ys : List Item). AreItemsRows (low_left ++ high_left) ys (rows ++ more)) (sym rights.whole)
+      (rows-together rows more (subst HasDistinctIds lefts.whole distinct) one other))
+
+-- ---- bundle by bundle
+
+-- what the rows so far still lack are those of what is left
+pub record IsBundling (left right lefts rights : List Item) (rows : List AntiRow) : Type 0 where
+  pub goes_on : (rest : List AntiRow) → AreItemsRows lefts rights rest → AreItemsRows left right (rows ++ rest)
+  pub left_few : length lefts ≤ length left
+  pub right_few : length rights ≤ length right
+  pub left_rise : ClassesRise lefts
+  pub right_rise : ClassesRise rights
+  pub ids : HasDistinctIds lefts
+
+-- at first all are left
+pub bundling_start : (left right : List Item) (rows : List AntiRow) → rows ≡ [] → ClassesRise left → ClassesRise right
+    → HasDistinctIds left → IsBundling left right left right rows
+bundling_start left right rows none left_rise right_rise ids =
+    subst (IsBundling left right left right) (sym none) (record {
+      goes_on = λ rest all. all;
+      left_few = omega arith;
+      right_few = omega arith;
+      left_rise = left_rise;
+      right_rise = right_rise;
+      ids = ids;
+    })
+
+-- a bundle more
+pub bundling_more : (left right lefts rights low_left high_left low_right high_right : List Item) (class : ℕ)
+    (old found new : List AntiRow) → ArePartedBehind class lefts low_left high_left
+    → ArePartedBehind class rights low_right high_right → AreItemsRows low_left low_right found → new ≡ old ++ found
+    → IsBundling left right lefts rights old → IsBundling left right high_left high_right new
+bundling_more left right lefts rights low_left high_left low_right high_right class old found new one other rows e i =
+    subst (IsBundling left right high_left high_right) (sym e) (record {
+      goes_on = λ rest all.
+          subst (AreItemsRows left right) (sym (append_assoc old found rest))
+          (i.goes_on (found ++ rest)
+          (AreItemsRows-parted class lefts low_left high_left rights low_right high_right one other found rest i.ids rows
+          all));
+      left_few = (let most = i.left_few in
+          let whole = ap (λ (xs : List Item). length xs) one.whole in
+          omega (arith, most, whole, length-append low_left high_left));
+      right_few = (let most = i.right_few in
+          let whole = ap (λ (xs : List Item). length xs) other.whole in
+          omega (arith, most, whole, length-append low_right high_right));
+      left_rise = high-rise class lefts low_left high_left one i.left_rise;
+      right_rise = high-rise class rights low_right high_right other i.right_rise;
+      ids = high-distinct class lefts low_left high_left one i.ids;
+    })
+
+-- at the end no left item is left
+pub bundling_end : (left right lefts rights : List Item) (rows : List AntiRow) → lefts ≡ []
+    → IsBundling left right lefts rights rows → AreItemsRows left right rows
+bundling_end left right lefts rights rows none i =
+    subst (AreItemsRows left right) (append-nil rows)
+    (i.goes_on []
+    (subst (λ (xs : List Item). AreItemsRows xs rights []) (sym none) (AreItemsRows-none rights [] refl)))

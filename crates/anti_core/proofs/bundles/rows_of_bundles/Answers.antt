@@ -1,0 +1,25 @@
+use Rattle.anti_core.proofs.BundleLemmas.{bundling_start, bundling_more, bundling_end, low-distinct, none_first}
+use Rattle.anti_core.proofs.bundles.rows_of_bundles.Goals as goal
+
+pub bundles-init : goal.bundles-init
+bundles-init g c =
+    bundling_start c.args.left.now c.args.right.now c.new-rows.result.items c.new-rows.ensures.items
+    c.requires.left_rise c.requires.right_rise c.requires.ids
+
+pub rows_of_items-requires-clause-ids : goal.rows_of_items-requires-clause-ids
+rows_of_items-requires-clause-ids g c = λ κs outlives.
+    low-distinct c.last_class-class.result c.bundles.lefts.now c.parted_behind.result.0.now
+    c.parted_behind.result.1.now c.parted_behind.ensures c.bundles.invariant.ids
+
+pub bundles-preserved : goal.bundles-preserved
+bundles-preserved g c =
+    bundling_more c.args.left.now c.args.right.now c.bundles.lefts.now c.bundles.rights.now
+    c.parted_behind.result.0.now c.parted_behind.result.1.now c.parted_behind-in-Some.result.0.now
+    c.parted_behind-in-Some.result.1.now c.last_class-class.result c.bundles.rows.items c.in_ok-found.found.items
+    c.append.new.self.items c.parted_behind.ensures c.parted_behind-in-Some.ensures c.in_ok-found.ensures
+    c.in_ok-append.ensures.items c.bundles.invariant
+
+pub returns : goal.returns
+returns g c =
+    bundling_end c.args.left.now c.args.right.now c.bundles.lefts.now c.bundles.rights.now c.bundles.rows.items
+    (none_first c.bundles.lefts.now c.in_default.ensures.value) c.bundles.invariant

@@ -1,0 +1,14 @@
+-- Items whose classes rise, and those of some classes among them.
+use Rattle.std.specs.Prelude.{◌≡◌, ◌<◌, ◌≤◌, ◌++◌, ℕ, List, All}
+use Rattle.std.specs.List.Sorted.{IsNonDecreasingBy}
+use Rattle.dip_core.specs.declared.item.Item.{Item}
+
+-- no item is of a higher class than a later one
+abbrev pub ClassesRise : List Item → Type 0
+ClassesRise items = IsNonDecreasingBy (λ (x : Item). x.class) items
+
+-- the items of classes up to that one, and behind them those of higher classes
+pub record ArePartedBehind (class : ℕ) (items low high : List Item) : Type 0 where
+  pub whole : items ≡ low ++ high
+  pub upto : All (λ (x : Item). x.class ≤ class) low
+  pub above : All (λ (x : Item). class < x.class) high
