@@ -35,7 +35,8 @@ Shows h n (Err NoMemory) = asked h n ≤ length h
 -- the rows of a table that the first n commits show, or why they are not given. Tables are looked for in the
 -- newest state.
 abbrev pub rows_given : History → ℕ → List ℕ → Result (List Row) NoTable
-rows_given h n name = refused_or (first_of ((is_none (table_of (state_after h) name), record {}) ∷ [])) (rows_at h n name)
+rows_given h n name =
+    refused_or (first_of ((is_none (table_of (state_after h) name), record {}) ∷ [])) (rows_at h n name)
 
 -- why versions are not given, if they are not
 abbrev pub range_refusal : History → Bool → List ℕ → Option RangeRefused

@@ -56,7 +56,8 @@ impl Store {
         passes: u32,
         calls_each: u64,
     ) -> Result<(Store, Vec<Pass>), Failure<BadCount>>
-        ensures { AnswersOr (bad_count passes calls_each) (λ made. AreNew passes calls_each made.0 made.1.items) result }
+        ensures { AnswersOr (bad_count passes calls_each)
+            (λ made. AreNew passes calls_each made.0 made.1.items) result }
     {
         if passes < 1 || passes > SEAT_LIMIT || calls_each < 1 || calls_each > CALL_LIMIT {
             return Err(Failure::Refused(BadCount));

@@ -40,16 +40,20 @@ module _ {S E : Type 0} (entries : S → List E) (by : E → ℕ) (mark_of : S �
   abbrev with_ticket : Round E → ℕ → Round E
   with_ticket x me = record x { drawn = x.drawn + 1; drawer = λ k. pick (ℕ_discrete k x.drawn) me (x.drawer k) }
 
-  others-wait : (x : Round E) (me j : ℕ) (seen : List E) → (x.out ≡ true → x.served < x.drawn) → (st : Stage) → StageFits x j seen st → StageFits (with_ticket x me) j seen st
+  others-wait : (x : Round E) (me j : ℕ) (seen : List E) → (x.out ≡ true → x.served < x.drawn) → (st : Stage)
+      → StageFits x j seen st → StageFits (with_ticket x me) j seen st
   others-wait x me j seen behind Resting fits = tt
-  others-wait x me j seen behind (Waiting k) fits = let low = fits.1 in (fits.0, omega arith, pick-no (ℕ_discrete k x.drawn) me (x.drawer k) (λ e. omega arith) ∙ fits.2, fits.3)
-  others-wait x me j seen behind (Serving k) fits = let low = behind fits.2 in let here = fits.0 in (fits.0, pick-no (ℕ_discrete k x.drawn) me (x.drawer k) (λ e. omega arith) ∙ fits.1, fits.2, fits.3)
+  others-wait x me j seen behind (Waiting k) fits = let low = fits.1 in
+      (fits.0, omega arith, pick-no (ℕ_discrete k x.drawn) me (x.drawer k) (λ e. omega arith) ∙ fits.2, fits.3)
+  others-wait x me j seen behind (Serving k) fits = let low = behind fits.2 in let here = fits.0 in
+      (fits.0, pick-no (ℕ_discrete k x.drawn) me (x.drawer k) (λ e. omega arith) ∙ fits.1, fits.2, fits.3)
 
   not-out : (b : Bool) (P : Type 0) → (b ≡ true → P) → ¬ P → b ≡ false
   not-out true P h n = absurd (n (h refl))
   not-out false P h n = refl
 
-  pub may_draw : (slots id : ℕ) (me : M) → 0 < me.0.left → Allows Rule slots id me 0 (λ n. (n + 1) % 2 ^ 64) (Draws (step slots 0 1 0 none) me)
+  pub may_draw : (slots id : ℕ) (me : M) → 0 < me.0.left
+      → Allows Rule slots id me 0 (λ n. (n + 1) % 2 ^ 64) (Draws (step slots 0 1 0 none) me)
   may_draw slots id me some_left s r _ at _ =
       let x = r.x in
       let v : V = me.0 in
@@ -64,7 +68,8 @@ module _ {S E : Type 0} (entries : S → List E) (by : E → ℕ) (mark_of : S �
         tt,
         record {
           x = with_ticket x id;
-          words = ap (λ ws. slice_set ws 0 ((slice_index ws 0 + 1) % 2 ^ 64)) r.words ∙ ap (λ (k : ℕ). k ∷ x.served ∷ []) (omega arith);
+          words = ap (λ ws. slice_set ws 0 ((slice_index ws 0 + 1) % 2 ^ 64)) r.words
+              ∙ ap (λ (k : ℕ). k ∷ x.served ∷ []) (omega arith);
           budget = omega arith;
           behind = let b = r.behind in omega arith;
           gone = λ o. let g = r.gone o in let b = g.1 in (g.0, omega arith);
@@ -72,15 +77,18 @@ module _ {S E : Type 0} (entries : S → List E) (by : E → ℕ) (mark_of : S �
           numbered = r.numbered;
           each = each-set (Fits by seats (with_ticket x id)) s.views id w
               record {
-                sits = λ p. let q = old.sits p in record { mark = q.mark; source = q.source; last = q.last; top = q.top; holds = q.holds; mine = q.mine; unused = q.unused };
+                sits = λ p. let q = old.sits p in record { mark = q.mark; source = q.source; last = q.last;
+                    top = q.top; holds = q.holds; mine = q.mine; unused = q.unused };
                 seen = old.seen;
                 own = old.own;
                 before = old.before;
                 told = old.told;
-                stage = (r.behind, omega arith, pick-yes (ℕ_discrete x.drawn x.drawn) id (x.drawer x.drawn) refl, λ e. not-out x.out (x.served < x.drawn) (λ o. (r.gone o).1) (λ l. omega arith));
+                stage = (r.behind, omega arith, pick-yes (ℕ_discrete x.drawn x.drawn) id (x.drawer x.drawn) refl,
+                    λ e. not-out x.out (x.served < x.drawn) (λ o. (r.gone o).1) (λ l. omega arith));
               }
               (λ j u _ here. let f = r.each j u here in record {
-                sits = λ p. let q = f.sits p in record { mark = q.mark; source = q.source; last = q.last; top = q.top; holds = q.holds; mine = q.mine; unused = q.unused };
+                sits = λ p. let q = f.sits p in record { mark = q.mark; source = q.source; last = q.last;
+                    top = q.top; holds = q.holds; mine = q.mine; unused = q.unused };
                 seen = f.seen;
                 own = f.own;
                 before = f.before;
@@ -92,7 +100,8 @@ module _ {S E : Type 0} (entries : S → List E) (by : E → ℕ) (mark_of : S �
       )
 
   -- a seat fits a round with the same log and numbers, where its stage does
-  refits : (x x' : Round E) (i : ℕ) (v : V) → x.log ≡ x'.log → x.holder ≡ x'.holder → Fits by seats x i v → StageFits x' i v.seen v.stage → Fits by seats x' i v
+  refits : (x x' : Round E) (i : ℕ) (v : V) → x.log ≡ x'.log → x.holder ≡ x'.holder → Fits by seats x i v
+      → StageFits x' i v.seen v.stage → Fits by seats x' i v
   refits x x' i v same hold f stage = record {
     sits = λ p. let q = f.sits p in record {
       mark = q.mark;
@@ -123,15 +132,19 @@ module _ {S E : Type 0} (entries : S → List E) (by : E → ℕ) (mark_of : S �
   abbrev taken : Round E → Round E
   taken x = record x { out = true }
 
-  others-stay : (x : Round E) (me j : ℕ) (seen : List E) → x.drawer x.served ≡ me → j ≢ me → x.out ≡ false → (st : Stage) → StageFits x j seen st → StageFits (taken x) j seen st
+  others-stay : (x : Round E) (me j : ℕ) (seen : List E) → x.drawer x.served ≡ me → j ≢ me → x.out ≡ false
+      → (st : Stage) → StageFits x j seen st → StageFits (taken x) j seen st
   others-stay x me j seen drew ne home Resting fits = tt
-  others-stay x me j seen drew ne home (Waiting k) fits = (fits.0, fits.1, fits.2, λ e. absurd (ne (sym fits.2 ∙ (ap x.drawer e ∙ drew))))
+  others-stay x me j seen drew ne home (Waiting k) fits = (fits.0, fits.1, fits.2, λ e. absurd (ne (sym fits.2
+      ∙ (ap x.drawer e ∙ drew))))
   others-stay x me j seen drew ne home (Serving k) fits = absurd (true≢false (sym fits.2 ∙ home))
 
-  miss-keeps : (slots id : ℕ) (me : M) (k : ℕ) (s : St) (r : Rule s) → me.0.stage ≡ Waiting k → get_elem? s.views id ≡ some me.0 → r.x.served ≢ k
+  miss-keeps : (slots id : ℕ) (me : M) (k : ℕ) (s : St) (r : Rule s) → me.0.stage ≡ Waiting k
+      → get_elem? s.views id ≡ some me.0 → r.x.served ≢ k
       → (w : V) × (a : Act (Option S)) × Valid s.homes me.1 a × Rule (stepped s 1 (slice_index s.words 1) id me.1 w a)
       × Looks entries by mark_of (step slots 1 0 0 none) me (slice_index s.words 1) (w, carried_after me.1 a)
-  miss-keeps slots id me k s r is at miss = let n : slice_index s.words 1 ≡ r.x.served = ap (λ ws. slice_index ws 1) r.words in (
+  miss-keeps slots id me k s r is at miss = let n : slice_index s.words 1 ≡ r.x.served =
+      ap (λ ws. slice_index ws 1) r.words in (
     me.0,
     keeps,
     tt,
@@ -148,7 +161,8 @@ module _ {S E : Type 0} (entries : S → List E) (by : E → ℕ) (mark_of : S �
     λ k' is'. ((λ _. refl), λ e. absurd (miss (sym n ∙ (e ∙ Waiting-injective k' k (sym is' ∙ is))))),
   )
 
-  hit-keeps : (slots id : ℕ) (me : M) (k : ℕ) (s : St) (r : Rule s) → 0 < me.0.number → me.0.stage ≡ Waiting k → get_elem? s.views id ≡ some me.0 → r.x.served ≡ k
+  hit-keeps : (slots id : ℕ) (me : M) (k : ℕ) (s : St) (r : Rule s) → 0 < me.0.number → me.0.stage ≡ Waiting k
+      → get_elem? s.views id ≡ some me.0 → r.x.served ≡ k
       → (w : V) × (a : Act (Option S)) × Valid s.homes me.1 a × Rule (stepped s 1 (slice_index s.words 1) id me.1 w a)
       × Looks entries by mark_of (step slots 1 0 0 none) me (slice_index s.words 1) (w, carried_after me.1 a)
   hit-keeps slots id me k s r p is at hit =
@@ -177,14 +191,16 @@ module _ {S E : Type 0} (entries : S → List E) (by : E → ℕ) (mark_of : S �
           numbered = r.numbered;
           each = each-set (Fits by seats (taken x)) s.views id w
               record {
-                sits = λ _. record { mark = q.mark; source = q.source; last = q.last; top = q.top; holds = q.holds; mine = q.mine; unused = q.unused };
+                sits = λ _. record { mark = q.mark; source = q.source; last = q.last; top = q.top; holds = q.holds;
+                    mine = q.mine; unused = q.unused };
                 seen = ([], append-nil (entries y.0) ∙ y.2);
                 own = ap (own by v.source) y.2 ∙ (ap (λ (z : ℕ). own by z x.log) q.source ∙ q.mine);
                 before = prefix-trans v.before v.seen (entries y.0) old.before all;
                 told = prefix-trans v.told v.seen (entries y.0) old.told all;
                 stage = (sym hit, fits.2, refl, y.2);
               }
-              (λ j u ne here. refits x (taken x) j u refl refl (r.each j u here) (others-stay x id j u.seen drew ne home u.stage (r.each j u here).stage));
+              (λ j u ne here. refits x (taken x) j u refl refl (r.each j u here) (others-stay x id j u.seen drew ne
+                  home u.stage (r.each j u here).stage));
         },
         λ k' is'. (
           (λ miss. absurd (miss (n ∙ (hit ∙ Waiting-injective k k' (sym is ∙ is'))))),
@@ -192,19 +208,29 @@ module _ {S E : Type 0} (entries : S → List E) (by : E → ℕ) (mark_of : S �
             y.0,
             refl,
             ap (λ (z : ℕ). record v { seen = entries y.0; stage = Serving z }) (Waiting-injective k k' (sym is ∙ is')),
-            record { begins = all; own = ap (own by v.number) y.2 ∙ q.mine; numbered = subst (λ (m : ℕ). IsNumbered by m (entries y.0)) (sym q.mark) (subst (IsNumbered by seats) (sym y.2) r.numbered); mark = y.3 ∙ sym q.mark },
+            record {
+              begins = all;
+              own = ap (own by v.number) y.2 ∙ q.mine;
+              numbered = subst (λ (m : ℕ). IsNumbered by m (entries y.0)) (sym q.mark)
+                  (subst (IsNumbered by seats) (sym y.2) r.numbered);
+              mark = y.3 ∙ sym q.mark;
+            },
           ),
         ),
       )
 
-  pub may_look : (slots id : ℕ) (me : M) (k : ℕ) → 0 < me.0.number → me.0.stage ≡ Waiting k → Allows Rule slots id me 1 (λ n. n) (Looks entries by mark_of (step slots 1 0 0 none) me)
-  may_look slots id me k p is s r _ at _ = dite (ℕ_discrete r.x.served k) (λ hit. hit-keeps slots id me k s r p is at hit) (λ miss. miss-keeps slots id me k s r is at miss)
+  pub may_look : (slots id : ℕ) (me : M) (k : ℕ) → 0 < me.0.number → me.0.stage ≡ Waiting k
+      → Allows Rule slots id me 1 (λ n. n) (Looks entries by mark_of (step slots 1 0 0 none) me)
+  may_look slots id me k p is s r _ at _ =
+      dite (ℕ_discrete r.x.served k) (λ hit. hit-keeps slots id me k s r p is at hit)
+      (λ miss. miss-keeps slots id me k s r is at miss)
 
   -- the round after the state came home as y
   abbrev passed_on : Round E → S → Round E
   passed_on x y = record x { log = entries y; served = x.served + 1; out = false }
 
-  others-follow : (x : Round E) (y : S) (me j : ℕ) (seen : List E) → x.drawer x.served ≡ me → j ≢ me → (st : Stage) → StageFits x j seen st → StageFits (passed_on x y) j seen st
+  others-follow : (x : Round E) (y : S) (me j : ℕ) (seen : List E) → x.drawer x.served ≡ me → j ≢ me
+      → (st : Stage) → StageFits x j seen st → StageFits (passed_on x y) j seen st
   others-follow x y me j seen drew ne Resting fits = tt
   others-follow x y me j seen drew ne (Waiting k) fits =
       let low : x.served ≤ k = fits.0 in
@@ -212,8 +238,10 @@ module _ {S E : Type 0} (entries : S → List E) (by : E → ℕ) (mark_of : S �
       (omega arith, fits.1, fits.2, λ _. refl)
   others-follow x y me j seen drew ne (Serving k) fits = absurd (ne (sym fits.1 ∙ (ap x.drawer fits.0 ∙ drew)))
 
-  pass-keeps : (slots id : ℕ) (v : V) (y : S) (k : ℕ) → 0 < v.number → v.stage ≡ Serving k → mark_of y ≡ v.mark → AddsAtMostOne by v.number v.seen (entries y)
-      → Allows Rule slots id (v, (0, Some y) ∷ []) 1 (λ n. (n + 1) % 2 ^ 64) (PassesOn entries by (step slots 1 1 0 none) (v, (0, Some y) ∷ []))
+  pass-keeps : (slots id : ℕ) (v : V) (y : S) (k : ℕ) → 0 < v.number → v.stage ≡ Serving k → mark_of y ≡ v.mark
+      → AddsAtMostOne by v.number v.seen (entries y)
+      → Allows Rule slots id (v, (0, Some y) ∷ []) 1 (λ n. (n + 1) % 2 ^ 64)
+          (PassesOn entries by (step slots 1 1 0 none) (v, (0, Some y) ∷ []))
   unfolding state_of
   pass-keeps slots id v y k p is marked adds s r _ at _ =
       let x : Round E = r.x in
@@ -224,17 +252,20 @@ module _ {S E : Type 0} (entries : S → List E) (by : E → ℕ) (mark_of : S �
       let gone = r.gone fits.2 in
       let below = gone.1 in
       let budget = r.budget in
-      let added : AddsAtMostOne by v.number x.log (entries y) = subst (λ l. AddsAtMostOne by v.number l (entries y)) fits.3 adds in
+      let added : AddsAtMostOne by v.number x.log (entries y) =
+          subst (λ l. AddsAtMostOne by v.number l (entries y)) fits.3 adds in
       let w : V = record v { seen = entries y; mine = own by v.number (entries y); stage = Resting } in
       let x' : Round E = passed_on x y in
       let high : v.number ≤ seats = (let l = q.last in omega arith) in
-      let numbered : IsNumbered by seats (entries y) = numbered-added by seats v.number x.log (entries y) p high r.numbered added in (
+      let numbered : IsNumbered by seats (entries y) = numbered-added by seats v.number x.log (entries y) p high
+          r.numbered added in (
         w,
         gives,
         tt,
         record {
           x = x';
-          words = ap (λ ws. slice_set ws 1 ((slice_index ws 1 + 1) % 2 ^ 64)) r.words ∙ ap (λ (z : ℕ). x.drawn ∷ z ∷ []) (omega arith);
+          words = ap (λ ws. slice_set ws 1 ((slice_index ws 1 + 1) % 2 ^ 64)) r.words
+              ∙ ap (λ (z : ℕ). x.drawn ∷ z ∷ []) (omega arith);
           budget = let t = sum-set (λ (u : V). u.left) s.views id v w at in omega arith;
           behind = omega arith;
           gone = λ o. absurd (true≢false (sym o));
@@ -249,7 +280,8 @@ module _ {S E : Type 0} (entries : S → List E) (by : E → ℕ) (mark_of : S �
                   top = q.top;
                   holds = q.holds;
                   mine = refl;
-                  unused = λ n low high'. own-added by n v.number x.log (entries y) (λ e. omega arith) added ∙ q.unused n low high';
+                  unused = λ n low high'. own-added by n v.number x.log (entries y) (λ e. omega arith) added
+                      ∙ q.unused n low high';
                 };
                 seen = ([], append-nil (entries y));
                 own = ap (λ (z : ℕ). own by z (entries y)) q.source;
@@ -259,14 +291,18 @@ module _ {S E : Type 0} (entries : S → List E) (by : E → ℕ) (mark_of : S �
               }
               (λ j u ne here. let f = r.each j u here in record {
                 sits = λ pos. let z = f.sits pos in
-                    let apart : (n : ℕ) → u.number ≤ n → n ≤ u.number + u.spare → n ≢ v.number = λ n low up e. ne (sym (z.holds n low up) ∙ (ap x.holder e ∙ q.holds v.number (le_refl v.number) (omega arith))) in record {
+                    let apart : (n : ℕ) → u.number ≤ n → n ≤ u.number + u.spare → n ≢ v.number =
+                        λ n low up e. ne (sym (z.holds n low up)
+                        ∙ (ap x.holder e ∙ q.holds v.number (le_refl v.number) (omega arith))) in record {
                       mark = z.mark;
                       source = z.source;
                       last = z.last;
                       top = z.top;
                       holds = z.holds;
-                      mine = own-added by u.number v.number x.log (entries y) (apart u.number (le_refl u.number) (omega arith)) added ∙ z.mine;
-                      unused = λ n low up. own-added by n v.number x.log (entries y) (apart n (omega arith) up) added ∙ z.unused n low up;
+                      mine = own-added by u.number v.number x.log (entries y) (apart u.number (le_refl u.number)
+                          (omega arith)) added ∙ z.mine;
+                      unused = λ n low up. own-added by n v.number x.log (entries y) (apart n (omega arith) up)
+                          added ∙ z.unused n low up;
                     };
                 seen = prefix-added by v.number u.seen x.log (entries y) f.seen added;
                 own = f.own;
@@ -282,7 +318,10 @@ module _ {S E : Type 0} (entries : S → List E) (by : E → ℕ) (mark_of : S �
         ),
       )
 
-  pub may_pass_on : (slots id : ℕ) (me : M) (y : S) (k : ℕ) → me.1 ≡ (0, Some y) ∷ [] → 0 < me.0.number → me.0.stage ≡ Serving k → mark_of y ≡ me.0.mark → AddsAtMostOne by me.0.number me.0.seen (entries y)
+  pub may_pass_on : (slots id : ℕ) (me : M) (y : S) (k : ℕ) → me.1 ≡ (0, Some y) ∷ [] → 0 < me.0.number
+      → me.0.stage ≡ Serving k → mark_of y ≡ me.0.mark → AddsAtMostOne by me.0.number me.0.seen (entries y)
       → Allows Rule slots id me 1 (λ n. (n + 1) % 2 ^ 64) (PassesOn entries by (step slots 1 1 0 none) me)
   may_pass_on slots id me y k has p is marked adds =
-      subst (λ (c : List (ℕ × Option S)). Allows Rule slots id (me.0, c) 1 (λ n. (n + 1) % 2 ^ 64) (PassesOn entries by (step slots 1 1 0 none) (me.0, c))) (sym has) (pass-keeps slots id me.0 y k p is marked adds)
+      subst (λ (c : List (ℕ × Option S)). Allows Rule slots id (me.0,
+          c) 1 (λ n. (n + 1) % 2 ^ 64) (PassesOn entries by (step slots 1 1 0 none) (me.0,
+          c))) (sym has) (pass-keeps slots id me.0 y k p is marked adds)

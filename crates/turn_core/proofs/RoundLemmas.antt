@@ -19,7 +19,9 @@ pick-no (yes p) a b n = absurd (n p)
 pick-no (no _) a b n = refl
 
 -- a fact about each view, after one of them changed
-pub each-set : {A : Type 0} (Q : ℕ → A → Type 0) (vs : List A) (me : ℕ) (w : A) → Q me w → ((j : ℕ) (v : A) → j ≢ me → get_elem? vs j ≡ some v → Q j v)
+pub each-set : {A : Type 0} (Q : ℕ → A → Type 0) (vs : List A) (me : ℕ) (w : A) → Q me w → ((j : ℕ) (v : A)
+    → j ≢ me → get_elem? vs j ≡ some v → Q j v)
     → (j : ℕ) (v : A) → get_elem? (set vs me w) j ≡ some v → Q j v
-each-set {A} Q vs me w mine others j v at = ⊎_elim (λ (t : (j ≡ me) × (w ≡ v)). subst (λ (x : ℕ × A). Q x.0 x.1) (λ i. (sym t.0 i, t.1 i)) mine)
+each-set {A} Q vs me w mine others j v at = ⊎_elim (λ (t : (j ≡ me) × (w ≡ v)). subst (λ (x : ℕ
+    × A). Q x.0 x.1) (λ i. (sym t.0 i, t.1 i)) mine)
     (λ (t : (j ≢ me) × (get_elem? vs j ≡ some v)). others j v t.0 t.1) (at_set vs me j w v at)

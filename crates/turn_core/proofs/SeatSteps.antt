@@ -10,7 +10,7 @@ use Rattle.atomic_table.proofs.Lists.{at_set}
 use Rattle.turn_core.specs.declared.view.View.{View}
 use Rattle.turn_core.specs.declared.view.Stage.TheVariants.{Resting}
 use Rattle.turn_core.specs.Entries.{own, IsNumbered}
-use Rattle.turn_core.specs.Limits.{call_limit}
+use Rattle.turn_core.specs.Limits.{call_limit, seat_limit}
 use Rattle.turn_core.specs.Rule.{Round, StageFits, Fits, Serves}
 use Rattle.turn_core.specs.Steps.{view_from, sole, following, longer, telling, told_by, spent_view, Learns}
 use Rattle.turn_core.proofs.RoundLemmas.{pick, pick-yes, pick-no, each-set}
@@ -53,11 +53,14 @@ module _ {S E : Type 0} (entries : S → List E) (by : E → ℕ) (mark_of : S �
     stage = tt;
   }
 
-  opens-each : 1 ≤ seats → (i : ℕ) (v : V) → get_elem? (view_from 1 seats ∷ []) i ≡ some v → Fits by seats opening_round i v
-  opens-each some_seat zero v at = subst (Fits by seats opening_round 0) (some-injective (view_from 1 seats) v at) (first-fits some_seat)
+  opens-each : 1 ≤ seats → (i : ℕ) (v : V) → get_elem? (view_from 1 seats ∷ []) i ≡ some v
+      → Fits by seats opening_round i v
+  opens-each some_seat zero v at = subst (Fits by seats opening_round 0) (some-injective (view_from 1 seats) v at)
+      (first-fits some_seat)
   opens-each some_seat (suc i) v at = absurd (some-ne-none v (sym at))
 
-  pub opens : (state : S) → 1 ≤ seats → seats ≤ 16 → entries state ≡ [] → mark_of state ≡ seats → Rule (opening (0 ∷ 0 ∷ []) (Some state ∷ []) (view_from 1 seats))
+  pub opens : (state : S) → 1 ≤ seats → seats ≤ seat_limit → entries state ≡ [] → mark_of state ≡ seats
+      → Rule (opening (0 ∷ 0 ∷ []) (Some state ∷ []) (view_from 1 seats))
   unfolding opening_round
   opens state some_seat few none_yet marked = record {
     x = opening_round;
@@ -74,7 +77,8 @@ module _ {S E : Type 0} (entries : S → List E) (by : E → ℕ) (mark_of : S �
   abbrev handed : Round E → ℕ → ℕ → Round E
   handed x p to = record x { holder = λ k. pick (dec_lt p k) to (x.holder k) }
 
-  pub may_deal : (id : ℕ) (v : V) → 0 < v.number → 0 < v.spare → call_limit ≤ v.left → Splits Rule id v (sole v) (following v)
+  pub may_deal : (id : ℕ) (v : V) → 0 < v.number → 0 < v.spare → call_limit ≤ v.left
+      → Splits Rule id v (sole v) (following v)
   may_deal id v pos spare room s r at =
       let x : Round E = r.x in
       let n : ℕ = length s.views in
@@ -91,7 +95,8 @@ module _ {S E : Type 0} (entries : S → List E) (by : E → ℕ) (mark_of : S �
           source = q.source;
           last = omega arith;
           top = λ l. absurd (omega arith);
-          holds = λ k low high. pick-no (dec_lt v.number k) n (x.holder k) (λ l. omega arith) ∙ q.holds k low (omega arith);
+          holds = λ k low high. pick-no (dec_lt v.number k) n (x.holder k) (λ l. omega arith)
+              ∙ q.holds k low (omega arith);
           mine = q.mine;
           unused = λ k low high. absurd (omega arith);
         };
@@ -117,13 +122,15 @@ module _ {S E : Type 0} (entries : S → List E) (by : E → ℕ) (mark_of : S �
         told = ([], refl);
         stage = tt;
       } in
-      let others : (j : ℕ) (u : V) → j ≢ id → get_elem? s.views j ≡ some u → Fits by seats x' j u = λ j u ne here. let f = r.each j u here in record {
+      let others : (j : ℕ) (u : V) → j ≢ id → get_elem? s.views j ≡ some u → Fits by seats x' j u =
+          λ j u ne here. let f = r.each j u here in record {
         sits = λ p. let z = f.sits p in record {
           mark = z.mark;
           source = z.source;
           last = z.last;
           top = z.top;
-          holds = λ k low high. let last = z.last in pick-no (dec_lt v.number k) n (x.holder k) (λ l. ne (sym (z.holds k low high) ∙ q.holds k (omega arith) (omega arith))) ∙ z.holds k low high;
+          holds = λ k low high. let last = z.last in pick-no (dec_lt v.number k) n (x.holder k)
+              (λ l. ne (sym (z.holds k low high) ∙ q.holds k (omega arith) (omega arith))) ∙ z.holds k low high;
           mine = z.mine;
           unused = z.unused;
         };
@@ -142,7 +149,9 @@ module _ {S E : Type 0} (entries : S → List E) (by : E → ℕ) (mark_of : S �
         home = r.home;
         numbered = r.numbered;
         each = λ j u here. ⊎_elim (each-set (Fits by seats x') s.views id (sole v) mine others j u)
-            (λ (e : (j ≡ length (set s.views id (sole v))) × (following v ≡ u)). subst (λ (z : ℕ × V). Fits by seats x' z.0 z.1) (λ i. (sym (e.0 ∙ length-set s.views id (sole v)) i, e.1 i)) theirs)
+            (λ (e : (j ≡ length (set s.views id (sole v))) × (following v ≡ u)).
+                subst (λ (z : ℕ × V). Fits by seats x' z.0 z.1)
+                (λ i. (sym (e.0 ∙ length-set s.views id (sole v)) i, e.1 i)) theirs)
             (at-push (set s.views id (sole v)) (following v) u j here);
       }
 
@@ -171,15 +180,22 @@ module _ {S E : Type 0} (entries : S → List E) (by : E → ℕ) (mark_of : S �
         home = r.home;
         numbered = r.numbered;
         each = λ j u here. ⊎_elim (each-set (Fits by seats x) s.views id v old (λ j u _ at. r.each j u at) j u)
-            (λ (e : (j ≡ length (set s.views id v)) × (telling v ≡ u)). subst (λ (z : ℕ × V). Fits by seats x z.0 z.1) (λ i. (sym (e.0 ∙ length-set s.views id v) i, e.1 i)) theirs)
+            (λ (e : (j ≡ length (set s.views id v)) × (telling v ≡ u)).
+                subst (λ (z : ℕ × V). Fits by seats x z.0 z.1)
+                (λ i. (sym (e.0 ∙ length-set s.views id v) i, e.1 i)) theirs)
             (at-push (set s.views id v) (telling v) u j here);
       }
 
   -- what the other seat knows also fits
-  at-other : (s : St) (r : Rule s) (id other : ℕ) (z w : V) → ¬ (other ≡ id) → get_elem? (set s.views id z) other ≡ some w → Fits by seats r.x other w
-  at-other s r id other z w apart there = ⊎_elim (λ (t : (other ≡ id) × (z ≡ w)). absurd (apart t.0)) (λ (t : (other ≢ id) × (get_elem? s.views other ≡ some w)). r.each other w t.1) (at_set s.views id other z w there)
+  at-other : (s : St) (r : Rule s) (id other : ℕ) (z w : V) → ¬ (other ≡ id)
+      → get_elem? (set s.views id z) other ≡ some w → Fits by seats r.x other w
+  at-other s r id other z w apart there =
+      ⊎_elim (λ (t : (other ≡ id) × (z ≡ w)). absurd (apart t.0))
+      (λ (t : (other ≢ id) × (get_elem? s.views other ≡ some w)). r.each other w t.1)
+      (at_set s.views id other z w there)
 
-  pub may_join : (id : ℕ) (v : V) (other : ℕ) (w : V) → 0 < v.number → v.stage ≡ Resting → Joins Rule id v other w (told_by v w) spent_view
+  pub may_join : (id : ℕ) (v : V) (other : ℕ) (w : V) → 0 < v.number → v.stage ≡ Resting
+      → Joins Rule id v other w (told_by v w) spent_view
   may_join id v other w pos rests s r at apart there =
       let x : Round E = r.x in
       let old = r.each id v at in
@@ -192,9 +208,11 @@ module _ {S E : Type 0} (entries : S → List E) (by : E → ℕ) (mark_of : S �
       let meets = longer-meets v.seen w.seen old.seen.0 its.seen.0 (old.seen.1 ∙ sym its.seen.1) in
       let begins : IsPrefix z.seen x.log = subst (IsPrefix (longer v.seen w.seen)) old.seen.1 meets.0 in
       let mine : Fits by seats x id z = record {
-        sits = λ _. record { mark = q.mark; source = q.source; last = q.last; top = q.top; holds = q.holds; mine = q.mine; unused = q.unused };
+        sits = λ _. record { mark = q.mark; source = q.source; last = q.last; top = q.top; holds = q.holds;
+            mine = q.mine; unused = q.unused };
         seen = begins;
-        own = own-between by v.source v.seen z.seen x.log meets.1 begins (old.own ∙ (sym q.mine ∙ ap (λ (k : ℕ). own by k x.log) (sym q.source))) ∙ old.own;
+        own = own-between by v.source v.seen z.seen x.log meets.1 begins (old.own ∙ (sym q.mine
+            ∙ ap (λ (k : ℕ). own by k x.log) (sym q.source))) ∙ old.own;
         before = meets.1;
         told = meets.2;
         stage = subst (StageFits x id z.seen) (sym rests) tt;
@@ -215,7 +233,8 @@ module _ {S E : Type 0} (entries : S → List E) (by : E → ℕ) (mark_of : S �
         gone = r.gone;
         home = r.home;
         numbered = r.numbered;
-        each = each-set (Fits by seats x) (set s.views id z) other spent_view gone (λ j u _ here. each-set (Fits by seats x) s.views id z mine (λ j u _ at. r.each j u at) j u here);
+        each = each-set (Fits by seats x) (set s.views id z) other spent_view gone
+            (λ j u _ here. each-set (Fits by seats x) s.views id z mine (λ j u _ at. r.each j u at) j u here);
       }
 
   pub may_learn : (slots id : ℕ) (me : M) → Allows Rule slots id me 1 (λ n. n) (Learns by (step slots 1 0 0 none) me)
@@ -238,6 +257,7 @@ module _ {S E : Type 0} (entries : S → List E) (by : E → ℕ) (mark_of : S �
       old.before,
       old.told,
       old.own,
-      λ p. numbered-front by me.0.mark me.0.seen r.x.log old.seen (subst (λ (k : ℕ). IsNumbered by k r.x.log) (sym (old.sits p).mark) r.numbered),
+      λ p. numbered-front by me.0.mark me.0.seen r.x.log old.seen
+          (subst (λ (k : ℕ). IsNumbered by k r.x.log) (sym (old.sits p).mark) r.numbered),
     ),
   )

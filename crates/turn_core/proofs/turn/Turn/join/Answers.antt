@@ -7,10 +7,12 @@ use Rattle.turn_core.proofs.turn.Turn.join.Goals as goal
 
 pub join_seat-requires : goal.join_seat-requires
 join_seat-requires g c =
-    (c.requires.turn.0, c.requires.turn.1, c.args.other.empty, let n = c.args.self.now.words in omega arith, may_join _ _ _ _ _ _ _ _ c.requires.number c.args.seat.now.rests)
+    (c.requires.turn.0, c.requires.turn.1, c.args.other.empty, let n = c.args.self.now.words in omega arith,
+        may_join _ _ _ _ _ _ _ _ c.requires.number c.args.seat.now.rests)
 
 pub load-requires : goal.load-requires
-load-requires g c = (c.join_seat.ensures.0 ∙ c.requires.turn.0, let n = c.args.self.now.words in omega arith, may_learn _ _ _ _ _ _ _)
+load-requires g c = (c.join_seat.ensures.0 ∙ c.requires.turn.0, let n = c.args.self.now.words in omega arith,
+    may_learn _ _ _ _ _ _ _)
 
 pub invariant_of-seat : goal.invariant_of-seat
 invariant_of-seat g c =
@@ -26,7 +28,8 @@ invariant_of-seat g c =
       source = λ p. ap (λ m. m.0.source) same ∙ (old.source (subst (λ k. 0 < k) number p) ∙ sym number);
       within = subst (λ v. v.number ≤ v.mark) (sym (ap (λ m. m.0) same)) old.within;
       own = subst (λ v. own g.S.Kept.by v.source v.seen ≡ v.mine) view learned.3;
-      numbered = subst (λ v. IsNumbered g.S.Kept.by v.mark v.seen) view (learned.4 (subst (λ k. 0 < k) (sym (ap (λ m. m.0.number) c.join_seat.ensures.2)) c.requires.number));
+      numbered = subst (λ v. IsNumbered g.S.Kept.by v.mark v.seen) view
+          (learned.4 (subst (λ k. 0 < k) (sym (ap (λ m. m.0.number) c.join_seat.ensures.2)) c.requires.number));
     }
 
 pub returns-clause-one : goal.returns-clause-one
