@@ -76,7 +76,7 @@ IsSpent p q = (calls_left p ≡ 0) × (q ≡ p)
 abbrev pub Commits : Pass → Change → Result ℕ (Failure StoreRefused) → Pass → Type 0
 Commits p change (Ok n) q = Counts p q (commit (number_of p) change ∷ [])
     × ((before : History)
-      × (seen q ≡ before ++ commit (number_of p) change ∷ []) × (refusal_after before change ≡ None))
+    × (seen q ≡ before ++ commit (number_of p) change ∷ []) × (refusal_after before change ≡ None))
     × (n ≡ length (seen q))
 Commits p change (Err (Refused store.PassSpent)) q = IsSpent p q
 Commits p change (Err (Refused (store.Book why))) q = Counts p q [] × (refusal_after (seen q) change ≡ Some why)

@@ -77,18 +77,36 @@ module _ {S E : Type 0} (entries : S → List E) (by : E → ℕ) (mark_of : S �
           numbered = r.numbered;
           each = each-set (Fits by seats (with_ticket x id)) s.views id w
               record {
-                sits = λ p. let q = old.sits p in record { mark = q.mark; source = q.source; last = q.last;
-                    top = q.top; holds = q.holds; mine = q.mine; unused = q.unused };
+                sits = λ p. let q = old.sits p in record {
+                  mark = q.mark;
+                  source = q.source;
+                  last = q.last;
+                  top = q.top;
+                  holds = q.holds;
+                  mine = q.mine;
+                  unused = q.unused;
+                };
                 seen = old.seen;
                 own = old.own;
                 before = old.before;
                 told = old.told;
-                stage = (r.behind, omega arith, pick-yes (ℕ_discrete x.drawn x.drawn) id (x.drawer x.drawn) refl,
-                    λ e. not-out x.out (x.served < x.drawn) (λ o. (r.gone o).1) (λ l. omega arith));
+                stage = (
+                  r.behind,
+                  omega arith,
+                  pick-yes (ℕ_discrete x.drawn x.drawn) id (x.drawer x.drawn) refl,
+                  λ e. not-out x.out (x.served < x.drawn) (λ o. (r.gone o).1) (λ l. omega arith),
+                );
               }
               (λ j u _ here. let f = r.each j u here in record {
-                sits = λ p. let q = f.sits p in record { mark = q.mark; source = q.source; last = q.last;
-                    top = q.top; holds = q.holds; mine = q.mine; unused = q.unused };
+                sits = λ p. let q = f.sits p in record {
+                  mark = q.mark;
+                  source = q.source;
+                  last = q.last;
+                  top = q.top;
+                  holds = q.holds;
+                  mine = q.mine;
+                  unused = q.unused;
+                };
                 seen = f.seen;
                 own = f.own;
                 before = f.before;
@@ -135,8 +153,13 @@ module _ {S E : Type 0} (entries : S → List E) (by : E → ℕ) (mark_of : S �
   others-stay : (x : Round E) (me j : ℕ) (seen : List E) → x.drawer x.served ≡ me → j ≢ me → x.out ≡ false
       → (st : Stage) → StageFits x j seen st → StageFits (taken x) j seen st
   others-stay x me j seen drew ne home Resting fits = tt
-  others-stay x me j seen drew ne home (Waiting k) fits = (fits.0, fits.1, fits.2, λ e. absurd (ne (sym fits.2
-      ∙ (ap x.drawer e ∙ drew))))
+  others-stay x me j seen drew ne home (Waiting k) fits = (
+    fits.0,
+    fits.1,
+    fits.2,
+    λ e. absurd (ne (sym fits.2
+        ∙ (ap x.drawer e ∙ drew))),
+  )
   others-stay x me j seen drew ne home (Serving k) fits = absurd (true≢false (sym fits.2 ∙ home))
 
   miss-keeps : (slots id : ℕ) (me : M) (k : ℕ) (s : St) (r : Rule s) → me.0.stage ≡ Waiting k
@@ -145,21 +168,21 @@ module _ {S E : Type 0} (entries : S → List E) (by : E → ℕ) (mark_of : S �
       × Looks entries by mark_of (step slots 1 0 0 none) me (slice_index s.words 1) (w, carried_after me.1 a)
   miss-keeps slots id me k s r is at miss = let n : slice_index s.words 1 ≡ r.x.served =
       ap (λ ws. slice_index ws 1) r.words in (
-    me.0,
-    keeps,
-    tt,
-    record {
-      x = r.x;
-      words = ap (λ ws. slice_set ws 1 (slice_index ws 1)) r.words;
-      budget = let t = sum-set (λ (u : V). u.left) s.views id me.0 me.0 at in let b = r.budget in omega arith;
-      behind = r.behind;
-      gone = r.gone;
-      home = r.home;
-      numbered = r.numbered;
-      each = each-set (Fits by seats r.x) s.views id me.0 (r.each id me.0 at) (λ j u _ here. r.each j u here);
-    },
-    λ k' is'. ((λ _. refl), λ e. absurd (miss (sym n ∙ (e ∙ Waiting-injective k' k (sym is' ∙ is))))),
-  )
+        me.0,
+        keeps,
+        tt,
+        record {
+          x = r.x;
+          words = ap (λ ws. slice_set ws 1 (slice_index ws 1)) r.words;
+          budget = let t = sum-set (λ (u : V). u.left) s.views id me.0 me.0 at in let b = r.budget in omega arith;
+          behind = r.behind;
+          gone = r.gone;
+          home = r.home;
+          numbered = r.numbered;
+          each = each-set (Fits by seats r.x) s.views id me.0 (r.each id me.0 at) (λ j u _ here. r.each j u here);
+        },
+        λ k' is'. ((λ _. refl), λ e. absurd (miss (sym n ∙ (e ∙ Waiting-injective k' k (sym is' ∙ is))))),
+      )
 
   hit-keeps : (slots id : ℕ) (me : M) (k : ℕ) (s : St) (r : Rule s) → 0 < me.0.number → me.0.stage ≡ Waiting k
       → get_elem? s.views id ≡ some me.0 → r.x.served ≡ k
@@ -191,8 +214,15 @@ module _ {S E : Type 0} (entries : S → List E) (by : E → ℕ) (mark_of : S �
           numbered = r.numbered;
           each = each-set (Fits by seats (taken x)) s.views id w
               record {
-                sits = λ _. record { mark = q.mark; source = q.source; last = q.last; top = q.top; holds = q.holds;
-                    mine = q.mine; unused = q.unused };
+                sits = λ _. record {
+                  mark = q.mark;
+                  source = q.source;
+                  last = q.last;
+                  top = q.top;
+                  holds = q.holds;
+                  mine = q.mine;
+                  unused = q.unused;
+                };
                 seen = ([], append-nil (entries y.0) ∙ y.2);
                 own = ap (own by v.source) y.2 ∙ (ap (λ (z : ℕ). own by z x.log) q.source ∙ q.mine);
                 before = prefix-trans v.before v.seen (entries y.0) old.before all;
@@ -200,7 +230,7 @@ module _ {S E : Type 0} (entries : S → List E) (by : E → ℕ) (mark_of : S �
                 stage = (sym hit, fits.2, refl, y.2);
               }
               (λ j u ne here. refits x (taken x) j u refl refl (r.each j u here) (others-stay x id j u.seen drew ne
-                  home u.stage (r.each j u here).stage));
+              home u.stage (r.each j u here).stage));
         },
         λ k' is'. (
           (λ miss. absurd (miss (n ∙ (hit ∙ Waiting-injective k k' (sym is ∙ is'))))),
@@ -241,7 +271,7 @@ module _ {S E : Type 0} (entries : S → List E) (by : E → ℕ) (mark_of : S �
   pass-keeps : (slots id : ℕ) (v : V) (y : S) (k : ℕ) → 0 < v.number → v.stage ≡ Serving k → mark_of y ≡ v.mark
       → AddsAtMostOne by v.number v.seen (entries y)
       → Allows Rule slots id (v, (0, Some y) ∷ []) 1 (λ n. (n + 1) % 2 ^ 64)
-          (PassesOn entries by (step slots 1 1 0 none) (v, (0, Some y) ∷ []))
+      (PassesOn entries by (step slots 1 1 0 none) (v, (0, Some y) ∷ []))
   unfolding state_of
   pass-keeps slots id v y k p is marked adds s r _ at _ =
       let x : Round E = r.x in
@@ -253,12 +283,12 @@ module _ {S E : Type 0} (entries : S → List E) (by : E → ℕ) (mark_of : S �
       let below = gone.1 in
       let budget = r.budget in
       let added : AddsAtMostOne by v.number x.log (entries y) =
-          subst (λ l. AddsAtMostOne by v.number l (entries y)) fits.3 adds in
+      subst (λ l. AddsAtMostOne by v.number l (entries y)) fits.3 adds in
       let w : V = record v { seen = entries y; mine = own by v.number (entries y); stage = Resting } in
       let x' : Round E = passed_on x y in
       let high : v.number ≤ seats = (let l = q.last in omega arith) in
       let numbered : IsNumbered by seats (entries y) = numbered-added by seats v.number x.log (entries y) p high
-          r.numbered added in (
+      r.numbered added in (
         w,
         gives,
         tt,
@@ -292,8 +322,8 @@ module _ {S E : Type 0} (entries : S → List E) (by : E → ℕ) (mark_of : S �
               (λ j u ne here. let f = r.each j u here in record {
                 sits = λ pos. let z = f.sits pos in
                     let apart : (n : ℕ) → u.number ≤ n → n ≤ u.number + u.spare → n ≢ v.number =
-                        λ n low up e. ne (sym (z.holds n low up)
-                        ∙ (ap x.holder e ∙ q.holds v.number (le_refl v.number) (omega arith))) in record {
+                    λ n low up e. ne (sym (z.holds n low up)
+                    ∙ (ap x.holder e ∙ q.holds v.number (le_refl v.number) (omega arith))) in record {
                       mark = z.mark;
                       source = z.source;
                       last = z.last;
@@ -322,6 +352,10 @@ module _ {S E : Type 0} (entries : S → List E) (by : E → ℕ) (mark_of : S �
       → me.0.stage ≡ Serving k → mark_of y ≡ me.0.mark → AddsAtMostOne by me.0.number me.0.seen (entries y)
       → Allows Rule slots id me 1 (λ n. (n + 1) % 2 ^ 64) (PassesOn entries by (step slots 1 1 0 none) me)
   may_pass_on slots id me y k has p is marked adds =
-      subst (λ (c : List (ℕ × Option S)). Allows Rule slots id (me.0,
-          c) 1 (λ n. (n + 1) % 2 ^ 64) (PassesOn entries by (step slots 1 1 0 none) (me.0,
-          c))) (sym has) (pass-keeps slots id me.0 y k p is marked adds)
+      subst (λ (c : List (ℕ × Option S)). Allows Rule slots id (
+        me.0,
+        c,
+      ) 1 (λ n. (n + 1) % 2 ^ 64) (PassesOn entries by (step slots 1 1 0 none) (
+        me.0,
+        c,
+      ))) (sym has) (pass-keeps slots id me.0 y k p is marked adds)

@@ -123,7 +123,7 @@ module _ {S E : Type 0} (entries : S → List E) (by : E → ℕ) (mark_of : S �
         stage = tt;
       } in
       let others : (j : ℕ) (u : V) → j ≢ id → get_elem? s.views j ≡ some u → Fits by seats x' j u =
-          λ j u ne here. let f = r.each j u here in record {
+      λ j u ne here. let f = r.each j u here in record {
         sits = λ p. let z = f.sits p in record {
           mark = z.mark;
           source = z.source;
@@ -150,8 +150,8 @@ module _ {S E : Type 0} (entries : S → List E) (by : E → ℕ) (mark_of : S �
         numbered = r.numbered;
         each = λ j u here. ⊎_elim (each-set (Fits by seats x') s.views id (sole v) mine others j u)
             (λ (e : (j ≡ length (set s.views id (sole v))) × (following v ≡ u)).
-                subst (λ (z : ℕ × V). Fits by seats x' z.0 z.1)
-                (λ i. (sym (e.0 ∙ length-set s.views id (sole v)) i, e.1 i)) theirs)
+            subst (λ (z : ℕ × V). Fits by seats x' z.0 z.1)
+            (λ i. (sym (e.0 ∙ length-set s.views id (sole v)) i, e.1 i)) theirs)
             (at-push (set s.views id (sole v)) (following v) u j here);
       }
 
@@ -181,8 +181,8 @@ module _ {S E : Type 0} (entries : S → List E) (by : E → ℕ) (mark_of : S �
         numbered = r.numbered;
         each = λ j u here. ⊎_elim (each-set (Fits by seats x) s.views id v old (λ j u _ at. r.each j u at) j u)
             (λ (e : (j ≡ length (set s.views id v)) × (telling v ≡ u)).
-                subst (λ (z : ℕ × V). Fits by seats x z.0 z.1)
-                (λ i. (sym (e.0 ∙ length-set s.views id v) i, e.1 i)) theirs)
+            subst (λ (z : ℕ × V). Fits by seats x z.0 z.1)
+            (λ i. (sym (e.0 ∙ length-set s.views id v) i, e.1 i)) theirs)
             (at-push (set s.views id v) (telling v) u j here);
       }
 
@@ -208,8 +208,15 @@ module _ {S E : Type 0} (entries : S → List E) (by : E → ℕ) (mark_of : S �
       let meets = longer-meets v.seen w.seen old.seen.0 its.seen.0 (old.seen.1 ∙ sym its.seen.1) in
       let begins : IsPrefix z.seen x.log = subst (IsPrefix (longer v.seen w.seen)) old.seen.1 meets.0 in
       let mine : Fits by seats x id z = record {
-        sits = λ _. record { mark = q.mark; source = q.source; last = q.last; top = q.top; holds = q.holds;
-            mine = q.mine; unused = q.unused };
+        sits = λ _. record {
+          mark = q.mark;
+          source = q.source;
+          last = q.last;
+          top = q.top;
+          holds = q.holds;
+          mine = q.mine;
+          unused = q.unused;
+        };
         seen = begins;
         own = own-between by v.source v.seen z.seen x.log meets.1 begins (old.own ∙ (sym q.mine
             ∙ ap (λ (k : ℕ). own by k x.log) (sym q.source))) ∙ old.own;

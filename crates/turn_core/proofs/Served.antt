@@ -21,8 +21,11 @@ module _ {S E F R : Type 0} (entries : S → List E) (by : E → ℕ) (mark_of :
         (keeps : KeepsEntries entries by mark_of g f v)
         (ran : FnOnceReturnsAtMut g f x r y) where
       same : (number : w.number ≡ v.number) × (w.mark ≡ v.mark) × (w.mine ≡ v.mine)
-      same = (ap (λ u. u.number) took ∙ ap (λ u. u.number) drew, ap (λ u. u.mark) took ∙ ap (λ u. u.mark) drew,
-          ap (λ u. u.mine) took ∙ ap (λ u. u.mine) drew)
+      same = (
+        ap (λ u. u.number) took ∙ ap (λ u. u.number) drew,
+        ap (λ u. u.mark) took ∙ ap (λ u. u.mark) drew,
+        ap (λ u. u.mine) took ∙ ap (λ u. u.mine) drew,
+      )
 
       added : (mark_of y ≡ mark_of x) × AddsAtMostOne by v.number (entries x) (entries y)
       added = (keeps x (lent-before x l)).1 r y ran
@@ -30,24 +33,34 @@ module _ {S E F R : Type 0} (entries : S → List E) (by : E → ℕ) (mark_of :
       pub keeps-on : (mark_of y ≡ w.mark) × AddsAtMostOne by w.number w.seen (entries y)
       keeps-on = (
         added.0 ∙ ((lent-before x l).mark ∙ sym same.1),
-        subst (λ (z : ℕ × List E). AddsAtMostOne by z.0 z.1 (entries y)) (λ i. (sym same.0 i,
-            sym (ap (λ u. u.seen) took) i)) added.1,
+        subst (λ (z : ℕ × List E). AddsAtMostOne by z.0 z.1 (entries y)) (λ i. (
+          sym same.0 i,
+          sym (ap (λ u. u.seen) took) i,
+        )) added.1,
       )
 
       mine-after : (u : View E) → u.seen ≡ entries y → u.mine ≡ own by v.number (entries y)
           → AddsAtMostOne by v.number (entries x) (entries y)
           → ((u.seen ≡ entries x) × (u.mine ≡ v.mine)) ⊎ ((e : E) × (by e ≡ v.number)
-              × (u.seen ≡ entries x ++ e ∷ []) × (u.mine ≡ v.mine ++ e ∷ []))
+          × (u.seen ≡ entries x ++ e ∷ []) × (u.mine ≡ v.mine ++ e ∷ []))
       mine-after u seen mine (inl is) = inl (seen ∙ is, mine ∙ (ap (own by v.number) is ∙ (lent-before x l).own))
-      mine-after u seen mine (inr (e, of, is)) = inr (e, of, seen ∙ is, mine ∙ (ap (own by v.number) is
-          ∙ (own-push by v.number (entries x) e of ∙ ap (λ m. m ++ e ∷ []) (lent-before x l).own)))
+      mine-after u seen mine (inr (e, of, is)) = inr (
+        e,
+        of,
+        seen ∙ is,
+        mine ∙ (ap (own by v.number) is
+            ∙ (own-push by v.number (entries x) e of ∙ ap (λ m. m ++ e ∷ []) (lent-before x l).own)),
+      )
 
-      pub ran-on : (u : View E) → u ≡ record w { seen = entries y; mine = own by w.number (entries y);
-          stage = Resting } → IsNumbered by w.mark (entries y) → Ran entries by mark_of g f v r u
+      pub ran-on : (u : View E) → u ≡ record w {
+        seen = entries y;
+        mine = own by w.number (entries y);
+        stage = Resting;
+      } → IsNumbered by w.mark (entries y) → Ran entries by mark_of g f v r u
       ran-on u passed numbered =
           let seen : u.seen ≡ entries y = ap (λ z. z.seen) passed in
           let mine : u.mine ≡ own by v.number (entries y) = ap (λ z. z.mine) passed
-              ∙ ap (λ (k : ℕ). own by k (entries y)) same.0 in
+          ∙ ap (λ (k : ℕ). own by k (entries y)) same.0 in
           record {
             lent = x;
             left = y;

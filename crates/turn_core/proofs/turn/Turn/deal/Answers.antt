@@ -11,9 +11,11 @@ split_seat-next-requires g c =
     let spare = ap (λ m. m.0.spare) v in
     let left = ap (λ m. m.0.left) v in
     let low = c.loop-number.invariant.0 in
-    let more = c.loop-number-test.true in
-    (c.loop-number.invariant.4, let n = c.args.self.now.words in omega arith,
-        may_deal _ _ _ _ _ _ (omega arith) (omega arith) (omega arith))
+    let more = c.loop-number-test.true in (
+      c.loop-number.invariant.4,
+      let n = c.args.self.now.words in omega arith,
+      may_deal _ _ _ _ _ _ (omega arith) (omega arith) (omega arith),
+    )
 
 pub loop-number-preserved : goal.loop-number-preserved
 loop-number-preserved g c =
@@ -33,8 +35,11 @@ loop-number-preserved g c =
       c.push_reserved.ensures.capacity ∙ inv.3,
       split.3 ∙ inv.4,
       split.4 ∙ (λ i. ((ap following v ∙ following-next n seats) i, [])),
-      each-push _ _ _ _ c.push_reserved.ensures.items inv.6 (split.0 ∙ inv.4, ap (λ m. m.0) split.2 ∙ (ap sole v
-          ∙ ap (λ (k : ℕ). fresh k seats) (omega arith))),
+      each-push _ _ _ _ c.push_reserved.ensures.items inv.6 (
+        split.0 ∙ inv.4,
+        ap (λ m. m.0) split.2 ∙ (ap sole v
+            ∙ ap (λ (k : ℕ). fresh k seats) (omega arith)),
+      ),
     )
 
 pub returns-clause-each : goal.returns-clause-each
@@ -48,5 +53,8 @@ returns-clause-each g c =
     let count = inv.2 in
     let long = c.loop-number.list.ok.0 in
     let last : n ≡ seats = omega arith in
-    each-push _ _ _ _ c.push_reserved-2.ensures.items inv.6 (inv.4, v
-        ∙ view_from-last n (length c.loop-number.list.items) seats last (omega arith))
+    each-push _ _ _ _ c.push_reserved-2.ensures.items inv.6 (
+      inv.4,
+      v
+          ∙ view_from-last n (length c.loop-number.list.items) seats last (omega arith),
+    )

@@ -8,8 +8,8 @@ decreases-loop-number g l = l.seats - l.number
 abbrev pub invariant-loop-number : goal.invariant-loop-number
 invariant-loop-number g l =
     (1 ≤ l.number) × (l.number ≤ l.seats) × (vec_len l.list + 1 ≡ l.number)
-        × (vec_capacity l.list ≡ vec_capacity l.initial.list)
+    × (vec_capacity l.list ≡ vec_capacity l.initial.list)
     × (l.last.table_id ≡ l.self.table.shared.table_id)
     × (l.last.me ≡ (view_from l.number l.seats, []))
     × ((i : ℕ) (s : _) → slice_get l.list.items i ≡ Some s → (s.seat.table_id ≡ l.self.table.shared.table_id)
-        × (s.seat.me.0 ≡ fresh (i + 1) l.seats))
+    × (s.seat.me.0 ≡ fresh (i + 1) l.seats))

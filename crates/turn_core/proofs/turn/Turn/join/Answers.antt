@@ -6,13 +6,20 @@ use Rattle.turn_core.proofs.SeatSteps.{may_join, may_learn}
 use Rattle.turn_core.proofs.turn.Turn.join.Goals as goal
 
 pub join_seat-requires : goal.join_seat-requires
-join_seat-requires g c =
-    (c.requires.turn.0, c.requires.turn.1, c.args.other.empty, let n = c.args.self.now.words in omega arith,
-        may_join _ _ _ _ _ _ _ _ c.requires.number c.args.seat.now.rests)
+join_seat-requires g c = (
+  c.requires.turn.0,
+  c.requires.turn.1,
+  c.args.other.empty,
+  let n = c.args.self.now.words in omega arith,
+  may_join _ _ _ _ _ _ _ _ c.requires.number c.args.seat.now.rests,
+)
 
 pub load-requires : goal.load-requires
-load-requires g c = (c.join_seat.ensures.0 ∙ c.requires.turn.0, let n = c.args.self.now.words in omega arith,
-    may_learn _ _ _ _ _ _ _)
+load-requires g c = (
+  c.join_seat.ensures.0 ∙ c.requires.turn.0,
+  let n = c.args.self.now.words in omega arith,
+  may_learn _ _ _ _ _ _ _,
+)
 
 pub invariant_of-seat : goal.invariant_of-seat
 invariant_of-seat g c =

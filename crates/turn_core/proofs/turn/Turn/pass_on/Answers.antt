@@ -13,7 +13,7 @@ fetch_add-requires g c =
       may_pass_on _ _ _ _ _ _ _ c.args.state c.requires.serves.0 (ap (λ m. m.1) now
           ∙ ap (λ l. (0, Some c.args.state) ∷ rest l) c.requires.slot)
           (subst (λ v. 0 < v.number) (sym same) c.requires.number) (ap (λ v. v.stage) same
-              ∙ c.requires.serves.1) (c.requires.keeps.0 ∙ sym (ap (λ v. v.mark) same))
+          ∙ c.requires.serves.1) (c.requires.keeps.0 ∙ sym (ap (λ v. v.mark) same))
           (subst (λ v. AddsAtMostOne g.S.Kept.by v.number v.seen (g.S.Kept.entries c.args.state)) (sym same)
-              c.requires.keeps.1),
+          c.requires.keeps.1),
     )

@@ -1,0 +1,11 @@
+//! Tests from outside of a store that callers on their own threads share.
+#![tactic(auto)]
+
+#[cfg(test)]
+mod changes;
+#[cfg(test)]
+mod crowds;
+#[cfg(test)]
+mod limits;
+#[cfg(test)]
+mod meetings;
