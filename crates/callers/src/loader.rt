@@ -1,0 +1,64 @@
+//! The loader: makes a table, and loads rows one by one.
+
+ghost use Rattle.std.specs.Prelude.{◌≡◌, ◌+◌, length, IfOk, OnOk};
+ghost use Rattle.store_core.specs.Passes.{IsNoteOf, IsPassOf, calls_left, mine};
+
+use crate::fault::Fault;
+use book_core::{Change, ChangeKind, Entry};
+use period_core::{Period, Point};
+use row_core::{Draft, Drafts, Kind, Name, Schema, Value, Values};
+use std::alloc::Global;
+use std::sync::Wait;
+use store_core::{Note, Pass, Store};
+
+/// How many rows there are to load.
+pub const ROWS: u32 = 1_000;
+
+/// How many commits the loader makes: one for the table, and one for each row.
+pub const COMMITS: u64 = 1_001;
+
+// The loader has the first pass of the store.
+const LOADER: u32 = 1;
+
+/// A change's rows: one row, which holds for a day, with a number of its own.
+pub fn one_row(alloc: Global, number: u32) -> Result<Drafts, Fault> {
+    let period = Period::new(Point::parse(b"2024-01-08")?, Point::parse(b"2024-01-09")?)?;
+    let mut values = Values::new(alloc);
+    values.push(Value::Int(number as i64))?;
+    let mut rows = Drafts::new(alloc);
+    rows.push(Draft { period, values })?;
+    Ok(rows)
+}
+
+/// Makes the table and loads its rows, each in a commit of its own. Answers a note of all that the pass has seen
+/// by then, its own commits among it.
+pub fn load<R: Wait>(
+    rt: &R,
+    alloc: Global,
+    store: &Store,
+    table: Name,
+    pass: &mut Pass,
+) -> Result<Note, Fault>
+    requires { IsPassOf store.now pass.old }
+    ensures pass { IsPassOf store.now pass.new }
+    ensures note { IfOk result (IsNoteOf store.now) }
+    ensures calls { OnOk result (calls_left pass.new + 1001 ≡ calls_left pass.old) }
+    ensures commits { OnOk result (length (mine pass.new) ≡ length (mine pass.old) + 1001) }
+{
+    let schema = Schema::new(alloc, &[(Name::parse(b"number")?, Kind::Int)])?;
+    store.commit(rt, pass, Change::Make { table, schema })?;
+    for number in 0..ROWS {
+        let rows = one_row(alloc, number)?;
+        store.commit(rt, pass, Change::Load { table, rows })?;
+    }
+    Ok(store.note(pass))
+}
+
+/// Whether these are the loader's commits, in the order in which it made them.
+pub fn is_in_order(log: &[Entry]) -> bool {
+    log.iter().zip(1..COMMITS + 1).all(|(entry, number)| {
+        entry.number == number
+            && entry.by == LOADER
+            && (entry.kind == ChangeKind::Make) == (number == 1)
+    })
+}

@@ -1,0 +1,128 @@
+//! Two callers share a store, each on a thread of its own: a loader commits 1,000 rows, one by one, while an
+//! auditor takes snapshots. Then the auditor hears from the loader what it has seen. What is printed is the same in
+//! whatever order the two threads run.
+#![tactic(auto)]
+
+ghost use Rattle.std.specs.Prelude.{◌≡◌, ◌+◌, IfOk, OnOk};
+ghost use Rattle.std.specs.Thread.{IsSync};
+ghost use Rattle.store_core.specs.Passes.{IsFresh, IsNoteOf, IsPassOf, calls_left};
+
+mod auditor;
+mod fault;
+mod loader;
+
+use auditor::{Watched, rows_shown, watch};
+use book_core::Change;
+use fault::Fault;
+use loader::{COMMITS, is_in_order, load, one_row};
+use row_core::{Failure, Name};
+use std::alloc::Global;
+use std::sync::Wait;
+use std::thread::{Threads, join_mut};
+use store_core::{Note, Pass, Store, StoreRefused};
+
+/// Lets the loader load on a thread of its own while the auditor watches here. Answers the loader's note, and what
+/// the auditor saw.
+fn meanwhile<R: Threads + Wait + Sync>(
+    rt: &R,
+    alloc: Global,
+    store: &Store,
+    table: Name,
+    loader: &mut Pass,
+    auditor: &mut Pass,
+) -> (Result<Note, Fault>, Result<Watched, Fault>)
+    requires loader { IsPassOf store.now loader.old }
+    requires auditor { IsPassOf store.now auditor.old }
+    ensures passes { IsPassOf store.now loader.new × IsPassOf store.now auditor.new }
+    ensures note { IfOk result.0 (IsNoteOf store.now) }
+    ensures calls { OnOk result.0 (calls_left loader.new + 1001 ≡ calls_left loader.old) }
+{
+    let mut loading = || -> Result<Note, Fault>
+        requires { IsSync R.row × IsPassOf store.now loader.now }
+        ensures pass { IsPassOf store.entry.now loader.exit.now }
+        ensures note { IfOk result (IsNoteOf store.entry.now) }
+        ensures calls { OnOk result (calls_left loader.exit.now + 1001 ≡ calls_left loader.entry.now) }
+    { load(rt, alloc, store, table, loader) };
+    let mut watching = || -> Result<Watched, Fault>
+        requires { IsSync R.row × IsPassOf store.now auditor.now }
+        ensures { IsPassOf store.entry.now auditor.exit.now }
+    { watch(rt, store, table, auditor) };
+    join_mut(rt, &mut loading, &mut watching)
+}
+
+/// Prints what the auditor finds once it has heard all that the loader had seen.
+fn report<R: Print + Wait>(
+    rt: &R,
+    store: &Store,
+    table: Name,
+    auditor: &mut Pass,
+    watched: &Watched,
+) -> Result<(), Fault>
+    requires { IsPassOf store.now auditor.old }
+    ensures { IsPassOf store.now auditor.new }
+{
+    let log = store.log(rt, auditor)?;
+    let newest = store.snapshot(rt, auditor, None)?;
+    println!(rt; "commits in the log: {}", log.len())?;
+    println!(rt;
+        "all of the loader, in its order: {}",
+        is_in_order(log.as_slice())
+    )?;
+    println!(rt;
+        "rows in the newest snapshot: {}",
+        rows_shown(&newest, table)?
+    )?;
+    println!(rt; "rows never got fewer: {}", watched.never_fewer)?;
+    println!(rt;
+        "the kept snapshot shows what it showed: {}",
+        watched.stays(table)?
+    )?;
+    Ok(())
+}
+
+/// Prints what a pass without calls is answered. No other reply can come, which the check proves.
+fn show_spent<R: Print + Wait>(
+    rt: &R,
+    alloc: Global,
+    store: &Store,
+    table: Name,
+    pass: &mut Pass,
+) -> Result<(), Fault>
+    requires pass { IsPassOf store.now pass.old }
+    requires spent { calls_left pass.old ≡ 0 }
+{
+    let rows = one_row(alloc, 0)?;
+    match store.commit(rt, pass, Change::Load { table, rows }) {
+        Err(Failure::Refused(StoreRefused::PassSpent)) => {
+            println!(rt; "one commit more: the pass is spent")?;
+            Ok(())
+        }
+        _ => unreachable!(),
+    }
+}
+
+/// A store with two passes, the loader's and the auditor's. Each has as many calls as the loader needs.
+fn open(alloc: Global) -> Result<(Store, Pass, Pass), Fault>
+    ensures loader { IfOk result (λ made. IsPassOf made.0 made.1 × IsFresh 1 2 1001 made.1) }
+    ensures auditor { IfOk result (λ made. IsPassOf made.0 made.2 × IsFresh 2 2 1001 made.2) }
+{
+    let (store, mut passes) = Store::new(alloc, 2, COMMITS)?;
+    let (Some(auditor), Some(loader)) = (passes.pop(), passes.pop()) else {
+        unreachable!()
+    };
+    Ok((store, loader, auditor))
+}
+
+/// Runs the two callers, hands over the note, and prints what the auditor finds.
+fn run<R: Print + Threads + Wait + Sync>(rt: &R, alloc: Global) -> Result<(), Fault> {
+    let table = Name::parse(b"posts")?;
+    let (store, mut loader, mut auditor) = open(alloc)?;
+    let (note, watched) = meanwhile(rt, alloc, &store, table, &mut loader, &mut auditor);
+    store.hear(&mut auditor, note?);
+    report(rt, &store, table, &mut auditor, &watched?)?;
+    show_spent(rt, alloc, &store, table, &mut loader)
+}
+
+fn main(rt: HostRuntime) -> Result<(), Fault> {
+    run(&rt, rt.alloc())
+}
