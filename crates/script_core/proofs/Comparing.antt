@@ -1,13 +1,17 @@
 -- A table that is read, and two, one after the other.
-use Rattle.std.proofs.Common.{◌≡◌, ◌∙◌, ℕ, List, Option, None, Ok, ap, refl}
+use Rattle.std.proofs.Common.{◌≡◌, ◌∙◌, ℕ, List, Option, None, Result, Ok, ap, refl}
 use Rattle.book_core.specs.History.{History}
+use Rattle.command_core.specs.Fields.{both}
 use Rattle.command_core.specs.Pairs.{Compared}
 use Rattle.command_core.specs.declared.aggregate.Aggregate.{Aggregate}
+use Rattle.command_core.specs.declared.refusal.Fault.{Fault}
 use Rattle.agg_core.specs.Agg.{agg_refusal}
 use Rattle.match_core.specs.Columns.{columns_refusal}
 use Rattle.row_core.specs.Refusals.{and_then, map_ok}
+use Rattle.row_core.specs.declared.failure.Failure.TheVariants.{Refused, NoMemory}
 use Rattle.row_core.specs.declared.row.Row.{Row}
 use Rattle.row_core.specs.declared.schema.Column.{Column}
+use Rattle.script_core.specs.Failure.{Failure, IsFailureOf}
 use Rattle.script_core.specs.Effects.{TableRows, aggregated_told, columns_told, func_of, rows_told, sides_told, table_told}
 
 -- its rows and its columns
@@ -31,3 +35,21 @@ pub aggregated-read : (number : ℕ) (h : History) (asof : Option ℕ) (asked : 
     → table_told number h asof asked.table ≡ Ok table → agg_refusal table.0 (func_of asked.func) asked.by ≡ None
     → aggregated_told number h asof asked ≡ Ok table
 aggregated-read number h asof asked table read allowed = rw (read, allowed) refl
+
+-- a failure of the left table is one of both
+pub sides-failed : (number : ℕ) (h : History) (asof : Option ℕ) (tables : Compared) (why : Failure)
+    → IsFailureOf (rows_told number h asof tables.left) why → IsFailureOf (sides_told number h asof tables) why
+sides-failed number h asof tables (Refused fault) e = rw e refl
+sides-failed number h asof tables NoMemory e = tt
+
+-- and of the table that is aggregated
+pub aggregated-failed : (number : ℕ) (h : History) (asof : Option ℕ) (asked : Aggregate) (why : Failure)
+    → IsFailureOf (rows_told number h asof asked.table) why → IsFailureOf (aggregated_told number h asof asked) why
+aggregated-failed number h asof asked (Refused fault) e = rw e refl
+aggregated-failed number h asof asked NoMemory e = tt
+
+-- and of the first of two values
+pub both-failed : {S T : Type 0} (one : Result S Fault) (other : Result T Fault) (why : Failure)
+    → IsFailureOf one why → IsFailureOf (both one other) why
+both-failed one other (Refused fault) e = ap (λ r. both r other) e
+both-failed one other NoMemory e = tt

@@ -8,3 +8,5 @@ pub mod OutputUniqueness
 pub mod RunLemmas
 pub mod Progress
 pub mod Comparing
+pub mod Showing
+pub mod Calls

@@ -1,5 +1,6 @@
 pub mod Answer
 pub mod Failure
+pub mod Ledgers
 pub mod Performing
 pub mod Refusal
 pub mod Script

@@ -9,6 +9,9 @@ use Rattle.book_core.specs.declared.refusal.RowsRefused.{RowsRefused}
 use Rattle.book_core.specs.declared.refusal.RowsRefused.TheVariants as rows
 use Rattle.book_core.specs.declared.refusal.VersionsRefused.{VersionsRefused}
 use Rattle.book_core.specs.declared.refusal.VersionsRefused.TheVariants as versions
+use Rattle.book_core.specs.declared.refusal.NoTable as missing
+use Rattle.store_core.specs.declared.refusal.RangeRefused.{RangeRefused}
+use Rattle.store_core.specs.declared.refusal.RangeRefused.TheVariants as range
 use Rattle.match_core.specs.declared.columns.QueryRefused.{QueryRefused}
 use Rattle.match_core.specs.declared.columns.QueryRefused.TheVariants as query
 use Rattle.command_core.specs.declared.refusal.Refusal.{Refusal}
@@ -49,6 +52,15 @@ abbrev pub versions_refusal : VersionsRefused → Refusal
 versions_refusal versions.Future = Future
 versions_refusal versions.BadPeriod = BadPeriod
 versions_refusal versions.NoTable = NoTable
+
+-- what is wrong with a table that a snapshot is asked for
+abbrev pub table_refusal : missing.NoTable → Refusal
+table_refusal refused = NoTable
+
+-- what is wrong with a range of commits that a snapshot is asked for
+abbrev pub range_refusal : RangeRefused → Refusal
+range_refusal range.BadPeriod = BadPeriod
+range_refusal range.NoTable = NoTable
 
 -- what is wrong with the columns that tables are compared by
 abbrev pub query_refusal : QueryRefused → Refusal

@@ -1,110 +1,142 @@
 //! The changes that commands ask for.
-ghost use Rattle.std.specs.Prelude.{◌≡◌, ◌+◌, ◌<◌, ◌^◌, length};
+ghost use Rattle.std.specs.Prelude.{◌≡◌, ◌+◌, ◌<◌, ◌≤◌, ◌^◌, length};
+ghost use Rattle.script_core.specs.Ledgers.{held, left_in};
 ghost use Rattle.script_core.specs.Performing.{Changes};
 ghost use Rattle.command_core.specs.Lines.{lines_in};
 ghost use Rattle.command_core.specs.PairsIn.{pairs_in};
 ghost use Rattle.script_core.specs.Effects.{change_in, delete_in, load_in, make_in, update_in};
 
 use crate::failure::{Failure, failure_at, refused};
+use crate::ledger::Ledger;
 use crate::pairs::read_pairs;
 use crate::rows::rows_of;
 use answer_core::Answer;
-use book_core::{Book, Change};
+use book_core::Change;
 use command_core::{Lines, Refusal, TextPairs};
 use period_core::Period;
 use row_core::{Name, Schema};
 use std::alloc::Global;
-
-/// A script's changes are all made by its one pass.
-const PASS: u32 = 1;
+use std::sync::Wait;
 
 /// Makes a change, which the command of this number asks for.
-fn apply(book: &mut Book, number: u64, change: Change) -> Result<Answer, Failure>
-    ensures { Changes (change_in number book.old change) book.old book.new result }
+fn apply<R: Wait>(
+    rt: &R,
+    ledger: &mut Ledger,
+    number: u64,
+    change: Change,
+) -> Result<Answer, Failure>
+    requires { 0 < left_in ledger.old }
+    ensures changes { Changes (change_in number (held ledger.old) change) (held ledger.old) (held ledger.new) result }
+    ensures left { left_in ledger.new + 1 ≡ left_in ledger.old }
 {
-    match book.apply(PASS, change) {
+    match ledger.commit(rt, change) {
         Ok(commit) => Ok(Answer::Committed(commit)),
         Err(why) => Err(failure_at(number, why)),
     }
 }
 
 /// Makes a table.
-pub(crate) fn make(
-    book: &mut Book,
+pub(crate) fn make<R: Wait>(
+    rt: &R,
+    ledger: &mut Ledger,
     number: u64,
     table: Name,
     schema: Schema,
 ) -> Result<Answer, Failure>
-    ensures { Changes (make_in number book.old table schema) book.old book.new result }
+    requires { 0 < left_in ledger.old }
+    ensures changes { Changes (make_in number (held ledger.old) table schema)
+        (held ledger.old) (held ledger.new) result }
+    ensures left { left_in ledger.new + 1 ≡ left_in ledger.old }
 {
-    apply(book, number, Change::Make { table, schema })
+    apply(rt, ledger, number, Change::Make { table, schema })
 }
 
 /// Adds the rows of a load's records to a table, the first of them with the number behind this one.
-pub(crate) fn load(
+pub(crate) fn load<R: Wait>(
+    rt: &R,
     alloc: Global,
-    book: &mut Book,
+    ledger: &mut Ledger,
     number: u64,
     table: Name,
     body: Lines<'_>,
 ) -> Result<Answer, Failure>
-    requires { number + 1 + length (lines_in body) < 2 ^ 64 }
-    ensures { Changes (load_in number book.old table (lines_in body.entry)) book.old book.new result }
+    requires numbers { number + 1 + length (lines_in body) < 2 ^ 64 }
+    requires left { 2 ≤ left_in ledger.old }
+    ensures changes { Changes (load_in number (held ledger.old) table (lines_in body.entry))
+        (held ledger.old) (held ledger.new) result }
+    ensures left { left_in ledger.old ≤ left_in ledger.new + 2 }
 {
-    let rows = match book.schema(table) {
-        Ok(schema) => rows_of(alloc, schema, body, number + 1)?,
-        Err(_) => return Err(refused(number, Refusal::NoTable)),
+    // The snapshot is given back before the commit.
+    let rows = {
+        let newest = ledger.newest(rt)?;
+        match newest.schema(table) {
+            Ok(schema) => rows_of(alloc, schema, body, number + 1)?,
+            Err(_) => return Err(refused(number, Refusal::NoTable)),
+        }
     };
-    apply(book, number, Change::Load { table, rows })
+    apply(rt, ledger, number, Change::Load { table, rows })
 }
 
 /// Changes a portion of a table's rows.
-pub(crate) fn update(
+pub(crate) fn update<R: Wait>(
+    rt: &R,
     alloc: Global,
-    book: &mut Book,
+    ledger: &mut Ledger,
     number: u64,
     table: Name,
     portion: Period,
     sets: TextPairs<'_>,
     conds: TextPairs<'_>,
 ) -> Result<Answer, Failure>
-    ensures { Changes
-        (update_in number book.old table portion (pairs_in sets.entry) (pairs_in conds.entry))
-        book.old book.new result }
+    requires { 2 ≤ left_in ledger.old }
+    ensures changes { Changes
+        (update_in number (held ledger.old) table portion (pairs_in sets.entry) (pairs_in conds.entry))
+        (held ledger.old) (held ledger.new) result }
+    ensures left { left_in ledger.old ≤ left_in ledger.new + 2 }
 {
-    let Ok(schema) = book.schema(table) else {
-        return Err(refused(number, Refusal::NoTable));
+    let (sets, conds) = {
+        let newest = ledger.newest(rt)?;
+        let Ok(schema) = newest.schema(table) else {
+            return Err(refused(number, Refusal::NoTable));
+        };
+        let sets = read_pairs(alloc, schema, number, sets)?;
+        (sets, read_pairs(alloc, schema, number, conds)?)
     };
-    let sets = read_pairs(alloc, schema, number, sets)?;
-    let conds = read_pairs(alloc, schema, number, conds)?;
     let change = Change::Update {
         table,
         portion,
         sets,
         conds,
     };
-    apply(book, number, change)
+    apply(rt, ledger, number, change)
 }
 
 /// Takes a portion of a table's rows out.
-pub(crate) fn delete(
+pub(crate) fn delete<R: Wait>(
+    rt: &R,
     alloc: Global,
-    book: &mut Book,
+    ledger: &mut Ledger,
     number: u64,
     table: Name,
     portion: Period,
     conds: TextPairs<'_>,
 ) -> Result<Answer, Failure>
-    ensures { Changes (delete_in number book.old table portion (pairs_in conds.entry)) book.old book.new result }
+    requires { 2 ≤ left_in ledger.old }
+    ensures changes { Changes (delete_in number (held ledger.old) table portion (pairs_in conds.entry))
+        (held ledger.old) (held ledger.new) result }
+    ensures left { left_in ledger.old ≤ left_in ledger.new + 2 }
 {
-    let Ok(schema) = book.schema(table) else {
-        return Err(refused(number, Refusal::NoTable));
+    let conds = {
+        let newest = ledger.newest(rt)?;
+        let Ok(schema) = newest.schema(table) else {
+            return Err(refused(number, Refusal::NoTable));
+        };
+        read_pairs(alloc, schema, number, conds)?
     };
-    let conds = read_pairs(alloc, schema, number, conds)?;
     let change = Change::Delete {
         table,
         portion,
         conds,
     };
-    apply(book, number, change)
+    apply(rt, ledger, number, change)
 }

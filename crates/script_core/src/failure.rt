@@ -2,12 +2,13 @@
 ghost use Rattle.std.specs.Prelude.{◌≡◌};
 ghost use Rattle.command_core.specs.declared.refusal.Refusal as command;
 ghost use Rattle.script_core.specs.Failure.{failure_at, refused};
-ghost use Rattle.script_core.specs.Refusal.{book_refusal, query_refusal, row_refusal, rows_refusal, value_refusal, versions_refusal};
+ghost use Rattle.script_core.specs.Refusal.{book_refusal, query_refusal, range_refusal, row_refusal, table_refusal, value_refusal};
 
-use book_core::{BookRefused, RowsRefused, VersionsRefused};
+use book_core::BookRefused;
 use command_core::{Fault, Refusal};
 use match_core::QueryRefused;
 use row_core::{RowRefused, ValueRefused};
+use store_core::{NoTable, RangeRefused};
 
 /// Why a command is not done.
 pub(crate) type Failure = row_core::Failure<Fault>;
@@ -66,25 +67,21 @@ impl Told for ValueRefused {
     }
 }
 
-impl Told for RowsRefused {
-    ghost name = { rows_refusal };
+impl Told for NoTable {
+    ghost name = { table_refusal };
 
     fn told(self) -> Refusal {
-        match self {
-            RowsRefused::Future => Refusal::Future,
-            RowsRefused::NoTable => Refusal::NoTable,
-        }
+        Refusal::NoTable
     }
 }
 
-impl Told for VersionsRefused {
-    ghost name = { versions_refusal };
+impl Told for RangeRefused {
+    ghost name = { range_refusal };
 
     fn told(self) -> Refusal {
         match self {
-            VersionsRefused::Future => Refusal::Future,
-            VersionsRefused::BadPeriod => Refusal::BadPeriod,
-            VersionsRefused::NoTable => Refusal::NoTable,
+            RangeRefused::BadPeriod => Refusal::BadPeriod,
+            RangeRefused::NoTable => Refusal::NoTable,
         }
     }
 }

@@ -5,6 +5,7 @@ mod changes;
 mod claims;
 mod failure;
 mod laws;
+mod ledger;
 mod outcome;
 mod pairs;
 mod queries;

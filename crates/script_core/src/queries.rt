@@ -1,6 +1,6 @@
-//! What queries read of the book.
-ghost use Rattle.std.specs.Prelude.{◌≡◌, ◌+◌, ◌<◌, ◌≤◌, ◌^◌, All, IfErr, IfOk, IsTrue, Ok, length, nat_le, nat_lt};
-ghost use Rattle.book_core.specs.Versions.{AreBetween, AreFromTo, log_of};
+//! What queries read of a snapshot.
+ghost use Rattle.std.specs.Prelude.{◌≡◌, ◌+◌, ◌<◌, ◌≤◌, ◌^◌, All, IfOk, IsTrue, Ok, length, nat_le, nat_lt};
+ghost use Rattle.book_core.specs.Versions.{AreBetween, AreFromTo};
 ghost use Rattle.command_core.specs.Fields.{both};
 ghost use Rattle.command_core.specs.Lines.{lines_in};
 ghost use Rattle.command_core.specs.PairsIn.{compared_in, name_pairs_in};
@@ -10,10 +10,11 @@ ghost use Rattle.match_core.specs.Items.{items_of};
 ghost use Rattle.row_core.specs.Rows.{IdsRise};
 ghost use Rattle.row_core.specs.Schema.{fits};
 ghost use Rattle.script_core.specs.Answer.{IsAggOf, IsAntiOf, IsDipOf, IsJoinOf, IsVerdictOn, IsVersions};
+ghost use Rattle.script_core.specs.Ledgers.{shown};
 ghost use Rattle.script_core.specs.Performing.{Gives};
-ghost use Rattle.row_core.specs.declared.failure.Failure.TheVariants.{NoMemory};
+ghost use Rattle.store_core.specs.Snapshots.{history, number_shown};
 ghost use Rattle.script_core.specs.Effects.{aggregated_told, claim_of, columns_told, func_of, rows_on, rows_told, sides_told, versions_told};
-ghost use Rattle.answer_core.specs.declared.answer.Answer.TheVariants.{Log, Rows};
+ghost use Rattle.answer_core.specs.declared.answer.Answer.TheVariants.{Rows};
 
 use crate::claims::read_claim;
 use crate::failure::{Failure, failure_at, refused};
@@ -21,7 +22,6 @@ use crate::pairs::name_pairs;
 use agg_core::agg;
 use answer_core::{Answer, Joined, Unmatched};
 use anti_core::anti;
-use book_core::Book;
 use cert_core::{Certificate, check_division};
 use command_core::{Aggregate, Func, Lines, Refusal, TwoTables};
 use join_core::join;
@@ -30,27 +30,26 @@ use query_core::{Side, dip, items};
 use row_core::{Name, RowList, Schema};
 use std::alloc::Global;
 use std::thread::Threads;
+use store_core::Snapshot;
 use work_core::OpenGate;
 
-/// A table's columns, and its rows that a commit shows, the newest where none is told, which the command
-/// of this number asks for.
+/// A table's columns, and its rows that a snapshot shows, which the command of this number asks for.
 fn shown_table<'a>(
-    book: &'a Book,
+    snapshot: &'a Snapshot,
     number: u64,
     table: Name,
-    asof: Option<u64>,
 ) -> Result<(&'a Schema, RowList), Failure>
-    ensures gives { Gives (rows_told number book.now asof table) (λ rows read. read.1 ≡ rows) result }
-    ensures columns { IfOk result (λ read. columns_told number book.now table ≡ Ok read.0.now) }
+    ensures gives { Gives (rows_told number (history snapshot.now) (shown snapshot.now) table) (λ rows read. read.1 ≡ rows) result }
+    ensures columns { IfOk result (λ read. columns_told number (history snapshot.now) table ≡ Ok read.0.now) }
     ensures few { IfOk result (λ read. length read.1 ≤ version_limit) }
     ensures rise { IfOk result (λ read. IdsRise read.1) }
     ensures fit { IfOk result (λ read. All (λ row. IsTrue (fits read.0.now row.values)) read.1) }
 {
-    let rows = match book.rows_at(asof.unwrap_or(book.commits()), table) {
+    let rows = match snapshot.rows(table) {
         Ok(rows) => rows,
         Err(why) => return Err(failure_at(number, why)),
     };
-    match book.schema(table) {
+    match snapshot.schema(table) {
         Ok(schema) => Ok((schema, rows)),
         Err(_) => Err(refused(number, Refusal::NoTable)),
     }
@@ -58,28 +57,26 @@ fn shown_table<'a>(
 
 /// All rows of a table.
 pub(crate) fn rows(
-    book: &Book,
+    snapshot: &Snapshot,
     number: u64,
     table: Name,
-    asof: Option<u64>,
 ) -> Result<Answer, Failure>
-    ensures { Gives (rows_told number book.now asof table) (λ rows answer. answer ≡ Rows rows) result }
+    ensures { Gives (rows_told number (history snapshot.now) (shown snapshot.now) table) (λ rows answer. answer ≡ Rows rows) result }
 {
-    let (_, rows) = shown_table(book, number, table, asof)?;
+    let (_, rows) = shown_table(snapshot, number, table)?;
     Ok(Answer::Rows(rows))
 }
 
 /// The rows of a table that hold at a point.
 pub(crate) fn rows_on(
-    book: &Book,
+    snapshot: &Snapshot,
     number: u64,
     table: Name,
     point: Point,
-    asof: Option<u64>,
 ) -> Result<Answer, Failure>
-    ensures { Gives (rows_told number book.now asof table) (λ rows answer. answer ≡ Rows (rows_on point rows)) result }
+    ensures { Gives (rows_told number (history snapshot.now) (shown snapshot.now) table) (λ rows answer. answer ≡ Rows (rows_on point rows)) result }
 {
-    match book.rows_holding(asof.unwrap_or(book.commits()), table, point) {
+    match snapshot.rows_holding(table, point) {
         Ok(rows) => Ok(Answer::Rows(rows)),
         Err(why) => Err(failure_at(number, why)),
     }
@@ -89,14 +86,13 @@ pub(crate) fn rows_on(
 pub(crate) fn divide<T: Threads + Sync>(
     rt: &T,
     alloc: Global,
-    book: &Book,
+    snapshot: &Snapshot,
     number: u64,
     table: Name,
-    asof: Option<u64>,
 ) -> Result<Answer, Failure>
-    ensures { Gives (rows_told number book.now asof table) (λ rows answer. IsDipOf (items_of rows) answer) result }
+    ensures { Gives (rows_told number (history snapshot.now) (shown snapshot.now) table) (λ rows answer. IsDipOf (items_of rows) answer) result }
 {
-    let (schema, rows) = shown_table(book, number, table, asof)?;
+    let (schema, rows) = shown_table(snapshot, number, table)?;
     let side = Side {
         schema,
         rows: &rows,
@@ -111,18 +107,18 @@ pub(crate) fn divide<T: Threads + Sync>(
 pub(crate) fn join_tables<T: Threads + Sync>(
     rt: &T,
     alloc: Global,
-    book: &Book,
+    snapshot: &Snapshot,
     number: u64,
     tables: TwoTables<'_>,
-    asof: Option<u64>,
     workers: u32,
 ) -> Result<Answer, Failure>
     requires { (0 < workers) × (workers ≤ worker_limit) }
-    ensures { Gives (sides_told number book.now asof (compared_in tables.entry))
+    ensures { Gives (sides_told number (history snapshot.now) (shown snapshot.now)
+        (compared_in tables.entry))
         (λ sides. IsJoinOf sides.0 sides.1 (name_pairs_in tables.entry.on)) result }
 {
-    let (left_columns, left) = shown_table(book, number, tables.left, asof)?;
-    let (right_columns, right) = shown_table(book, number, tables.right, asof)?;
+    let (left_columns, left) = shown_table(snapshot, number, tables.left)?;
+    let (right_columns, right) = shown_table(snapshot, number, tables.right)?;
     let on = name_pairs(alloc, tables.on)?;
     let left_side = Side {
         schema: left_columns,
@@ -143,18 +139,18 @@ pub(crate) fn join_tables<T: Threads + Sync>(
 pub(crate) fn anti_tables<T: Threads + Sync>(
     rt: &T,
     alloc: Global,
-    book: &Book,
+    snapshot: &Snapshot,
     number: u64,
     tables: TwoTables<'_>,
-    asof: Option<u64>,
     workers: u32,
 ) -> Result<Answer, Failure>
     requires { (0 < workers) × (workers ≤ worker_limit) }
-    ensures { Gives (sides_told number book.now asof (compared_in tables.entry))
+    ensures { Gives (sides_told number (history snapshot.now) (shown snapshot.now)
+        (compared_in tables.entry))
         (λ sides. IsAntiOf sides.0 sides.1 (name_pairs_in tables.entry.on)) result }
 {
-    let (left_columns, left) = shown_table(book, number, tables.left, asof)?;
-    let (right_columns, right) = shown_table(book, number, tables.right, asof)?;
+    let (left_columns, left) = shown_table(snapshot, number, tables.left)?;
+    let (right_columns, right) = shown_table(snapshot, number, tables.right)?;
     let on = name_pairs(alloc, tables.on)?;
     let left_side = Side {
         schema: left_columns,
@@ -174,17 +170,16 @@ pub(crate) fn anti_tables<T: Threads + Sync>(
 pub(crate) fn agg_table<T: Threads + Sync>(
     rt: &T,
     alloc: Global,
-    book: &Book,
+    snapshot: &Snapshot,
     number: u64,
     aggregate: Aggregate,
-    asof: Option<u64>,
     workers: u32,
 ) -> Result<Answer, Failure>
     requires { (0 < workers) × (workers ≤ worker_limit) }
-    ensures { Gives (aggregated_told number book.now asof aggregate) (λ table. IsAggOf table aggregate) result }
+    ensures { Gives (aggregated_told number (history snapshot.now) (shown snapshot.now) aggregate) (λ table. IsAggOf table aggregate) result }
 {
     let func = func_of(&aggregate.func);
-    let (schema, rows) = shown_table(book, number, aggregate.table, asof)?;
+    let (schema, rows) = shown_table(snapshot, number, aggregate.table)?;
     let side = Side {
         schema,
         rows: &rows,
@@ -211,18 +206,17 @@ fn func_of(func: &Func) -> agg_core::Func
 /// behind the command's.
 pub(crate) fn check(
     alloc: Global,
-    book: &Book,
+    snapshot: &Snapshot,
     number: u64,
     table: Name,
     certificate: Certificate,
-    asof: Option<u64>,
     body: Lines<'_>,
 ) -> Result<Answer, Failure>
     requires { number + 1 + length (lines_in body) < 2 ^ 64 }
-    ensures { Gives (both (rows_told number book.now asof table) (claim_of (number + 1) (lines_in body.entry)))
+    ensures { Gives (both (rows_told number (history snapshot.now) (shown snapshot.now) table) (claim_of (number + 1) (lines_in body.entry)))
         (λ read answer. IsVerdictOn (items_of read.0) read.1 certificate answer) result }
 {
-    let (_, rows) = shown_table(book, number, table, asof)?;
+    let (_, rows) = shown_table(snapshot, number, table)?;
     let claim = read_claim(alloc, body, number + 1)?;
     let items = items(alloc, &rows)?;
     Ok(Answer::Verdict(check_division(alloc, &items, &claim, &certificate)?))
@@ -230,16 +224,17 @@ pub(crate) fn check(
 
 /// The versions of a table that some commit from the first to the last shows.
 pub(crate) fn between(
-    book: &Book,
+    snapshot: &Snapshot,
     number: u64,
     table: Name,
     first: u64,
     last: u64,
 ) -> Result<Answer, Failure>
-    ensures { Gives (versions_told number book.now (nat_lt last first) table)
-        (λ _ answer. IsVersions (AreBetween book.now (length book.now) first last table) answer) result }
+    requires { number_shown snapshot.now ≡ length (history snapshot.now) }
+    ensures { Gives (versions_told number (history snapshot.now) (nat_lt last first) table)
+        (λ _ answer. IsVersions (AreBetween (history snapshot.now) (length (history snapshot.now)) first last table) answer) result }
 {
-    match book.between(book.commits(), first, last, table) {
+    match snapshot.between(first, last, table) {
         Ok(versions) => Ok(Answer::Versions(versions)),
         Err(why) => Err(failure_at(number, why)),
     }
@@ -247,25 +242,18 @@ pub(crate) fn between(
 
 /// The versions of a table that some commit from the first on and before the end shows.
 pub(crate) fn from_to(
-    book: &Book,
+    snapshot: &Snapshot,
     number: u64,
     table: Name,
     first: u64,
     end: u64,
 ) -> Result<Answer, Failure>
-    ensures { Gives (versions_told number book.now (nat_le end first) table)
-        (λ _ answer. IsVersions (AreFromTo book.now (length book.now) first end table) answer) result }
+    requires { number_shown snapshot.now ≡ length (history snapshot.now) }
+    ensures { Gives (versions_told number (history snapshot.now) (nat_le end first) table)
+        (λ _ answer. IsVersions (AreFromTo (history snapshot.now) (length (history snapshot.now)) first end table) answer) result }
 {
-    match book.from_to(book.commits(), first, end, table) {
+    match snapshot.from_to(first, end, table) {
         Ok(versions) => Ok(Answer::Versions(versions)),
         Err(why) => Err(failure_at(number, why)),
     }
-}
-
-/// What each commit did.
-pub(crate) fn log(book: &Book) -> Result<Answer, Failure>
-    ensures told { IfOk result (λ answer. answer ≡ Log (log_of book.now)) }
-    ensures memory { IfErr result (λ failure. failure ≡ NoMemory) }
-{
-    Ok(Answer::Log(book.log()?))
 }

@@ -1,13 +1,78 @@
--- A store with one pass: all changes are its own.
-use Rattle.std.proofs.Common.{◌≡◌, suc, [], ◌∷◌, Bool, cond, refl, ap, ◌∙◌, arith, eq-eqb}
+-- A store with one pass: all changes are its own, and each call is one of a book that no other caller changes.
+use Rattle.std.proofs.Common.{◌≡◌, ℕ, suc, ◌<◌, [], ◌∷◌, ◌++◌, Bool, cond, Result, Ok, Err, None, Some, drop, get_or, length, refl, sym, ap, subst, ◌∙◌, append-nil, arith, eq-eqb}
+use Rattle.row_core.specs.declared.failure.Failure.TheVariants.{Refused, NoMemory}
+use Rattle.version_core.specs.declared.change.Change.{Change}
 use Rattle.book_core.specs.History.{History}
+use Rattle.book_core.specs.declared.commit.Commit.{Commit}
+use Rattle.book_core.specs.declared.refusal.BookRefused.{BookRefused}
 use Rattle.turn_core.specs.Entries.{own, IsNumbered}
-use Rattle.store_core.specs.Histories.{by_of}
+use Rattle.store_core.specs.Histories.{by_of, commit, CommitsTo, refusal_after}
+use Rattle.store_core.specs.Passes.{Commits, Counts, mine, number_of, passes_of, seen}
+use Rattle.store_core.specs.declared.pass.Pass.{Pass}
+use Rattle.store_core.specs.declared.refusal.StoreRefused.TheVariants as store
 
-pub own-all : (h : History) → IsNumbered by_of 1 h → own by_of 1 h ≡ h
+own-all : (h : History) → IsNumbered by_of 1 h → own by_of 1 h ≡ h
 own-all [] all = refl
 own-all (c ∷ cs) all =
     let here = all 0 c (omega arith) in
     let is : by_of c ≡ 1 = omega (arith, here.0, here.1) in
     ap (λ (b : Bool). cond b (c ∷ own by_of 1 cs) (own by_of 1 cs)) (eq-eqb (by_of c) 1 is)
     ∙ ap (λ (l : History). c ∷ l) (own-all cs (λ k d l. all (suc k) d (omega arith)))
+
+-- all that the pass has seen is its own
+pub own-alone : (pass : Pass) → passes_of pass ≡ 1 → (number_of pass ≡ 1) × (seen pass ≡ mine pass)
+own-alone pass one =
+    let some = pass.some in
+    let within = pass.seat.within in
+    let number : number_of pass ≡ 1 = omega (arith, some, within, one) in (
+      number,
+      sym (own-all (seen pass) (subst (λ (k : ℕ). IsNumbered by_of k (seen pass)) one pass.seat.numbered))
+          ∙ (ap (λ (k : ℕ). own by_of k (seen pass)) (sym (pass.seat.source some ∙ number)) ∙ pass.seat.own),
+    )
+
+-- a list with one more is not empty
+some-more : (xs : History) (c : Commit) → 0 < length (xs ++ c ∷ [])
+some-more [] c = omega arith
+some-more (x ∷ xs) c = omega arith
+
+front-same : (xs ys : History) (c d : Commit) → xs ++ c ∷ [] ≡ ys ++ d ∷ [] → xs ≡ ys
+front-same [] [] c d e = refl
+front-same [] (y ∷ ys) c d e =
+    absurd (let n = ap length (ap (λ (l : History). drop 1 l) e) in omega (arith, n, some-more ys d))
+front-same (x ∷ xs) [] c d e =
+    absurd (let n = ap length (ap (λ (l : History). drop 1 l) e) in omega (arith, n, some-more xs c))
+front-same (x ∷ xs) (y ∷ ys) c d e =
+    ap (λ (z : Commit). z ∷ xs) (ap (λ (l : History). get_or l 0 x) e)
+    ∙ ap (λ (l : History). y ∷ l) (front-same xs ys c d (ap (λ (l : History). drop 1 l) e))
+
+module _ (p q : Pass) (one : passes_of p ≡ 1) where
+  -- it has no other pass beside it after a call either
+  pub stays-alone : (added : History) → Counts p q added → passes_of q ≡ 1
+  stays-alone added counts = counts.sees.passes ∙ one
+
+  -- what a call adds to its own changes, it adds to what it has seen
+  pub grows-alone : (added : History) → Counts p q added → seen q ≡ seen p ++ added
+  grows-alone added counts =
+      (own-alone q (stays-alone added counts)).1
+      ∙ (counts.mine ∙ ap (λ (l : History). l ++ added) (sym (own-alone p one).1))
+
+  -- a call that adds none leaves it
+  pub keeps-alone : Counts p q [] → seen q ≡ seen p
+  keeps-alone counts = grows-alone [] counts ∙ append-nil (seen p)
+
+  -- a change is accepted after what it had seen
+  pub commits-alone : (change : Change) (n : ℕ) → Commits p change (Ok n) q
+      → CommitsTo (seen p) 1 change (Ok n) (seen q)
+  commits-alone change n (counts, (before, is, accepted), number) =
+      let c = commit 1 change in
+      let grown : seen q ≡ seen p ++ c ∷ [] =
+      grows-alone (commit (number_of p) change ∷ []) counts
+      ∙ ap (λ (k : ℕ). seen p ++ commit k change ∷ []) (own-alone p one).0 in
+      let same : before ≡ seen p = front-same before (seen p) (commit (number_of p) change) c (sym is ∙ grown) in
+      (subst (λ (h : History). refusal_after h change ≡ None) same accepted, grown, number)
+
+  -- and refused so
+  pub refuses-alone : (change : Change) (why : BookRefused) → Commits p change (Err (Refused (store.Book why))) q
+      → CommitsTo (seen p) 1 change (Err (Refused why)) (seen q)
+  refuses-alone change why (counts, refused) =
+      let same = keeps-alone counts in (same, subst (λ (h : History). refusal_after h change ≡ Some why) same refused)

@@ -1,3 +1,3 @@
-mod Alone
+pub mod Alone
 mod Opened
 mod Refusing

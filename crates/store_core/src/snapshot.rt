@@ -1,8 +1,10 @@
 //! Snapshots: what the first commits of a history show.
 
-ghost use Rattle.std.specs.Prelude.{◌≡◌, ◌≤◌, length, map, All, IfOk, IsTrue, IfSome, OnErr, None, Some, nat_lt, nat_le};
+ghost use Rattle.std.specs.Prelude.{◌≡◌, ◌≤◌, length, filter, map, All, IfOk, IsTrue, IfSome, OnErr, None, Some, nat_lt, nat_le};
 ghost use Rattle.std.specs.Arc.{arc_value};
-ghost use Rattle.row_core.specs.Refusals.{AnswersOr, IsAnswer};
+ghost use Rattle.period_core.specs.Period.{holds_at};
+ghost use Rattle.row_core.specs.Refusals.{AnswersOr, IsAnswer, map_ok};
+ghost use Rattle.row_core.specs.declared.row.Row.{Row};
 ghost use Rattle.row_core.specs.Rows.{IdsRise};
 ghost use Rattle.row_core.specs.Schema.{fits};
 ghost use Rattle.version_core.specs.Limits.{version_limit};
@@ -12,6 +14,7 @@ ghost use Rattle.store_core.specs.Histories.{IsLegal-prop};
 
 use crate::refusal::RangeRefused;
 use book_core::{Book, NoTable, RowsRefused, VersionList, VersionsRefused};
+use period_core::Point;
 use row_core::{Failure, Name, RowList, Schema};
 use std::sync::Arc;
 
@@ -76,6 +79,29 @@ impl Snapshot {
             (λ columns. All (λ row. IsTrue (fits columns row.values)) rows)) }
     {
         match self.book.rows_at(self.number, name) {
+            Ok(rows) => Ok(rows),
+            Err(Failure::Refused(RowsRefused::Future)) => unreachable!(),
+            Err(Failure::Refused(RowsRefused::NoTable)) => Err(Failure::Refused(NoTable)),
+            Err(Failure::NoMemory) => Err(Failure::NoMemory),
+        }
+    }
+
+    /// The rows of a table that hold at the point, by rising id.
+    ///
+    /// # Errors
+    ///
+    /// `NoTable`; `NoMemory`, in this order.
+    pub fn rows_holding(&self, name: Name, point: Point) -> Result<RowList, Failure<NoTable>>
+        // Of the rows that `rows` gives, those that hold.
+        ensures given { IsAnswer (map_ok (filter (λ (row : Row). holds_at point row.period))
+            (rows_given (history self.now) (number_shown self.now) name)) result }
+
+        ensures few { IfOk result (λ rows. length rows ≤ version_limit) }
+        ensures rise { IfOk result IdsRise }
+        ensures fit { IfOk result (λ rows. IfSome (schema_in (history self.now) name)
+            (λ columns. All (λ row. IsTrue (fits columns row.values)) rows)) }
+    {
+        match self.book.rows_holding(self.number, name, point) {
             Ok(rows) => Ok(rows),
             Err(Failure::Refused(RowsRefused::Future)) => unreachable!(),
             Err(Failure::Refused(RowsRefused::NoTable)) => Err(Failure::Refused(NoTable)),

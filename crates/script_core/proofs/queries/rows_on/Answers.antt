@@ -1,12 +1,12 @@
-use Rattle.std.proofs.Common.{◌≡◌, ◌∙◌, ℤ, List, Result, Ok, Err, ap, refl, sym, length}
-use Rattle.std.specs.Prelude.{unwrap_or}
+use Rattle.std.proofs.Common.{◌≡◌, ◌∙◌, ℤ, List, Result, Ok, Err, ap, refl}
 use Rattle.row_core.specs.Refusals.{map_err, map_ok}
 use Rattle.row_core.specs.declared.row.Row.{Row}
 use Rattle.answer_core.specs.declared.answer.Answer.TheVariants.{Rows}
-use Rattle.book_core.specs.History.{rows_given}
+use Rattle.store_core.specs.Snapshots.{history, number_shown, rows_given}
 use Rattle.command_core.specs.Refusal.{fault}
 use Rattle.script_core.specs.Effects.{rows_on}
-use Rattle.script_core.specs.Refusal.{rows_refusal}
+use Rattle.script_core.specs.Refusal.{table_refusal}
+use Rattle.script_core.proofs.Showing.{rows-told}
 use Rattle.script_core.proofs.queries.rows_on.Goals as goal
 
 -- where rows that hold are given, they are those of the rows that are told
@@ -19,8 +19,10 @@ held-told rename point (Err refusal) held e = absurd (cc)
 
 pub returns-in-Ok : goal.returns-in-Ok
 returns-in-Ok c =
-    let newest = c.unwrap_or.ensures ∙ ap (unwrap_or c.args.asof) c.commits.ensures.count in
-    held-told (λ refused. fault c.args.number (rows_refusal refused)) c.args.point
-    (rows_given c.args.book.now (unwrap_or c.args.asof (length c.args.book.now)) c.args.table) c.in-Ok.rows
-    (ap (λ n. map_ok (rows_on c.args.point) (rows_given c.args.book.now n c.args.table)) (sym newest)
-    ∙ c.in-Ok.ensures.given)
+    let snapshot = c.args.snapshot.now in
+    let h = history snapshot in
+    let n = number_shown snapshot in
+    let read =
+    held-told (λ refused. fault c.args.number (table_refusal refused)) c.args.point (rows_given h n c.args.table)
+    c.in-Ok.rows c.in-Ok.ensures.given in
+    (read.0, rows-told c.args.number h n c.args.table snapshot.within ∙ read.1, read.2)

@@ -95,4 +95,5 @@ loop-at-preserved g c =
       progress = progress-more _ _ _ _ _ _ at c.in_ok-command.field-0.taken c.loop-at.outcome _ _ answered.answer
           c.loop-at.invariant.progress found.within found.means answered.answers wrote refl
           (ap (λ n. c.loop-at.outcome.errors + n) answered.counted);
+      left = omega (arith, found.some, c.in_ok-errors.ensures.left, c.loop-at.invariant.left);
     }

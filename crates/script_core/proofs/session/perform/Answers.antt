@@ -1,153 +1,127 @@
-use Rattle.std.proofs.Common.{◌≡◌, ◌+◌, length}
-use Rattle.std.specs.Prelude.{nat_le, nat_lt}
-use Rattle.book_core.specs.Versions.{AreBetween, AreFromTo}
+use Rattle.std.proofs.Common.{◌≡◌, ◌∙◌, ◌+◌, Err, ap}
+use Rattle.std.proofs.lemmas.Result.{err_from_is_err_and}
 use Rattle.cert_core.specs.declared.verdict.Certificate.{Certificate}
 use Rattle.match_core.specs.Items.{items_of}
 use Rattle.command_core.specs.Fields.{both}
 use Rattle.command_core.specs.Lines.{lines_in}
-use Rattle.command_core.specs.Meaning.{Agg, Anti, At, Between, Check, Delete, Dip, FromTo, Join, Load, Make, Rows, Update}
-use Rattle.command_core.specs.PairsIn.{compared_in, pairs_in}
+use Rattle.command_core.specs.Meaning.{Agg, Anti, At, Check, Dip, Join, Rows}
+use Rattle.command_core.specs.PairsIn.{compared_in}
 use Rattle.answer_core.specs.declared.answer.Answer.TheVariants as answer
-use Rattle.script_core.specs.Answer.{IsAggOf, IsAntiOf, IsDipOf, IsJoinOf, IsVerdictOn, IsVersions}
-use Rattle.script_core.specs.Effects.{aggregated_told, claim_of, delete_in, load_in, make_in, rows_on, rows_told, sides_told, update_in, versions_told}
-use Rattle.script_core.proofs.Answering.{change-answered, query-answered}
+use Rattle.script_core.specs.Answer.{IsAggOf, IsAntiOf, IsDipOf, IsJoinOf, IsVerdictOn}
+use Rattle.script_core.specs.Effects.{aggregated_told, claim_of, rows_on, rows_told, sides_told}
+use Rattle.script_core.specs.Ledgers.{held}
+use Rattle.script_core.proofs.Answering.{query-failed}
+use Rattle.script_core.proofs.Comparing.{aggregated-failed, both-failed, sides-failed}
 use Rattle.script_core.proofs.session.perform.Goals as goal
 
-pub returns-in-Make : goal.returns-in-Make
-returns-in-Make g c =
+pub returns-in_err-shown-in-Rows-clause-performs : goal.returns-in_err-shown-in-Rows-clause-performs
+returns-in_err-shown-in-Rows-clause-performs g c =
+    let p = err_from_is_err_and c.from_residual.result c.from_residual.ensures.1 in
     let number = c.args.number in
-    let before = c.args.book.now in
-    let table = c.in-Make.table in
-    let schema = c.in-Make.schema in
-    rw c.in-Make.is
-    (change-answered number (Make table schema)
-    (make_in number before table schema) before c.make.new.book c.make.result (λ given it. it) c.make.ensures)
-
-pub returns-in-Load : goal.returns-in-Load
-returns-in-Load g c =
-    let number = c.args.number in
-    let before = c.args.book.now in
-    let table = c.in-Load.table in
-    let body = lines_in c.in-Load.body in
-    rw c.in-Load.is
-    (change-answered number (Load table body)
-    (load_in number before table body) before c.load.new.book c.load.result (λ given it. it) c.load.ensures)
-
-pub returns-in-Update : goal.returns-in-Update
-returns-in-Update g c =
-    let number = c.args.number in
-    let before = c.args.book.now in
-    let table = c.in-Update.table in
-    let portion = c.in-Update.portion in
-    let sets = pairs_in c.in-Update.sets in
-    let conds = pairs_in c.in-Update.conds in
-    rw c.in-Update.is
-    (change-answered number (Update table portion sets conds)
-    (update_in number before table portion sets conds) before c.update.new.book c.update.result
-    (λ given it. it) c.update.ensures)
-
-pub returns-in-Delete : goal.returns-in-Delete
-returns-in-Delete g c =
-    let number = c.args.number in
-    let before = c.args.book.now in
-    let table = c.in-Delete.table in
-    let portion = c.in-Delete.portion in
-    let conds = pairs_in c.in-Delete.conds in
-    rw c.in-Delete.is
-    (change-answered number (Delete table portion conds)
-    (delete_in number before table portion conds) before c.delete.new.book c.delete.result
-    (λ given it. it) c.delete.ensures)
-
-pub returns-in-Rows : goal.returns-in-Rows
-returns-in-Rows g c =
-    let number = c.args.number in
-    let before = c.args.book.now in
-    let table = c.in-Rows.table in
+    let before = held c.args.ledger.now in
     let asof = c.in-Rows.asof in
-    rw c.in-Rows.is (query-answered number (Rows table asof) before (rows_told number before asof table)
-    (λ rows given. given ≡ answer.Rows rows) c.rows.result (λ given it. it) c.rows.ensures)
+    let why = c.in_err-shown-in-Rows.field-0.0 in
+    let failed = c.in_err-shown-in-Rows.ensures in
+    let table = c.in-Rows.table in
+    rw c.in-Rows.is
+    (query-failed number (Rows table asof) before (held c.snapshot_asof.new.ledger)
+    (rows_told number before asof table) (λ rows given. given ≡ answer.Rows rows) why
+    c.from_residual.result (λ given it. it) (p.1 ∙ ap Err p.2) failed.same
+    (failed.fails table))
 
-pub returns-in-At : goal.returns-in-At
-returns-in-At g c =
+pub returns-in_err-shown-in-At-clause-performs : goal.returns-in_err-shown-in-At-clause-performs
+returns-in_err-shown-in-At-clause-performs g c =
+    let p = err_from_is_err_and c.from_residual-in_err-shown-in-At.result c.from_residual-in_err-shown-in-At.ensures.1 in
     let number = c.args.number in
-    let before = c.args.book.now in
+    let before = held c.args.ledger.now in
+    let asof = c.in-At.asof in
+    let why = c.in_err-shown-in-At.field-0.0 in
+    let failed = c.in_err-shown-in-At.ensures in
     let table = c.in-At.table in
     let point = c.in-At.point in
-    let asof = c.in-At.asof in
-    rw c.in-At.is (query-answered number (At table point asof) before (rows_told number before asof table)
-    (λ rows given. given ≡ answer.Rows (rows_on point rows)) c.rows_on.result (λ given it. it) c.rows_on.ensures)
+    rw c.in-At.is
+    (query-failed number (At table point asof) before (held c.snapshot_asof-in-At.new.ledger)
+    (rows_told number before asof table) (λ rows given. given ≡ answer.Rows (rows_on point rows)) why
+    c.from_residual-in_err-shown-in-At.result (λ given it. it) (p.1 ∙ ap Err p.2) failed.same
+    (failed.fails table))
 
-pub returns-in-Between : goal.returns-in-Between
-returns-in-Between g c =
+pub returns-in_err-shown-in-Dip-clause-performs : goal.returns-in_err-shown-in-Dip-clause-performs
+returns-in_err-shown-in-Dip-clause-performs g c =
+    let p = err_from_is_err_and c.from_residual-in_err-shown-in-Dip.result c.from_residual-in_err-shown-in-Dip.ensures.1 in
     let number = c.args.number in
-    let before = c.args.book.now in
-    let table = c.in-Between.table in
-    let first = c.in-Between.first in
-    let last = c.in-Between.last in
-    rw c.in-Between.is
-    (query-answered number (Between table first last) before (versions_told number before (nat_lt last first) table)
-    (λ _. IsVersions (AreBetween before (length before) first last table)) c.between.result
-    (λ given it. it) c.between.ensures)
-
-pub returns-in-FromTo : goal.returns-in-FromTo
-returns-in-FromTo g c =
-    let number = c.args.number in
-    let before = c.args.book.now in
-    let table = c.in-FromTo.table in
-    let first = c.in-FromTo.first in
-    let end = c.in-FromTo.end in
-    rw c.in-FromTo.is
-    (query-answered number (FromTo table first end) before (versions_told number before (nat_le end first) table)
-    (λ _. IsVersions (AreFromTo before (length before) first end table)) c.from_to.result
-    (λ given it. it) c.from_to.ensures)
-
-pub returns-in-Dip : goal.returns-in-Dip
-returns-in-Dip g c =
-    let number = c.args.number in
-    let before = c.args.book.now in
-    let table = c.in-Dip.table in
+    let before = held c.args.ledger.now in
     let asof = c.in-Dip.asof in
-    rw c.in-Dip.is (query-answered number (Dip table asof) before (rows_told number before asof table)
-    (λ rows. IsDipOf (items_of rows)) c.divide.result (λ given it. it) c.divide.ensures)
+    let why = c.in_err-shown-in-Dip.field-0.0 in
+    let failed = c.in_err-shown-in-Dip.ensures in
+    let table = c.in-Dip.table in
+    rw c.in-Dip.is
+    (query-failed number (Dip table asof) before (held c.snapshot_asof-in-Dip.new.ledger)
+    (rows_told number before asof table) (λ rows. IsDipOf (items_of rows)) why
+    c.from_residual-in_err-shown-in-Dip.result (λ given it. it) (p.1 ∙ ap Err p.2) failed.same
+    (failed.fails table))
 
-pub returns-in-Check : goal.returns-in-Check
-returns-in-Check g c =
+pub returns-in_err-shown-in-Join-clause-performs : goal.returns-in_err-shown-in-Join-clause-performs
+returns-in_err-shown-in-Join-clause-performs g c =
+    let p = err_from_is_err_and c.from_residual-in_err-shown-in-Join.result c.from_residual-in_err-shown-in-Join.ensures.1 in
     let number = c.args.number in
-    let before = c.args.book.now in
+    let before = held c.args.ledger.now in
+    let asof = c.in-Join.asof in
+    let why = c.in_err-shown-in-Join.field-0.0 in
+    let failed = c.in_err-shown-in-Join.ensures in
+    let tables = compared_in c.in-Join.tables in
+    rw c.in-Join.is
+    (query-failed number (Join tables asof) before (held c.snapshot_asof-in-Join.new.ledger)
+    (sides_told number before asof tables) (λ sides. IsJoinOf sides.0 sides.1 tables.on) why
+    c.from_residual-in_err-shown-in-Join.result (λ given it. it) (p.1 ∙ ap Err p.2) failed.same
+    (sides-failed number before asof tables why (failed.fails tables.left)))
+
+pub returns-in_err-shown-in-Anti-clause-performs : goal.returns-in_err-shown-in-Anti-clause-performs
+returns-in_err-shown-in-Anti-clause-performs g c =
+    let p = err_from_is_err_and c.from_residual-in_err-shown-in-Anti.result c.from_residual-in_err-shown-in-Anti.ensures.1 in
+    let number = c.args.number in
+    let before = held c.args.ledger.now in
+    let asof = c.in-Anti.asof in
+    let why = c.in_err-shown-in-Anti.field-0.0 in
+    let failed = c.in_err-shown-in-Anti.ensures in
+    let tables = compared_in c.in-Anti.tables in
+    rw c.in-Anti.is
+    (query-failed number (Anti tables asof) before (held c.snapshot_asof-in-Anti.new.ledger)
+    (sides_told number before asof tables) (λ sides. IsAntiOf sides.0 sides.1 tables.on) why
+    c.from_residual-in_err-shown-in-Anti.result (λ given it. it) (p.1 ∙ ap Err p.2) failed.same
+    (sides-failed number before asof tables why (failed.fails tables.left)))
+
+pub returns-in_err-shown-in-Agg-clause-performs : goal.returns-in_err-shown-in-Agg-clause-performs
+returns-in_err-shown-in-Agg-clause-performs g c =
+    let p = err_from_is_err_and c.from_residual-in_err-shown-in-Agg.result c.from_residual-in_err-shown-in-Agg.ensures.1 in
+    let number = c.args.number in
+    let before = held c.args.ledger.now in
+    let asof = c.in-Agg.asof in
+    let why = c.in_err-shown-in-Agg.field-0.0 in
+    let failed = c.in_err-shown-in-Agg.ensures in
+    let asked = c.in-Agg.aggregate in
+    rw c.in-Agg.is
+    (query-failed number (Agg asked asof) before (held c.snapshot_asof-in-Agg.new.ledger)
+    (aggregated_told number before asof asked) (λ table. IsAggOf table asked) why
+    c.from_residual-in_err-shown-in-Agg.result (λ given it. it) (p.1 ∙ ap Err p.2) failed.same
+    (aggregated-failed number before asof asked why (failed.fails asked.table)))
+
+pub returns-in_err-shown-in-Check-clause-performs : goal.returns-in_err-shown-in-Check-clause-performs
+returns-in_err-shown-in-Check-clause-performs g c =
+    let p = err_from_is_err_and c.from_residual-in_err-shown-in-Check.result c.from_residual-in_err-shown-in-Check.ensures.1 in
+    let number = c.args.number in
+    let before = held c.args.ledger.now in
+    let asof = c.in-Check.asof in
+    let why = c.in_err-shown-in-Check.field-0.0 in
+    let failed = c.in_err-shown-in-Check.ensures in
     let table = c.in-Check.table in
     let parts = c.in-Check.parts in
     let instant = c.in-Check.instant in
-    let asof = c.in-Check.asof in
     let body = lines_in c.in-Check.body in
     let certificate : Certificate = record { parts = parts; instant = instant } in
+    let told = rows_told number before asof table in
+    let claimed = claim_of (number + 1) body in
     rw c.in-Check.is
-    (query-answered number (Check table parts instant asof body) before
-    (both (rows_told number before asof table) (claim_of (number + 1) body))
-    (λ read. IsVerdictOn (items_of read.0) read.1 certificate) c.check.result (λ given it. it) c.check.ensures)
-
-pub returns-in-Join : goal.returns-in-Join
-returns-in-Join g c =
-    let number = c.args.number in
-    let before = c.args.book.now in
-    let tables = compared_in c.in-Join.tables in
-    let asof = c.in-Join.asof in
-    rw c.in-Join.is (query-answered number (Join tables asof) before (sides_told number before asof tables)
-    (λ sides. IsJoinOf sides.0 sides.1 tables.on) c.join_tables.result (λ given it. it) c.join_tables.ensures)
-
-pub returns-in-Anti : goal.returns-in-Anti
-returns-in-Anti g c =
-    let number = c.args.number in
-    let before = c.args.book.now in
-    let tables = compared_in c.in-Anti.tables in
-    let asof = c.in-Anti.asof in
-    rw c.in-Anti.is (query-answered number (Anti tables asof) before (sides_told number before asof tables)
-    (λ sides. IsAntiOf sides.0 sides.1 tables.on) c.anti_tables.result (λ given it. it) c.anti_tables.ensures)
-
-pub returns-in-Agg : goal.returns-in-Agg
-returns-in-Agg g c =
-    let number = c.args.number in
-    let before = c.args.book.now in
-    let asked = c.in-Agg.aggregate in
-    let asof = c.in-Agg.asof in
-    rw c.in-Agg.is (query-answered number (Agg asked asof) before (aggregated_told number before asof asked)
-    (λ table. IsAggOf table asked) c.agg_table.result (λ given it. it) c.agg_table.ensures)
+    (query-failed number (Check table parts instant asof body) before (held c.snapshot_asof-in-Check.new.ledger)
+    (both told claimed) (λ read. IsVerdictOn (items_of read.0) read.1 certificate) why
+    c.from_residual-in_err-shown-in-Check.result (λ given it. it) (p.1 ∙ ap Err p.2) failed.same
+    (both-failed told claimed why (failed.fails table)))

@@ -1,7 +1,15 @@
-use Rattle.std.proofs.Common.{subst}
+use Rattle.std.proofs.Common.{subst, arith}
 use Rattle.command_core.specs.Records.{AreScriptRecords}
+use Rattle.script_core.proofs.Calls.{calls-enough}
 use Rattle.script_core.proofs.RunLemmas.{fault-front, fault-run, ok-run, ok-written}
 use Rattle.script_core.proofs.session.run.Goals as goal
+
+pub answer_all-requires-clause-left : goal.answer_all-requires-clause-left
+answer_all-requires-clause-left g c κs within =
+    let parsed =
+    subst (λ bytes. AreScriptRecords bytes c.in_ok-records.records) c.as_slice.ensures.value c.in_ok-records.ensures in
+    let few = calls-enough c.in_ok-script.script.items c.in_ok-records.records parsed c.in_ok-script.ensures.whole.1 in
+    omega (arith, few, c.in_ok-ledger.ensures.1)
 
 pub returns-clause-ok : goal.returns-clause-ok
 returns-clause-ok g c =

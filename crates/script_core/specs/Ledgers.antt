@@ -1,0 +1,19 @@
+-- What contracts read of a script's store, and of its snapshots.
+use Rattle.std.specs.Prelude.{ℕ, Option, Some}
+use Rattle.book_core.specs.History.{History}
+use Rattle.store_core.specs.Passes.{calls_left, seen}
+use Rattle.store_core.specs.Snapshots.{number_shown}
+use Rattle.store_core.specs.declared.snapshot.Snapshot.{Snapshot}
+use Rattle.script_core.specs.declared.ledger.Ledger.{Ledger}
+
+-- its history, which its one pass has seen
+abbrev pub held : Ledger → History
+held ledger = seen ledger.pass
+
+-- how many calls it has left
+abbrev pub left_in : Ledger → ℕ
+left_in ledger = calls_left ledger.pass
+
+-- the commit that a snapshot shows, as a command tells one
+abbrev pub shown : Snapshot → Option ℕ
+shown snapshot = Some (number_shown snapshot)

@@ -1,0 +1,109 @@
+//! A script's store, which has one pass.
+ghost use Rattle.std.specs.Prelude.{◌≡◌, ◌+◌, ◌<◌, [], length, IfOk};
+ghost use Rattle.book_core.specs.Versions.{log_of};
+ghost use Rattle.turn_core.specs.Limits.{call_limit};
+ghost use Rattle.store_core.specs.Histories.{CommitsTo};
+ghost use Rattle.store_core.specs.Passes.{IsPassOf, passes_of};
+ghost use Rattle.store_core.specs.Snapshots.{history, number_shown, Shows};
+
+use book_core::{BookRefused, Change, Log};
+use period_core::NoMemory;
+use row_core::Failure;
+use std::alloc::{AllocError, Global};
+use std::sync::Wait;
+use store_core::{BadCount, Future, Pass, PassSpent, Snapshot, SnapshotRefused, Store, StoreRefused};
+use turn_core::CALL_LIMIT;
+
+/// A store and its one pass, whose calls answer what a book answers. Contracts see the history, and how many calls
+/// there are left.
+#[derive(Drop)]
+pub(crate) struct Ledger {
+    store: Store,
+    pass: Pass,
+    ghost one: { passes_of pass ≡ 1 },
+    ghost own: { IsPassOf store pass },
+}
+
+impl Ledger {
+    ghost use Rattle.script_core.specs.Ledgers.{held, left_in};
+
+    /// A store without a table.
+    pub(crate) fn new(alloc: Global) -> Result<Ledger, NoMemory>
+        ensures { IfOk result (λ ledger. (held ledger ≡ []) × (left_in ledger ≡ call_limit)) }
+    {
+        match Store::new(alloc, 1, CALL_LIMIT) {
+            Ok((store, mut passes)) => match passes.pop() {
+                Some(pass) => Ok(Ledger { store, pass }),
+                None => unreachable!(),
+            },
+            Err(Failure::Refused(BadCount)) => unreachable!(),
+            Err(Failure::NoMemory) => Err(AllocError),
+        }
+    }
+
+    /// Makes a change, and answers the commit's number, from 1 on. Where a snapshot is alive the book is copied.
+    pub(crate) fn commit<R: Wait>(
+        &mut self,
+        rt: &R,
+        change: Change,
+    ) -> Result<u64, Failure<BookRefused>>
+        requires { 0 < left_in self.old }
+        ensures made { CommitsTo (held self.old) 1 change result (held self.new) }
+        ensures left { left_in self.new + 1 ≡ left_in self.old }
+    {
+        match self.store.commit(rt, &mut self.pass, change) {
+            Ok(number) => Ok(number),
+            Err(Failure::Refused(StoreRefused::PassSpent)) => unreachable!(),
+            Err(Failure::Refused(StoreRefused::Book(why))) => Err(Failure::Refused(why)),
+            Err(Failure::NoMemory) => Err(Failure::NoMemory),
+        }
+    }
+
+    /// What the first n commits show; all where none is told.
+    pub(crate) fn snapshot<R: Wait>(
+        &mut self,
+        rt: &R,
+        n: Option<u64>,
+    ) -> Result<Snapshot, Failure<Future>>
+        requires { 0 < left_in self.old }
+        ensures same { held self.new ≡ held self.old }
+        ensures shows { Shows (held self.old) n result }
+        ensures left { left_in self.new + 1 ≡ left_in self.old }
+    {
+        match self.store.snapshot(rt, &mut self.pass, n) {
+            Ok(snapshot) => Ok(snapshot),
+            Err(Failure::Refused(SnapshotRefused::PassSpent)) => unreachable!(),
+            Err(Failure::Refused(SnapshotRefused::Future)) => Err(Failure::Refused(Future)),
+            Err(Failure::NoMemory) => Err(Failure::NoMemory),
+        }
+    }
+
+    /// What all commits show.
+    pub(crate) fn newest<R: Wait>(&mut self, rt: &R) -> Result<Snapshot, NoMemory>
+        requires { 0 < left_in self.old }
+        ensures same { held self.new ≡ held self.old }
+        ensures shows { IfOk result (λ snapshot. (history snapshot ≡ held self.old)
+            × (number_shown snapshot ≡ length (held self.old))) }
+        ensures left { left_in self.new + 1 ≡ left_in self.old }
+    {
+        match self.snapshot(rt, None) {
+            Ok(snapshot) => Ok(snapshot),
+            Err(Failure::Refused(Future)) => unreachable!(),
+            Err(Failure::NoMemory) => Err(AllocError),
+        }
+    }
+
+    /// What each commit did.
+    pub(crate) fn log<R: Wait>(&mut self, rt: &R) -> Result<Log, NoMemory>
+        requires { 0 < left_in self.old }
+        ensures same { held self.new ≡ held self.old }
+        ensures told { IfOk result (λ log. log ≡ log_of (held self.old)) }
+        ensures left { left_in self.new + 1 ≡ left_in self.old }
+    {
+        match self.store.log(rt, &mut self.pass) {
+            Ok(log) => Ok(log),
+            Err(Failure::Refused(PassSpent)) => unreachable!(),
+            Err(Failure::NoMemory) => Err(AllocError),
+        }
+    }
+}
