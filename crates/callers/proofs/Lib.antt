@@ -1,1 +1,2 @@
+mod Heard
 mod Two

@@ -1,7 +1,7 @@
 //! The loader: makes a table, and loads rows one by one.
 
-ghost use Rattle.std.specs.Prelude.{◌≡◌, ◌+◌, length, IfOk, OnOk};
-ghost use Rattle.store_core.specs.Passes.{IsNoteOf, IsPassOf, calls_left, mine};
+ghost use Rattle.std.specs.Prelude.{◌≡◌, ◌+◌, ◌≤◌, length, IfOk, OnOk};
+ghost use Rattle.store_core.specs.Passes.{IsNoteOf, IsPassOf, calls_left, mine, told};
 
 use crate::fault::Fault;
 use book_core::{Change, ChangeKind, Entry};
@@ -11,8 +11,8 @@ use std::alloc::Global;
 use std::sync::Wait;
 use store_core::{Note, Pass, Store};
 
-/// How many rows there are to load.
-pub const ROWS: u32 = 1_000;
+// How many rows there are to load.
+const ROWS: u32 = 1_000;
 
 /// How many commits the loader makes: one for the table, and one for each row.
 pub const COMMITS: u64 = 1_001;
@@ -20,7 +20,7 @@ pub const COMMITS: u64 = 1_001;
 // The loader has the first pass of the store.
 const LOADER: u32 = 1;
 
-/// A change's rows: one row, which holds for a day, with a number of its own.
+/// The rows of one change: a single row of this number, which holds for a day.
 pub fn one_row(alloc: Global, number: u32) -> Result<Drafts, Fault> {
     let period = Period::new(Point::parse(b"2024-01-08")?, Point::parse(b"2024-01-09")?)?;
     let mut values = Values::new(alloc);
@@ -42,6 +42,7 @@ pub fn load<R: Wait>(
     requires { IsPassOf store.now pass.old }
     ensures pass { IsPassOf store.now pass.new }
     ensures note { IfOk result (IsNoteOf store.now) }
+    ensures told { IfOk result (λ note. 1001 ≤ length (told note).seen) }
     ensures calls { OnOk result (calls_left pass.new + 1001 ≡ calls_left pass.old) }
     ensures commits { OnOk result (length (mine pass.new) ≡ length (mine pass.old) + 1001) }
 {

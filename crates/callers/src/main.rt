@@ -3,9 +3,9 @@
 //! whatever order the two threads run.
 #![tactic(auto)]
 
-ghost use Rattle.std.specs.Prelude.{◌≡◌, ◌+◌, IfOk, OnOk};
+ghost use Rattle.std.specs.Prelude.{◌≡◌, ◌+◌, ◌≤◌, length, IfOk, OnOk};
 ghost use Rattle.std.specs.Thread.{IsSync};
-ghost use Rattle.store_core.specs.Passes.{IsFresh, IsNoteOf, IsPassOf, calls_left};
+ghost use Rattle.store_core.specs.Passes.{IsFresh, IsNoteOf, IsPassOf, calls_left, seen, told};
 
 mod auditor;
 mod fault;
@@ -21,8 +21,8 @@ use std::sync::Wait;
 use std::thread::{Threads, join_mut};
 use store_core::{Note, Pass, Store, StoreRefused};
 
-/// Lets the loader load on a thread of its own while the auditor watches here. Answers the loader's note, and what
-/// the auditor saw.
+/// Lets the loader load on a thread of its own while the auditor watches here, or after it where no thread can be
+/// made. Answers the loader's note, and what the auditor saw.
 fn meanwhile<R: Threads + Wait + Sync>(
     rt: &R,
     alloc: Global,
@@ -35,12 +35,14 @@ fn meanwhile<R: Threads + Wait + Sync>(
     requires auditor { IsPassOf store.now auditor.old }
     ensures passes { IsPassOf store.now loader.new × IsPassOf store.now auditor.new }
     ensures note { IfOk result.0 (IsNoteOf store.now) }
+    ensures told { IfOk result.0 (λ note. 1001 ≤ length (told note).seen) }
     ensures calls { OnOk result.0 (calls_left loader.new + 1001 ≡ calls_left loader.old) }
 {
     let mut loading = || -> Result<Note, Fault>
         requires { IsSync R.row × IsPassOf store.now loader.now }
         ensures pass { IsPassOf store.entry.now loader.exit.now }
         ensures note { IfOk result (IsNoteOf store.entry.now) }
+        ensures told { IfOk result (λ note. 1001 ≤ length (told note).seen) }
         ensures calls { OnOk result (calls_left loader.exit.now + 1001 ≡ calls_left loader.entry.now) }
     { load(rt, alloc, store, table, loader) };
     let mut watching = || -> Result<Watched, Fault>
@@ -58,16 +60,16 @@ fn report<R: Print + Wait>(
     auditor: &mut Pass,
     watched: &Watched,
 ) -> Result<(), Fault>
-    requires { IsPassOf store.now auditor.old }
+    requires pass { IsPassOf store.now auditor.old }
+    requires heard { 1001 ≤ length (seen auditor.old) }
     ensures { IsPassOf store.now auditor.new }
 {
     let log = store.log(rt, auditor)?;
+    // In range, since the note told of as many commits.
+    let loaders = &log.as_slice()[..COMMITS as usize];
     let newest = store.snapshot(rt, auditor, None)?;
     println!(rt; "commits in the log: {}", log.len())?;
-    println!(rt;
-        "all of the loader, in its order: {}",
-        is_in_order(log.as_slice())
-    )?;
+    println!(rt; "all of the loader, in its order: {}", is_in_order(loaders))?;
     println!(rt;
         "rows in the newest snapshot: {}",
         rows_shown(&newest, table)?
