@@ -14,6 +14,7 @@ use std::alloc::Global;
 use std::env::{self, Env};
 use std::io::{self, BufWriter, ErrorKind, Write};
 use std::process::ExitCode;
+use std::sync::Wait;
 use std::thread::Threads;
 use words_core::{Words, WordsRefused, read_words};
 
@@ -41,7 +42,10 @@ impl Ending {
 }
 
 /// Runs the script on standard input with so many workers, and flushes what was written.
-fn answer(rt: &(impl Input + Print + Alloc<A = Global> + Threads + Sync), workers: u32) -> Ending
+fn answer(
+    rt: &(impl Input + Print + Alloc<A = Global> + Threads + Wait + Sync),
+    workers: u32,
+) -> Ending
     requires { IsWorkers workers }
 {
     let Ok(output) = BufWriter::new(rt.alloc(), io::writer(rt)) else {
@@ -80,7 +84,7 @@ fn asked(rt: &(impl Env + Alloc<A = Global>)) -> Result<Words, WordsRefused>
 }
 
 /// Does what the program's words ask for.
-fn session(rt: &(impl Input + Print + Env + Alloc<A = Global> + Threads + Sync)) -> Ending {
+fn session(rt: &(impl Input + Print + Env + Alloc<A = Global> + Threads + Wait + Sync)) -> Ending {
     match asked(rt) {
         Ok(Words::Run(workers)) => answer(rt, workers),
         Ok(Words::Help) => show_help(rt),

@@ -7,12 +7,13 @@ use script_core::{Counted, run};
 use std::alloc::Global;
 use std::fmt::Write;
 use std::process::Abort;
+use std::sync::Wait;
 use std::test::Fail;
 use std::thread::Threads;
 
 // What a script is answered.
 fn answers_of(
-    rt: &(impl Alloc<A = Global> + Threads + Sync),
+    rt: &(impl Alloc<A = Global> + Threads + Wait + Sync),
     script: &[u8],
 ) -> Result<Vec<u8>, Fail> {
     let mut reader = Counted::new(script);
@@ -102,7 +103,7 @@ struct Claimed {
 impl Claimed {
     // What `dip` answers of the rows.
     fn by_dip(
-        rt: &(impl Alloc<A = Global> + Threads + Sync),
+        rt: &(impl Alloc<A = Global> + Threads + Wait + Sync),
         rows: &[Row],
     ) -> Result<Claimed, Fail> {
         let alloc = rt.alloc();
@@ -288,7 +289,10 @@ impl Trial {
     }
 
     // Runs the script.
-    fn check(&self, rt: &(impl Abort + Alloc<A = Global> + Threads + Sync)) -> Result<(), Fail> {
+    fn check(
+        &self,
+        rt: &(impl Abort + Alloc<A = Global> + Threads + Wait + Sync),
+    ) -> Result<(), Fail> {
         let answers = answers_of(rt, self.script.as_bytes())?;
         assert_eq!(rt; str::from_utf8(&answers)?, self.answers.as_str());
         Ok(())

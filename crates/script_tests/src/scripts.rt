@@ -3,6 +3,7 @@
 use script_core::{Counted, Outcome, run};
 use std::alloc::Global;
 use std::process::Abort;
+use std::sync::Wait;
 use std::test::Fail;
 use std::thread::Threads;
 
@@ -14,7 +15,10 @@ struct Case {
     errors: u64,
 }
 
-fn check(rt: &(impl Abort + Alloc<A = Global> + Threads + Sync), case: &Case) -> Result<(), Fail> {
+fn check(
+    rt: &(impl Abort + Alloc<A = Global> + Threads + Wait + Sync),
+    case: &Case,
+) -> Result<(), Fail> {
     let mut reader = Counted::new(case.script);
     let mut writer = Counted::new(Vec::new(rt.alloc()));
     let outcome = run(rt, rt.alloc(), &mut reader, &mut writer, 4)?;
