@@ -37,11 +37,7 @@ fn rows_of_parts<R: Threads + Sync, G: Gate>(
 }
 
 /// The division of some items, which are copied.
-fn divided<R: Threads + Sync>(
-    rt: &R,
-    alloc: Global,
-    items: &[Item],
-) -> Result<Division, NoMemory>
+fn divided<R: Threads + Sync>(rt: &R, alloc: Global, items: &[Item]) -> Result<Division, NoMemory>
     requires { length items.now ≤ item_limit }
     ensures { IfOk result (IsLeastDivision items.now) }
 {

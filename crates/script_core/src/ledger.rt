@@ -11,7 +11,9 @@ use period_core::NoMemory;
 use row_core::Failure;
 use std::alloc::{AllocError, Global};
 use std::sync::Wait;
-use store_core::{BadCount, Future, Pass, PassSpent, Snapshot, SnapshotRefused, Store, StoreRefused};
+use store_core::{
+    BadCount, Future, Pass, PassSpent, Snapshot, SnapshotRefused, Store, StoreRefused,
+};
 use turn_core::CALL_LIMIT;
 
 /// A store and its one pass, whose calls answer what a book answers. Contracts see the history, and how many calls

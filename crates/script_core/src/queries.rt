@@ -56,11 +56,7 @@ fn shown_table<'a>(
 }
 
 /// All rows of a table.
-pub(crate) fn rows(
-    snapshot: &Snapshot,
-    number: u64,
-    table: Name,
-) -> Result<Answer, Failure>
+pub(crate) fn rows(snapshot: &Snapshot, number: u64, table: Name) -> Result<Answer, Failure>
     ensures { Gives (rows_told number (history snapshot.now) (shown snapshot.now) table) (λ rows answer. answer ≡ Rows rows) result }
 {
     let (_, rows) = shown_table(snapshot, number, table)?;

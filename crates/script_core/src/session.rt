@@ -214,7 +214,15 @@ fn answer_all<T: Threads + Wait + Sync, W: Write>(
     while at < lines.len() {
         let number = at as u64 + 1;
         let Cut { command, taken } = next_command(alloc, lines.range(at, lines.len()), number)?;
-        let errors = answer_command(rt, alloc, &mut ledger, number, command, workers, &mut printer)?;
+        let errors = answer_command(
+            rt,
+            alloc,
+            &mut ledger,
+            number,
+            command,
+            workers,
+            &mut printer,
+        )?;
         printer.write_to(writer, patience)?;
         outcome.commands += 1;
         outcome.errors += errors;

@@ -193,7 +193,9 @@ fn adds_a_row_that_is_a_copy(rt: HostRuntime) -> Result<(), Fail> {
     };
     let mut rows = RowList::new(rt.alloc());
     rows.push(row.copy(rt.alloc())?)?;
-    let added = rows.get(0).map(|copy| (copy.id, copy.period, copy.values.as_slice()));
+    let added = rows
+        .get(0)
+        .map(|copy| (copy.id, copy.period, copy.values.as_slice()));
     assert_eq!(rt; added, Some((5, row.period, row.values.as_slice())));
     Ok(())
 }

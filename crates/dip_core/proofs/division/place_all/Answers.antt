@@ -54,7 +54,6 @@ loop-item-preserved c =
           );
     }
 
-
 pub returns : goal.returns
 returns c =
     let all : take c.loop-item.item-index c.args.sorted.now ≡ c.args.sorted.now =
