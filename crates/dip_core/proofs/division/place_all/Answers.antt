@@ -1,13 +1,12 @@
-use Rattle.std.proofs.Common.{arith, ◌≡◌, ◌∙◌, ◌<◌, ◌≤◌, ◌+◌, ◌-◌, length, take, get_or, subst, sym, ap, List, Option, ℕ}
-use Rattle.std.specs.Prelude.{IsPermutation, IsSorted, MatchOption}
+use Rattle.std.proofs.Common.{arith, ◌≡◌, ◌<◌, ◌≤◌, ◌+◌, ◌-◌, length, take, get_or, subst, sym, ap, List, Option, ℕ}
+use Rattle.std.specs.Prelude.{IsPermutation, MatchOption}
 use Rattle.std.proofs.lemmas.Option.{MatchOption-at_some}
 use Rattle.std.proofs.lemmas.List.{take_all, length-take-le}
-use Rattle.std.proofs.lemmas.List.Sorted.{length_permutation, IsPermutation-trans}
+use Rattle.std.proofs.lemmas.List.Sorted.{length_permutation}
 use Rattle.dip_core.specs.declared.item.Item.{Item}
-use Rattle.dip_core.specs.Item.{item_cmp, item_limit}
+use Rattle.dip_core.specs.Item.{item_limit}
 use Rattle.dip_core.specs.Division.{all_of}
 use Rattle.dip_core.specs.Placing.{Placing}
-use Rattle.dip_core.proofs.DivisionLemmas.{no_parts, IsLeastDivision-permutation, HasDistinctIds-permutation}
 use Rattle.dip_core.proofs.SortedLemmas.{sorted_step, placed_more}
 use Rattle.dip_core.proofs.division.place_all.Goals as goal
 
