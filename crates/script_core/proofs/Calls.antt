@@ -1,5 +1,5 @@
 -- A script's store has calls enough: its bytes are few, and each record takes some.
-use Rattle.std.proofs.Common.{◌≡◌, ℕ, ◌+◌, ◌*◌, ◌≤◌, List, [], ◌∷◌, Bool, true, false, cond, length, arith}
+use Rattle.std.proofs.Common.{ℕ, ◌*◌, ◌≤◌, List, [], ◌∷◌, Bool, true, false, cond, length, arith}
 use Rattle.csv.specs.Reading.{Reached, default_config, is_bom, strip_bom}
 use Rattle.csv.specs.declared.parser.Config.{Config}
 use Rattle.csv.specs.declared.parser.State.{State}

@@ -1,5 +1,5 @@
 -- A change that is not made is refused by name, or memory is.
-use Rattle.std.proofs.Common.{◌≡◌, ℕ, Option, Some, None, Result, Err, ap}
+use Rattle.std.proofs.Common.{ℕ, Option, Result, ap}
 use Rattle.std.specs.Prelude.{option_map}
 use Rattle.row_core.specs.Refusals.{refused_or}
 use Rattle.row_core.specs.declared.failure.Failure as row

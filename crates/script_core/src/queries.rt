@@ -39,7 +39,8 @@ fn shown_table<'a>(
     number: u64,
     table: Name,
 ) -> Result<(&'a Schema, RowList), Failure>
-    ensures gives { Gives (rows_told number (history snapshot.now) (shown snapshot.now) table) (λ rows read. read.1 ≡ rows) result }
+    ensures gives { Gives (rows_told number (history snapshot.now) (shown snapshot.now) table)
+        (λ rows read. read.1 ≡ rows) result }
     ensures columns { IfOk result (λ read. columns_told number (history snapshot.now) table ≡ Ok read.0.now) }
     ensures few { IfOk result (λ read. length read.1 ≤ version_limit) }
     ensures rise { IfOk result (λ read. IdsRise read.1) }
@@ -57,7 +58,8 @@ fn shown_table<'a>(
 
 /// All rows of a table.
 pub(crate) fn rows(snapshot: &Snapshot, number: u64, table: Name) -> Result<Answer, Failure>
-    ensures { Gives (rows_told number (history snapshot.now) (shown snapshot.now) table) (λ rows answer. answer ≡ Rows rows) result }
+    ensures { Gives (rows_told number (history snapshot.now) (shown snapshot.now) table)
+        (λ rows answer. answer ≡ Rows rows) result }
 {
     let (_, rows) = shown_table(snapshot, number, table)?;
     Ok(Answer::Rows(rows))
@@ -70,7 +72,8 @@ pub(crate) fn rows_on(
     table: Name,
     point: Point,
 ) -> Result<Answer, Failure>
-    ensures { Gives (rows_told number (history snapshot.now) (shown snapshot.now) table) (λ rows answer. answer ≡ Rows (rows_on point rows)) result }
+    ensures { Gives (rows_told number (history snapshot.now) (shown snapshot.now) table)
+        (λ rows answer. answer ≡ Rows (rows_on point rows)) result }
 {
     match snapshot.rows_holding(table, point) {
         Ok(rows) => Ok(Answer::Rows(rows)),
@@ -86,7 +89,8 @@ pub(crate) fn divide<T: Threads + Sync>(
     number: u64,
     table: Name,
 ) -> Result<Answer, Failure>
-    ensures { Gives (rows_told number (history snapshot.now) (shown snapshot.now) table) (λ rows answer. IsDipOf (items_of rows) answer) result }
+    ensures { Gives (rows_told number (history snapshot.now) (shown snapshot.now) table)
+        (λ rows answer. IsDipOf (items_of rows) answer) result }
 {
     let (schema, rows) = shown_table(snapshot, number, table)?;
     let side = Side {
@@ -172,7 +176,8 @@ pub(crate) fn agg_table<T: Threads + Sync>(
     workers: u32,
 ) -> Result<Answer, Failure>
     requires { (0 < workers) × (workers ≤ worker_limit) }
-    ensures { Gives (aggregated_told number (history snapshot.now) (shown snapshot.now) aggregate) (λ table. IsAggOf table aggregate) result }
+    ensures { Gives (aggregated_told number (history snapshot.now) (shown snapshot.now) aggregate)
+        (λ table. IsAggOf table aggregate) result }
 {
     let func = func_of(&aggregate.func);
     let (schema, rows) = shown_table(snapshot, number, aggregate.table)?;
@@ -209,7 +214,8 @@ pub(crate) fn check(
     body: Lines<'_>,
 ) -> Result<Answer, Failure>
     requires { number + 1 + length (lines_in body) < 2 ^ 64 }
-    ensures { Gives (both (rows_told number (history snapshot.now) (shown snapshot.now) table) (claim_of (number + 1) (lines_in body.entry)))
+    ensures { Gives (both (rows_told number (history snapshot.now) (shown snapshot.now) table)
+        (claim_of (number + 1) (lines_in body.entry)))
         (λ read answer. IsVerdictOn (items_of read.0) read.1 certificate answer) result }
 {
     let (_, rows) = shown_table(snapshot, number, table)?;
@@ -228,7 +234,8 @@ pub(crate) fn between(
 ) -> Result<Answer, Failure>
     requires { number_shown snapshot.now ≡ length (history snapshot.now) }
     ensures { Gives (versions_told number (history snapshot.now) (nat_lt last first) table)
-        (λ _ answer. IsVersions (AreBetween (history snapshot.now) (length (history snapshot.now)) first last table) answer) result }
+        (λ _ answer. IsVersions (AreBetween (history snapshot.now) (length (history snapshot.now)) first last table)
+        answer) result }
 {
     match snapshot.between(first, last, table) {
         Ok(versions) => Ok(Answer::Versions(versions)),
@@ -246,7 +253,8 @@ pub(crate) fn from_to(
 ) -> Result<Answer, Failure>
     requires { number_shown snapshot.now ≡ length (history snapshot.now) }
     ensures { Gives (versions_told number (history snapshot.now) (nat_le end first) table)
-        (λ _ answer. IsVersions (AreFromTo (history snapshot.now) (length (history snapshot.now)) first end table) answer) result }
+        (λ _ answer. IsVersions (AreFromTo (history snapshot.now) (length (history snapshot.now)) first end table)
+        answer) result }
 {
     match snapshot.from_to(first, end, table) {
         Ok(versions) => Ok(Answer::Versions(versions)),

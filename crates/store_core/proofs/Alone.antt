@@ -1,6 +1,6 @@
 -- A store with one pass: all changes are its own, and each call is one of a book that no other caller changes.
-use Rattle.std.proofs.Common.{◌≡◌, ℕ, suc, ◌<◌, [], ◌∷◌, ◌++◌, Bool, cond, Result, Ok, Err, None, Some, drop, get_or, length, refl, sym, ap, subst, ◌∙◌, append-nil, arith, eq-eqb}
-use Rattle.row_core.specs.declared.failure.Failure.TheVariants.{Refused, NoMemory}
+use Rattle.std.proofs.Common.{◌≡◌, ℕ, suc, ◌<◌, [], ◌∷◌, ◌++◌, Bool, cond, Ok, Err, None, Some, drop, get_or, length, refl, sym, ap, subst, ◌∙◌, append-nil, arith, eq-eqb}
+use Rattle.row_core.specs.declared.failure.Failure.TheVariants.{Refused}
 use Rattle.version_core.specs.declared.change.Change.{Change}
 use Rattle.book_core.specs.History.{History}
 use Rattle.book_core.specs.declared.commit.Commit.{Commit}

@@ -31,7 +31,8 @@ returns-in_err-shown-in-Rows-clause-performs g c =
 
 pub returns-in_err-shown-in-At-clause-performs : goal.returns-in_err-shown-in-At-clause-performs
 returns-in_err-shown-in-At-clause-performs g c =
-    let p = err_from_is_err_and c.from_residual-in_err-shown-in-At.result c.from_residual-in_err-shown-in-At.ensures.1 in
+    let p =
+    err_from_is_err_and c.from_residual-in_err-shown-in-At.result c.from_residual-in_err-shown-in-At.ensures.1 in
     let number = c.args.number in
     let before = held c.args.ledger.now in
     let asof = c.in-At.asof in
@@ -47,7 +48,8 @@ returns-in_err-shown-in-At-clause-performs g c =
 
 pub returns-in_err-shown-in-Dip-clause-performs : goal.returns-in_err-shown-in-Dip-clause-performs
 returns-in_err-shown-in-Dip-clause-performs g c =
-    let p = err_from_is_err_and c.from_residual-in_err-shown-in-Dip.result c.from_residual-in_err-shown-in-Dip.ensures.1 in
+    let p =
+    err_from_is_err_and c.from_residual-in_err-shown-in-Dip.result c.from_residual-in_err-shown-in-Dip.ensures.1 in
     let number = c.args.number in
     let before = held c.args.ledger.now in
     let asof = c.in-Dip.asof in
@@ -62,7 +64,8 @@ returns-in_err-shown-in-Dip-clause-performs g c =
 
 pub returns-in_err-shown-in-Join-clause-performs : goal.returns-in_err-shown-in-Join-clause-performs
 returns-in_err-shown-in-Join-clause-performs g c =
-    let p = err_from_is_err_and c.from_residual-in_err-shown-in-Join.result c.from_residual-in_err-shown-in-Join.ensures.1 in
+    let p =
+    err_from_is_err_and c.from_residual-in_err-shown-in-Join.result c.from_residual-in_err-shown-in-Join.ensures.1 in
     let number = c.args.number in
     let before = held c.args.ledger.now in
     let asof = c.in-Join.asof in
@@ -77,7 +80,8 @@ returns-in_err-shown-in-Join-clause-performs g c =
 
 pub returns-in_err-shown-in-Anti-clause-performs : goal.returns-in_err-shown-in-Anti-clause-performs
 returns-in_err-shown-in-Anti-clause-performs g c =
-    let p = err_from_is_err_and c.from_residual-in_err-shown-in-Anti.result c.from_residual-in_err-shown-in-Anti.ensures.1 in
+    let p =
+    err_from_is_err_and c.from_residual-in_err-shown-in-Anti.result c.from_residual-in_err-shown-in-Anti.ensures.1 in
     let number = c.args.number in
     let before = held c.args.ledger.now in
     let asof = c.in-Anti.asof in
@@ -92,7 +96,8 @@ returns-in_err-shown-in-Anti-clause-performs g c =
 
 pub returns-in_err-shown-in-Agg-clause-performs : goal.returns-in_err-shown-in-Agg-clause-performs
 returns-in_err-shown-in-Agg-clause-performs g c =
-    let p = err_from_is_err_and c.from_residual-in_err-shown-in-Agg.result c.from_residual-in_err-shown-in-Agg.ensures.1 in
+    let p =
+    err_from_is_err_and c.from_residual-in_err-shown-in-Agg.result c.from_residual-in_err-shown-in-Agg.ensures.1 in
     let number = c.args.number in
     let before = held c.args.ledger.now in
     let asof = c.in-Agg.asof in
@@ -107,7 +112,8 @@ returns-in_err-shown-in-Agg-clause-performs g c =
 
 pub returns-in_err-shown-in-Check-clause-performs : goal.returns-in_err-shown-in-Check-clause-performs
 returns-in_err-shown-in-Check-clause-performs g c =
-    let p = err_from_is_err_and c.from_residual-in_err-shown-in-Check.result c.from_residual-in_err-shown-in-Check.ensures.1 in
+    let p =
+    err_from_is_err_and c.from_residual-in_err-shown-in-Check.result c.from_residual-in_err-shown-in-Check.ensures.1 in
     let number = c.args.number in
     let before = held c.args.ledger.now in
     let asof = c.in-Check.asof in

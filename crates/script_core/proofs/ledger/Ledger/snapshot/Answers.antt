@@ -1,5 +1,5 @@
 use Rattle.std.proofs.Common.{Err, Ok, subst}
-use Rattle.row_core.specs.declared.failure.Failure.TheVariants.{NoMemory, Refused}
+use Rattle.row_core.specs.declared.failure.Failure.TheVariants.{NoMemory}
 use Rattle.book_core.specs.History.{History}
 use Rattle.store_core.specs.Snapshots.{Shows}
 use Rattle.store_core.proofs.Alone.{keeps-alone}
