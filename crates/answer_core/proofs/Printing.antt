@@ -28,7 +28,7 @@ with_text : List ℕ → Unwritten
 with_text text = record { text = text; fields = [] }
 
 -- some records, and then some more
-Adds-trans : (a b c : Unwritten) (xs ys : List Record) → Adds a b xs → Adds b c ys → Adds a c (xs ++ ys)
+pub Adds-trans : (a b c : Unwritten) (xs ys : List Record) → Adds a b xs → Adds b c ys → Adds a c (xs ++ ys)
 unfolding with_text
 Adds-trans a b c xs ys first second =
     let text : b.text ≡ a.text ++ bytes_of xs = ap (λ (d : Unwritten). d.text) first in
@@ -143,3 +143,4 @@ errors_in-printed (answer.Anti unmatched) other records is = ap errors_in is ∙
 errors_in-printed (answer.Agg rows) other records is = ap errors_in is ∙ errors_in-agg_records rows
 errors_in-printed (answer.Verdict verdict) other records is = ap errors_in is ∙ errors_in-verdict verdict
 errors_in-printed (answer.Log entries) other records is = ap errors_in is ∙ errors_in-commit_records entries
+errors_in-printed (answer.Together commit) other records is = ap errors_in is

@@ -33,6 +33,10 @@ error_record wrong = codes "error" ∷ decimal wrong.number ∷ refusal_text wro
 abbrev pub ok_record : ℕ → Record
 ok_record commit = codes "ok" ∷ decimal commit ∷ []
 
+-- a block of commands, whose queries read what this commit shows
+abbrev pub together_record : ℕ → Record
+together_record commit = codes "together" ∷ decimal commit ∷ []
+
 -- the end of a list of so many
 abbrev pub end_record : ℕ → Record
 end_record count = codes "end" ∷ decimal count ∷ []
@@ -175,6 +179,7 @@ IsPrintedAs (answer.Anti unmatched) records = records ≡ anti_records unmatched
 IsPrintedAs (answer.Agg rows) records = records ≡ agg_records rows
 IsPrintedAs (answer.Verdict verdict) records = records ≡ verdict_record verdict ∷ []
 IsPrintedAs (answer.Log entries) records = records ≡ commit_records entries
+IsPrintedAs (answer.Together commit) records = records ≡ together_record commit ∷ []
 
 -- how many of some records tell of a refusal
 abbrev pub errors_in : List Record → ℕ

@@ -35,6 +35,8 @@ pub enum Answer {
     Verdict(Verdict),
     /// What each commit did.
     Log(Log),
+    /// A block of commands begins, whose queries read what the commit of this number shows.
+    Together(u64),
 }
 
 impl Answer {

@@ -1,6 +1,6 @@
 //! Prints answers: refusals, accepted changes, rows and versions here.
 ghost use Rattle.std.specs.Prelude.{◌≡◌, [], ◌∷◌, ◌++◌, List, OnErr, OnOk, map};
-ghost use Rattle.answer_core.specs.PrintedRecords.{IsPrintedAs, end_record, end_text, error_record, ok_record, row_record, row_records, value_text, version_record, version_records};
+ghost use Rattle.answer_core.specs.PrintedRecords.{IsPrintedAs, end_record, end_text, error_record, ok_record, row_record, row_records, together_record, value_text, version_record, version_records};
 ghost use Rattle.answer_core.specs.Unwritten.{Adds, nothing};
 ghost use Rattle.command_core.specs.Records.{Record};
 
@@ -46,6 +46,7 @@ impl AnswerWriter {
             Answer::Agg(rows) => self.aggregates(rows),
             Answer::Verdict(verdict) => self.verdict(*verdict),
             Answer::Log(log) => self.log(log),
+            Answer::Together(commit) => self.together(*commit),
         }
     }
 
@@ -66,6 +67,16 @@ impl AnswerWriter {
         ensures { OnOk result (Adds self.old self.new (ok_record commit ∷ [])) }
     {
         self.field(b"ok")?;
+        self.number(commit)?;
+        self.end_record()
+    }
+
+    /// The beginning of the answer to a block of commands.
+    fn together(&mut self, commit: u64) -> Result<(), NoMemory>
+        requires { self.old.fields ≡ [] }
+        ensures { OnOk result (Adds self.old self.new (together_record commit ∷ [])) }
+    {
+        self.field(b"together")?;
         self.number(commit)?;
         self.end_record()
     }

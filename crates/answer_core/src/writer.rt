@@ -16,6 +16,7 @@ use period_core::{NoMemory, Point};
 use std::alloc::{AllocError, Global};
 use std::io::Write;
 use std::marker::Model;
+use std::mem;
 use stream_core::{Counted, Patience, RunFault, write_all};
 
 /// The bytes that a writer of `csv` keeps before it is made anew.
@@ -43,15 +44,24 @@ impl Model for AnswerWriter {
     ghost invariant = { IsAnswerWriter };
 }
 
-fn new_writer(alloc: Global) -> Writer<Vec<u8>>
+/// A writer of `csv` that adds to a text.
+fn writer_behind(text: Vec<u8>) -> Writer<Vec<u8>>
     ensures setup { writer_setup result ≡ answer_writer }
     ensures fresh { fields_written result ≡ 0 }
     ensures clean { has_written result ≡ false }
-    ensures empty { (writer_under result).items ++ writer_pending result ≡ [] }
+    ensures text { (writer_under result).items ++ writer_pending result ≡ text.items }
 {
-    WriterBuilder::new()
-        .flexible(true)
-        .from_writer(Vec::new(alloc))
+    WriterBuilder::new().flexible(true).from_writer(text)
+}
+
+/// All that a writer of `csv` was given.
+fn text_of(writer: Writer<Vec<u8>>) -> Result<Vec<u8>, NoMemory>
+    ensures { IfOk result (λ text. text.items ≡ (writer_under writer).items ++ writer_pending writer) }
+{
+    match writer.into_inner() {
+        Ok(text) => Ok(text),
+        Err(_) => Err(AllocError),
+    }
 }
 
 impl AnswerWriter {
@@ -63,7 +73,7 @@ impl AnswerWriter {
     {
         AnswerWriter {
             alloc,
-            writer: new_writer(alloc),
+            writer: writer_behind(Vec::new(alloc)),
             row: ByteRecord::new(alloc),
             text: Vec::new(alloc),
             written: 0,
@@ -133,6 +143,49 @@ impl AnswerWriter {
         }
         self.row.clear();
         Ok(())
+    }
+
+    /// Adds the records of another answer, which begins anew.
+    ///
+    /// # Errors
+    ///
+    /// `NoMemory` where a growth is refused: then what was printed and is not yet written is lost.
+    pub fn append(&mut self, other: &mut AnswerWriter) -> Result<(), NoMemory>
+        requires here { self.old.fields ≡ [] }
+        requires there { other.old.fields ≡ [] }
+        ensures ok { OnOk result (self.new ≡ record { text = self.old.text ++ other.old.text; fields = [] }) }
+        ensures err { OnErr result (self.new ≡ nothing) }
+        ensures other { other.new ≡ nothing }
+    {
+        let own = mem::replace(self, AnswerWriter::new(self.alloc));
+        let more = mem::replace(other, AnswerWriter::new(self.alloc));
+        *self = own.followed_by(more)?;
+        Ok(())
+    }
+
+    /// The records of this answer, and those of another behind them.
+    fn followed_by(self, other: AnswerWriter) -> Result<AnswerWriter, NoMemory>
+        requires here { self.fields ≡ [] }
+        requires there { other.fields ≡ [] }
+        ensures { IfOk result (λ both. both ≡ record { text = self.text ++ other.text; fields = [] }) }
+    {
+        let AnswerWriter {
+            alloc,
+            writer,
+            row,
+            text,
+            written,
+        } = self;
+        let mut records = text_of(writer)?;
+        let more = text_of(other.writer)?;
+        records.extend_from_slice(&more[other.written..])?;
+        Ok(AnswerWriter {
+            alloc,
+            writer: writer_behind(records),
+            row,
+            text,
+            written,
+        })
     }
 
     /// Writes the answer, and begins the next one.

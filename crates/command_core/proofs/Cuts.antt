@@ -1,12 +1,12 @@
 -- How the first records of some are one command's.
-use Rattle.std.proofs.Common.{◌≡◌, ℕ, zero, suc, ◌+◌, ◌<◌, ◌≤◌, List, [], ◌∷◌, ◌++◌, length, take, drop, true, false, All, Some, None, Option, refl, ap, subst, ◌∙◌, arith, inl, inr}
+use Rattle.std.proofs.Common.{◌≡◌, ℕ, zero, suc, ◌+◌, ◌<◌, ◌≤◌, List, [], ◌∷◌, ◌++◌, length, take, drop, true, false, All, Some, None, Option, refl, ap, subst, ◌∙◌, arith, inr}
 use Rattle.std.specs.List.{slice_get}
 use Rattle.std.specs.Option.{IfSome}
 use Rattle.std.proofs.lemmas.List.{drop_all, take_all}
 use Rattle.std.proofs.lemmas.List.Elements.{All-append}
 use Rattle.command_core.specs.Records.{Record}
 use Rattle.command_core.specs.Words.{is_end, opens_block}
-use Rattle.command_core.specs.Meaning.{Meaning, Means, IsBody, block_meaning, refuse, told}
+use Rattle.command_core.specs.Meaning.{Meaning, Means, MeansBlock, MeansRecord, IsBody, block_meaning, record_meaning, refuse, told}
 use Rattle.command_core.specs.declared.refusal.Refusal.TheVariants.{Unended}
 use Rattle.command_core.proofs.Cutting.{slice_get-there, take-slice_get}
 
@@ -15,16 +15,16 @@ pub block-means : (xs : List Record) (x : Record) (number n : ℕ) (meaning : Me
     → rest ≡ drop 1 xs → slice_get xs 0 ≡ Some x → opens_block x ≡ true
     → n < length rest → IsBody (take n rest) → IfSome (slice_get rest n) (λ line. is_end line ≡ true)
     → meaning ≡ told number (block_meaning x (take n (drop 1 xs)))
-    → Means number (take (n + 2) xs) (drop (n + 2) xs) meaning
+    → MeansBlock number (take (n + 2) xs) meaning
 block-means [] x number n meaning rest r e opens within before last means = absurd (cc e)
 block-means (y ∷ ys) x number n meaning rest r e opens within before last means = by (slice_get ys n) refl
   where
-    by : (o : Option Record) → slice_get ys n ≡ o → Means number (take (n + 2) (y ∷ ys)) (drop (n + 2) (y ∷ ys)) meaning
+    by : (o : Option Record) → slice_get ys n ≡ o → MeansBlock number (take (n + 2) (y ∷ ys)) meaning
     by None t = absurd (slice_get-there ys n (omega (arith, ap length r)) t)
     by (Some z) t =
         let same : y ≡ x = cc in
         let two : n + 2 ≡ suc (n + 1) = omega arith in
-        inr (inl (record {
+        record {
           opening = x;
           body = take n ys;
           last = z;
@@ -33,7 +33,7 @@ block-means (y ∷ ys) x number n meaning rest r e opens within before last mean
           inside = subst (λ l. IsBody (take n l)) r before;
           closes = rw (r, t) at last;
           means = means;
-        }))
+        }
 
 -- one more record that ends no block
 pub IsBody-more : (xs : List Record) (x : Record) → IsBody xs → is_end x ≡ false → IsBody (xs ++ x ∷ [])
@@ -60,3 +60,11 @@ unended-means (y ∷ ys) x number size rest n r e opens body =
       last = drop_all size (y ∷ ys) all;
       means = refl;
     }))
+
+-- a command of one record
+pub record-means : (xs : List Record) (x : Record) (number : ℕ) → slice_get xs 0 ≡ Some x → opens_block x ≡ false
+    → MeansRecord number (take 1 xs) (told number (record_meaning x))
+record-means [] x number e plain = absurd (cc e)
+record-means (y ∷ ys) x number e plain =
+    let same : y ≡ x = cc in
+    record { opening = x; alone = ap (λ z. z ∷ []) same; plain = plain; means = refl }

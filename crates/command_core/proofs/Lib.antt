@@ -1,7 +1,11 @@
 pub mod BehindLemmas
+pub mod Blocks
 pub mod Cuts
 pub mod Cutting
 pub mod Faults
+pub mod FirstLoad
+pub mod Inside
+pub mod Next
 pub mod MeaningExistence
 pub mod FieldLemmas
 pub mod NamedColumns
@@ -11,3 +15,6 @@ pub mod PortionLemmas
 pub mod Shrinking
 pub mod RecordsExistence
 pub mod TableLemmas
+pub mod Members
+pub mod StatementExistence
+pub mod StatementUniqueness

@@ -3,14 +3,14 @@ use Rattle.std.proofs.Common.{◌≡◌, ℕ, List, [], ◌∷◌, ◌++◌, fal
 use Rattle.std.proofs.lemmas.Bool.{both_ways}
 use Rattle.std.proofs.lemmas.List.{append-nil}
 use Rattle.std.proofs.lemmas.List.Elements.{All-head, All-tail}
-use Rattle.command_core.specs.Meaning.{FirstCommand, IsBody, Meaning, Means, MeansBlock, MeansRecord, MeansUnended, block_meaning, record_meaning, told}
+use Rattle.command_core.specs.Meaning.{IsBody, Meaning, Means, MeansBlock, MeansRecord, MeansUnended, block_meaning, record_meaning, told}
 use Rattle.command_core.specs.Records.{Record}
 use Rattle.command_core.specs.Words.{is_end, opens_block}
 
-same_head : (x y : Record) (xs ys : List Record) → x ∷ xs ≡ y ∷ ys → x ≡ y
+pub same_head : (x y : Record) (xs ys : List Record) → x ∷ xs ≡ y ∷ ys → x ≡ y
 same_head x y xs ys e = cc
 
-same_tail : (x y : Record) (xs ys : List Record) → x ∷ xs ≡ y ∷ ys → xs ≡ ys
+pub same_tail : (x y : Record) (xs ys : List Record) → x ∷ xs ≡ y ∷ ys → xs ≡ ys
 same_tail x y xs ys e = cc
 
 -- ---- the records of a command and those behind it
@@ -93,7 +93,7 @@ module _ (number : ℕ) (own later taken left : List Record) (one other : Meanin
       no_block r.opening b.opening later (b.body ++ b.last ∷ left) r.plain b.opens
       (sym (record_whole number own later one r) ∙ (e ∙ block_whole number taken left other b))
 
-  record_unended : MeansRecord number own one → MeansUnended number taken left other → ⊥
+  pub record_unended : MeansRecord number own one → MeansUnended number taken left other → ⊥
   record_unended r u =
       no_block r.opening u.opening later u.body r.plain u.opens
       (sym (record_whole number own later one r) ∙ (e ∙ unended_whole number taken left other u))
@@ -117,7 +117,7 @@ module _ (number : ℕ) (own later taken left : List Record) (one other : Meanin
             ∙ (ap (λ body. told number (block_meaning d.opening body)) rest.0 ∙ sym d.means)),
       )
 
-  block_unended : MeansBlock number own one → MeansUnended number taken left other → ⊥
+  pub block_unended : MeansBlock number own one → MeansUnended number taken left other → ⊥
   block_unended b u =
       let whole : b.opening ∷ (b.body ++ b.last ∷ later) ≡ u.opening ∷ u.body =
       sym (block_whole number own later one b) ∙ (e ∙ unended_whole number taken left other u) in
@@ -151,9 +151,3 @@ one_meaning number own later taken left one other e (inr (inr u)) (inr (inl b)) 
     absurd (block_unended number taken left own later other one (sym e) b u)
 one_meaning number own later taken left one other e (inr (inr u)) (inr (inr v)) =
     unended_unended number own later taken left one other e u v
-
-pub one_first_command : (number : ℕ) (records : List Record) (one other : FirstCommand number records)
-    → (one.own ≡ other.own) × (one.later ≡ other.later) × (one.meaning ≡ other.meaning)
-one_first_command number records one other =
-    one_meaning number one.own one.later other.own other.later one.meaning other.meaning (sym one.taken ∙ other.taken)
-    one.means other.means

@@ -9,5 +9,6 @@ pub mod Portions
 pub mod RawAggregates
 pub mod Records
 pub mod Refusal
+pub mod Statement
 pub mod TableCommand
 pub mod Words

@@ -6,7 +6,7 @@ use Rattle.row_core.specs.declared.schema.SchemaRefused.{SchemaRefused}
 use Rattle.row_core.specs.declared.schema.SchemaRefused.TheVariants as schema
 use Rattle.command_core.specs.declared.refusal.Fault.{Fault}
 use Rattle.command_core.specs.declared.refusal.Refusal.{Refusal}
-use Rattle.command_core.specs.declared.refusal.Refusal.TheVariants.{BadCommand, BadName, BadNumber, BadPeriod, BadPoint, BadUtf8, Full, Future, KeyOverlap, NoColumn, NoTable, TableExists, TooLong, TooMany, TwiceNamed, Unended, WrongKind, WrongWidth}
+use Rattle.command_core.specs.declared.refusal.Refusal.TheVariants.{BadCommand, BadName, BadNumber, BadPeriod, BadPoint, BadUtf8, Full, Future, KeyOverlap, NoColumn, NoTable, NotInBlock, TableExists, TooLong, TooMany, TwiceNamed, Unended, WrongKind, WrongWidth}
 
 -- a refusal as it is printed
 abbrev pub refusal_text : Refusal → List ℕ
@@ -21,6 +21,7 @@ refusal_text Future = codes "Future"
 refusal_text KeyOverlap = codes "KeyOverlap"
 refusal_text NoColumn = codes "NoColumn"
 refusal_text NoTable = codes "NoTable"
+refusal_text NotInBlock = codes "NotInBlock"
 refusal_text TableExists = codes "TableExists"
 refusal_text TooLong = codes "TooLong"
 refusal_text TooMany = codes "TooMany"

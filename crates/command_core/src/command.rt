@@ -11,6 +11,7 @@ ghost use Rattle.std.specs.Prelude.{
   IfNone,
   OnErr,
   codes,
+  false,
   true,
   length,
   take,
@@ -144,7 +145,7 @@ pub struct Cut<'a> {
     pub taken: usize,
 }
 
-fn refused<'a>(number: u64, refusal: Refusal) -> Command<'a>
+pub(crate) fn refused<'a>(number: u64, refusal: Refusal) -> Command<'a>
     ensures { meaning_of result ≡ refuse number refusal }
 {
     Command::Refused(Fault { number, refusal })
@@ -156,20 +157,32 @@ fn read_record<'a>(alloc: Global, line: Line<'a>) -> Result<Command<'a>, Failure
     ensures memory { IfErr result
         (λ why. why ≡ failure.NoMemory → begins (codes "table") (fields_in line.entry) ≡ true) }
 {
+    if begins(line, b"table") {
+        read_table(alloc, line)
+    } else {
+        Ok(read_query(line)?)
+    }
+}
+
+/// What a record means that opens no block and makes no table.
+pub(crate) fn read_query<'a>(line: Line<'a>) -> Result<Command<'a>, Refusal>
+    requires { begins (codes "table") (fields_in line) ≡ false }
+    ensures { meant_by result ≡ record_meaning (fields_in line.entry) }
+{
     match verb_of(line) {
-        Some(Verb::Table) => read_table(alloc, line),
-        Some(Verb::Update) => Ok(read_update(line)?),
-        Some(Verb::Delete) => Ok(read_delete(line)?),
-        Some(Verb::Rows) => Ok(read_rows(line)?),
-        Some(Verb::At) => Ok(read_at(line)?),
-        Some(Verb::Between) => Ok(read_between(line)?),
-        Some(Verb::FromTo) => Ok(read_from_to(line)?),
-        Some(Verb::Dip) => Ok(read_dip(line)?),
-        Some(Verb::Join) => Ok(read_join(line)?),
-        Some(Verb::Anti) => Ok(read_anti(line)?),
-        Some(Verb::Agg) => Ok(read_agg(line)?),
-        Some(Verb::Log) => Ok(read_log(line)?),
-        None => Err(Failure::Refused(Refusal::BadCommand)),
+        Some(Verb::Update) => read_update(line),
+        Some(Verb::Delete) => read_delete(line),
+        Some(Verb::Rows) => read_rows(line),
+        Some(Verb::At) => read_at(line),
+        Some(Verb::Between) => read_between(line),
+        Some(Verb::FromTo) => read_from_to(line),
+        Some(Verb::Dip) => read_dip(line),
+        Some(Verb::Join) => read_join(line),
+        Some(Verb::Anti) => read_anti(line),
+        Some(Verb::Agg) => read_agg(line),
+        Some(Verb::Log) => read_log(line),
+        Some(Verb::Table) => unreachable!(),
+        None => Err(Refusal::BadCommand),
     }
 }
 
@@ -213,7 +226,7 @@ fn read_block<'a>(opening: Line<'a>, body: Lines<'a>, number: u64) -> Command<'a
 }
 
 /// How many records come before the first one that ends a block.
-fn body_len(lines: Lines<'_>) -> Option<usize>
+pub(crate) fn body_len(lines: Lines<'_>) -> Option<usize>
     ensures within { IfSome result (λ n. n < length (lines_in lines.entry)) }
     ensures before { IfSome result (λ n. IsBody (take n (lines_in lines.entry))) }
     ensures last { IfSome result (λ n. IfSome (slice_get (lines_in lines.entry) n) (λ line. is_end line ≡ true)) }
@@ -233,7 +246,11 @@ fn body_len(lines: Lines<'_>) -> Option<usize>
 /// # Errors
 ///
 /// `NoMemory` where a growth is refused, which only a `table` asks for.
-pub fn next_command<'a>(alloc: Global, lines: Lines<'a>, number: u64) -> Result<Cut<'a>, NoMemory>
+pub(crate) fn next_command<'a>(
+    alloc: Global,
+    lines: Lines<'a>,
+    number: u64,
+) -> Result<Cut<'a>, NoMemory>
     requires { 0 < length (lines_in lines) }
     ensures some { IfOk result (λ cut. 0 < cut.taken) }
     ensures within { IfOk result (λ cut. cut.taken ≤ length (lines_in lines.entry)) }
@@ -257,7 +274,7 @@ pub fn next_command<'a>(alloc: Global, lines: Lines<'a>, number: u64) -> Result<
 }
 
 /// The block that some records begin with, the first of them of this number.
-fn next_block<'a>(opening: Line<'a>, lines: Lines<'a>, number: u64) -> Cut<'a>
+pub(crate) fn next_block<'a>(opening: Line<'a>, lines: Lines<'a>, number: u64) -> Cut<'a>
     requires first { slice_get (lines_in lines) 0 ≡ Some (fields_in opening) }
     requires opens { opens_block (fields_in opening) ≡ true }
     ensures some { 0 < result.taken }

@@ -1,8 +1,8 @@
 //! Laws of what records mean.
 
 ghost use Rattle.std.specs.Prelude.{◌≡◌, ◌<◌, ℕ, List, length};
-ghost use Rattle.command_core.specs.Meaning.{FirstCommand};
 ghost use Rattle.command_core.specs.Records.{AreScriptRecords, Record};
+ghost use Rattle.command_core.specs.Statement.{FirstStatement};
 
 /// The bytes of a script, whatever they are, have exactly one list of records.
 pub fn script_has_one_list_of_records()
@@ -11,9 +11,9 @@ pub fn script_has_one_list_of_records()
         → AreScriptRecords script one → AreScriptRecords script other → one ≡ other }
 {}
 
-/// Some records have exactly one first command: which of them it takes, and what it means.
-pub fn records_have_one_first_command()
-    ensures exists { (number : ℕ) (records : List Record) → 0 < length records → FirstCommand number records }
-    ensures one { (number : ℕ) (records : List Record) (one other : FirstCommand number records)
-        → (one.own ≡ other.own) × (one.later ≡ other.later) × (one.meaning ≡ other.meaning) }
+/// Some records have exactly one first statement: which of them it takes, and what it is.
+pub fn records_have_one_first_statement()
+    ensures exists { (number : ℕ) (records : List Record) → 0 < length records → FirstStatement number records }
+    ensures one { (number : ℕ) (records : List Record) (one other : FirstStatement number records)
+        → (one.own ≡ other.own) × (one.later ≡ other.later) × (one.statement ≡ other.statement) }
 {}

@@ -31,6 +31,8 @@ pub enum Refusal {
     NoColumn,
     /// There is no table of that name.
     NoTable,
+    /// The command isn't allowed in a block of commands.
+    NotInBlock,
     /// There is a table of that name.
     TableExists,
     /// A text value has more than 4,096 bytes.
@@ -73,6 +75,7 @@ impl Refusal {
             Refusal::KeyOverlap => b"KeyOverlap",
             Refusal::NoColumn => b"NoColumn",
             Refusal::NoTable => b"NoTable",
+            Refusal::NotInBlock => b"NotInBlock",
             Refusal::TableExists => b"TableExists",
             Refusal::TooLong => b"TooLong",
             Refusal::TooMany => b"TooMany",

@@ -13,8 +13,8 @@ It reads a script of CSV records on standard input, and writes the answers to
 its commands on standard output, as CSV records too. Each run begins with no
 tables and keeps nothing: what is kept is the script.
 
-  --workers N   the most threads that a query may use, 1 to 64; without it 4.
-                The answers are the same by any number.
+  --workers N   how many threads work on a query's parts, 1 to 64; without
+                it 4. The answers are the same by any number.
   --help        prints this page.
 
 This script has three commands. It makes a table, loads two rows into it, and

@@ -1,5 +1,5 @@
-//! Tests from outside of queries: what parts share and leave, joins, anti-joins and aggregates by many workers, and
-//! rows by their ids.
+//! Tests from outside of queries: what parts share and leave, joins, anti-joins and aggregates by many workers,
+//! the rows of a point, and rows by their ids.
 #![tactic(auto)]
 
 #[cfg(test)]

@@ -1,9 +1,22 @@
-//! Rows that are looked for by their ids.
+//! Rows that are looked for by a point or by their ids.
 
-use crate::tables::january;
-use query_core::RowsById;
+use crate::joins::worked_tables;
+use crate::tables::{january, side};
+use period_core::Point;
+use query_core::{RowsById, at};
 use row_core::{Row, RowList, RowOrder, Values};
 use std::test::Fail;
+
+#[test]
+fn gives_the_rows_of_a_point(rt: HostRuntime) -> Result<(), Fail> {
+    let (_, table) = worked_tables(&rt)?;
+    let rows = at(rt.alloc(), side(&rt, &table), Point::parse(b"2024-01-07")?)?;
+    assert_eq!(rt; rows.len(), 2);
+    for (row, id) in rows.as_slice().iter().zip(2u64..4) {
+        assert_eq!(rt; row.id, id);
+    }
+    Ok(())
+}
 
 #[test]
 fn finds_rows_by_id(rt: HostRuntime) -> Result<(), Fail> {

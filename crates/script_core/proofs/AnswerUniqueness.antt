@@ -31,7 +31,7 @@ use Rattle.command_core.specs.declared.refusal.Fault.{Fault}
 use Rattle.answer_core.specs.PrintedRecords.{IsPrintedAs, division_records}
 use Rattle.answer_core.specs.declared.answer.Answer.{Answer}
 use Rattle.answer_core.specs.declared.answer.Answer.TheVariants as answer
-use Rattle.script_core.specs.Answer.{Answers, AnswersChange, AnswersQuery, IsAggOf, IsAnswerTo, IsAntiOf, IsDipOf, IsJoinOf, IsVerdictOn, IsVersions, Refuses}
+use Rattle.script_core.specs.Answer.{AnswersOne, AnswersChange, AnswersQuery, IsAggOf, IsAnswerTo, IsAntiOf, IsDipOf, IsJoinOf, IsVerdictOn, IsVersions, Refuses}
 use Rattle.script_core.specs.Effects.{TableRows, aggregated_told, claim_of, delete_in, func_of, load_in, make_in, rows_on, rows_told, sides_told, update_in, versions_told}
 
 -- ---- what queries are answered
@@ -188,6 +188,7 @@ one_print (answer.Join joined) one other divides p q = p ∙ sym q
 one_print (answer.Anti unmatched) one other divides p q = p ∙ sym q
 one_print (answer.Agg rows) one other divides p q = p ∙ sym q
 one_print (answer.Verdict verdict) one other divides p q = p ∙ sym q
+one_print (answer.Together commit) one other divides p q = p ∙ sym q
 one_print (answer.Log entries) one other divides p q = p ∙ sym q
 
 -- an answer that is one which tells no division
@@ -251,7 +252,7 @@ divides before number (Check name parts instant asof body) given after p =
 divides before number Log given after p = plain given (answer.Log _) tt p.0
 
 pub one_answer : (before : History) (number : ℕ) (meaning : Meaning) (a b : List Record) (f g : History)
-    → Answers before number meaning a f → Answers before number meaning b g → (a ≡ b) × (f ≡ g)
+    → AnswersOne before number meaning a f → AnswersOne before number meaning b g → (a ≡ b) × (f ≡ g)
 one_answer before number meaning a b f g (one, is, printed) (other, is', printed') =
     let same = one_given before number meaning one other f g is is' in (
       one_print other a b (divides before number meaning other g is')

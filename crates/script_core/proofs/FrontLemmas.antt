@@ -53,7 +53,7 @@ writes_before records before after first place steps more written =
         first = first;
         next = next;
         later = later;
-        commands = is ∙ ap (λ l. first ++ l) starts;
+        statements = is ∙ ap (λ l. first ++ l) starts;
         written = written;
       },
     )
@@ -73,7 +73,7 @@ writes_within records before after first next place last size steps step short w
         first = first;
         next = next;
         later = later;
-        commands = is ∙ ap (λ l. first ++ l) starts;
+        statements = is ∙ ap (λ l. first ++ l) starts;
         size = size;
         short = short;
         written = written;

@@ -2,6 +2,9 @@ pub mod Changing
 pub mod Answering
 pub mod Loading
 pub mod AnswerUniqueness
+pub mod AnswerExistence
+pub mod TogetherUniqueness
+pub mod TogetherExistence
 pub mod OutputExistence
 pub mod FrontLemmas
 pub mod OutputUniqueness
@@ -10,3 +13,4 @@ pub mod Progress
 pub mod Comparing
 pub mod Showing
 pub mod Calls
+pub mod Blocks

@@ -1,282 +1,82 @@
--- All commands of some records can be done.
-use Rattle.std.proofs.Common.{◌≡◌, ℕ, zero, suc, ◌+◌, ◌<◌, ◌≤◌, List, [], ◌∷◌, ◌++◌, Option, Some, None, Result, Ok, Err, length, refl, ap, ◌∙◌, arith, inl, inr, length-append}
-use Rattle.std.specs.Prelude.{IfOk, nat_le, nat_lt, option_map}
+-- All statements of some records can be done.
+use Rattle.std.proofs.Common.{◌≡◌, ℕ, false, zero, suc, ◌+◌, ◌<◌, ◌≤◌, List, [], ◌∷◌, ◌++◌, length, refl, sym, ap, ◌∙◌, subst, arith, inl, inr, length-append}
 use Rattle.std.proofs.lemmas.Bool.{cases_lt}
 use Rattle.std.proofs.lemmas.List.{nil_from_length}
-use Rattle.row_core.specs.Refusals.{and_then, refused_or}
-use Rattle.book_core.specs.History.{History, IsLegal, state_after}
-use Rattle.book_core.specs.History as history
-use Rattle.book_core.specs.State.{refusal_of}
-use Rattle.book_core.specs.Versions.{AreBetween, AreFromTo, log_of}
-use Rattle.book_core.specs.declared.refusal.BookRefused.{BookRefused}
-use Rattle.version_core.specs.declared.change.Change.{Change}
-use Rattle.version_core.specs.declared.version.Version.{Version}
-use Rattle.version_core.specs.declared.change.Change.TheVariants as change
-use Rattle.book_core.proofs.Applying.{IsLegal-push}
-use Rattle.book_core.proofs.VersionsExistence.{some_between, some_from_to}
-use Rattle.row_core.specs.declared.row.Row.{Row}
-use Rattle.dip_core.specs.declared.item.Item.{Item}
-use Rattle.dip_core.specs.Item as item
-use Rattle.dip_core.proofs.DipExistence.{some_dip, some_instant}
-use Rattle.dip_core.proofs.IdsLemmas.{HasDistinctIds-from_rising}
-use Rattle.cert_core.specs.declared.verdict.Certificate.{Certificate}
-use Rattle.cert_core.proofs.VerdictExistence.{some_verdict}
-use Rattle.match_core.specs.Items.{items_of}
-use Rattle.match_core.proofs.ItemIds.{IdsRise-items_of}
-use Rattle.join_core.proofs.JoinExistence.{some_join}
-use Rattle.anti_core.proofs.AntiExistence.{some_anti}
-use Rattle.agg_core.proofs.AggExistence.{some_aggregate}
-use Rattle.command_core.specs.Fields.{both}
-use Rattle.command_core.specs.Meaning.{FirstCommand, Meaning, Means, Refuse, Make, Load, Update, Delete, Rows, At, Between, FromTo, Dip, Join, Anti, Agg, Check, Log}
-use Rattle.command_core.specs.Pairs.{NamePair}
+use Rattle.book_core.specs.History.{History, IsLegal}
+use Rattle.command_core.specs.Meaning.{Meaning, Refuse}
 use Rattle.command_core.specs.Records.{Record}
 use Rattle.command_core.specs.Refusal.{fault}
-use Rattle.command_core.specs.declared.aggregate.Aggregate.{Aggregate}
-use Rattle.command_core.specs.declared.refusal.Fault.{Fault}
-use Rattle.command_core.proofs.MeaningExistence.{some_meaning}
+use Rattle.command_core.specs.Statement.{AreMembers, FirstStatement, Member, One, Statement, States, placed_in, stated, together_told}
+use Rattle.command_core.specs.declared.refusal.Refusal.TheVariants.{BadCommand, Unended}
 use Rattle.command_core.proofs.RecordsExistence.{some_records}
-use Rattle.answer_core.specs.JoinedRows.{JoinedRows}
-use Rattle.answer_core.specs.UnmatchedRows.{UnmatchedRows}
-use Rattle.answer_core.specs.PrintedRecords.{IsPrintedAs, agg_records, anti_records, commit_records, division_records, error_record, join_records, ok_record, row_records, verdict_record, version_records}
-use Rattle.answer_core.specs.declared.answer.Answer.{Answer}
-use Rattle.answer_core.specs.declared.answer.Answer.TheVariants as answer
-use Rattle.script_core.specs.Answer.{Answers, AnswersChange, AnswersQuery, IsAggOf, IsAnswerTo, IsAntiOf, IsDipOf, IsJoinOf, IsVerdictOn, IsVersions, Refuses}
-use Rattle.script_core.specs.Refusal.{book_refusal}
-use Rattle.script_core.specs.Script.{AreCommandsOf, Done, Finished, IsOutput, Place, Steps, output_of, start_of}
-use Rattle.script_core.specs.Effects.{TableRows, aggregated_told, change_in, claim_of, columns_told, delete_in, func_of, load_in, make_in, pairs_told, rows_of, rows_on, rows_told, sides_told, update_in, versions_told}
-use Rattle.script_core.proofs.AnswerUniqueness.{both-first, not_Ok, rise-told}
+use Rattle.command_core.proofs.StatementExistence.{some_statement}
+use Rattle.script_core.specs.Answer.{Answers, IsAnswerTo}
+use Rattle.script_core.specs.Script.{AreStatementsOf, Done, Finished, IsOutput, Place, Steps, output_of, start_of}
+use Rattle.script_core.proofs.AnswerExistence.{Reply, answers_by, some_reply}
 use Rattle.script_core.proofs.OutputUniqueness.{takes_one}
+use Rattle.script_core.proofs.TogetherExistence.{some_block}
 
--- ---- a change that is made keeps the history legal
+-- ---- one statement
 
-legal-one : (number : ℕ) (h : History) (c : Change) → IsLegal h → IfOk (change_in number h c) IsLegal
-legal-one number h c legal = by_refusal (refusal_of (length h) (state_after h) c) refl where
-  by_refusal : (refusal : Option BookRefused) → refusal_of (length h) (state_after h) c ≡ refusal
-      → IfOk (refused_or (option_map (λ refused. fault number (book_refusal refused)) refusal)
-      (h ++ record { by = 1; change = c } ∷ [])) IsLegal
-  by_refusal None accepted = IsLegal-push h (record { by = 1; change = c }) legal accepted
-  by_refusal (Some why) refused = tt
-
--- what follows is legal, whatever it follows from
-legal-then : {T : Type 0} (r : Result T Fault) (follow : T → Result History Fault)
-    → ((x : T) → IfOk (follow x) IsLegal) → IfOk (and_then r follow) IsLegal
-legal-then (Ok x) follow each = each x
-legal-then (Err wrong) follow each = tt
-
--- ---- answers
-
--- an answer, and its records
-record Told (Is : Answer → Type 0) : Type 0 where
-  given : Answer
-  is : Is given
-  records : List Record
-  printed : IsPrintedAs given records
-
--- a command's answer and its records, and the legal history after it
-record Reply (Is : Answer → History → Type 0) : Type 0 where
+-- the answer to a statement, and the legal history after it
+record Outcome (before : History) (number : ℕ) (statement : Statement) : Type 0 where
+  answer : List Record
   after : History
-  told : Told (λ given. Is given after)
+  answers : Answers before number statement answer after
   legal : IsLegal after
 
-refusal_told : (before : History) (wrong : Fault) → Told (λ given. Refuses before wrong given before)
-refusal_told before wrong =
-    record { given = answer.Refused wrong; is = (refl, refl); records = error_record wrong ∷ []; printed = refl }
-
-some_change : (before : History) (made : Result History Fault) → IsLegal before → IfOk made IsLegal
-    → Reply (AnswersChange before made)
-some_change before (Ok next) legal then = record {
-  after = next;
-  told = record {
-    given = answer.Committed (length next);
-    is = (refl, refl);
-    records = ok_record (length next) ∷ [];
-    printed = refl;
-  };
-  legal = then;
-}
-some_change before (Err wrong) legal then = record { after = before; told = refusal_told before wrong; legal = legal }
-
-some_query : {S : Type 0} (before : History) (read : Result S Fault) (Is : S → Answer → Type 0) → IsLegal before
-    → ((s : S) → read ≡ Ok s → Told (Is s)) → Reply (AnswersQuery before read Is)
-some_query before (Ok s) Is legal each =
-    let told = each s refl in
+one_outcome : (before : History) (number : ℕ) (meaning : Meaning) → IsLegal before → Outcome before number (One meaning)
+one_outcome before number meaning legal =
+    let reply : Reply (IsAnswerTo before number meaning) = some_reply before number meaning legal in
     record {
-      after = before;
-      told = record { given = told.given; is = (told.is, refl); records = told.records; printed = told.printed };
-      legal = legal;
-    }
-some_query before (Err wrong) Is legal each =
-    record { after = before; told = refusal_told before wrong; legal = legal }
-
-rows_answer : (rows : List Row) → Told (λ given. given ≡ answer.Rows rows)
-rows_answer rows = record { given = answer.Rows rows; is = refl; records = row_records rows; printed = refl }
-
-versions_answer : (Are : List Version → Type 0) → (versions : List Version) × Are versions → Told (IsVersions Are)
-versions_answer Are (versions, are) = record {
-  given = answer.Versions versions;
-  is = record { versions = versions; asked = are; is = refl };
-  records = version_records versions;
-  printed = refl;
-}
-
-some_dip_answer : (items : List Item) → item.IdsRise items → Told (IsDipOf items)
-some_dip_answer items rise =
-    let (parts, dip) = some_dip items (HasDistinctIds-from_rising items rise) in
-    let (instant, at) = some_instant items parts dip.divided in
-    record {
-      given = answer.Division (length items) parts;
-      is = record { parts = parts; dip = dip; is = refl };
-      records = division_records (length items) parts instant;
-      printed = (instant, at, refl);
+      answer = reply.told.records;
+      after = reply.after;
+      answers = answers_by before number meaning reply;
+      legal = reply.legal;
     }
 
-some_join_answer : (left right : TableRows) (on : List NamePair) → Told (IsJoinOf left right on)
-some_join_answer left right on =
-    let (rows, joined) = some_join left.0 right.0 on left.1 right.1 in
-    let found : JoinedRows = record { left = left.1; right = right.1; rows = rows } in
-    record {
-      given = answer.Join found;
-      is = record { rows = rows; joined = joined; is = refl };
-      records = join_records found;
-      printed = refl;
-    }
+-- a block is answered, where its opening record has the right form, or refused
+block_outcome : (before : History) (number : ℕ) (opening : Record) (body : List Record) (members : List Member)
+    → IsLegal before → AreMembers (number + 1) body members
+    → Outcome before number (stated number (together_told opening (placed_in false members)))
+block_outcome before number [] body members legal are =
+    one_outcome before number (Refuse (fault number BadCommand)) legal
+block_outcome before number (word ∷ []) body members legal are =
+    let (answer, after, answers, lawful) = some_block before (number + 1) body members legal are in
+    record { answer = answer; after = after; answers = answers; legal = lawful }
+block_outcome before number (word ∷ field ∷ fields) body members legal are =
+    one_outcome before number (Refuse (fault number BadCommand)) legal
 
-some_anti_answer : (left right : TableRows) (on : List NamePair) → Told (IsAntiOf left right on)
-some_anti_answer left right on =
-    let (rows, unmatched) = some_anti left.0 right.0 on left.1 right.1 in
-    let found : UnmatchedRows = record { left = left.1; rows = rows } in
-    record {
-      given = answer.Anti found;
-      is = record { rows = rows; unmatched = unmatched; is = refl };
-      records = anti_records found;
-      printed = refl;
-    }
+some_outcome : (before : History) (number : ℕ) (own later : List Record) (statement : Statement) → IsLegal before
+    → States number own later statement → Outcome before number statement
+some_outcome before number own later statement legal (inl o) =
+    subst (Outcome before number) (sym o.states) (one_outcome before number o.meaning legal)
+some_outcome before number own later statement legal (inr (inl t)) =
+    subst (Outcome before number) (sym t.states)
+    (block_outcome before number t.opening t.body t.members legal t.inside)
+some_outcome before number own later statement legal (inr (inr u)) =
+    subst (Outcome before number) (sym u.states) (one_outcome before number (Refuse (fault number Unended)) legal)
 
-some_agg_answer : (table : TableRows) (asked : Aggregate) → Told (IsAggOf table asked)
-some_agg_answer table asked =
-    let (rows, aggregated) = some_aggregate table.0 (func_of asked.func) asked.by table.1 in
-    record {
-      given = answer.Agg rows;
-      is = record { rows = rows; aggregated = aggregated; is = refl };
-      records = agg_records rows;
-      printed = refl;
-    }
+pub some_answer : (before : History) (number : ℕ) (statement : Statement) → IsLegal before
+    → (own later : List Record) → States number own later statement
+    → (answer : List Record) × (after : History) × Answers before number statement answer after
+some_answer before number statement legal own later states =
+    let outcome : Outcome before number statement = some_outcome before number own later statement legal states in
+    (outcome.answer, outcome.after, outcome.answers)
 
-some_verdict_answer : (items : List Item) (claim : List (List ℕ)) (certificate : Certificate) → item.IdsRise items
-    → Told (IsVerdictOn items claim certificate)
-some_verdict_answer items claim certificate rise =
-    let (verdict, applies) = some_verdict items claim certificate rise in
-    record {
-      given = answer.Verdict verdict;
-      is = record { verdict = verdict; applies = applies; is = refl };
-      records = verdict_record verdict ∷ [];
-      printed = refl;
-    }
+-- ---- all statements
 
--- where there is no refusal, none applied
-not_refused : {T E : Type 0} (refusal : Option E) (x y : T) → refused_or refusal x ≡ Ok y → refusal ≡ None
-not_refused None x y e = refl
-not_refused (Some why) x y e = absurd (not_Ok y why e)
-
-none_mapped : {E F : Type 0} (f : E → F) (refusal : Option E) → option_map f refusal ≡ None → refusal ≡ None
-none_mapped f None e = refl
-none_mapped f (Some why) e = cc e
-
-some_reply : (before : History) (number : ℕ) (meaning : Meaning) → IsLegal before
-    → Reply (IsAnswerTo before number meaning)
-some_reply before number (Refuse wrong) legal =
-    record { after = before; told = refusal_told before wrong; legal = legal }
-some_reply before number (Make name columns) legal =
-    some_change before (make_in number before name columns) legal
-    (legal-one number before (change.Make name columns) legal)
-some_reply before number (Load name body) legal =
-    some_change before (load_in number before name body) legal
-    (legal-then (columns_told number before name) _ (λ columns.
-    legal-then (rows_of columns (number + 1) body) _ (λ rows.
-    legal-one number before (change.Load name rows) legal)))
-some_reply before number (Update name portion sets conds) legal =
-    some_change before (update_in number before name portion sets conds) legal
-    (legal-then (columns_told number before name) _ (λ columns.
-    legal-then (pairs_told number columns sets) _ (λ settings.
-    legal-then (pairs_told number columns conds) _ (λ conditions.
-    legal-one number before (change.Update name portion settings conditions) legal))))
-some_reply before number (Delete name portion conds) legal =
-    some_change before (delete_in number before name portion conds) legal
-    (legal-then (columns_told number before name) _ (λ columns.
-    legal-then (pairs_told number columns conds) _ (λ conditions.
-    legal-one number before (change.Delete name portion conditions) legal)))
-some_reply before number (Rows name asof) legal =
-    some_query before (rows_told number before asof name) (λ rows given. given ≡ answer.Rows rows) legal
-    (λ rows read. rows_answer rows)
-some_reply before number (At name point asof) legal =
-    some_query before (rows_told number before asof name) (λ rows given. given ≡ answer.Rows (rows_on point rows)) legal
-    (λ rows read. rows_answer (rows_on point rows))
-some_reply before number (Between name first last) legal =
-    let Are = AreBetween before (length before) first last name in
-    let refusal = history.versions_refusal before (length before) (nat_lt last first) name in
-    some_query before (versions_told number before (nat_lt last first) name) (λ _. IsVersions Are) legal
-    (λ s read. versions_answer Are
-    (some_between before (length before) first last name legal (none_mapped _ refusal (not_refused _ tt s read))))
-some_reply before number (FromTo name first end) legal =
-    let Are = AreFromTo before (length before) first end name in
-    let refusal = history.versions_refusal before (length before) (nat_le end first) name in
-    some_query before (versions_told number before (nat_le end first) name) (λ _. IsVersions Are) legal
-    (λ s read. versions_answer Are
-    (some_from_to before (length before) first end name legal (none_mapped _ refusal (not_refused _ tt s read))))
-some_reply before number (Dip name asof) legal =
-    some_query before (rows_told number before asof name) (λ rows. IsDipOf (items_of rows)) legal
-    (λ rows read. some_dip_answer (items_of rows)
-    (IdsRise-items_of rows (rise-told number before asof name rows read)))
-some_reply before number (Join tables asof) legal =
-    some_query before (sides_told number before asof tables) (λ sides. IsJoinOf sides.0 sides.1 tables.on) legal
-    (λ sides read. some_join_answer sides.0 sides.1 tables.on)
-some_reply before number (Anti tables asof) legal =
-    some_query before (sides_told number before asof tables) (λ sides. IsAntiOf sides.0 sides.1 tables.on) legal
-    (λ sides read. some_anti_answer sides.0 sides.1 tables.on)
-some_reply before number (Agg asked asof) legal =
-    some_query before (aggregated_told number before asof asked) (λ table. IsAggOf table asked) legal
-    (λ table read. some_agg_answer table asked)
-some_reply before number (Check name parts instant asof body) legal =
-    let told = rows_told number before asof name in
-    let claimed = claim_of (number + 1) body in
-    let certificate : Certificate = record { parts = parts; instant = instant } in
-    some_query before (both told claimed) (λ read. IsVerdictOn (items_of read.0) read.1 certificate) legal
-    (λ read e. some_verdict_answer (items_of read.0) read.1 certificate
-    (IdsRise-items_of read.0 (rise-told number before asof name read.0 (both-first told claimed read.0 read.1 e))))
-some_reply before number Log legal = record {
-  after = before;
-  told = record {
-    given = answer.Log (log_of before);
-    is = (refl, refl);
-    records = commit_records (log_of before);
-    printed = refl;
-  };
-  legal = legal;
-}
-
-answers_by : (before : History) (number : ℕ) (meaning : Meaning) (reply : Reply (IsAnswerTo before number meaning))
-    → Answers before number meaning reply.told.records reply.after
-answers_by before number meaning reply = (reply.told.given, reply.told.is, reply.told.printed)
-
-pub some_answer : (before : History) (number : ℕ) (meaning : Meaning) → IsLegal before
-    → (answer : List Record) × (after : History) × Answers before number meaning answer after
-some_answer before number meaning legal =
-    let reply = some_reply before number meaning legal in
-    (reply.told.records, reply.after, answers_by before number meaning reply)
-
--- ---- all commands
-
--- all commands from a place on
+-- all statements from a place on
 record Rest (place : Place) : Type 0 where
   dones : List Done
   last : Place
   steps : Steps place dones last
   over : last.left ≡ []
 
-fewer : (number : ℕ) (own later records : List Record) (meaning : Meaning) → Means number own later meaning
+fewer : (number : ℕ) (own later records : List Record) (statement : Statement) → States number own later statement
     → records ≡ own ++ later → length later < length records
-fewer number own later records meaning means is =
-    let (first, rest, starts) = takes_one number own later meaning means in
+fewer number own later records statement states is =
+    let (first, rest, starts) = takes_one number own later statement states in
     let size : length records ≡ length own + length later = ap length is ∙ length-append own later in
     let some : length own ≡ suc (length rest) = ap length starts in
     omega arith
@@ -287,16 +87,16 @@ some_rest zero place legal few =
 some_rest (suc n) place legal few = elim (cases_lt 0 (length place.left)) [
   | inr none ↦ record { dones = []; last = place; steps = refl; over = nil_from_length place.left (omega arith) }
   | inl some ↦
-      let first : FirstCommand place.number place.left = some_meaning place.number place.left some in
-      let reply : Reply (IsAnswerTo place.history place.number first.meaning) =
-      some_reply place.history place.number first.meaning legal in
+      let first : FirstStatement place.number place.left = some_statement place.number place.left some in
+      let outcome : Outcome place.history place.number first.statement =
+      some_outcome place.history place.number first.own first.later first.statement legal first.states in
       let next : Place =
-      record { history = reply.after; number = place.number + length first.own; left = first.later } in
+      record { history = outcome.after; number = place.number + length first.own; left = first.later } in
       let less : length first.later < length place.left =
-      fewer place.number first.own first.later place.left first.meaning first.means first.taken in
-      let rest : Rest next = some_rest n next reply.legal (omega arith) in
+      fewer place.number first.own first.later place.left first.statement first.states first.taken in
+      let rest : Rest next = some_rest n next outcome.legal (omega arith) in
       record {
-        dones = record { meaning = first.meaning; answer = reply.told.records } ∷ rest.dones;
+        dones = record { statement = first.statement; answer = outcome.answer } ∷ rest.dones;
         last = rest.last;
         steps = (
           next,
@@ -304,8 +104,8 @@ some_rest (suc n) place legal few = elim (cases_lt 0 (length place.left)) [
             own = first.own;
             taken = first.taken;
             number = refl;
-            means = first.means;
-            answers = answers_by place.history place.number first.meaning reply;
+            states = first.states;
+            answers = outcome.answers;
           },
           rest.steps,
         );
@@ -325,5 +125,6 @@ pub some_output : (script : List ℕ) → (output : List ℕ) × IsOutput script
 some_output script =
     let (records, parsed) = some_records script in
     let (dones, finished) = all_done records in
-    let commands : AreCommandsOf script dones = record { records = records; parsed = parsed; finished = finished } in
-    (output_of dones, record { dones = dones; commands = commands; is = refl })
+    let statements : AreStatementsOf script dones =
+    record { records = records; parsed = parsed; finished = finished } in
+    (output_of dones, record { dones = dones; statements = statements; is = refl })

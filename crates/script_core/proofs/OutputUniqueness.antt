@@ -1,19 +1,19 @@
 -- A script has one output.
 use Rattle.std.proofs.Common.{◌≡◌, ℕ, ◌+◌, List, [], ◌∷◌, ◌++◌, length, refl, sym, ap, ◌∙◌, subst, inl, inr}
-use Rattle.command_core.specs.Meaning.{Meaning, Means}
 use Rattle.command_core.specs.Records.{AreScriptRecords, Record}
-use Rattle.command_core.proofs.MeaningUniqueness.{one_meaning}
+use Rattle.command_core.specs.Statement.{States, Statement}
+use Rattle.command_core.proofs.StatementUniqueness.{one_statement}
 use Rattle.command_core.proofs.RecordsUniqueness.{one_records}
 use Rattle.book_core.specs.History.{History}
 use Rattle.script_core.specs.Answer.{Answers}
-use Rattle.script_core.specs.Script.{AreCommandsOf, Done, Finished, IsOutput, Place, Step, Steps, Tells, output_of, start_of}
+use Rattle.script_core.specs.Script.{AreStatementsOf, Done, Finished, IsOutput, Place, Step, Steps, Tells, output_of, start_of}
 use Rattle.script_core.specs.declared.outcome.Outcome.{Outcome}
-use Rattle.script_core.proofs.AnswerUniqueness.{one_answer}
+use Rattle.script_core.proofs.TogetherUniqueness.{one_statement_answer}
 
 -- ---- one step
 
-abbrev done_of : Meaning → List Record → Done
-done_of meaning answer = record { meaning = meaning; answer = answer }
+abbrev done_of : Statement → List Record → Done
+done_of statement answer = record { statement = statement; answer = answer }
 
 abbrev place_of : History → ℕ → List Record → Place
 place_of history number left = record { history = history; number = number; left = left }
@@ -21,30 +21,30 @@ place_of history number left = record { history = history; number = number; left
 pub one_step : (old : Place) (one other : Done) (p q : Place) → Step old one p → Step old other q
     → (one ≡ other) × (p ≡ q)
 one_step old one other p q s t =
-    let meant = one_meaning old.number s.own p.left t.own q.left one.meaning other.meaning
-    (sym s.taken ∙ t.taken) s.means t.means in
-    let answered = one_answer old.history old.number other.meaning one.answer other.answer p.history q.history
-    (subst (λ meaning. Answers old.history old.number meaning one.answer p.history) meant.2 s.answers) t.answers in
+    let meant = one_statement old.number s.own p.left t.own q.left one.statement other.statement
+    (sym s.taken ∙ t.taken) s.states t.states in
+    let answered = one_statement_answer old.history old.number other.statement one.answer other.answer p.history q.history
+    (subst (λ said. Answers old.history old.number said one.answer p.history) meant.2 s.answers) t.answers in
     let number : p.number ≡ q.number = s.number ∙ (ap (λ l. old.number + length l) meant.0 ∙ sym t.number) in (
-      ap (λ m. done_of m one.answer) meant.2 ∙ ap (λ a. done_of other.meaning a) answered.0,
+      ap (λ m. done_of m one.answer) meant.2 ∙ ap (λ a. done_of other.statement a) answered.0,
       ap (λ h. place_of h p.number p.left) answered.1
           ∙ (ap (λ n. place_of q.history n p.left) number ∙ ap (λ l. place_of q.history q.number l) meant.1),
     )
 
--- a command takes a record
-pub takes_one : (number : ℕ) (own later : List Record) (meaning : Meaning) → Means number own later meaning
+-- a statement takes a record
+pub takes_one : (number : ℕ) (own later : List Record) (statement : Statement) → States number own later statement
     → (first : Record) × (rest : List Record) × (own ≡ first ∷ rest)
-takes_one number own later meaning (inl r) = (r.opening, [], r.alone)
-takes_one number own later meaning (inr (inl b)) = (b.opening, b.body ++ b.last ∷ [], b.whole)
-takes_one number own later meaning (inr (inr u)) = (u.opening, u.body, u.whole)
+takes_one number own later statement (inl o) = (o.opening, o.behind, o.whole)
+takes_one number own later statement (inr (inl t)) = (t.opening, t.body ++ t.last ∷ [], t.whole)
+takes_one number own later statement (inr (inr u)) = (u.opening, u.body ++ u.rest, u.whole)
 
 none_more : (first : Record) (own left : List Record) → [] ≡ (first ∷ own) ++ left → ⊥
 none_more first own left e = cc e
 
--- where no records are left there is no command
+-- where no records are left there is no statement
 pub no_step : (old : Place) (done : Done) (new : Place) → old.left ≡ [] → Step old done new → ⊥
 no_step old done new over s =
-    let (first, rest, is) = takes_one old.number s.own new.left done.meaning s.means in
+    let (first, rest, is) = takes_one old.number s.own new.left done.statement s.states in
     none_more first rest new.left (sym over ∙ (s.taken ∙ ap (λ l. l ++ new.left) is))
 
 -- ---- all steps
@@ -67,9 +67,9 @@ one_run records one other f g = one_way (start_of records) one other f.place g.p
 
 -- ---- the output
 
--- a script has one list of commands and answers
+-- a script has one list of statements and answers
 pub one_list_of_dones : (script read : List ℕ) (one other : List Done) → script ≡ read
-    → AreCommandsOf script one → AreCommandsOf read other → one ≡ other
+    → AreStatementsOf script one → AreStatementsOf read other → one ≡ other
 one_list_of_dones script read one other same p q =
     let records : p.records ≡ q.records =
     one_records read p.records q.records (subst (λ bytes. AreScriptRecords bytes p.records) same p.parsed) q.parsed in
@@ -77,7 +77,7 @@ one_list_of_dones script read one other same p q =
 
 pub one_output : (script one other : List ℕ) → IsOutput script one → IsOutput script other → one ≡ other
 one_output script one other p q =
-    p.is ∙ (ap output_of (one_list_of_dones script script p.dones q.dones refl p.commands q.commands) ∙ sym q.is)
+    p.is ∙ (ap output_of (one_list_of_dones script script p.dones q.dones refl p.statements q.statements) ∙ sym q.is)
 
 abbrev outcome_of : ℕ → ℕ → Outcome
 outcome_of commands errors = record { commands = commands; errors = errors }

@@ -1,13 +1,13 @@
 -- What a run has done of its script so far.
-use Rattle.std.proofs.Common.{◌≡◌, ℕ, ◌+◌, ◌<◌, ◌≤◌, List, [], ◌∷◌, ◌++◌, Option, length, take, drop, refl, sym, ap, subst, ◌∙◌, arith}
+use Rattle.std.proofs.Common.{◌≡◌, ℕ, suc, Bool, false, ◌||◌, inl, inr, ◌+◌, ◌<◌, ◌≤◌, List, [], ◌∷◌, ◌++◌, Option, length, take, drop, refl, sym, ap, subst, ◌∙◌, arith}
 use Rattle.std.specs.Io.KnownBytes.{Appends}
 use Rattle.std.proofs.lemmas.List.Concat.{flat_map-append}
 use Rattle.std.proofs.lemmas.List.Sums.{sum_by-append}
 use Rattle.std.proofs.KnownBytes.{Appends-kept, Appends-trans}
 use Rattle.std.proofs.lemmas.List.{take-append-drop, append-nil, length-append, length-drop, length-take, drop-drop}
 use Rattle.script_core.specs.Answer.{Answers}
-use Rattle.command_core.specs.Meaning.{Meaning, Means}
 use Rattle.command_core.specs.Records.{Record}
+use Rattle.command_core.specs.Statement.{AreMembers, Member, States, Statement, begins_load, commands_in, placed_in, stated, together_told}
 use Rattle.answer_core.specs.RecordBytes.{bytes_of}
 use Rattle.script_core.specs.Script.{Done, Place, Step, Steps, Tells, WritesBefore, output_of, start_of}
 use Rattle.script_core.specs.Writing.{Answering, ExplainsAnswering}
@@ -20,11 +20,49 @@ use Rattle.stream_core.specs.declared.fault.RunFault.{RunFault}
 use Rattle.stream_core.specs.declared.fault.RunFault.TheVariants.{ReadFault, TooLong, NoMemory, WriteFault}
 use Rattle.script_core.specs.declared.outcome.Outcome.{Outcome}
 
+-- there are no more members than records
+members-few : (number : ℕ) (records : List Record) (members : List Member) → AreMembers number records members
+    → length members ≤ length records
+members-few number records [] are = omega arith
+members-few number records (member ∷ more) (own, later, split, first, is, behind) =
+    omega (
+      arith,
+      ap length split,
+      length-append own later,
+      ap length is.whole,
+      members-few (number + length own) later more behind,
+    )
+
+placed-length : (has_load : Bool) (members : List Member) → length (placed_in has_load members) ≡ length members
+placed-length has_load [] = refl
+placed-length has_load (member ∷ more) = ap suc (placed-length (has_load || begins_load member) more)
+
+block-few : (number : ℕ) (opening : Record) (body : List Record) (members : List Member) → AreMembers (number + 1) body members
+    → commands_in (stated number (together_told opening (placed_in false members))) ≤ 1 + length body
+block-few number [] body members are = omega arith
+block-few number (word ∷ []) body members are =
+    omega (arith, placed-length false members, members-few (number + 1) body members are)
+block-few number (word ∷ field ∷ fields) body members are = omega arith
+
+-- a statement has no more commands than records
+pub commands-few : (number : ℕ) (own later : List Record) (statement : Statement) → States number own later statement
+    → commands_in statement ≤ length own
+commands-few number own later statement (inl o) = omega (arith, ap commands_in o.states, ap length o.whole)
+commands-few number own later statement (inr (inl t)) =
+    omega (
+      arith,
+      ap commands_in t.states,
+      ap length t.whole,
+      length-append t.body (t.last ∷ []),
+      block-few number t.opening t.body t.members t.inside,
+    )
+commands-few number own later statement (inr (inr u)) = omega (arith, ap commands_in u.states, ap length u.whole)
+
 -- the place before the record of this index
 abbrev place_at : List Record → History → ℕ → Place
 place_at records history at = record { history = history; number = at + 1; left = drop at records }
 
--- the commands before the record of this index are done, their answers written, and this is told of them
+-- the statements before the record of this index are done, their answers written, and this is told of them
 pub record Progress (records : List Record) (old now : Option (List ℕ)) (history : History) (at : ℕ)
     (outcome : Outcome) : Type 0 where
   pub dones : List Done
@@ -44,49 +82,54 @@ output-more dones next =
     flat_map-append (λ (done : Done). bytes_of done.answer) dones (next ∷ [])
     ∙ ap (λ bytes. output_of dones ++ bytes) (append-nil (bytes_of next.answer))
 
--- the command at a place, by what it takes and how it is answered
-step-at : (records : List Record) (before after : History) (at taken : ℕ) (meaning : Meaning)
+-- the statement at a place, by what it takes and how it is answered
+step-at : (records : List Record) (before after : History) (at taken : ℕ) (statement : Statement)
     (answer : List Record) → taken ≤ length (drop at records)
-    → Means (at + 1) (take taken (drop at records)) (drop taken (drop at records)) meaning
-    → Answers before (at + 1) meaning answer after
-    → Step (place_at records before at) (record { meaning = meaning; answer = answer })
+    → States (at + 1) (take taken (drop at records)) (drop taken (drop at records)) statement
+    → Answers before (at + 1) statement answer after
+    → Step (place_at records before at) (record { statement = statement; answer = answer })
     (place_at records after (at + taken))
-step-at records before after at taken meaning answer within means answers =
+step-at records before after at taken statement answer within states answers =
     let rest : drop taken (drop at records) ≡ drop (at + taken) records = drop-drop taken at records in
     record {
       own = take taken (drop at records);
       taken = sym (take-append-drop taken (drop at records)) ∙ ap (λ left. take taken (drop at records) ++ left) rest;
       number = omega (arith, length-take taken (drop at records));
-      means = subst (λ left. Means (at + 1) (take taken (drop at records)) left meaning) rest means;
+      states = subst (λ left. States (at + 1) (take taken (drop at records)) left statement) rest states;
       answers = answers;
     }
 
--- one more command is done
+-- one more statement is done
 pub progress-more : (records : List Record) (old mid new : Option (List ℕ)) (before after : History) (at taken : ℕ)
-    (sofar outcome : Outcome) (meaning : Meaning) (answer : List Record)
+    (sofar outcome : Outcome) (statement : Statement) (answer : List Record)
     → Progress records old mid before at sofar → taken ≤ length (drop at records)
-    → Means (at + 1) (take taken (drop at records)) (drop taken (drop at records)) meaning
-    → Answers before (at + 1) meaning answer after → Appends mid new (bytes_of answer)
-    → outcome.commands ≡ sofar.commands + 1 → outcome.errors ≡ sofar.errors + errors_in answer
+    → States (at + 1) (take taken (drop at records)) (drop taken (drop at records)) statement
+    → Answers before (at + 1) statement answer after → Appends mid new (bytes_of answer)
+    → outcome.commands ≡ sofar.commands + commands_in statement → outcome.errors ≡ sofar.errors + errors_in answer
     → Progress records old new after (at + taken) outcome
-progress-more records old mid new before after at taken sofar outcome meaning answer p within means answers writes
+progress-more records old mid new before after at taken sofar outcome statement answer p within states answers writes
     commands errors =
-    let next : Done = record { meaning = meaning; answer = answer } in
+    let next : Done = record { statement = statement; answer = answer } in
     let dones = p.dones in
     record {
       dones = dones ++ next ∷ [];
       steps = steps-more (start_of records) (place_at records before at)
           (place_at records after (at + taken)) dones next p.steps
-          (step-at records before after at taken meaning answer within means answers);
+          (step-at records before after at taken statement answer within states answers);
       written = subst (Appends old new) (sym (output-more dones next)) (Appends-trans old mid new _ _ p.written writes);
       tells = record {
-        commands = omega (arith, length-append dones (next ∷ []), p.tells.commands, commands);
+        commands = omega (
+          arith,
+          sum_by-append (λ (done : Done). commands_in done.statement) dones (next ∷ []),
+          p.tells.commands,
+          commands,
+        );
         errors = omega
             (arith, sum_by-append (λ (done : Done). errors_in done.answer) dones (next ∷ []), p.tells.errors, errors);
       };
     }
 
--- the answers to the commands before this index were written, and there are more
+-- the answers to the statements before this index were written, and there are more
 pub progress-begun : (records : List Record) (before now : Sink) (history : History) (at : ℕ) (outcome : Outcome)
     → at < length records → Progress records before.written now.written history at outcome
     → Answering WritesBefore records before now
@@ -94,26 +137,26 @@ progress-begun records before now history at outcome below p =
     writes_before records before now p.dones (place_at records history at) p.steps
     (omega (arith, length-drop at records)) p.written
 
--- why the writing of a command's answer stopped
+-- why the writing of a statement's answer stopped
 pub progress-stopped : (records : List Record) (old mid new : Sink) (before after : History) (at taken : ℕ)
-    (sofar : Outcome) (meaning : Meaning) (answer : List Record) (fault : RunFault)
+    (sofar : Outcome) (statement : Statement) (answer : List Record) (fault : RunFault)
     → Progress records old.written mid.written before at sofar → taken ≤ length (drop at records)
-    → Means (at + 1) (take taken (drop at records)) (drop taken (drop at records)) meaning
-    → Answers before (at + 1) meaning answer after → 0 < length (drop at records) → old.failures ≤ mid.failures
+    → States (at + 1) (take taken (drop at records)) (drop taken (drop at records)) statement
+    → Answers before (at + 1) statement answer after → 0 < length (drop at records) → old.failures ≤ mid.failures
     → ExplainsWriting (bytes_of answer) mid new fault → ExplainsAnswering records old new fault
-progress-stopped records old mid new before after at taken sofar meaning answer ReadFault p within means answers
+progress-stopped records old mid new before after at taken sofar statement answer ReadFault p within states answers
     more le why = why
-progress-stopped records old mid new before after at taken sofar meaning answer TooLong p within means answers
+progress-stopped records old mid new before after at taken sofar statement answer TooLong p within states answers
     more le why = why
-progress-stopped records old mid new before after at taken sofar meaning answer NoMemory p within means answers
+progress-stopped records old mid new before after at taken sofar statement answer NoMemory p within states answers
     more le why =
     writes_before records old new p.dones (place_at records before at) p.steps more
     (Appends-kept old.written mid.written new.written (output_of p.dones) p.written why)
-progress-stopped records old mid new before after at taken sofar meaning answer WriteFault p within means answers
+progress-stopped records old mid new before after at taken sofar statement answer WriteFault p within states answers
     more le (grown, (size, short, writes)) = (
       omega (arith, grown, le),
-      writes_within records old new p.dones (record { meaning = meaning; answer = answer }) (place_at records before at)
+      writes_within records old new p.dones (record { statement = statement; answer = answer }) (place_at records before at)
           (place_at records after (at + taken)) size p.steps
-          (step-at records before after at taken meaning answer within means answers) short
+          (step-at records before after at taken statement answer within states answers) short
           (Appends-trans old.written mid.written new.written _ _ p.written writes),
     )

@@ -13,7 +13,7 @@ use Rattle.stream_core.specs.Counted.{Sink, Source}
 use Rattle.stream_core.specs.FailureCount.{greatest_count}
 use Rattle.stream_core.specs.declared.fault.RunFault.{RunFault}
 use Rattle.stream_core.specs.declared.fault.RunFault.TheVariants.{ReadFault, TooLong, NoMemory, WriteFault}
-use Rattle.script_core.specs.Script.{AppendsFront, AreCommandsOf, Done, ExplainsRun, IsOutput, ReadsAnd, ReadsCommands, ReadsScript, RunsAll, Streams, Tells, WritesAll, WritesBefore, WritesWithin, output_of}
+use Rattle.script_core.specs.Script.{AppendsFront, AreStatementsOf, Done, ExplainsRun, IsOutput, ReadsAnd, ReadsStatements, ReadsScript, RunsAll, Streams, Tells, WritesAll, WritesBefore, WritesWithin, output_of}
 use Rattle.script_core.specs.Writing.{Answering, AnswersAll, ExplainsAnswering}
 use Rattle.script_core.specs.declared.outcome.Outcome.{Outcome}
 use Rattle.script_core.proofs.OutputUniqueness.{one_list_of_dones, one_outcome}
@@ -25,8 +25,8 @@ reads_and : (Writes : List Done → Sink → Sink → Type 0) (before after : St
     (records : List Record) → ReadsScript before.reader after.reader script → AreScriptRecords script records
     → Answering Writes records before.writer after.writer → ReadsAnd Writes before after
 reads_and Writes before after script records reads parsed (dones, finished, writes) =
-    let commands : AreCommandsOf script dones = record { records = records; parsed = parsed; finished = finished } in
-    (dones, record { script = script; reads = reads; commands = commands }, writes)
+    let statements : AreStatementsOf script dones = record { records = records; parsed = parsed; finished = finished } in
+    (dones, record { script = script; reads = reads; statements = statements }, writes)
 
 explains_run : (before after : Streams) (script : List ℕ) (records : List Record) (fault : RunFault)
     → ReadsScript before.reader after.reader script → AreScriptRecords script records
@@ -68,10 +68,10 @@ whole_script script before after read known reads =
 
 -- its output is what the commands that were read answer
 output_is : (script output : List ℕ) (before after : Source) (dones : List Done) → before.unread ≡ Some script
-    → IsOutput script output → ReadsCommands before after dones → output ≡ output_of dones
+    → IsOutput script output → ReadsStatements before after dones → output ≡ output_of dones
 output_is script output before after dones known o r =
     let same : r.script ≡ script = whole_script script before after r.script known r.reads in
-    o.is ∙ ap output_of (one_list_of_dones script r.script o.dones dones (sym same) o.commands r.commands)
+    o.is ∙ ap output_of (one_list_of_dones script r.script o.dones dones (sym same) o.statements r.statements)
 
 all-written : (before after : Streams) (outcome : Outcome) (script output : List ℕ) → RunsAll before after outcome
     → before.reader.unread ≡ Some script → IsOutput script output
@@ -100,8 +100,8 @@ kept-front old new bytes kept = (0, Appends-kept old old new [] (Appends-nil old
 -- answers about one of them
 output_about : (dones first later : List Done) (next : Done) → dones ≡ first ++ next ∷ later
     → output_of dones ≡ output_of first ++ (bytes_of next.answer ++ output_of later)
-output_about dones first later next commands =
-    ap output_of commands ∙ flat_map-append (λ (done : Done). bytes_of done.answer) first (next ∷ later)
+output_about dones first later next statements =
+    ap output_of statements ∙ flat_map-append (λ (done : Done). bytes_of done.answer) first (next ∷ later)
 
 split_at : (front bytes rest : List ℕ) (size : ℕ)
     → front ++ (bytes ++ rest) ≡ (front ++ take size bytes) ++ (drop size bytes ++ rest)
@@ -117,7 +117,7 @@ before-front before after script output (dones, r, w) known o =
     front_at before.writer.written after.writer.written (output_of w.first)
     (bytes_of w.next.answer ++ output_of w.later) output
     (output_is script output before.reader after.reader dones known o r
-    ∙ output_about dones w.first w.later w.next w.commands)
+    ∙ output_about dones w.first w.later w.next w.statements)
     w.written
 
 within-front : (before after : Streams) (script output : List ℕ) → ReadsAnd WritesWithin before after
@@ -127,7 +127,7 @@ within-front before after script output (dones, r, w) known o =
     front_at before.writer.written after.writer.written (output_of w.first ++ take w.size (bytes_of w.next.answer))
     (drop w.size (bytes_of w.next.answer) ++ output_of w.later) output
     (output_is script output before.reader after.reader dones known o r
-    ∙ (output_about dones w.first w.later w.next w.commands
+    ∙ (output_about dones w.first w.later w.next w.statements
     ∙ split_at (output_of w.first) (bytes_of w.next.answer) (output_of w.later) w.size))
     w.written
 
@@ -169,7 +169,7 @@ one_run_of script text one one_after other other_after outcome told had given ha
     let same : r.script ≡ s.script =
     whole_script script one.reader one_after.reader r.script had r.reads
     ∙ sym (whole_script script other.reader other_after.reader s.script had' s.reads) in
-    let dones : ds ≡ es = one_list_of_dones r.script s.script ds es same r.commands s.commands in
+    let dones : ds ≡ es = one_list_of_dones r.script s.script ds es same r.statements s.statements in
     let first : Appends (Some text) one_after.writer.written (output_of es) =
     subst (λ old. Appends old one_after.writer.written (output_of es)) given
     (subst (λ cs. Appends one.writer.written one_after.writer.written (output_of cs)) dones w.written) in

@@ -6,7 +6,7 @@ use Rattle.row_core.specs.Refusals.{first_of, map_err, refused_or}
 use Rattle.book_core.specs.History.{History, rows_at, state_after}
 use Rattle.book_core.specs.State.{table_of}
 use Rattle.book_core.specs.declared.refusal.RowsRefused.TheVariants as no_rows
-use Rattle.store_core.specs.Snapshots.{rows_given}
+use Rattle.store_core.specs.Snapshots.{rows_of_snapshot}
 use Rattle.command_core.specs.Refusal.{fault}
 use Rattle.script_core.specs.Effects.{rows_told}
 use Rattle.script_core.specs.Refusal.{rows_refusal, table_refusal}
@@ -25,7 +25,7 @@ not-late n m h = grind (arith, nat_tests)
 -- the rows that a snapshot gives are those of the commit that it shows
 pub rows-told : (number : ℕ) (h : History) (n : ℕ) (name : List ℕ) → n ≤ length h
     → rows_told number h (Some n) name
-    ≡ map_err (λ refused. fault number (table_refusal refused)) (rows_given h n name)
+    ≡ map_err (λ refused. fault number (table_refusal refused)) (rows_of_snapshot h n name)
 rows-told number h n name within =
     present number (nat_lt (length h) n) (is_none (table_of (state_after h) name)) (rows_at h n name)
     (not-late n (length h) within)

@@ -1,5 +1,5 @@
--- The answer to a command, the records that it is printed as, and the history after it.
-use Rattle.std.specs.Prelude.{ℕ, ◌+◌, ◌≡◌, List, Result, Ok, Err, length, nat_le, nat_lt}
+-- The answer to a command or a block of commands, the records that it is printed as, and the history after it.
+use Rattle.std.specs.Prelude.{ℕ, ◌+◌, ◌≡◌, List, Result, Ok, Err, [], ◌∷◌, ◌++◌, All, false, length, nat_le, nat_lt, if◌then◌else◌}
 use Rattle.book_core.specs.History.{History}
 use Rattle.book_core.specs.Versions.{AreBetween, AreFromTo, log_of}
 use Rattle.version_core.specs.declared.version.Version.{Version}
@@ -20,9 +20,10 @@ use Rattle.command_core.specs.Fields.{both}
 use Rattle.command_core.specs.Meaning.{Meaning, Refuse, Make, Load, Update, Delete, Rows, At, Between, FromTo, Dip, Join, Anti, Agg, Check, Log}
 use Rattle.command_core.specs.Pairs.{NamePair}
 use Rattle.command_core.specs.Records.{Record}
+use Rattle.command_core.specs.Statement.{Placed, Statement, One, Together, is_load}
 use Rattle.command_core.specs.declared.aggregate.Aggregate.{Aggregate}
 use Rattle.command_core.specs.declared.refusal.Fault.{Fault}
-use Rattle.answer_core.specs.PrintedRecords.{IsPrintedAs}
+use Rattle.answer_core.specs.PrintedRecords.{IsPrintedAs, together_record}
 use Rattle.answer_core.specs.declared.answer.Answer.{Answer}
 use Rattle.answer_core.specs.declared.answer.Answer.TheVariants as answer
 use Rattle.script_core.specs.Effects.{TableRows, aggregated_told, claim_of, delete_in, func_of, load_in, make_in, rows_on, rows_told, sides_told, update_in, versions_told}
@@ -111,6 +112,28 @@ IsAnswerTo before number (Check name parts instant asof body) =
 IsAnswerTo before number Log = λ given after. (given ≡ answer.Log (log_of before)) × (after ≡ before)
 
 -- these records answer it
-abbrev pub Answers : History → ℕ → Meaning → List Record → History → Type 0
-Answers before number meaning records after =
+abbrev pub AnswersOne : History → ℕ → Meaning → List Record → History → Type 0
+AnswersOne before number meaning records after =
     (given : Answer) × IsAnswerTo before number meaning given after × IsPrintedAs given records
+
+-- these records answer the commands of a block, one after another, each after the history at the block's opening; a
+-- load leads to the history behind the block
+abbrev pub AnswersEach : History → History → List Placed → List Record → Type 0
+AnswersEach before after [] records = records ≡ []
+AnswersEach before after (command ∷ more) records =
+    (own later : List Record) × (records ≡ own ++ later)
+    × AnswersOne before command.number command.meaning own (if is_load command.meaning then after else before)
+    × AnswersEach before after more later
+
+-- a block is answered by the number of the commit that its queries read, and then by each of its commands
+pub record AnswersTogether (before : History) (commands : List Placed) (records : List Record) (after : History)
+    : Type 0 where
+  pub answers : List Record
+  pub each : AnswersEach before after commands answers
+  pub unloaded : All (λ command. is_load command.meaning ≡ false) commands → after ≡ before
+  pub printed : records ≡ together_record (length before) ∷ answers
+
+-- what a statement, whose first record has this number, is answered after a history, and the history after it
+abbrev pub Answers : History → ℕ → Statement → List Record → History → Type 0
+Answers before number (One meaning) = AnswersOne before number meaning
+Answers before number (Together commands) = AnswersTogether before commands

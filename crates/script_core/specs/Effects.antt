@@ -66,11 +66,15 @@ row_of columns line =
 abbrev pub rows_of : List Column → ℕ → List Record → Result (List Draft) Fault
 rows_of columns number lines = told_by (row_of columns) number lines
 
+-- the rows of a load's records, or the fault of its command or of one of them
+abbrev pub load_told : ℕ → History → List ℕ → List Record → Result (List Draft) Fault
+load_told number h name body =
+    and_then (columns_told number h name) (λ columns. rows_of columns (number + 1) body)
+
 -- the history with the rows of a load's records in a table
 abbrev pub load_in : ℕ → History → List ℕ → List Record → Result History Fault
 load_in number h name body =
-    and_then (columns_told number h name) (λ columns.
-    and_then (rows_of columns (number + 1) body) (λ rows. change_in number h (change.Load name rows)))
+    and_then (load_told number h name body) (λ rows. change_in number h (change.Load name rows))
 
 -- the value that a text is in a column of that kind, under its name
 abbrev pub value_in : List ℕ → List ℕ → Option Kind → Result Pair Refusal

@@ -15,5 +15,5 @@ abbrev pub left_in : Ledger → ℕ
 left_in ledger = calls_left ledger.pass
 
 -- the commit that a snapshot shows, as a command tells one
-abbrev pub shown : Snapshot → Option ℕ
-shown snapshot = Some (number_shown snapshot)
+abbrev pub commit_shown : Snapshot → Option ℕ
+commit_shown snapshot = Some (number_shown snapshot)

@@ -1,14 +1,16 @@
 -- What performing a command gives: its answer, or why there is none.
-use Rattle.std.specs.Prelude.{ℕ, ◌≡◌, List, length, Result, Ok, Err, ⊤}
-use Rattle.answer_core.specs.PrintedRecords.{errors_in}
+use Rattle.std.specs.Prelude.{ℕ, ◌≡◌, All, List, false, length, Result, Ok, Err, ⊤}
+use Rattle.answer_core.specs.PrintedRecords.{IsPrintedAs, errors_in}
 use Rattle.answer_core.specs.Unwritten.{Adds, Unwritten}
 use Rattle.answer_core.specs.declared.answer.Answer.{Answer}
 use Rattle.answer_core.specs.declared.answer.Answer.TheVariants as answer
 use Rattle.book_core.specs.History.{History}
-use Rattle.command_core.specs.Meaning.{Meaning}
+use Rattle.command_core.specs.Meaning.{Meaning, Load, Refuse}
 use Rattle.command_core.specs.Records.{Record}
 use Rattle.command_core.specs.declared.refusal.Fault.{Fault}
-use Rattle.script_core.specs.Answer.{IsAnswerTo}
+use Rattle.command_core.specs.Statement.{Placed, Statement, commands_in, is_load}
+use Rattle.script_core.specs.Answer.{Answers, AnswersEach, IsAnswerTo}
+use Rattle.script_core.specs.declared.outcome.Outcome.{Outcome}
 use Rattle.script_core.specs.Failure.{Failure, IsFailureOf}
 use Rattle.row_core.specs.declared.failure.Failure.TheVariants.{Refused, NoMemory}
 
@@ -29,9 +31,53 @@ Performs before number meaning (Err (Refused fault)) after =
     IsAnswerTo before number meaning (answer.Refused fault) after
 Performs before number meaning (Err NoMemory) after = ⊤
 
--- an answer was printed, and its refusals counted
-pub record Prints (Answers : List Record → Type 0) (old new : Unwritten) (errors : ℕ) : Type 0 where
+-- a command was answered, the records of its answer printed, and those that tell of a refusal counted
+pub record PrintsOne (before : History) (number : ℕ) (meaning : Meaning) (after : History) (old new : Unwritten)
+    (errors : ℕ) : Type 0 where
+  pub given : Answer
+  pub is : IsAnswerTo before number meaning given after
+  pub own : List Record
+  pub prints : IsPrintedAs given own
+  pub adds : Adds old new own
+  pub count : errors ≡ errors_in own
+
+-- commands of a block, none of them a load that may be done, were answered one after another, whatever history the
+-- block's load leads to, and the records of their answers printed
+pub record PrintsQueries (before : History) (commands : List Placed) (old new : Unwritten) (told : Outcome)
+    : Type 0 where
+  pub answers : List Record
+  pub each : (after : History) → AnswersEach before after commands answers
+  pub printed : Adds old new answers
+  pub count : told.commands ≡ length commands
+  pub errors : told.errors ≡ errors_in answers
+
+-- all commands of a block were answered, one after another, and the records of their answers printed
+pub record PrintsBlock (before : History) (commands : List Placed) (after : History) (old new : Unwritten)
+    (told : Outcome) : Type 0 where
+  pub answers : List Record
+  pub each : AnswersEach before after commands answers
+  pub unloaded : All (λ command. is_load command.meaning ≡ false) commands → after ≡ before
+  pub printed : Adds old new answers
+  pub count : told.commands ≡ length commands
+  pub errors : told.errors ≡ errors_in answers
+
+-- what a command with the word `load` may ask for: a load, or nothing, where it is refused
+abbrev pub AsksLoad : Meaning → Type 0
+AsksLoad (Load name body) = ⊤
+AsksLoad (Refuse wrong) = ⊤
+AsksLoad meaning = ⊥
+
+-- the answer that an outcome is, a refusal being one too
+abbrev pub IsAnswerOf : Result Answer Failure → Answer → Type 0
+IsAnswerOf (Ok given) told = told ≡ given
+IsAnswerOf (Err (Refused wrong)) told = told ≡ answer.Refused wrong
+IsAnswerOf (Err NoMemory) told = ⊥
+
+-- a statement's answer was printed, and its commands and refusals counted
+pub record PrintsStatement (before : History) (number : ℕ) (statement : Statement) (after : History)
+    (old new : Unwritten) (told : Outcome) : Type 0 where
   pub answer : List Record
-  pub answers : Answers answer
+  pub answers : Answers before number statement answer after
   pub printed : Adds old new answer
-  pub counted : errors ≡ errors_in answer
+  pub commands : told.commands ≡ commands_in statement
+  pub errors : told.errors ≡ errors_in answer

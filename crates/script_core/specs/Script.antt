@@ -1,9 +1,9 @@
--- The output of a script: what its commands answer, one after another.
+-- The output of a script: what its statements answer, one after another.
 use Rattle.std.specs.Prelude.{ℕ, ◌+◌, ◌≡◌, ◌≤◌, ◌<◌, ◌⊎◌, List, [], ◌∷◌, ◌++◌, Option, length, take, flat_map, sum_by}
 use Rattle.std.specs.Io.KnownBytes.{Appends, Consumes, IsAtEnd, Keeps}
 use Rattle.book_core.specs.History.{History}
-use Rattle.command_core.specs.Meaning.{Meaning, Means}
 use Rattle.command_core.specs.Records.{AreScriptRecords, Record}
+use Rattle.command_core.specs.Statement.{States, Statement, commands_in}
 use Rattle.stream_core.specs.Counted.{Sink, Source, sink_of, source_of}
 use Rattle.stream_core.specs.Faults.{HasReadTooMuch, script_limit}
 use Rattle.stream_core.specs.declared.counted.Counted.{Counted}
@@ -24,20 +24,20 @@ pub record Place : Type 0 where
 abbrev pub start_of : List Record → Place
 start_of records = record { history = []; number = 1; left = records }
 
--- a command that was done, and its answer
+-- a statement that was done, and its answer
 pub record Done : Type 0 where
-  pub meaning : Meaning
+  pub statement : Statement
   pub answer : List Record
 
--- one command takes its records from those that are left, and is answered
+-- one statement takes its records from those that are left, and is answered
 pub record Step (old : Place) (done : Done) (new : Place) : Type 0 where
   pub own : List Record
   pub taken : old.left ≡ own ++ new.left
   pub number : new.number ≡ old.number + length own
-  pub means : Means old.number own new.left done.meaning
-  pub answers : Answers old.history old.number done.meaning done.answer new.history
+  pub states : States old.number own new.left done.statement
+  pub answers : Answers old.history old.number done.statement done.answer new.history
 
--- these commands were done, one after another
+-- these statements were done, one after another
 abbrev pub Steps : Place → List Done → Place → Type 0
 Steps old [] new = old ≡ new
 Steps old (done ∷ more) new = (mid : Place) × Step old done mid × Steps mid more new
@@ -46,27 +46,27 @@ Steps old (done ∷ more) new = (mid : Place) × Step old done mid × Steps mid 
 abbrev pub output_of : List Done → List ℕ
 output_of dones = flat_map (λ done. bytes_of done.answer) dones
 
--- all commands of these records
+-- all statements of these records
 pub record Finished (records : List Record) (dones : List Done) : Type 0 where
   pub place : Place
   pub steps : Steps (start_of records) dones place
   pub over : place.left ≡ []
 
--- these are the commands of a script, one after another, and their answers
-pub record AreCommandsOf (script : List ℕ) (dones : List Done) : Type 0 where
+-- these are the statements of a script, one after another, and their answers
+pub record AreStatementsOf (script : List ℕ) (dones : List Done) : Type 0 where
   pub records : List Record
   pub parsed : AreScriptRecords script records
   pub finished : Finished records dones
 
--- these bytes are the output of a script: the answers to all its commands, one after another
+-- these bytes are the output of a script: the answers to all its statements, one after another
 pub record IsOutput (script output : List ℕ) : Type 0 where
   pub dones : List Done
-  pub commands : AreCommandsOf script dones
+  pub statements : AreStatementsOf script dones
   pub is : output ≡ output_of dones
 
 -- the numbers that a run tells
 pub record Tells (outcome : Outcome) (dones : List Done) : Type 0 where
-  pub commands : outcome.commands ≡ length dones
+  pub commands : outcome.commands ≡ sum_by (λ done. commands_in done.statement) dones
   pub errors : outcome.errors ≡ sum_by (λ done. errors_in done.answer) dones
 
 -- what a writer was given is a front of these bytes
@@ -92,41 +92,41 @@ pub record ReadsScript (before after : Source) (script : List ℕ) : Type 0 wher
   pub end : IsAtEnd after.unread
   pub within : length script ≤ script_limit
 
--- a reader gave a script, and these are its commands
-pub record ReadsCommands (before after : Source) (dones : List Done) : Type 0 where
+-- a reader gave a script, and these are its statements
+pub record ReadsStatements (before after : Source) (dones : List Done) : Type 0 where
   pub script : List ℕ
   pub reads : ReadsScript before after script
-  pub commands : AreCommandsOf script dones
+  pub statements : AreStatementsOf script dones
 
--- a writer was given the answers to these commands, and nothing else; the numbers told are theirs
+-- a writer was given the answers to these statements, and nothing else; the numbers told are theirs
 pub record WritesAll (outcome : Outcome) (dones : List Done) (before after : Sink) : Type 0 where
   pub written : Appends before.written after.written (output_of dones)
   pub tells : Tells outcome dones
 
--- a writer was given the answers to all commands before one of these
+-- a writer was given the answers to all statements before one of these
 pub record WritesBefore (dones : List Done) (before after : Sink) : Type 0 where
   pub first : List Done
   pub next : Done
   pub later : List Done
-  pub commands : dones ≡ first ++ next ∷ later
+  pub statements : dones ≡ first ++ next ∷ later
   pub written : Appends before.written after.written (output_of first)
 
--- those, and a front of that command's own answer, never all of it
+-- those, and a front of that statement's own answer, never all of it
 pub record WritesWithin (dones : List Done) (before after : Sink) : Type 0 where
   pub first : List Done
   pub next : Done
   pub later : List Done
-  pub commands : dones ≡ first ++ next ∷ later
+  pub statements : dones ≡ first ++ next ∷ later
   pub size : ℕ
   pub short : size < length (bytes_of next.answer)
   pub written : Appends before.written after.written (output_of first ++ take size (bytes_of next.answer))
 
--- a script was read, and this of what its commands answer was written
+-- a script was read, and this of what its statements answer was written
 abbrev pub ReadsAnd : (List Done → Sink → Sink → Type 0) → Streams → Streams → Type 0
 ReadsAnd Writes before after =
-    (dones : List Done) × ReadsCommands before.reader after.reader dones × Writes dones before.writer after.writer
+    (dones : List Done) × ReadsStatements before.reader after.reader dones × Writes dones before.writer after.writer
 
--- a script was read, and its output written; the numbers told are those of its commands
+-- a script was read, and its output written; the numbers told are those of its statements
 abbrev pub RunsAll : Streams → Streams → Outcome → Type 0
 RunsAll before after outcome = ReadsAnd (WritesAll outcome) before after
 

@@ -8,11 +8,11 @@ use Rattle.stream_core.specs.declared.fault.RunFault.TheVariants.{ReadFault, Too
 use Rattle.script_core.specs.Script.{Done, Finished, WritesAll, WritesBefore, WritesWithin}
 use Rattle.script_core.specs.declared.outcome.Outcome.{Outcome}
 
--- this of what the commands of these records answer was written
+-- this of what the statements of these records answer was written
 abbrev pub Answering : (List Done → Sink → Sink → Type 0) → List Record → Sink → Sink → Type 0
 Answering Writes records before after = (dones : List Done) × Finished records dones × Writes dones before after
 
--- the answers to all commands of these records
+-- the answers to all statements of these records
 abbrev pub AnswersAll : List Record → Sink → Sink → Outcome → Type 0
 AnswersAll records before after outcome = Answering (WritesAll outcome) records before after
 

@@ -1,10 +1,11 @@
 //! The changes that commands ask for.
 ghost use Rattle.std.specs.Prelude.{◌≡◌, ◌+◌, ◌<◌, ◌≤◌, ◌^◌, length};
+ghost use Rattle.store_core.specs.Snapshots.{history};
 ghost use Rattle.script_core.specs.Ledgers.{held, left_in};
-ghost use Rattle.script_core.specs.Performing.{Changes};
+ghost use Rattle.script_core.specs.Performing.{Changes, Gives};
 ghost use Rattle.command_core.specs.Lines.{lines_in};
 ghost use Rattle.command_core.specs.PairsIn.{pairs_in};
-ghost use Rattle.script_core.specs.Effects.{change_in, delete_in, load_in, make_in, update_in};
+ghost use Rattle.script_core.specs.Effects.{change_in, delete_in, load_in, load_told, make_in, update_in};
 
 use crate::failure::{Failure, failure_at, refused};
 use crate::ledger::Ledger;
@@ -14,9 +15,10 @@ use answer_core::Answer;
 use book_core::Change;
 use command_core::{Lines, Refusal, TextPairs};
 use period_core::Period;
-use row_core::{Name, Schema};
+use row_core::{Drafts, Name, Schema};
 use std::alloc::Global;
 use std::sync::Wait;
+use store_core::Snapshot;
 
 /// Makes a change, which the command of this number asks for.
 fn apply<R: Wait>(
@@ -51,6 +53,45 @@ pub(crate) fn make<R: Wait>(
     apply(rt, ledger, number, Change::Make { table, schema })
 }
 
+/// The rows of a load's records, by the columns that a snapshot of all commits shows.
+fn read_load(
+    alloc: Global,
+    newest: &Snapshot,
+    number: u64,
+    table: Name,
+    body: Lines<'_>,
+) -> Result<Drafts, Failure>
+    requires { number + 1 + length (lines_in body) < 2 ^ 64 }
+    ensures { Gives (load_told number (history newest.now) table (lines_in body.entry)) (λ meant rows. rows ≡ meant) result }
+{
+    match newest.schema(table) {
+        Ok(schema) => rows_of(alloc, schema, body, number + 1),
+        Err(_) => Err(refused(number, Refusal::NoTable)),
+    }
+}
+
+/// Adds the rows of a load's records to a table, the first of them with the number behind this one; they are read by
+/// the columns that a snapshot of all commits shows.
+pub(crate) fn load_by<R: Wait>(
+    rt: &R,
+    alloc: Global,
+    ledger: &mut Ledger,
+    newest: &Snapshot,
+    number: u64,
+    table: Name,
+    body: Lines<'_>,
+) -> Result<Answer, Failure>
+    requires newest { history newest.now ≡ held ledger.old }
+    requires numbers { number + 1 + length (lines_in body) < 2 ^ 64 }
+    requires left { 0 < left_in ledger.old }
+    ensures changes { Changes (load_in number (held ledger.old) table (lines_in body.entry))
+        (held ledger.old) (held ledger.new) result }
+    ensures left { left_in ledger.old ≤ left_in ledger.new + 1 }
+{
+    let rows = read_load(alloc, newest, number, table, body)?;
+    apply(rt, ledger, number, Change::Load { table, rows })
+}
+
 /// Adds the rows of a load's records to a table, the first of them with the number behind this one.
 pub(crate) fn load<R: Wait>(
     rt: &R,
@@ -66,13 +107,10 @@ pub(crate) fn load<R: Wait>(
         (held ledger.old) (held ledger.new) result }
     ensures left { left_in ledger.old ≤ left_in ledger.new + 2 }
 {
-    // The snapshot is given back before the commit.
+    // The snapshot is given back before the commit, so that nothing is copied.
     let rows = {
         let newest = ledger.newest(rt)?;
-        match newest.schema(table) {
-            Ok(schema) => rows_of(alloc, schema, body, number + 1)?,
-            Err(_) => return Err(refused(number, Refusal::NoTable)),
-        }
+        read_load(alloc, &newest, number, table, body)?
     };
     apply(rt, ledger, number, Change::Load { table, rows })
 }

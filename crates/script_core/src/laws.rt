@@ -2,26 +2,28 @@
 
 ghost use Rattle.std.specs.Prelude.{◌≡◌, ℕ, List, Some};
 ghost use Rattle.book_core.specs.History.{History, IsLegal};
-ghost use Rattle.command_core.specs.Meaning.{Meaning};
 ghost use Rattle.command_core.specs.Records.{Record};
+ghost use Rattle.command_core.specs.Statement.{Statement, States};
 ghost use Rattle.script_core.specs.Answer.{Answers};
-ghost use Rattle.script_core.specs.Script.{AreCommandsOf, Done, IsOutput, RunsAll, Streams};
+ghost use Rattle.script_core.specs.Script.{AreStatementsOf, Done, IsOutput, RunsAll, Streams};
 ghost use Rattle.script_core.specs.declared.outcome.Outcome.{Outcome};
 
-/// A script has exactly one output, whatever its bytes are, and one list of commands and answers makes it up.
+/// A script has exactly one output, whatever its bytes are, and one list of statements and answers makes it up.
 pub fn script_has_one_output()
     ensures exists { (script : List ℕ) → (output : List ℕ) × IsOutput script output }
     ensures one { (script one other : List ℕ) → IsOutput script one → IsOutput script other → one ≡ other }
     ensures answers { (script : List ℕ) (one other : List Done)
-        → AreCommandsOf script one → AreCommandsOf script other → one ≡ other }
+        → AreStatementsOf script one → AreStatementsOf script other → one ≡ other }
 {}
 
-/// After a legal history a command has exactly one answer, and exactly one history follows.
-pub fn command_has_one_answer()
-    ensures exists { (before : History) (number : ℕ) (meaning : Meaning) → IsLegal before
-        → (answer : List Record) × (after : History) × Answers before number meaning answer after }
-    ensures one { (before after later : History) (number : ℕ) (meaning : Meaning) (one other : List Record)
-        → Answers before number meaning one after → Answers before number meaning other later
+/// After a legal history a statement, be it a command or a block of commands, has exactly one answer, and exactly one
+/// history follows.
+pub fn statement_has_one_answer()
+    ensures exists { (before : History) (number : ℕ) (statement : Statement) → IsLegal before
+        → (own later : List Record) → States number own later statement
+        → (answer : List Record) × (after : History) × Answers before number statement answer after }
+    ensures one { (before after later : History) (number : ℕ) (statement : Statement) (one other : List Record)
+        → Answers before number statement one after → Answers before number statement other later
         → (one ≡ other) × (after ≡ later) }
 {}
 

@@ -43,7 +43,8 @@ impl Ledger {
         }
     }
 
-    /// Makes a change, and answers the commit's number, from 1 on. Where a snapshot is alive the book is copied.
+    /// Makes a change, and answers the commit's number, from 1 on. Where a snapshot shares the
+    /// book it is copied first.
     pub(crate) fn commit<R: Wait>(
         &mut self,
         rt: &R,

@@ -8,11 +8,13 @@ mod laws;
 mod ledger;
 mod outcome;
 mod pairs;
+mod performing;
 mod queries;
 mod rows;
 mod session;
+mod together;
 
-pub use laws::{command_has_one_answer, complete_runs_agree, script_has_one_output};
+pub use laws::{complete_runs_agree, script_has_one_output, statement_has_one_answer};
 pub use outcome::Outcome;
 pub use session::run;
 pub use stream_core::{Counted, RunFault};

@@ -10,7 +10,7 @@ ghost use Rattle.match_core.specs.Items.{items_of};
 ghost use Rattle.row_core.specs.Rows.{IdsRise};
 ghost use Rattle.row_core.specs.Schema.{fits};
 ghost use Rattle.script_core.specs.Answer.{IsAggOf, IsAntiOf, IsDipOf, IsJoinOf, IsVerdictOn, IsVersions};
-ghost use Rattle.script_core.specs.Ledgers.{shown};
+ghost use Rattle.script_core.specs.Ledgers.{commit_shown};
 ghost use Rattle.script_core.specs.Performing.{Gives};
 ghost use Rattle.store_core.specs.Snapshots.{history, number_shown};
 ghost use Rattle.script_core.specs.Effects.{aggregated_told, claim_of, columns_told, func_of, rows_on, rows_told, sides_told, versions_told};
@@ -39,7 +39,7 @@ fn shown_table<'a>(
     number: u64,
     table: Name,
 ) -> Result<(&'a Schema, RowList), Failure>
-    ensures gives { Gives (rows_told number (history snapshot.now) (shown snapshot.now) table)
+    ensures gives { Gives (rows_told number (history snapshot.now) (commit_shown snapshot.now) table)
         (λ rows read. read.1 ≡ rows) result }
     ensures columns { IfOk result (λ read. columns_told number (history snapshot.now) table ≡ Ok read.0.now) }
     ensures few { IfOk result (λ read. length read.1 ≤ version_limit) }
@@ -58,7 +58,7 @@ fn shown_table<'a>(
 
 /// All rows of a table.
 pub(crate) fn rows(snapshot: &Snapshot, number: u64, table: Name) -> Result<Answer, Failure>
-    ensures { Gives (rows_told number (history snapshot.now) (shown snapshot.now) table)
+    ensures { Gives (rows_told number (history snapshot.now) (commit_shown snapshot.now) table)
         (λ rows answer. answer ≡ Rows rows) result }
 {
     let (_, rows) = shown_table(snapshot, number, table)?;
@@ -72,7 +72,7 @@ pub(crate) fn rows_on(
     table: Name,
     point: Point,
 ) -> Result<Answer, Failure>
-    ensures { Gives (rows_told number (history snapshot.now) (shown snapshot.now) table)
+    ensures { Gives (rows_told number (history snapshot.now) (commit_shown snapshot.now) table)
         (λ rows answer. answer ≡ Rows (rows_on point rows)) result }
 {
     match snapshot.rows_holding(table, point) {
@@ -89,7 +89,7 @@ pub(crate) fn divide<T: Threads + Sync>(
     number: u64,
     table: Name,
 ) -> Result<Answer, Failure>
-    ensures { Gives (rows_told number (history snapshot.now) (shown snapshot.now) table)
+    ensures { Gives (rows_told number (history snapshot.now) (commit_shown snapshot.now) table)
         (λ rows answer. IsDipOf (items_of rows) answer) result }
 {
     let (schema, rows) = shown_table(snapshot, number, table)?;
@@ -113,7 +113,7 @@ pub(crate) fn join_tables<T: Threads + Sync>(
     workers: u32,
 ) -> Result<Answer, Failure>
     requires { (0 < workers) × (workers ≤ worker_limit) }
-    ensures { Gives (sides_told number (history snapshot.now) (shown snapshot.now)
+    ensures { Gives (sides_told number (history snapshot.now) (commit_shown snapshot.now)
         (compared_in tables.entry))
         (λ sides. IsJoinOf sides.0 sides.1 (name_pairs_in tables.entry.on)) result }
 {
@@ -145,7 +145,7 @@ pub(crate) fn anti_tables<T: Threads + Sync>(
     workers: u32,
 ) -> Result<Answer, Failure>
     requires { (0 < workers) × (workers ≤ worker_limit) }
-    ensures { Gives (sides_told number (history snapshot.now) (shown snapshot.now)
+    ensures { Gives (sides_told number (history snapshot.now) (commit_shown snapshot.now)
         (compared_in tables.entry))
         (λ sides. IsAntiOf sides.0 sides.1 (name_pairs_in tables.entry.on)) result }
 {
@@ -176,7 +176,7 @@ pub(crate) fn agg_table<T: Threads + Sync>(
     workers: u32,
 ) -> Result<Answer, Failure>
     requires { (0 < workers) × (workers ≤ worker_limit) }
-    ensures { Gives (aggregated_told number (history snapshot.now) (shown snapshot.now) aggregate)
+    ensures { Gives (aggregated_told number (history snapshot.now) (commit_shown snapshot.now) aggregate)
         (λ table. IsAggOf table aggregate) result }
 {
     let func = func_of(&aggregate.func);
@@ -214,7 +214,7 @@ pub(crate) fn check(
     body: Lines<'_>,
 ) -> Result<Answer, Failure>
     requires { number + 1 + length (lines_in body) < 2 ^ 64 }
-    ensures { Gives (both (rows_told number (history snapshot.now) (shown snapshot.now) table)
+    ensures { Gives (both (rows_told number (history snapshot.now) (commit_shown snapshot.now) table)
         (claim_of (number + 1) (lines_in body.entry)))
         (λ read answer. IsVerdictOn (items_of read.0) read.1 certificate answer) result }
 {

@@ -7,6 +7,14 @@ use std::sync::Wait;
 use std::test::Fail;
 use std::thread::Threads;
 
+// A load between queries, in a block of commands.
+const BLOCK: &[u8] = b"table,t\nload,t\nrow,2024-01-01,2024-01-05\nend\n\
+    together\nload,t\nrow,2024-01-02,2024-01-06\nend\nrows,t\njoin,t,t\nrows,t,asof,3\nend\nrows,t\n";
+
+const BLOCK_ANSWERS: &[u8] = b"ok,1\nok,2\n\
+    together,2\nok,3\nrow,1,2024-01-01,2024-01-05\nend,1\nrow,2024-01-01,2024-01-05,1,1\nend,1\nerror,11,Future\n\
+    row,1,2024-01-01,2024-01-05\nrow,2,2024-01-02,2024-01-06\nend,2\n";
+
 // A script, its answers, and how many commands and refusals there are.
 struct Case {
     script: &'static [u8],
@@ -60,4 +68,43 @@ fn counts_commands_and_refusals(rt: HostRuntime) -> Result<(), Fail> {
             errors: 8,
         },
     )
+}
+
+// A block counts once, and each of its commands once; one that isn't done is one command.
+#[test]
+fn counts_blocks_and_their_commands(rt: HostRuntime) -> Result<(), Fail> {
+    check(
+        &rt,
+        &Case {
+            script: BLOCK,
+            answers: BLOCK_ANSWERS,
+            commands: 8,
+            errors: 1,
+        },
+    )?;
+    check(
+        &rt,
+        &Case {
+            script: b"together,x\nrows,t\nend\ntogether\nend\n\
+                together\nlog\nload,t\nend\nload,t\nrow\nend\nend\ntogether\nrows,t\nrows,t\n",
+            answers: b"error,1,BadCommand\ntogether,0\n\
+                together,0\nerror,7,NotInBlock\nerror,8,NoTable\nerror,10,NotInBlock\nerror,14,Unended\n",
+            commands: 7,
+            errors: 5,
+        },
+    )
+}
+
+#[test]
+fn a_block_may_be_cut_at_each_byte(rt: HostRuntime) -> Result<(), Fail> {
+    for len in 0..=BLOCK.len() {
+        let Some(front) = BLOCK.get(..len) else {
+            panic!(rt; "the script has so many bytes")
+        };
+        let mut reader = Counted::new(front);
+        let mut writer = Counted::new(Vec::new(rt.alloc()));
+        let outcome = run(&rt, rt.alloc(), &mut reader, &mut writer, 4)?;
+        assert!(rt; outcome.errors <= outcome.commands);
+    }
+    Ok(())
 }

@@ -9,3 +9,7 @@ mod crowds;
 mod limits;
 #[cfg(test)]
 mod meetings;
+#[cfg(test)]
+mod snapshots;
+#[cfg(test)]
+mod turns;

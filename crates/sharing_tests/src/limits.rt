@@ -7,7 +7,7 @@ use crate::changes::{load, make};
 use row_core::{Failure, Name};
 use std::alloc::Global;
 use std::test::Fail;
-use store_core::{BadCount, Pass, PassSpent, SnapshotRefused, Store, StoreRefused};
+use store_core::{BadCount, Future, Pass, PassSpent, SnapshotRefused, Store, StoreRefused};
 
 // A store with one pass of so many calls.
 fn one_pass(alloc: Global, calls: u64) -> Result<(Store, Pass), Fail>
@@ -84,5 +84,27 @@ fn keeps_a_snapshot_while_changes_go_on(rt: HostRuntime) -> Result<(), Fail> {
     assert_eq!(rt; kept.between(0, 9, table)?.len(), 1);
     assert_eq!(rt; newest.rows(table)?.len(), 2);
     assert_eq!(rt; newest.from_to(3, 4, table)?.len(), 2);
+    Ok(())
+}
+
+// What a snapshot shows bounds those as of an earlier commit, not what its book has.
+#[test]
+fn looks_back_from_a_snapshot(rt: HostRuntime) -> Result<(), Fail> {
+    let table = Name::parse(b"t")?;
+    let (store, mut pass) = one_pass(rt.alloc(), 4)?;
+    let made = store.commit(&rt, &mut pass, make(rt.alloc(), b"t")?);
+    assert_eq!(rt; made, Ok(1));
+    let loaded = store.commit(&rt, &mut pass, load(rt.alloc(), b"t")?);
+    assert_eq!(rt; loaded, Ok(2));
+    let again = store.commit(&rt, &mut pass, load(rt.alloc(), b"t")?);
+    assert_eq!(rt; again, Ok(3));
+    let newest = store.snapshot(&rt, &mut pass, None)?;
+    assert_eq!(rt; newest.as_of(4).err(), Some(Failure::Refused(Future)));
+    let second = newest.as_of(2)?;
+    assert_eq!(rt; second.number(), 2);
+    assert_eq!(rt; second.rows(table)?.len(), 1);
+    assert_eq!(rt; second.as_of(3).err(), Some(Failure::Refused(Future)));
+    let first = second.as_of(1)?;
+    assert_eq!(rt; first.rows(table)?.len(), 0);
     Ok(())
 }

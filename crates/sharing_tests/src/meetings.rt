@@ -12,7 +12,7 @@ use std::thread::join;
 use store_core::{Pass, Store, StoreRefused};
 
 // A store with two passes of three calls each.
-fn two_passes(alloc: Global) -> Result<(Store, Pass, Pass), Fail>
+pub(crate) fn two_passes(alloc: Global) -> Result<(Store, Pass, Pass), Fail>
     ensures { IfOk result (λ made. IsPassOf made.0 made.1 × IsPassOf made.0 made.2) }
 {
     let (store, mut passes) = Store::new(alloc, 2, 3)?;

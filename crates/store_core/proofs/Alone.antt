@@ -5,13 +5,13 @@ use Rattle.version_core.specs.declared.change.Change.{Change}
 use Rattle.book_core.specs.History.{History}
 use Rattle.book_core.specs.declared.commit.Commit.{Commit}
 use Rattle.book_core.specs.declared.refusal.BookRefused.{BookRefused}
-use Rattle.turn_core.specs.Entries.{own, IsNumbered}
+use Rattle.turn_core.specs.Entries.{own, AreOfCallers}
 use Rattle.store_core.specs.Histories.{by_of, commit, CommitsTo, refusal_after}
 use Rattle.store_core.specs.Passes.{Commits, Counts, mine, number_of, passes_of, seen}
 use Rattle.store_core.specs.declared.pass.Pass.{Pass}
 use Rattle.store_core.specs.declared.refusal.StoreRefused.TheVariants as store
 
-own-all : (h : History) → IsNumbered by_of 1 h → own by_of 1 h ≡ h
+own-all : (h : History) → AreOfCallers by_of 1 h → own by_of 1 h ≡ h
 own-all [] all = refl
 own-all (c ∷ cs) all =
     let here = all 0 c (omega arith) in
@@ -26,7 +26,7 @@ own-alone pass one =
     let within = pass.seat.within in
     let number : number_of pass ≡ 1 = omega (arith, some, within, one) in (
       number,
-      sym (own-all (seen pass) (subst (λ (k : ℕ). IsNumbered by_of k (seen pass)) one pass.seat.numbered))
+      sym (own-all (seen pass) (subst (λ (k : ℕ). AreOfCallers by_of k (seen pass)) one pass.seat.numbered))
           ∙ (ap (λ (k : ℕ). own by_of k (seen pass)) (sym (pass.seat.source some ∙ number)) ∙ pass.seat.own),
     )
 

@@ -1,5 +1,5 @@
-pub mod Counts
 pub mod Histories
+pub mod Limits
 pub mod Passes
 pub mod Shelves
 pub mod Snapshots

@@ -1,5 +1,5 @@
 -- What a pass knows, and what each call of the store replies to it.
-use Rattle.std.specs.Prelude.{◌≡◌, ℕ, ◌+◌, List, [], ◌∷◌, ◌++◌, length, slice_get, Ok, Err, Option, None, Some, Result}
+use Rattle.std.specs.Prelude.{◌≡◌, ◌⊎◌, ℕ, ◌+◌, List, [], ◌∷◌, ◌++◌, length, slice_get, Ok, Err, Option, None, Some, Result}
 use mathlib.Core.List.{IsPrefix}
 use Rattle.row_core.specs.declared.failure.Failure.{Failure}
 use Rattle.row_core.specs.declared.failure.Failure.TheVariants.{Refused, NoMemory}
@@ -8,7 +8,7 @@ use Rattle.book_core.specs.History.{History, IsLegal}
 use Rattle.book_core.specs.Versions.{log_of}
 use Rattle.book_core.specs.declared.commit.Commit.{Commit}
 use Rattle.book_core.specs.declared.log.Entry.{Entry}
-use Rattle.turn_core.specs.Entries.{own, IsNumbered}
+use Rattle.turn_core.specs.Entries.{own, AreOfCallers}
 use Rattle.turn_core.specs.Seats.{IsSeatOf, view_of}
 use Rattle.turn_core.specs.declared.view.View.{View}
 use Rattle.store_core.specs.Histories.{by_of, commit, refusal_after}
@@ -59,7 +59,7 @@ pub record Sees (p q : Pass) : Type 0 where
   pub before : IsPrefix (seen p) (seen q)
   pub legal : IsLegal (seen q)
   pub own : own by_of (number_of q) (seen q) ≡ mine q
-  pub numbered : IsNumbered by_of (passes_of q) (seen q)
+  pub numbered : AreOfCallers by_of (passes_of q) (seen q)
 
 -- the same of a call that counts, by which these changes of its own came
 pub record Counts (p q : Pass) (added : History) : Type 0 where
@@ -83,17 +83,17 @@ Commits p change (Err (Refused (store.Book why))) q = Counts p q [] × (refusal_
 Commits p change (Err NoMemory) q = Counts p q []
 
 -- and when it takes a snapshot: one of all that it has seen
-abbrev pub Takes : Pass → Option ℕ → Result Snapshot (Failure SnapshotRefused) → Pass → Type 0
-Takes p n (Ok s) q = Counts p q [] × Shows (seen q) n (Ok s)
-Takes p n (Err (Refused snapshot.PassSpent)) q = IsSpent p q
-Takes p n (Err (Refused snapshot.Future)) q = Counts p q [] × Shows (seen q) n (Err (Refused record {}))
-Takes p n (Err NoMemory) q = Counts p q [] × Shows (seen q) n (Err NoMemory)
+abbrev pub TakesSnapshot : Pass → Option ℕ → Result Snapshot (Failure SnapshotRefused) → Pass → Type 0
+TakesSnapshot p n (Ok s) q = Counts p q [] × Shows (seen q) n (Ok s)
+TakesSnapshot p n (Err (Refused snapshot.PassSpent)) q = IsSpent p q
+TakesSnapshot p n (Err (Refused snapshot.Future)) q = Counts p q [] × Shows (seen q) n (Err (Refused record {}))
+TakesSnapshot p n (Err NoMemory) q = Counts p q [] × Shows (seen q) n (Err NoMemory)
 
 -- and when it reads the log: that of all that it has seen
-abbrev pub Reads : Pass → Result (List Entry) (Failure PassSpent) → Pass → Type 0
-Reads p (Ok log) q = Counts p q [] × (log ≡ log_of (seen q))
-Reads p (Err (Refused spent)) q = IsSpent p q
-Reads p (Err NoMemory) q = Counts p q []
+abbrev pub ReadsLog : Pass → Result (List Entry) (Failure PassSpent) → Pass → Type 0
+ReadsLog p (Ok log) q = Counts p q [] × (log ≡ log_of (seen q))
+ReadsLog p (Err (Refused spent)) q = IsSpent p q
+ReadsLog p (Err NoMemory) q = Counts p q []
 
 -- a pass that has seen nothing and made nothing, of this number, of so many, with so many calls
 pub record IsFresh (k n calls : ℕ) (p : Pass) : Type 0 where
@@ -109,29 +109,30 @@ pub record AreNew (n calls : ℕ) (s : Store) (ps : List Pass) : Type 0 where
   pub each : (i : ℕ) (p : Pass) → slice_get ps i ≡ Some p → IsPassOf s p × IsFresh (i + 1) n calls p
 
 -- what a note tells: the number of the pass that made it, what it had seen, and its own changes
-abbrev pub told : Note → View Commit
-told n = view_of n.seat
+abbrev pub told_in : Note → View Commit
+told_in n = view_of n.seat
 
 -- the note is of a pass of this store
 abbrev pub IsNoteOf : Store → Note → Type 0
 IsNoteOf s n = IsSeatOf s.turn n.seat
 
 -- the note tells what the pass knows, which stays as it is
-pub record Tells (s : Store) (p q : Pass) (n : Note) : Type 0 where
+pub record MakesNote (s : Store) (p q : Pass) (n : Note) : Type 0 where
   pub pass : IsPassOf s q
   pub note : IsNoteOf s n
   pub left : calls_left q ≡ calls_left p
   pub same : view q ≡ view p
-  pub number : (told n).source ≡ number_of p
-  pub seen : (told n).seen ≡ seen p
-  pub mine : (told n).mine ≡ mine p
+  pub number : (told_in n).source ≡ number_of p
+  pub seen : (told_in n).seen ≡ seen p
+  pub mine : (told_in n).mine ≡ mine p
 
--- the pass has seen all that it had seen, and all that the note tells, in one legal history, in which the changes of
--- both stand, each once; its own changes and its calls stay
-pub record TakesIn (s : Store) (p : Pass) (n : Note) (q : Pass) : Type 0 where
+-- the pass has seen all that it had seen, and all that the note tells, in one legal history, which one of the two had
+-- seen, and in which the changes of both stand, each once; its own changes and its calls stay
+pub record Hears (s : Store) (p : Pass) (n : Note) (q : Pass) : Type 0 where
   pub pass : IsPassOf s q
   pub left : calls_left q ≡ calls_left p
   pub mine : mine q ≡ mine p
   pub sees : Sees p q
-  pub heard : IsPrefix (told n).seen (seen q)
-  pub theirs : own by_of (told n).source (told n).seen ≡ (told n).mine
+  pub heard : IsPrefix (told_in n).seen (seen q)
+  pub one : (seen q ≡ seen p) ⊎ (seen q ≡ (told_in n).seen)
+  pub theirs : own by_of (told_in n).source (told_in n).seen ≡ (told_in n).mine

@@ -26,19 +26,23 @@ number_shown snapshot = snapshot.number
 abbrev pub asked : History → Option ℕ → ℕ
 asked h n = unwrap_or n (length h)
 
+-- the snapshot of the first n commits of a history, of which so many may be shown, or why there is none: fewer may
+abbrev pub ShowsFirst : History → ℕ → ℕ → Result Snapshot (Failure Future) → Type 0
+ShowsFirst h most n (Ok snapshot) = (history snapshot ≡ h) × (number_shown snapshot ≡ n) × (n ≤ most)
+ShowsFirst h most n (Err (Refused future)) = most < n
+ShowsFirst h most n (Err NoMemory) = n ≤ most
+
 -- the snapshot of a history at the number that is asked for, or why there is none: there are fewer commits
 abbrev pub Shows : History → Option ℕ → Result Snapshot (Failure Future) → Type 0
-Shows h n (Ok snapshot) = (history snapshot ≡ h) × (number_shown snapshot ≡ asked h n) × (asked h n ≤ length h)
-Shows h n (Err (Refused future)) = length h < asked h n
-Shows h n (Err NoMemory) = asked h n ≤ length h
+Shows h n result = ShowsFirst h (length h) (asked h n) result
 
 -- the rows of a table that the first n commits show, or why they are not given. Tables are looked for in the
 -- newest state.
-abbrev pub rows_given : History → ℕ → List ℕ → Result (List Row) NoTable
-rows_given h n name =
+abbrev pub rows_of_snapshot : History → ℕ → List ℕ → Result (List Row) NoTable
+rows_of_snapshot h n name =
     refused_or (first_of ((is_none (table_of (state_after h) name), record {}) ∷ [])) (rows_at h n name)
 
 -- why versions are not given, if they are not
-abbrev pub range_refusal : History → Bool → List ℕ → Option RangeRefused
-range_refusal h is_bad name =
+abbrev pub refusal_of_range : History → Bool → List ℕ → Option RangeRefused
+refusal_of_range h is_bad name =
     first_of ((is_bad, range.BadPeriod) ∷ (is_none (table_of (state_after h) name), range.NoTable) ∷ [])

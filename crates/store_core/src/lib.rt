@@ -4,7 +4,7 @@
 //!
 //! A `Store` is a `Shelf` that its callers take in turn; each of them has a `Pass`, which may make so many calls.
 //! A commit, a snapshot or a log answers what the book of one thread answers after what the pass has then seen,
-//! and all that a pass sees begins one legal history. A `Snapshot` shares its book and holds nothing up. A `Note`
+//! and all that a pass has seen is one legal history. A `Snapshot` shares its book and holds nothing up. A `Note`
 //! tells another pass what one has seen; who hears it sees no less from then on.
 
 mod pass;

@@ -9,7 +9,7 @@ use crate::shelf::Shelf;
 use turn_core::Seat;
 
 /// A caller's right to so many calls of a store. Contracts see its number, the history that it has seen, and which
-/// of its changes are its own.
+/// changes in it are its own.
 #[derive(Drop)]
 pub struct Pass {
     pub(crate) left: u64,

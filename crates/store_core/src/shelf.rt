@@ -4,7 +4,7 @@ ghost use Rattle.std.specs.Prelude.{◌≡◌, ◌<◌, ◌≤◌, [], ◌∷◌
 ghost use Rattle.std.specs.Arc.{arc_value};
 ghost use Rattle.book_core.specs.History.{IsLegal};
 ghost use Rattle.book_core.specs.Versions.{log_of};
-ghost use Rattle.turn_core.specs.Entries.{IsNumbered};
+ghost use Rattle.turn_core.specs.Entries.{AreOfCallers};
 ghost use Rattle.turn_core.specs.Limits.{seat_limit};
 ghost use Rattle.store_core.specs.Histories.{by_of, commit, CommitsTo, IsLegal-prop, refusal_after, Refuses};
 ghost use Rattle.store_core.specs.Snapshots.{Shows};
@@ -27,7 +27,7 @@ pub struct Shelf {
     // Each commit was accepted in its place.
     pub ghost legal: { IsLegal (arc_value book) } by { IsLegal-prop (arc_value book) },
     // Each commit is of a pass.
-    pub ghost numbered: { IsNumbered by_of passes (arc_value book) },
+    pub ghost numbered: { AreOfCallers by_of passes (arc_value book) },
 }
 
 impl Kept for Shelf {
@@ -101,7 +101,7 @@ impl Shelf {
     }
 
     /// Makes a change of the pass with the number `by`, and answers the commit's number, from 1 on. Where a
-    /// snapshot is alive the book is copied first; else nothing is copied.
+    /// snapshot shares the book it is copied first; else nothing is copied.
     ///
     /// # Errors
     ///

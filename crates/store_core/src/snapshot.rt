@@ -12,7 +12,7 @@ ghost use Rattle.book_core.specs.History.{IsLegal, rows_at, schema_in};
 ghost use Rattle.book_core.specs.Versions.{AreBetween, AreFromTo};
 ghost use Rattle.store_core.specs.Histories.{IsLegal-prop};
 
-use crate::refusal::RangeRefused;
+use crate::refusal::{Future, RangeRefused};
 use book_core::{Book, NoTable, RowsRefused, VersionList, VersionsRefused};
 use period_core::Point;
 use row_core::{Failure, Name, RowList, Schema};
@@ -34,7 +34,7 @@ pub struct Snapshot {
 }
 
 impl Snapshot {
-    ghost use Rattle.store_core.specs.Snapshots.{history, number_shown, rows_given, range_refusal};
+    ghost use Rattle.store_core.specs.Snapshots.{history, number_shown, refusal_of_range, rows_of_snapshot, ShowsFirst};
 
     /// The first commits of a shared book.
     pub(crate) fn of(number: u64, book: Arc<Book>) -> Snapshot
@@ -56,6 +56,24 @@ impl Snapshot {
         self.number
     }
 
+    /// What the first n of its commits show, of the same book, which is shared once more, not copied.
+    ///
+    /// # Errors
+    ///
+    /// `Future` where it shows fewer than n commits; `NoMemory` where the book can't have more sharers. It asks for
+    /// no memory.
+    pub fn as_of(&self, n: u64) -> Result<Snapshot, Failure<Future>>
+        ensures { ShowsFirst (history self.now) (number_shown self.now) n result }
+    {
+        if n > self.number {
+            return Err(Failure::Refused(Future));
+        }
+        match Arc::try_clone(&self.book) {
+            Ok(book) => Ok(Snapshot::of(n, book)),
+            Err(_) => Err(Failure::NoMemory),
+        }
+    }
+
     /// The columns of a table.
     pub fn schema(&self, name: Name) -> Result<&Schema, NoTable>
         ensures found { IfOk result (λ schema. schema_in (history self.now) name ≡ Some schema.now) }
@@ -70,7 +88,7 @@ impl Snapshot {
     ///
     /// `NoTable`; `NoMemory`, in this order.
     pub fn rows(&self, name: Name) -> Result<RowList, Failure<NoTable>>
-        ensures given { IsAnswer (rows_given (history self.now) (number_shown self.now) name) result }
+        ensures given { IsAnswer (rows_of_snapshot (history self.now) (number_shown self.now) name) result }
 
         // They are at most 1,000,000, and each fits the table's columns.
         ensures few { IfOk result (λ rows. length rows ≤ version_limit) }
@@ -94,7 +112,7 @@ impl Snapshot {
     pub fn rows_holding(&self, name: Name, point: Point) -> Result<RowList, Failure<NoTable>>
         // Of the rows that `rows` gives, those that hold.
         ensures given { IsAnswer (map_ok (filter (λ (row : Row). holds_at point row.period))
-            (rows_given (history self.now) (number_shown self.now) name)) result }
+            (rows_of_snapshot (history self.now) (number_shown self.now) name)) result }
 
         ensures few { IfOk result (λ rows. length rows ≤ version_limit) }
         ensures rise { IfOk result IdsRise }
@@ -116,7 +134,7 @@ impl Snapshot {
     ///
     /// `BadPeriod` where m is greater than n; `NoTable`; `NoMemory`, in this order.
     pub fn between(&self, m: u64, n: u64, name: Name) -> Result<VersionList, Failure<RangeRefused>>
-        ensures given { AnswersOr (range_refusal (history self.now) (nat_lt n m) name)
+        ensures given { AnswersOr (refusal_of_range (history self.now) (nat_lt n m) name)
             (AreBetween (history self.now) (number_shown self.now) m n name) result }
 
         // At one commit they are those whose rows it shows.
@@ -143,7 +161,7 @@ impl Snapshot {
     ///
     /// `BadPeriod` where m isn't less than n; `NoTable`; `NoMemory`, in this order.
     pub fn from_to(&self, m: u64, n: u64, name: Name) -> Result<VersionList, Failure<RangeRefused>>
-        ensures given { AnswersOr (range_refusal (history self.now) (nat_le n m) name)
+        ensures given { AnswersOr (refusal_of_range (history self.now) (nat_le n m) name)
             (AreFromTo (history self.now) (number_shown self.now) m n name) result }
     {
         match self.book.from_to(self.number, m, n, name) {

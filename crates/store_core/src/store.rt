@@ -5,7 +5,7 @@ ghost use Rattle.book_core.specs.History.{IsLegal};
 ghost use Rattle.book_core.specs.Versions.{log_of};
 ghost use Rattle.row_core.specs.Refusals.{AnswersOr};
 ghost use Rattle.turn_core.specs.Seats.{view_of};
-ghost use Rattle.store_core.specs.Counts.{bad_count};
+ghost use Rattle.store_core.specs.Limits.{bad_count};
 ghost use Rattle.store_core.specs.Histories.{CommitsTo};
 ghost use Rattle.store_core.specs.Shelves.{held, passes_in};
 ghost use Rattle.store_core.specs.Snapshots.{Shows};
@@ -28,7 +28,7 @@ pub struct Store {
 }
 
 // A pass for each new seat.
-fn passes_of(seats: Vec<Seat<Shelf>>, calls_each: u64, list: &mut Vec<Pass>)
+fn passes_for(seats: Vec<Seat<Shelf>>, calls_each: u64, list: &mut Vec<Pass>)
     requires room { (list.old.items ≡ []) × (vec_len seats ≤ vec_capacity list.old) }
     requires new { All (λ seat. (0 < (view_of seat).number) × (calls_each ≤ (view_of seat).left)
         × ((view_of seat).seen ≡ [])) seats.items }
@@ -44,7 +44,7 @@ fn passes_of(seats: Vec<Seat<Shelf>>, calls_each: u64, list: &mut Vec<Pass>)
 }
 
 impl Store {
-    ghost use Rattle.store_core.specs.Passes.{AreNew, Commits, IsNoteOf, IsPassOf, Reads, Takes, TakesIn, Tells};
+    ghost use Rattle.store_core.specs.Passes.{AreNew, Commits, Hears, IsNoteOf, IsPassOf, MakesNote, ReadsLog, TakesSnapshot};
 
     /// A store without a table, and its passes: the one with number i + 1 stands at place i.
     ///
@@ -65,11 +65,11 @@ impl Store {
         let shelf = Shelf::new(alloc, passes)?;
         let mut list = Vec::with_capacity(alloc, passes as usize)?;
         let (turn, seats) = Turn::new(alloc, shelf, passes)?;
-        passes_of(seats, calls_each, &mut list);
+        passes_for(seats, calls_each, &mut list);
         Ok((Store { turn }, list))
     }
 
-    /// Commits a change, and answers the commit's number, from 1 on. Where a snapshot is alive the book is copied
+    /// Commits a change, and answers the commit's number, from 1 on. Where a snapshot shares the book it is copied
     /// first; else nothing is copied.
     ///
     /// # Errors
@@ -122,7 +122,7 @@ impl Store {
     ) -> Result<Snapshot, Failure<SnapshotRefused>>
         requires { IsPassOf self.now pass.old }
         ensures store { IsPassOf self.now pass.new }
-        ensures reply { Takes pass.old n result pass.new }
+        ensures reply { TakesSnapshot pass.old n result pass.new }
     {
         if pass.left == 0 {
             return Err(Failure::Refused(SnapshotRefused::PassSpent));
@@ -151,7 +151,7 @@ impl Store {
     pub fn log<R: Wait>(&self, rt: &R, pass: &mut Pass) -> Result<Log, Failure<PassSpent>>
         requires { IsPassOf self.now pass.old }
         ensures store { IsPassOf self.now pass.new }
-        ensures reply { Reads pass.old result pass.new }
+        ensures reply { ReadsLog pass.old result pass.new }
     {
         if pass.left == 0 {
             return Err(Failure::Refused(PassSpent));
@@ -174,7 +174,7 @@ impl Store {
     /// What the pass has seen, for another pass to hear. No call is counted.
     pub fn note(&self, pass: &mut Pass) -> Note
         requires { IsPassOf self.now pass.old }
-        ensures { Tells self.now pass.old pass.new result }
+        ensures { MakesNote self.now pass.old pass.new result }
     {
         Note {
             seat: self.turn.split(&mut pass.seat),
@@ -185,7 +185,7 @@ impl Store {
     pub fn hear(&self, pass: &mut Pass, note: Note)
         requires pass { IsPassOf self.now pass.old }
         requires note { IsNoteOf self.now note }
-        ensures { TakesIn self.now pass.old note pass.new }
+        ensures { Hears self.now pass.old note pass.new }
     {
         let Note { seat } = note;
         self.turn.join(&mut pass.seat, seat);

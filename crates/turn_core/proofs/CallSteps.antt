@@ -10,7 +10,7 @@ use Rattle.atomic_table.specs.Table.{State, Me, Act, step, keeps, takes, gives, 
 use Rattle.turn_core.specs.declared.view.View.{View}
 use Rattle.turn_core.specs.declared.view.Stage.{Stage}
 use Rattle.turn_core.specs.declared.view.Stage.TheVariants.{Resting, Waiting, Serving}
-use Rattle.turn_core.specs.Entries.{own, IsNumbered, AddsAtMostOne}
+use Rattle.turn_core.specs.Entries.{own, AreOfCallers, AddsAtMostOne}
 use Rattle.turn_core.specs.Rule.{Round, StageFits, Fits, Serves}
 use Rattle.turn_core.specs.Steps.{Draws, Looks, PassesOn}
 use Rattle.turn_core.proofs.RoundLemmas.{pick, pick-yes, pick-no, each-set}
@@ -241,8 +241,8 @@ module _ {S E : Type 0} (entries : S → List E) (by : E → ℕ) (mark_of : S �
             record {
               begins = all;
               own = ap (own by v.number) y.2 ∙ q.mine;
-              numbered = subst (λ (m : ℕ). IsNumbered by m (entries y.0)) (sym q.mark)
-                  (subst (IsNumbered by seats) (sym y.2) r.numbered);
+              numbered = subst (λ (m : ℕ). AreOfCallers by m (entries y.0)) (sym q.mark)
+                  (subst (AreOfCallers by seats) (sym y.2) r.numbered);
               mark = y.3 ∙ sym q.mark;
             },
           ),
@@ -287,7 +287,7 @@ module _ {S E : Type 0} (entries : S → List E) (by : E → ℕ) (mark_of : S �
       let w : V = record v { seen = entries y; mine = own by v.number (entries y); stage = Resting } in
       let x' : Round E = passed_on x y in
       let high : v.number ≤ seats = (let l = q.last in omega arith) in
-      let numbered : IsNumbered by seats (entries y) = numbered-added by seats v.number x.log (entries y) p high
+      let numbered : AreOfCallers by seats (entries y) = numbered-added by seats v.number x.log (entries y) p high
       r.numbered added in (
         w,
         gives,
@@ -344,7 +344,7 @@ module _ {S E : Type 0} (entries : S → List E) (by : E → ℕ) (mark_of : S �
         λ y' e. let same : y ≡ y' = ap (λ (c : List (ℕ × Option S)). state_of y c) e in (
           refl,
           ap (λ (z : S). record v { seen = entries z; mine = own by v.number (entries z); stage = Resting }) same,
-          subst (λ (z : ℕ × S). IsNumbered by z.0 (entries z.1)) (λ i. (sym q.mark i, same i)) numbered,
+          subst (λ (z : ℕ × S). AreOfCallers by z.0 (entries z.1)) (λ i. (sym q.mark i, same i)) numbered,
         ),
       )
 

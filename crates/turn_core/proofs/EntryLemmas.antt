@@ -4,7 +4,7 @@ use Rattle.std.proofs.lemmas.List.Elements.{filter-append, All-push}
 use mathlib.Core.Option.{some, some-injective, some-ne-none}
 use mathlib.Core.List.{IsPrefix}
 use lib.ListN.{get_elem?}
-use Rattle.turn_core.specs.Entries.{own, IsNumbered, AddsAtMostOne}
+use Rattle.turn_core.specs.Entries.{own, AreOfCallers, AddsAtMostOne}
 use Rattle.turn_core.specs.Steps.{longer}
 
 -- an element of a list with one more at the end
@@ -24,9 +24,9 @@ all-front P (x ∷ xs) ys h zero d l = h 0 d (omega arith)
 all-front P (x ∷ xs) ys h (suc k) d l = all-front P xs ys (λ n e m. h (suc n) e (omega arith)) k d (omega arith)
 
 pub numbered-front : {E : Type 0} (by : E → ℕ) (mark : ℕ) (xs ys : List E) → IsPrefix xs ys
-    → IsNumbered by mark ys → IsNumbered by mark xs
+    → AreOfCallers by mark ys → AreOfCallers by mark xs
 numbered-front by mark xs ys (t, e) h =
-    all-front (λ x. (0 < by x) × (by x ≤ mark)) xs t (subst (IsNumbered by mark) (sym e) h)
+    all-front (λ x. (0 < by x) × (by x ≤ mark)) xs t (subst (AreOfCallers by mark) (sym e) h)
 
 -- of two fronts of one list the longer is a front of it, and both are fronts of the longer
 pub longer-meets : {A : Type 0} (xs ys t u : List A) → xs ++ t ≡ ys ++ u
@@ -94,10 +94,10 @@ module _ {E : Type 0} (by : E → ℕ) where
   prefix-added q zs xs ys (rest, pre) (inr (e, of, is)) =
       (rest ++ e ∷ [], sym (append_assoc zs rest (e ∷ [])) ∙ (ap (λ l. l ++ e ∷ []) pre ∙ sym is))
 
-  pub numbered-added : (mark q : ℕ) (xs ys : List E) → 0 < q → q ≤ mark → IsNumbered by mark xs
-      → AddsAtMostOne by q xs ys → IsNumbered by mark ys
-  numbered-added mark q xs ys low high all (inl same) = subst (IsNumbered by mark) (sym same) all
+  pub numbered-added : (mark q : ℕ) (xs ys : List E) → 0 < q → q ≤ mark → AreOfCallers by mark xs
+      → AddsAtMostOne by q xs ys → AreOfCallers by mark ys
+  numbered-added mark q xs ys low high all (inl same) = subst (AreOfCallers by mark) (sym same) all
   numbered-added mark q xs ys low high all (inr (e, of, is)) =
-      subst (IsNumbered by mark) (sym is)
+      subst (AreOfCallers by mark) (sym is)
       (All-push (λ x. (0 < by x) × (by x ≤ mark)) xs e all
       (subst (λ (n : ℕ). 0 < n) (sym of) low, subst (λ (n : ℕ). n ≤ mark) (sym of) high))

@@ -9,7 +9,7 @@ use Rattle.atomic_table.specs.Table.{State, Me, step, keeps, Allows, Splits, Joi
 use Rattle.atomic_table.proofs.Lists.{at_set}
 use Rattle.turn_core.specs.declared.view.View.{View}
 use Rattle.turn_core.specs.declared.view.Stage.TheVariants.{Resting}
-use Rattle.turn_core.specs.Entries.{own, IsNumbered}
+use Rattle.turn_core.specs.Entries.{own, AreOfCallers}
 use Rattle.turn_core.specs.Limits.{call_limit, seat_limit}
 use Rattle.turn_core.specs.Rule.{Round, StageFits, Fits, Serves}
 use Rattle.turn_core.specs.Steps.{view_from, sole, following, longer, telling, told_by, spent_view, Learns}
@@ -265,6 +265,6 @@ module _ {S E : Type 0} (entries : S → List E) (by : E → ℕ) (mark_of : S �
       old.told,
       old.own,
       λ p. numbered-front by me.0.mark me.0.seen r.x.log old.seen
-          (subst (λ (k : ℕ). IsNumbered by k r.x.log) (sym (old.sits p).mark) r.numbered),
+          (subst (λ (k : ℕ). AreOfCallers by k r.x.log) (sym (old.sits p).mark) r.numbered),
     ),
   )

@@ -4,7 +4,7 @@ use denote.Ref.{MutBor}
 use Rattle.std.specs.Fn.{Once, FnOnceReturnsAtMut}
 use Rattle.turn_core.specs.declared.view.View.{View}
 use Rattle.turn_core.specs.declared.view.Stage.TheVariants.{Resting, Waiting, Serving}
-use Rattle.turn_core.specs.Entries.{own, IsNumbered, AddsAtMostOne}
+use Rattle.turn_core.specs.Entries.{own, AreOfCallers, AddsAtMostOne}
 use Rattle.turn_core.specs.Steps.{Lent}
 use Rattle.turn_core.specs.Calls.{KeepsEntries, Ran}
 use Rattle.turn_core.proofs.EntryLemmas.{own-push}
@@ -56,7 +56,7 @@ module _ {S E F R : Type 0} (entries : S → List E) (by : E → ℕ) (mark_of :
         seen = entries y;
         mine = own by w.number (entries y);
         stage = Resting;
-      } → IsNumbered by w.mark (entries y) → Ran entries by mark_of g f v r u
+      } → AreOfCallers by w.mark (entries y) → Ran entries by mark_of g f v r u
       ran-on u passed numbered =
           let seen : u.seen ≡ entries y = ap (λ z. z.seen) passed in
           let mine : u.mine ≡ own by v.number (entries y) = ap (λ z. z.mine) passed
@@ -69,5 +69,5 @@ module _ {S E F R : Type 0} (entries : S → List E) (by : E → ℕ) (mark_of :
             seen = seen;
             own = ap (own by v.number) seen ∙ sym mine;
             mine = mine-after u seen mine added.1;
-            numbered = subst (λ (z : ℕ × List E). IsNumbered by z.0 z.1) (λ i. (same.1 i, sym seen i)) numbered;
+            numbered = subst (λ (z : ℕ × List E). AreOfCallers by z.0 z.1) (λ i. (same.1 i, sym seen i)) numbered;
           }

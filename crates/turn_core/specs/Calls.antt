@@ -3,7 +3,7 @@ use Rattle.std.specs.Prelude.{◌≡◌, ℕ, List, ◌⊎◌, [], ◌∷◌, �
 use denote.Ref.{MutBor}
 use Rattle.std.specs.Fn.{Once, FnOnceTakesAtMut, FnOnceReturnsAtMut}
 use Rattle.turn_core.specs.declared.view.View.{View}
-use Rattle.turn_core.specs.Entries.{own, IsNumbered, AddsAtMostOne}
+use Rattle.turn_core.specs.Entries.{own, AreOfCallers, AddsAtMostOne}
 use Rattle.turn_core.specs.Steps.{Lent}
 
 -- the same caller at the same turn
@@ -33,4 +33,4 @@ module _ {S E F R : Type 0} (entries : S → List E) (by : E → ℕ) (mark_of :
     pub own : own by v.number w.seen ≡ w.mine
     pub mine : ((w.seen ≡ entries lent) × (w.mine ≡ v.mine))
         ⊎ ((e : E) × (by e ≡ v.number) × (w.seen ≡ entries lent ++ e ∷ []) × (w.mine ≡ v.mine ++ e ∷ []))
-    pub numbered : IsNumbered by v.mark w.seen
+    pub numbered : AreOfCallers by v.mark w.seen

@@ -7,8 +7,8 @@ module _ {E : Type 0} (by : E → ℕ) where
   own caller es = filter (λ e. by e == caller) es
 
   -- each entry is of a number from 1 to the mark
-  abbrev pub IsNumbered : ℕ → List E → Type 0
-  IsNumbered mark es = All (λ e. (0 < by e) × (by e ≤ mark)) es
+  abbrev pub AreOfCallers : ℕ → List E → Type 0
+  AreOfCallers mark es = All (λ e. (0 < by e) × (by e ≤ mark)) es
 
   -- the entries stay, and at most one joins them, which is of the caller
   abbrev pub AddsAtMostOne : ℕ → List E → List E → Type 0

@@ -5,7 +5,7 @@ use mathlib.Core.Option.{some, none}
 use mathlib.Core.List.{IsPrefix}
 use lib.ListN.{get_elem?}
 use Rattle.atomic_table.specs.Table.{State}
-use Rattle.turn_core.specs.Entries.{own, IsNumbered}
+use Rattle.turn_core.specs.Entries.{own, AreOfCallers}
 use Rattle.turn_core.specs.Limits.{ticket_limit}
 use Rattle.turn_core.specs.declared.view.View.{View}
 use Rattle.turn_core.specs.declared.view.Stage.{Stage}
@@ -57,5 +57,5 @@ pub record Serves {S E : Type 0} (entries : S → List E) (by : E → ℕ) (mark
   pub behind : x.served ≤ x.drawn
   pub gone : x.out ≡ true → (s.homes ≡ none ∷ []) × (x.served < x.drawn)
   pub home : x.out ≡ false → (y : S) × (s.homes ≡ some (Some y) ∷ []) × (entries y ≡ x.log) × (mark y ≡ seats)
-  pub numbered : IsNumbered by seats x.log
+  pub numbered : AreOfCallers by seats x.log
   pub each : (i : ℕ) (v : View E) → get_elem? s.views i ≡ some v → Fits by seats x i v

@@ -11,7 +11,7 @@
 use Rattle.std.specs.Prelude.{◌≡◌, ◌≢◌, ℕ, ◌+◌, ◌-◌, ◌*◌, ◌<◌, List, [], ◌∷◌, Option, Some}
 use mathlib.Core.List.{IsPrefix}
 use Rattle.atomic_table.specs.Table.{Me, Step}
-use Rattle.turn_core.specs.Entries.{own, IsNumbered}
+use Rattle.turn_core.specs.Entries.{own, AreOfCallers}
 use Rattle.turn_core.specs.Limits.{call_limit}
 use Rattle.turn_core.specs.declared.view.View.{View}
 use Rattle.turn_core.specs.declared.view.Stage.TheVariants.{Resting, Waiting, Serving}
@@ -80,7 +80,7 @@ module _ {S E : Type 0} (entries : S → List E) (by : E → ℕ) (mark_of : S �
   pub record Lent (v : View E) (y : S) : Type 0 where
     pub begins : IsPrefix v.seen (entries y)
     pub own : own by v.number (entries y) ≡ v.mine
-    pub numbered : IsNumbered by v.mark (entries y)
+    pub numbered : AreOfCallers by v.mark (entries y)
     pub mark : mark_of y ≡ v.mark
 
   -- where the number found is not the ticket, nothing is told; else the state comes out, and all is seen
@@ -95,10 +95,10 @@ module _ {S E : Type 0} (entries : S → List E) (by : E → ℕ) where
   abbrev pub PassesOn : Step (Option S) → SeatState S E → ℕ → SeatState S E → Type 0
   PassesOn st m n m' = (y : S) → m.1 ≡ (0, Some y) ∷ []
       → (m'.1 ≡ []) × (m'.0 ≡ record m.0 { seen = entries y; mine = own by m.0.number (entries y); stage = Resting })
-      × IsNumbered by m.0.mark (entries y)
+      × AreOfCallers by m.0.mark (entries y)
 
 module _ {S E : Type 0} (by : E → ℕ) where
   -- what was seen and what was told both begin what is seen
   abbrev pub Learns : Step (Option S) → SeatState S E → ℕ → SeatState S E → Type 0
   Learns st m n m' = (m' ≡ m) × IsPrefix m.0.before m.0.seen × IsPrefix m.0.told m.0.seen
-      × (own by m.0.source m.0.seen ≡ m.0.mine) × (0 < m.0.number → IsNumbered by m.0.mark m.0.seen)
+      × (own by m.0.source m.0.seen ≡ m.0.mine) × (0 < m.0.number → AreOfCallers by m.0.mark m.0.seen)

@@ -2,7 +2,7 @@
 
 ghost use Rattle.std.specs.Prelude.{◌≡◌, ◌<◌, ◌≤◌, []};
 ghost use Rattle.turn_core.specs.declared.view.Stage.TheVariants.{Resting};
-ghost use Rattle.turn_core.specs.Entries.{own, IsNumbered};
+ghost use Rattle.turn_core.specs.Entries.{own, AreOfCallers};
 
 use crate::kept::Kept;
 use crate::view::View;
@@ -25,7 +25,7 @@ pub struct Seat<S: Kept> {
     // Of its source's entries it has seen just those that are its own, each once, in order.
     pub ghost own: { own S.by seat.me.0.source seat.me.0.seen ≡ seat.me.0.mine },
     // Each entry that it has seen is of a number from 1 to the mark.
-    pub ghost numbered: { IsNumbered S.by seat.me.0.mark seat.me.0.seen },
+    pub ghost numbered: { AreOfCallers S.by seat.me.0.mark seat.me.0.seen },
 }
 
 impl<S: Kept> Seat<S> {

@@ -3,7 +3,7 @@
 ghost use Rattle.std.specs.Prelude.{◌≡◌, ◌⊎◌, ℕ, ◌+◌, ◌-◌, ◌<◌, ◌≤◌, [], ◌∷◌, Some, None, slice_get, IfOk, vec_len, vec_capacity};
 ghost use Rattle.turn_core.specs.declared.view.Stage.TheVariants.{Resting, Waiting, Serving};
 ghost use mathlib.Core.List.{IsPrefix};
-ghost use Rattle.turn_core.specs.Entries.{AddsAtMostOne, IsNumbered, own};
+ghost use Rattle.turn_core.specs.Entries.{AddsAtMostOne, AreOfCallers, own};
 ghost use Rattle.turn_core.specs.Limits.{seat_limit};
 ghost use Rattle.turn_core.specs.Steps.{Lent, view_from, fresh, telling};
 ghost use Rattle.turn_core.specs.Calls.{IsSameCaller, KeepsEntries, Ran};
@@ -185,7 +185,7 @@ impl<S: Kept> Turn<S> {
           mine = own S.by seat.old.me.0.number (S.entries state);
           stage = Resting;
         } }
-        ensures numbered { IsNumbered S.by seat.old.me.0.mark (S.entries state) }
+        ensures numbered { AreOfCallers S.by seat.old.me.0.mark (S.entries state) }
     {
         let None = self.table.shared.exchange(seat, 0, Some(state)) else {
             unreachable!()

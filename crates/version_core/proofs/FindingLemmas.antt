@@ -10,7 +10,7 @@ use Rattle.row_core.specs.declared.draft.Draft.{Draft}
 use Rattle.row_core.specs.declared.row.Row.{Row}
 use Rattle.row_core.specs.declared.schema.Column.{Column}
 use Rattle.key_core.specs.Keys.{collide}
-use Rattle.version_core.specs.Finding.{AreCandidates, ListsOpen, any_row, passes, period_of}
+use Rattle.version_core.specs.Finding.{AreCandidates, ListsOpen, any_row, passes, row_period}
 use Rattle.version_core.specs.Keys.{AreNear}
 use Rattle.version_core.specs.OpenVersions.{closed, closed_at, current, is_open, is_taken, places_from, versions_after}
 use Rattle.version_core.specs.Made.{made, draft_of}
@@ -418,12 +418,12 @@ versions_after-front n before c schema vs now e b =
 
 -- a version that is closed keeps its period
 periods-closed : (n : ℕ) (goes : Row → Bool) (vs : List Version)
-    → map period_of (map (closed n goes) vs) ≡ map period_of vs
+    → map row_period (map (closed n goes) vs) ≡ map row_period vs
 periods-closed n goes [] = refl
 periods-closed n goes (v ∷ vs) =
     elim (is_none v.systo && goes v.row) as
-    (λ b. period_of (cond b (record v { systo = Some n }) v) ∷ map period_of (map (closed n goes) vs)
-    ≡ v.row.period ∷ map period_of vs) [
+    (λ b. row_period (cond b (record v { systo = Some n }) v) ∷ map row_period (map (closed n goes) vs)
+    ≡ v.row.period ∷ map row_period vs) [
       | true ↦ ap (λ l. v.row.period ∷ l) (periods-closed n goes vs)
       | false ↦ ap (λ l. v.row.period ∷ l) (periods-closed n goes vs)
     ]
@@ -431,8 +431,8 @@ periods-closed n goes (v ∷ vs) =
 -- the periods afterwards are those before and of the new ones
 pub periods-versions_after : (n : ℕ) (c : Change) (schema : List Column) (vs fresh : List Version)
     → fresh ≡ made n (numbered (length vs) (drafts_of c schema (current vs)))
-    → map period_of (versions_after n c schema vs) ≡ map period_of vs ++ map period_of fresh
+    → map row_period (versions_after n c schema vs) ≡ map row_period vs ++ map row_period fresh
 periods-versions_after n c schema vs fresh e =
-    ap (λ new. map period_of (map (closed n (removes c schema)) vs ++ new)) (sym e)
-    ∙ map-append period_of (map (closed n (removes c schema)) vs) fresh
-    ∙ ap (λ periods. periods ++ map period_of fresh) (periods-closed n (removes c schema) vs)
+    ap (λ new. map row_period (map (closed n (removes c schema)) vs ++ new)) (sym e)
+    ∙ map-append row_period (map (closed n (removes c schema)) vs) fresh
+    ∙ ap (λ periods. periods ++ map row_period fresh) (periods-closed n (removes c schema) vs)

@@ -67,12 +67,12 @@ pub record AreFound (vs : List Version) (places : List ℕ) (indexes : List Inde
   pub by_value : All (IsIndex vs) indexes
 
 -- the period of a version's row
-abbrev pub period_of : Version → Period
-period_of v = v.row.period
+abbrev pub row_period : Version → Period
+row_period v = v.row.period
 
 -- the periods are those of the versions' rows, in their order
 abbrev pub ArePeriods : List Version → List Period → Type 0
-ArePeriods vs periods = periods ≡ map period_of vs
+ArePeriods vs periods = periods ≡ map row_period vs
 
 -- what is kept beside versions: their periods, and what finds the open ones
 pub record AreBeside (vs : List Version) (periods : List Period) (places : List ℕ) (indexes : List Index) : Type 0 where

@@ -6,7 +6,7 @@ ghost use Rattle.key_core.specs.Keys.{collide, have_collision};
 ghost use Rattle.row_core.specs.Schema.{key_of};
 ghost use Rattle.row_core.specs.declared.failure.Failure.TheVariants.{NoMemory};
 ghost use Rattle.row_core.specs.declared.schema.Column.{Column};
-ghost use Rattle.version_core.specs.Finding.{AreCandidates, ArePeriods, IsIndex, IsLookupOf, AreSought, period_of};
+ghost use Rattle.version_core.specs.Finding.{AreCandidates, ArePeriods, IsIndex, IsLookupOf, AreSought, row_period};
 ghost use Rattle.version_core.specs.Keys.{is_column_of, overlap_after, rows_left, break_key};
 ghost use Rattle.version_core.specs.Limits.{bucket_count, version_limit};
 ghost use Rattle.version_core.specs.Made.{made, draft_of};
@@ -448,7 +448,7 @@ fn add_versions(
     requires few { length versions.old.items ≤ version_limit }
     requires periods { length periods.old.items ≡ length versions.old.items }
     ensures ok { OnOk result (versions.new.items ≡ versions.old.items ++ new.items) }
-    ensures periods { OnOk result (periods.new.items ≡ periods.old.items ++ map period_of new.items) }
+    ensures periods { OnOk result (periods.new.items ≡ periods.old.items ++ map row_period new.items) }
     ensures places { OnOk result (places.new
         ≡ places.old ++ range_with_len (length versions.old.items) (length new.items)) }
     ensures err { OnErr result (versions.new.items ≡ versions.old.items) }
@@ -485,7 +485,7 @@ fn append(versions: &mut Vec<Version>, mut new: Vec<Version>) -> Result<(), NoMe
 
 /// Adds the periods of the versions' rows. On refusal there are none more.
 fn push_periods(periods: &mut Vec<Period>, versions: &[Version]) -> Result<(), NoMemory>
-    ensures ok { OnOk result (periods.new.items ≡ periods.old.items ++ map period_of versions.now) }
+    ensures ok { OnOk result (periods.new.items ≡ periods.old.items ++ map row_period versions.now) }
     ensures err { OnErr result (periods.new.items ≡ periods.old.items) }
 {
     let before = periods.len();

@@ -1,15 +1,12 @@
-use Rattle.std.proofs.Common.{ℕ, List, ◌≡◌, ◌-◌, ◌+◌, ◌≤◌, ◌∙◌, ap, arith, drop, length, length-take, subst, sym, take}
-use Rattle.std.proofs.lemmas.List.{length-drop, take_all}
+use Rattle.std.proofs.Common.{ℕ, List, ◌≡◌, ◌-◌, ◌+◌, ◌≤◌, ◌∙◌, ap, arith, drop, inl, inr, length, length-take, subst, sym, take}
+use Rattle.std.proofs.lemmas.List.{length-drop}
 use Rattle.command_core.specs.Lines.{fields_in, lines_in}
 use Rattle.command_core.specs.Meaning.{behind_length, block_meaning, told}
 use Rattle.command_core.specs.Records.{Record}
 use Rattle.command_core.proofs.BehindLemmas.{block-behind}
 use Rattle.command_core.proofs.Cuts.{block-means, unended-means}
+use Rattle.command_core.proofs.Cutting.{rest-from}
 use Rattle.command_core.proofs.command.next_block.Goals as goal
-
--- all but the first
-rest_of : (lines : List Record) (size : ℕ) → size ≡ length lines → take (size - 1) (drop 1 lines) ≡ drop 1 lines
-rest_of lines size e = take_all (size - 1) (drop 1 lines) (omega (arith, e, length-drop 1 lines))
 
 take-short : (n : ℕ) (xs : List Record) → length (take n xs) ≤ n
 take-short n xs = omega (arith, length-take n xs)
@@ -19,19 +16,19 @@ returns-in-Some-clause-means c =
     let lines = lines_in c.args.lines in
     let opening = fields_in c.args.opening in
     let found = c.in-Some.ensures in
-    let rest = c.range.ensures ∙ rest_of lines c.len.result c.len.ensures in
+    let rest = rest-from lines (lines_in c.range.result) c.len.result 1 c.len.ensures c.range.ensures in
     let size : c.in-Some.len + 1 - 1 ≡ c.in-Some.len = omega arith in
-    block-means lines opening c.args.number c.in-Some.len _
+    inr (inl (block-means lines opening c.args.number c.in-Some.len _
     (lines_in c.range.result) rest c.requires.first c.requires.opens
     found.within found.before found.last
     (c.read_block.ensures
     ∙ ap (λ body. told c.args.number (block_meaning opening body))
-    (c.range-in-Some.ensures ∙ ap (λ n. take n (drop 1 lines)) size))
+    (c.range-in-Some.ensures ∙ ap (λ n. take n (drop 1 lines)) size))))
 
 pub returns-in-None-clause-means : goal.returns-in-None-clause-means
 returns-in-None-clause-means c =
     let lines = lines_in c.args.lines in
-    let rest = c.range.ensures ∙ rest_of lines c.len.result c.len.ensures in
+    let rest = rest-from lines (lines_in c.range.result) c.len.result 1 c.len.ensures c.range.ensures in
     rw c.refused.ensures
     (unended-means lines (fields_in c.args.opening) c.args.number c.len-in-None.result
     (lines_in c.range.result) c.len-in-None.ensures rest c.requires.first c.requires.opens c.in-None.ensures.none)
@@ -49,7 +46,7 @@ returns-in-Some-clause-behind c =
     omega (
       arith,
       ap length
-          (c.range.ensures ∙ rest_of lines c.len.result c.len.ensures),
+          (rest-from lines (lines_in c.range.result) c.len.result 1 c.len.ensures c.range.ensures),
       length-drop 1 lines,
       c.in-Some.ensures.within,
     ) in

@@ -1,7 +1,7 @@
 use Rattle.std.proofs.Common.{◌∙◌, Ok, ap, refl, sym}
 use Rattle.store_core.specs.Snapshots.{history}
 use Rattle.script_core.specs.Effects.{TableRows}
-use Rattle.script_core.specs.Ledgers.{shown}
+use Rattle.script_core.specs.Ledgers.{commit_shown}
 use Rattle.script_core.proofs.Comparing.{aggregated-read, table-read}
 use Rattle.script_core.proofs.queries.agg_table.Goals as goal
 
@@ -9,7 +9,7 @@ pub returns-in-Ok : goal.returns-in-Ok
 returns-in-Ok g c =
     let number = c.args.number in
     let h = history c.args.snapshot.now in
-    let asof = shown c.args.snapshot.now in
+    let asof = commit_shown c.args.snapshot.now in
     let asked = c.args.aggregate in
     let table : TableRows = (c.in_ok-schema.schema.now, c.in_ok-schema.rows) in
     let (_, told, is) = c.in_ok-schema.ensures.gives in

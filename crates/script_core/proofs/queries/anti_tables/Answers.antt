@@ -3,7 +3,7 @@ use Rattle.command_core.specs.PairsIn.{compared_in, name_pairs_in}
 use Rattle.answer_core.specs.declared.answer.Answer.TheVariants as answer
 use Rattle.store_core.specs.Snapshots.{history}
 use Rattle.script_core.specs.Effects.{TableRows}
-use Rattle.script_core.specs.Ledgers.{shown}
+use Rattle.script_core.specs.Ledgers.{commit_shown}
 use Rattle.script_core.proofs.Comparing.{sides-read, table-read}
 use Rattle.script_core.proofs.queries.anti_tables.Goals as goal
 
@@ -11,7 +11,7 @@ pub returns-in-Ok : goal.returns-in-Ok
 returns-in-Ok g c =
     let number = c.args.number in
     let h = history c.args.snapshot.now in
-    let asof = shown c.args.snapshot.now in
+    let asof = commit_shown c.args.snapshot.now in
     let tables = compared_in c.args.tables in
     let left : TableRows = (c.in_ok-left_columns.left_columns.now, c.in_ok-left_columns.left) in
     let right : TableRows = (c.in_ok-right_columns.right_columns.now, c.in_ok-right_columns.right) in

@@ -8,7 +8,7 @@ use Rattle.command_core.specs.Fields.{both}
 use Rattle.command_core.specs.Lines.{lines_in}
 use Rattle.store_core.specs.Snapshots.{history}
 use Rattle.script_core.specs.Effects.{claim_of, rows_told}
-use Rattle.script_core.specs.Ledgers.{shown}
+use Rattle.script_core.specs.Ledgers.{commit_shown}
 use Rattle.script_core.proofs.queries.check.Goals as goal
 
 both-Ok : {S T E : Type 0} (one : Result S E) (other : Result T E) (x : S) (y : T) → one ≡ Ok x → other ≡ Ok y
@@ -22,7 +22,7 @@ check_division-requires c =
 
 pub returns : goal.returns
 returns c =
-    let told = rows_told c.args.number (history c.args.snapshot.now) (shown c.args.snapshot.now) c.args.table in
+    let told = rows_told c.args.number (history c.args.snapshot.now) (commit_shown c.args.snapshot.now) c.args.table in
     let claimed = claim_of (c.args.number + 1) (lines_in c.args.body) in
     let claim = c.in_ok-claim.claim in
     let verdict = c.in_ok-check_division.field-0 in

@@ -2,7 +2,7 @@ use Rattle.std.proofs.Common.{◌≡◌, ◌∙◌, ℤ, List, Result, Ok, Err, 
 use Rattle.row_core.specs.Refusals.{map_err, map_ok}
 use Rattle.row_core.specs.declared.row.Row.{Row}
 use Rattle.answer_core.specs.declared.answer.Answer.TheVariants.{Rows}
-use Rattle.store_core.specs.Snapshots.{history, number_shown, rows_given}
+use Rattle.store_core.specs.Snapshots.{history, number_shown, rows_of_snapshot}
 use Rattle.command_core.specs.Refusal.{fault}
 use Rattle.script_core.specs.Effects.{rows_on}
 use Rattle.script_core.specs.Refusal.{table_refusal}
@@ -23,6 +23,6 @@ returns-in-Ok c =
     let h = history snapshot in
     let n = number_shown snapshot in
     let read =
-    held-told (λ refused. fault c.args.number (table_refusal refused)) c.args.point (rows_given h n c.args.table)
+    held-told (λ refused. fault c.args.number (table_refusal refused)) c.args.point (rows_of_snapshot h n c.args.table)
     c.in-Ok.rows c.in-Ok.ensures.given in
     (read.0, rows-told c.args.number h n c.args.table snapshot.within ∙ read.1, read.2)

@@ -1,7 +1,7 @@
 use Rattle.std.proofs.Common.{arith, inl, inr, ⊎_elim, ◌≡◌, ◌<◌, ◌≤◌, ◌∙◌, sym, ap, subst}
 use mathlib.Core.List.{IsPrefix}
 use Rattle.turn_core.proofs.EntryLemmas.{longer-one}
-use Rattle.turn_core.specs.Entries.{own, IsNumbered}
+use Rattle.turn_core.specs.Entries.{own, AreOfCallers}
 use Rattle.turn_core.proofs.SeatSteps.{may_join, may_learn}
 use Rattle.turn_core.proofs.turn.Turn.join.Goals as goal
 
@@ -35,7 +35,7 @@ invariant_of-seat g c =
       source = λ p. ap (λ m. m.0.source) same ∙ (old.source (subst (λ k. 0 < k) number p) ∙ sym number);
       within = subst (λ v. v.number ≤ v.mark) (sym (ap (λ m. m.0) same)) old.within;
       own = subst (λ v. own g.S.Kept.by v.source v.seen ≡ v.mine) view learned.3;
-      numbered = subst (λ v. IsNumbered g.S.Kept.by v.mark v.seen) view
+      numbered = subst (λ v. AreOfCallers g.S.Kept.by v.mark v.seen) view
           (learned.4 (subst (λ k. 0 < k) (sym (ap (λ m. m.0.number) c.join_seat.ensures.2)) c.requires.number));
     }
 

@@ -1,6 +1,6 @@
 use Rattle.std.proofs.Common.{◌≡◌, ◌∙◌, ◌<◌, ◌++◌, ap, length, length-append, map, take, drop, refl, sym, arith}
 use Rattle.std.specs.Prelude.{All, count_by}
-use Rattle.version_core.specs.Finding.{AreFound, period_of}
+use Rattle.version_core.specs.Finding.{AreFound, row_period}
 use Rattle.version_core.specs.OpenVersions.{current, is_taken, places_from, versions_after}
 use Rattle.version_core.specs.Made.{draft_of}
 use Rattle.version_core.specs.Rows.{drafts_of, removes}
@@ -80,9 +80,9 @@ invariant_of-self-2 c =
     let made = rw c.deref-2.ensures.value at c.in_ok-plan.ensures.new in
     record {
       times = c.in_ok-add_versions.ensures.periods
-          ∙ ap (λ periods. periods ++ map period_of fresh) c.self.invariant.times
+          ∙ ap (λ periods. periods ++ map row_period fresh) c.self.invariant.times
           ∙ sym (periods-versions_after c.args.commit c.args.change.now c.args.schema.now vs fresh made)
-          ∙ ap (map period_of) (sym (whole c));
+          ∙ ap (map row_period) (sym (whole c));
       found = record {
         all = all-versions_after c.args.commit (length vs)
             (length fresh) c.args.change.now c.args.schema.now vs fresh _ c.self.inside.open_at

@@ -4,7 +4,7 @@ use Rattle.std.proofs.lemmas.List.Elements.{All-push}
 use Rattle.book_core.specs.History.{IsLegal}
 use Rattle.store_core.specs.declared.pass.Pass.{Pass}
 use Rattle.store_core.proofs.Opened.{all-at, map-push}
-use Rattle.store_core.proofs.store.passes_of.Goals as goal
+use Rattle.store_core.proofs.store.passes_for.Goals as goal
 
 pub invariant_of-push_reserved : goal.invariant_of-push_reserved
 invariant_of-push_reserved c =

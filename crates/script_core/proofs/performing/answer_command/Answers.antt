@@ -1,0 +1,18 @@
+use Rattle.std.proofs.Common.{sym}
+use Rattle.command_core.specs.Command.{meaning_of}
+use Rattle.script_core.specs.Ledgers.{held}
+use Rattle.script_core.proofs.Blocks.{performed-answer}
+use Rattle.script_core.proofs.performing.answer_command.Goals as goal
+
+pub returns-clause-printed : goal.returns-clause-printed
+returns-clause-printed g c =
+    let said = c.in_ok-print.ensures.ok in
+    record {
+      given = c.in_ok-answer.answer;
+      is = performed-answer (held c.args.ledger.now) c.args.number (meaning_of c.args.command) c.perform.result (held c.perform.new.ledger)
+          c.in_ok-answer.answer c.perform.ensures.performs c.in_ok-answer.ensures;
+      own = said.0;
+      prints = said.1;
+      adds = said.2;
+      count = sym (c.refusals.ensures.told said.0 said.1);
+    }

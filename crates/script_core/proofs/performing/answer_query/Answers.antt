@@ -1,0 +1,18 @@
+use Rattle.std.proofs.Common.{sym}
+use Rattle.command_core.specs.Command.{meaning_of}
+use Rattle.store_core.specs.Snapshots.{history}
+use Rattle.script_core.proofs.Blocks.{performed-answer}
+use Rattle.script_core.proofs.performing.answer_query.Goals as goal
+
+pub returns-clause-printed : goal.returns-clause-printed
+returns-clause-printed g c =
+    let said = c.in_ok-print.ensures.ok in
+    record {
+      given = c.in_ok-answer.answer;
+      is = performed-answer (history c.args.newest.now) c.args.number (meaning_of c.args.command) c.query.result (history c.args.newest.now)
+          c.in_ok-answer.answer c.query.ensures c.in_ok-answer.ensures;
+      own = said.0;
+      prints = said.1;
+      adds = said.2;
+      count = sym (c.refusals.ensures.told said.0 said.1);
+    }

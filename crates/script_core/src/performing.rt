@@ -1,0 +1,201 @@
+//! Commands, each done alone.
+ghost use Rattle.std.specs.Prelude.{◌≡◌, ℕ, ◌+◌, ◌≤◌, ◌<◌, ◌^◌, List, [], length, true, IfErr, IfOk};
+ghost use Rattle.command_core.specs.Command.{meaning_of};
+ghost use Rattle.command_core.specs.Meaning.{behind_length};
+ghost use Rattle.command_core.specs.Statement.{is_allowed};
+ghost use Rattle.work_core.specs.Limits.{worker_limit};
+ghost use Rattle.store_core.specs.Snapshots.{asked, history, number_shown};
+ghost use Rattle.script_core.specs.Answer.{IsAnswerTo};
+ghost use Rattle.script_core.specs.Effects.{rows_told};
+ghost use Rattle.script_core.specs.Failure.{IsFailureOf};
+ghost use Rattle.script_core.specs.Ledgers.{held, left_in};
+ghost use Rattle.script_core.specs.Performing.{IsAnswerOf, Performs, PrintsOne};
+
+use crate::changes::{delete, load, make, update};
+use crate::failure::{Failure, refused};
+use crate::ledger::Ledger;
+use crate::queries::{
+    agg_table, anti_tables, between, check, divide, from_to, join_tables, rows, rows_on,
+};
+use answer_core::{Answer, AnswerWriter};
+use cert_core::Certificate;
+use command_core::{Command, Refusal};
+use period_core::NoMemory;
+use std::alloc::{AllocError, Global};
+use std::sync::Wait;
+use std::thread::Threads;
+use store_core::{Future, Snapshot};
+
+/// What the commit shows that the command of this number tells, the newest where none is told.
+fn shown_asof(newest: &Snapshot, number: u64, asof: Option<u64>) -> Result<Snapshot, Failure>
+    requires { number_shown newest.now ≡ length (history newest.now) }
+    ensures shows { IfOk result (λ shown. (history shown ≡ history newest.now)
+        × (number_shown shown ≡ asked (history newest.now) asof)) }
+
+    // It fails as each table's rows do.
+    ensures fails { IfErr result (λ failure.
+        (table : List ℕ) → IsFailureOf (rows_told number (history newest.now) asof table) failure) }
+{
+    match newest.as_of(asof.unwrap_or(newest.number())) {
+        Ok(shown) => Ok(shown),
+        Err(row_core::Failure::Refused(Future)) => Err(refused(number, Refusal::Future)),
+        Err(row_core::Failure::NoMemory) => Err(Failure::NoMemory),
+    }
+}
+
+/// Answers a query, whose first record has this number, from a snapshot of all commits.
+pub(crate) fn query<T: Threads + Sync>(
+    rt: &T,
+    alloc: Global,
+    newest: &Snapshot,
+    number: u64,
+    command: Command<'_>,
+    workers: u32,
+) -> Result<Answer, Failure>
+    requires newest { number_shown newest.now ≡ length (history newest.now) }
+    requires query { is_allowed true (meaning_of command) ≡ true }
+    requires numbers { number + behind_length (meaning_of command) < 2 ^ 64 }
+    requires workers { (0 < workers) × (workers ≤ worker_limit) }
+    ensures { Performs (history newest.now) number (meaning_of command.entry) result (history newest.now) }
+{
+    match command {
+        Command::Refused(fault) => Ok(Answer::Refused(fault)),
+        Command::Rows { table, asof } => {
+            let shown = shown_asof(newest, number, asof)?;
+            rows(&shown, number, table)
+        }
+        Command::At { table, point, asof } => {
+            let shown = shown_asof(newest, number, asof)?;
+            rows_on(&shown, number, table, point)
+        }
+        Command::Between { table, first, last } => between(newest, number, table, first, last),
+        Command::FromTo { table, first, end } => from_to(newest, number, table, first, end),
+        Command::Dip { table, asof } => {
+            let shown = shown_asof(newest, number, asof)?;
+            divide(rt, alloc, &shown, number, table)
+        }
+        Command::Join { tables, asof } => {
+            let shown = shown_asof(newest, number, asof)?;
+            join_tables(rt, alloc, &shown, number, tables, workers)
+        }
+        Command::Anti { tables, asof } => {
+            let shown = shown_asof(newest, number, asof)?;
+            anti_tables(rt, alloc, &shown, number, tables, workers)
+        }
+        Command::Agg { aggregate, asof } => {
+            let shown = shown_asof(newest, number, asof)?;
+            agg_table(rt, alloc, &shown, number, aggregate, workers)
+        }
+        Command::Check {
+            table,
+            parts,
+            instant,
+            asof,
+            body,
+        } => {
+            let shown = shown_asof(newest, number, asof)?;
+            let certificate = Certificate { parts, instant };
+            check(alloc, &shown, number, table, certificate, body)
+        }
+        _ => unreachable!(),
+    }
+}
+
+/// Does a command, whose first record has this number.
+pub(crate) fn perform<T: Threads + Wait + Sync>(
+    rt: &T,
+    alloc: Global,
+    ledger: &mut Ledger,
+    number: u64,
+    command: Command<'_>,
+    workers: u32,
+) -> Result<Answer, Failure>
+    requires numbers { number + behind_length (meaning_of command) < 2 ^ 64 }
+    requires workers { (0 < workers) × (workers ≤ worker_limit) }
+    requires left { 2 ≤ left_in ledger.old }
+    ensures performs { Performs (held ledger.old) number (meaning_of command.entry) result (held ledger.new) }
+    ensures left { left_in ledger.old ≤ left_in ledger.new + 2 }
+{
+    match command {
+        Command::Make { table, schema } => make(rt, ledger, number, table, schema),
+        Command::Load { table, body } => load(rt, alloc, ledger, number, table, body),
+        Command::Update {
+            table,
+            portion,
+            sets,
+            conds,
+        } => update(rt, alloc, ledger, number, table, portion, sets, conds),
+        Command::Delete {
+            table,
+            portion,
+            conds,
+        } => delete(rt, alloc, ledger, number, table, portion, conds),
+        Command::Log => Ok(Answer::Log(ledger.log(rt)?)),
+        Command::Refused(fault) => Ok(Answer::Refused(fault)),
+        asked => {
+            let newest = ledger.newest(rt)?;
+            query(rt, alloc, &newest, number, asked, workers)
+        }
+    }
+}
+
+/// The answer that a command's outcome is: a refusal is one too.
+pub(crate) fn answer_of(outcome: Result<Answer, Failure>) -> Result<Answer, NoMemory>
+    ensures { IfOk result (IsAnswerOf outcome) }
+{
+    match outcome {
+        Ok(answer) => Ok(answer),
+        Err(Failure::Refused(fault)) => Ok(Answer::Refused(fault)),
+        Err(Failure::NoMemory) => Err(AllocError),
+    }
+}
+
+/// Answers a query, whose first record has this number, from a snapshot of all commits, and prints its answer; tells
+/// how many records of it tell of a refusal.
+pub(crate) fn answer_query<T: Threads + Sync>(
+    rt: &T,
+    alloc: Global,
+    newest: &Snapshot,
+    number: u64,
+    command: Command<'_>,
+    workers: u32,
+    printer: &mut AnswerWriter,
+) -> Result<u64, NoMemory>
+    requires newest { number_shown newest.now ≡ length (history newest.now) }
+    requires query { is_allowed true (meaning_of command) ≡ true }
+    requires numbers { number + behind_length (meaning_of command) < 2 ^ 64 }
+    requires workers { (0 < workers) × (workers ≤ worker_limit) }
+    requires begins { printer.old.fields ≡ [] }
+    ensures printed { IfOk result (PrintsOne (history newest.now) number (meaning_of command.entry) (history newest.now)
+        printer.old printer.new) }
+    ensures few { IfOk result (λ errors. errors ≤ 1) }
+{
+    let answer = answer_of(query(rt, alloc, newest, number, command, workers))?;
+    printer.print(&answer)?;
+    Ok(answer.refusals())
+}
+
+/// Does a command, whose first record has this number, and prints its answer; tells how many records of it tell of a
+/// refusal.
+pub(crate) fn answer_command<T: Threads + Wait + Sync>(
+    rt: &T,
+    alloc: Global,
+    ledger: &mut Ledger,
+    number: u64,
+    command: Command<'_>,
+    workers: u32,
+    printer: &mut AnswerWriter,
+) -> Result<u64, NoMemory>
+    requires numbers { number + behind_length (meaning_of command) < 2 ^ 64 }
+    requires workers { (0 < workers) × (workers ≤ worker_limit) }
+    requires begins { printer.old.fields ≡ [] }
+    requires left { 2 ≤ left_in ledger.old }
+    ensures printed { IfOk result (PrintsOne (held ledger.old) number (meaning_of command.entry) (held ledger.new)
+        printer.old printer.new) }
+    ensures few { IfOk result (λ errors. errors ≤ 1) }
+    ensures left { left_in ledger.old ≤ left_in ledger.new + 2 }
+{
+    let answer = answer_of(perform(rt, alloc, ledger, number, command, workers))?;
+    printer.print(&answer)?;
+    Ok(answer.refusals())
+}
