@@ -29,6 +29,12 @@ impl<W: Write> Answer<W> {
         self.end_record()
     }
 
+    pub fn together(&mut self, commit: u64) -> io::Result<()> {
+        self.word(b"together");
+        self.number(commit);
+        self.end_record()
+    }
+
     pub fn rows(&mut self, table: &Table, places: impl Iterator<Item = usize>) -> io::Result<()> {
         let mut count = 0;
         for place in places {

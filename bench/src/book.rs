@@ -28,11 +28,21 @@ pub struct Commit {
 pub struct Book {
     pub tables: Vec<Table>,
     pub log: Vec<Commit>,
+    shown: Option<u64>,
 }
 
 impl Book {
     pub fn commits(&self) -> u64 {
         self.log.len() as u64
+    }
+
+    /// From now on queries read what stands now, whatever is loaded, until it is released.
+    pub fn hold(&mut self) {
+        self.shown = Some(self.commits());
+    }
+
+    pub fn release(&mut self) {
+        self.shown = None;
     }
 
     /// The number of the next commit.
@@ -60,8 +70,9 @@ impl Book {
 
     /// The table of a name, and the commit to read of it: the newest where none is told.
     pub fn read(&self, name: &[u8], commit: Option<u64>) -> Result<(&Table, u64), Refusal> {
-        let commit = commit.unwrap_or(self.commits());
-        if commit > self.commits() {
+        let newest = self.shown.unwrap_or(self.commits());
+        let commit = commit.unwrap_or(newest);
+        if commit > newest {
             return Err(Refusal::Future);
         }
         Ok((&self.tables[self.place(name)?], commit))

@@ -84,11 +84,16 @@ impl Reader {
         self.fields.clear();
         while self.read_field() {}
         self.number += 1;
-        Some(Record {
+        Some(self.last())
+    }
+
+    /// The record that was read last.
+    pub fn last(&self) -> Record<'_> {
+        Record {
             number: self.number,
             text: &self.text,
             fields: &self.fields,
-        })
+        }
     }
 
     /// Reads a field, and tells whether another one follows.
@@ -151,6 +156,7 @@ const KEPT: usize = 65_536;
 pub struct Writer<W> {
     out: W,
     text: Vec<u8>,
+    held: Option<usize>,
 }
 
 impl<W: Write> Writer<W> {
@@ -158,6 +164,22 @@ impl<W: Write> Writer<W> {
         Writer {
             out,
             text: Vec::with_capacity(2 * KEPT),
+            held: None,
+        }
+    }
+
+    /// Keeps the records that follow, until they are released or taken back.
+    pub fn hold(&mut self) {
+        self.held = Some(self.text.len());
+    }
+
+    pub fn release(&mut self) {
+        self.held = None;
+    }
+
+    pub fn take_back(&mut self) {
+        if let Some(len) = self.held.take() {
+            self.text.truncate(len);
         }
     }
 
@@ -216,7 +238,7 @@ impl<W: Write> Writer<W> {
         if let Some(last) = self.text.last_mut() {
             *last = b'\n';
         }
-        if self.text.len() > KEPT {
+        if self.text.len() > KEPT && self.held.is_none() {
             self.write()?;
         }
         Ok(())

@@ -43,8 +43,8 @@ pub fn between<W: Write>(
     if first > last {
         return Err(Refusal::BadPeriod.into());
     }
-    let (table, _) = book.read(table, None)?;
-    Ok(answer.versions(table, table.seen(first, last))?)
+    let (table, newest) = book.read(table, None)?;
+    Ok(answer.versions(table, table.seen(first, last.min(newest)))?)
 }
 
 /// `fromto,T,M,N`
@@ -58,8 +58,8 @@ pub fn from_to<W: Write>(
     if first >= end {
         return Err(Refusal::BadPeriod.into());
     }
-    let (table, _) = book.read(table, None)?;
-    Ok(answer.versions(table, table.seen(first, end - 1))?)
+    let (table, newest) = book.read(table, None)?;
+    Ok(answer.versions(table, table.seen(first, (end - 1).min(newest)))?)
 }
 
 /// `dip,T`

@@ -16,6 +16,7 @@ pub enum Refusal {
     KeyOverlap,
     NoColumn,
     NoTable,
+    NotInBlock,
     TableExists,
     TooLong,
     TooMany,

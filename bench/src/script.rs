@@ -4,6 +4,7 @@ use crate::answer::Answer;
 use crate::book::Book;
 use crate::changes::{self, Load};
 use crate::csv::{Reader, Record};
+use crate::fields::is_end;
 use crate::queries::{self, Check};
 use crate::refusal::{Fault, Refusal, Stop};
 use std::io::{self, Write};
@@ -32,11 +33,74 @@ pub fn run(script: Vec<u8>, out: impl Write) -> io::Result<u64> {
 }
 
 impl<W: Write> Session<W> {
-    /// Answers the next command, if there is one.
+    /// Answers the next command or block of commands, if there is one.
     fn answer_next(&mut self) -> io::Result<bool> {
-        let Some(record) = self.reader.read() else {
-            return Ok(false);
+        match self.reader.read() {
+            None => return Ok(false),
+            Some(record) if record.begins(b"together") => self.answer_block()?,
+            Some(_) => self.answer_command()?,
+        }
+        Ok(true)
+    }
+
+    /// Answers the block of commands that the last record opens. Its queries read what stands before it.
+    fn answer_block(&mut self) -> io::Result<()> {
+        let opening = self.reader.last();
+        let (number, is_done) = (opening.number, opening.len() == 1);
+        let errors = self.errors;
+        self.book.hold();
+        self.answer.hold();
+        if is_done {
+            self.answer.together(self.book.commits())?;
+        }
+        let is_ended = self.answer_commands(is_done)?;
+        self.book.release();
+        if is_ended && is_done {
+            self.answer.release();
+            return Ok(());
+        }
+        self.answer.take_back();
+        self.errors = errors;
+        let refusal = if is_ended {
+            Refusal::BadCommand
+        } else {
+            Refusal::Unended
         };
+        self.refuse(Fault { number, refusal })
+    }
+
+    /// Answers the commands of a block, or skips them, and tells whether it has its end.
+    fn answer_commands(&mut self, is_done: bool) -> io::Result<bool> {
+        let mut has_load = false;
+        while let Some(record) = self.reader.read() {
+            let number = record.number;
+            if is_end(record) {
+                return Ok(true);
+            } else if !is_done {
+                self.skip_command();
+            } else if is_barred(record, has_load) {
+                self.skip_command();
+                let refusal = Refusal::NotInBlock;
+                self.refuse(Fault { number, refusal })?;
+            } else {
+                has_load |= record.begins(b"load");
+                self.answer_command()?;
+            }
+        }
+        Ok(false)
+    }
+
+    /// Reads the rest of the command that the last record begins.
+    fn skip_command(&mut self) {
+        let record = self.reader.last();
+        if record.begins(b"load") || record.begins(b"check") {
+            while self.reader.read().is_some_and(|record| !is_end(record)) {}
+        }
+    }
+
+    /// Answers the command that the last record begins.
+    fn answer_command(&mut self) -> io::Result<()> {
+        let record = self.reader.last();
         let number = record.number;
         match record.field(0) {
             b"load" => {
@@ -59,7 +123,7 @@ impl<W: Write> Session<W> {
                 Err(Stop::Write(error)) => return Err(error),
             },
         }
-        Ok(true)
+        Ok(())
     }
 
     fn accept(&mut self, done: Result<(), Fault>) -> io::Result<()> {
@@ -72,6 +136,15 @@ impl<W: Write> Session<W> {
     fn refuse(&mut self, fault: Fault) -> io::Result<()> {
         self.errors += 1;
         self.answer.refused(fault)
+    }
+}
+
+/// Whether a command that begins with this record has no place in a block, where a load stands before it or none.
+fn is_barred(opening: Record<'_>, has_load: bool) -> bool {
+    match opening.field(0) {
+        b"table" | b"update" | b"delete" | b"log" | b"together" => true,
+        b"load" => has_load,
+        _ => false,
     }
 }
 
