@@ -81,12 +81,13 @@ pub data Statement : Type 0 where
   One : Meaning → Statement
   Together : List Placed → Statement
 
--- how many commands there are: a block is one, and each command in it is one
+-- how many commands there are: a block of commands is one, and each command in it one more
 abbrev pub commands_in : Statement → ℕ
 commands_in (One meaning) = 1
 commands_in (Together commands) = 1 + length commands
 
--- a block is opened by the one field `together`
+-- a block of commands is done only where its first record is the one field `together`; with another field it is refused,
+-- and its commands with it
 abbrev pub together_told : Record → List Placed → Result (List Placed) Refusal
 together_told (word ∷ []) commands = Ok commands
 together_told opening commands = Err BadCommand

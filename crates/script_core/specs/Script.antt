@@ -20,7 +20,7 @@ pub record Place : Type 0 where
   pub number : ℕ
   pub left : List Record
 
--- before the first command: no change was made, and all records are left
+-- before the first statement: no change was made, and all records are left
 abbrev pub start_of : List Record → Place
 start_of records = record { history = []; number = 1; left = records }
 

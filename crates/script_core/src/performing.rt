@@ -1,4 +1,4 @@
-//! Commands, each done alone.
+//! Commands, each done alone, and queries on a snapshot, in a block of commands or out of it.
 ghost use Rattle.std.specs.Prelude.{◌≡◌, ℕ, ◌+◌, ◌≤◌, ◌<◌, ◌^◌, List, [], length, true, IfErr, IfOk};
 ghost use Rattle.command_core.specs.Command.{meaning_of};
 ghost use Rattle.command_core.specs.Meaning.{behind_length};

@@ -1,4 +1,4 @@
-//! The commands of a script, one after another.
+//! The statements of a script, one after another: commands, and blocks of commands.
 ghost use Rattle.std.specs.Prelude.{◌≡◌, ℕ, ◌+◌, ◌*◌, ◌≤◌, ◌<◌, ◌^◌, List, [], length, IfErr, IfOk, Some};
 ghost use Rattle.std.specs.Io.KnownBytes.{Appends};
 ghost use Rattle.command_core.specs.Statement as said;
@@ -111,8 +111,8 @@ fn answer_all<T: Threads + Wait + Sync, W: Write>(
     Ok(outcome)
 }
 
-/// Reads a script whole, answers its commands in order, and writes each command's answer whole;
-/// answers how many commands there were, and how many `error` records were written.
+/// Reads a script whole, answers its statements in order, each a command or a block of commands, and writes each
+/// answer whole; answers how many commands there were, and how many `error` records were written.
 ///
 /// A script has at most 67,108,864 bytes. A read or a write that was interrupted is tried again, at
 /// most 1,000 times in a run. The writer is not flushed. Joins, anti-joins and aggregates are run by 1 to
@@ -121,8 +121,8 @@ fn answer_all<T: Threads + Wait + Sync, W: Write>(
 /// # Errors
 ///
 /// `ReadFault` or `TooLong` where the script could not be read: then nothing is written. `NoMemory`
-/// with the answers of all commands before written. `WriteFault` with those and a front of the
-/// command's own answer.
+/// with the answers of all statements before written. `WriteFault` with those and a front of the
+/// statement's own answer.
 pub fn run<T: Threads + Wait + Sync, R: Read, W: Write>(
     rt: &T,
     alloc: Global,

@@ -60,8 +60,8 @@ impl Snapshot {
     ///
     /// # Errors
     ///
-    /// `Future` where it shows fewer than n commits; `NoMemory` where the book can't have more sharers. It asks for
-    /// no memory.
+    /// `Future` where it shows fewer than n commits; `NoMemory` where no more sharers of the book can be counted;
+    /// nothing is allocated.
     pub fn as_of(&self, n: u64) -> Result<Snapshot, Failure<Future>>
         ensures { ShowsFirst (history self.now) (number_shown self.now) n result }
     {
