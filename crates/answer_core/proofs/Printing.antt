@@ -143,4 +143,3 @@ errors_in-printed (answer.Anti unmatched) other records is = ap errors_in is ∙
 errors_in-printed (answer.Agg rows) other records is = ap errors_in is ∙ errors_in-agg_records rows
 errors_in-printed (answer.Verdict verdict) other records is = ap errors_in is ∙ errors_in-verdict verdict
 errors_in-printed (answer.Log entries) other records is = ap errors_in is ∙ errors_in-commit_records entries
-errors_in-printed (answer.Together commit) other records is = ap errors_in is

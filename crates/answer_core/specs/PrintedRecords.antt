@@ -179,7 +179,6 @@ IsPrintedAs (answer.Anti unmatched) records = records ≡ anti_records unmatched
 IsPrintedAs (answer.Agg rows) records = records ≡ agg_records rows
 IsPrintedAs (answer.Verdict verdict) records = records ≡ verdict_record verdict ∷ []
 IsPrintedAs (answer.Log entries) records = records ≡ commit_records entries
-IsPrintedAs (answer.Together commit) records = records ≡ together_record commit ∷ []
 
 -- how many of some records tell of a refusal
 abbrev pub errors_in : List Record → ℕ

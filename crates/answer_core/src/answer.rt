@@ -35,8 +35,6 @@ pub enum Answer {
     Verdict(Verdict),
     /// What each commit did.
     Log(Log),
-    /// A block of commands begins, whose queries read what the commit of this number shows.
-    Together(u64),
 }
 
 impl Answer {

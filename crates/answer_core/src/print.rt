@@ -24,6 +24,30 @@ impl AnswerWriter {
         ensures err { OnErr result (self.new ≡ nothing) }
     {
         let printed = self.print_records(answer);
+        self.settled(printed)
+    }
+
+    /// Adds the record that begins the answer to a block of commands, whose queries read what the commit of this
+    /// number shows.
+    ///
+    /// # Errors
+    ///
+    /// `NoMemory` where a growth is refused: then what was printed and is not yet written is lost.
+    pub fn together(&mut self, commit: u64) -> Result<(), NoMemory>
+        requires { self.old.fields ≡ [] }
+        ensures ok { OnOk result (Adds self.old self.new (together_record commit ∷ [])) }
+        ensures err { OnErr result (self.new ≡ nothing) }
+    {
+        let printed = self.opening(commit);
+        self.settled(printed)
+    }
+
+    /// What printing gave. Where a growth was refused, nothing is kept.
+    fn settled(&mut self, printed: Result<(), NoMemory>) -> Result<(), NoMemory>
+        ensures same { result ≡ printed }
+        ensures ok { OnOk result (self.new ≡ self.old) }
+        ensures err { OnErr result (self.new ≡ nothing) }
+    {
         if printed.is_err() {
             self.restart();
         }
@@ -46,7 +70,6 @@ impl AnswerWriter {
             Answer::Agg(rows) => self.aggregates(rows),
             Answer::Verdict(verdict) => self.verdict(*verdict),
             Answer::Log(log) => self.log(log),
-            Answer::Together(commit) => self.together(*commit),
         }
     }
 
@@ -72,7 +95,7 @@ impl AnswerWriter {
     }
 
     /// The beginning of the answer to a block of commands.
-    fn together(&mut self, commit: u64) -> Result<(), NoMemory>
+    fn opening(&mut self, commit: u64) -> Result<(), NoMemory>
         requires { self.old.fields ≡ [] }
         ensures { OnOk result (Adds self.old self.new (together_record commit ∷ [])) }
     {

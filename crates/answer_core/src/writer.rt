@@ -145,21 +145,19 @@ impl AnswerWriter {
         Ok(())
     }
 
-    /// Adds the records of another answer, which begins anew.
+    /// Adds the records of another answer.
     ///
     /// # Errors
     ///
     /// `NoMemory` where a growth is refused: then what was printed and is not yet written is lost.
-    pub fn append(&mut self, other: &mut AnswerWriter) -> Result<(), NoMemory>
+    pub fn append(&mut self, other: AnswerWriter) -> Result<(), NoMemory>
         requires here { self.old.fields ≡ [] }
-        requires there { other.old.fields ≡ [] }
-        ensures ok { OnOk result (self.new ≡ record { text = self.old.text ++ other.old.text; fields = [] }) }
+        requires there { other.fields ≡ [] }
+        ensures ok { OnOk result (self.new ≡ record { text = self.old.text ++ other.text; fields = [] }) }
         ensures err { OnErr result (self.new ≡ nothing) }
-        ensures other { other.new ≡ nothing }
     {
         let own = mem::replace(self, AnswerWriter::new(self.alloc));
-        let more = mem::replace(other, AnswerWriter::new(self.alloc));
-        *self = own.followed_by(more)?;
+        *self = own.followed_by(other)?;
         Ok(())
     }
 

@@ -3,10 +3,18 @@ use Rattle.std.proofs.Common.{◌≡◌, ◌⊎◌, ℕ, ◌<◌, List, [], ◌�
 use Rattle.std.proofs.lemmas.Bool.{cases_Bool}
 use Rattle.std.proofs.lemmas.List.{append-nil}
 use Rattle.std.proofs.lemmas.List.Elements.{All-cons, All-nil}
-use Rattle.command_core.specs.Meaning.{FirstCommand, IsBody, block_meaning, record_meaning, refuse, told}
+use Rattle.command_core.specs.Meaning.{IsBody, Meaning, Means, block_meaning, record_meaning, refuse, told}
 use Rattle.command_core.specs.Records.{Record}
 use Rattle.command_core.specs.Words.{is_end, opens_block}
 use Rattle.command_core.specs.declared.refusal.Refusal.TheVariants.{Unended}
+
+-- the first command of some records, the first of them of this number: which of them it takes, and what it means
+pub record FirstCommand (number : ℕ) (records : List Record) : Type 0 where
+  pub own : List Record
+  pub later : List Record
+  pub meaning : Meaning
+  pub taken : records ≡ own ++ later
+  pub means : Means number own later meaning
 
 -- a list is split at its first `end`
 record Ended (records : List Record) : Type 0 where

@@ -3,12 +3,12 @@ use Rattle.std.proofs.Common.{◌≡◌, ◌⊎◌, ℕ, suc, zero, ◌+◌, ◌
 use Rattle.std.specs.Prelude.{codes}
 use Rattle.std.proofs.lemmas.Bool.{cases_Bool}
 use Rattle.std.proofs.lemmas.List.{append-nil, length-append}
-use Rattle.command_core.specs.Meaning.{FirstCommand, Meaning, Means, MeansBlock, MeansRecord, refuse}
+use Rattle.command_core.specs.Meaning.{Meaning, Means, MeansBlock, MeansRecord, refuse}
 use Rattle.command_core.specs.Records.{Record}
 use Rattle.command_core.specs.Statement.{AreMembers, FirstStatement, IsMember, IsOpen, Member, One, placed_in, stated, together_told}
 use Rattle.command_core.specs.Words.{begins, is_end}
 use Rattle.command_core.specs.declared.refusal.Refusal.TheVariants.{Unended}
-use Rattle.command_core.proofs.MeaningExistence.{some_meaning}
+use Rattle.command_core.proofs.MeaningExistence.{FirstCommand, some_meaning}
 use Rattle.command_core.proofs.Members.{HaveNone, Opens, closed-means, closed-member, first_own, opened}
 
 -- ---- the members at the front of records

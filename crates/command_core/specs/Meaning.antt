@@ -228,14 +228,6 @@ abbrev pub Means : ℕ → List Record → List Record → Meaning → Type 0
 Means number own later meaning =
     MeansRecord number own meaning ⊎ MeansBlock number own meaning ⊎ MeansUnended number own later meaning
 
--- the first command of some records, the first of them of this number: which of them it takes, and what it means
-pub record FirstCommand (number : ℕ) (records : List Record) : Type 0 where
-  pub own : List Record
-  pub later : List Record
-  pub meaning : Meaning
-  pub taken : records ≡ own ++ later
-  pub means : Means number own later meaning
-
 -- how many records a command has behind its first, where it is a block that may be done
 abbrev pub behind_length : Meaning → ℕ
 behind_length (Load name body) = length body + 1

@@ -86,8 +86,8 @@ abbrev pub commands_in : Statement → ℕ
 commands_in (One meaning) = 1
 commands_in (Together commands) = 1 + length commands
 
--- a block of commands is done only where its first record is the one field `together`; with another field it is refused,
--- and its commands with it
+-- a block of commands is done only where its first record is the one field `together`; with another field it is
+-- refused, and its commands with it
 abbrev pub together_told : Record → List Placed → Result (List Placed) Refusal
 together_told (word ∷ []) commands = Ok commands
 together_told opening commands = Err BadCommand

@@ -160,12 +160,12 @@ fn read_record<'a>(alloc: Global, line: Line<'a>) -> Result<Command<'a>, Failure
     if begins(line, b"table") {
         read_table(alloc, line)
     } else {
-        Ok(read_query(line)?)
+        Ok(read_tableless(line)?)
     }
 }
 
 /// What a record means that opens no block and makes no table.
-pub(crate) fn read_query<'a>(line: Line<'a>) -> Result<Command<'a>, Refusal>
+pub(crate) fn read_tableless<'a>(line: Line<'a>) -> Result<Command<'a>, Refusal>
     requires { begins (codes "table") (fields_in line) ≡ false }
     ensures { meant_by result ≡ record_meaning (fields_in line.entry) }
 {

@@ -41,7 +41,7 @@ ghost use Rattle.command_core.specs.Statement.{
   is_barred,
 };
 
-use crate::command::{Command, Cut, body_len, next_block, next_command, read_query, refused};
+use crate::command::{Command, Cut, body_len, next_block, next_command, read_tableless, refused};
 use crate::lines::{Line, Lines};
 use crate::refusal::Refusal;
 use crate::words::{begins, is_end, opens_block};
@@ -186,7 +186,7 @@ fn next_allowed<'a>(opening: Line<'a>, lines: Lines<'a>, number: u64) -> Cut<'a>
     if opens_block(opening) {
         return next_block(opening, lines, number);
     }
-    let command = match read_query(opening) {
+    let command = match read_tableless(opening) {
         Ok(command) => command,
         Err(refusal) => refused(number, refusal),
     };
@@ -221,7 +221,7 @@ pub fn next_inside<'a>(lines: Lines<'a>, number: u64, has_load: bool) -> Cut<'a>
 
 /// How many records come before the first load of a block of commands.
 pub fn first_load(lines: Lines<'_>) -> Option<usize>
-    requires whole { (number : ℕ) → (members : List Member) × AreMembers number (lines_in lines) members }
+    requires whole { (number : ℕ) × (members : List Member) × AreMembers number (lines_in lines) members }
     ensures within { IfSome result (λ n. n < length (lines_in lines.entry)) }
     ensures split { IfSome result (λ n. (number : ℕ) (members : List Member)
         → AreMembers number (lines_in lines.entry) members

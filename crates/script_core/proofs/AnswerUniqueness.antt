@@ -188,7 +188,6 @@ one_print (answer.Join joined) one other divides p q = p ∙ sym q
 one_print (answer.Anti unmatched) one other divides p q = p ∙ sym q
 one_print (answer.Agg rows) one other divides p q = p ∙ sym q
 one_print (answer.Verdict verdict) one other divides p q = p ∙ sym q
-one_print (answer.Together commit) one other divides p q = p ∙ sym q
 one_print (answer.Log entries) one other divides p q = p ∙ sym q
 
 -- an answer that is one which tells no division

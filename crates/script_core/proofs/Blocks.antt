@@ -1,7 +1,7 @@
 -- How the commands of a block are answered: those before its load, the load, and those behind it.
-use Rattle.std.proofs.Common.{◌≡◌, ◌⊎◌, ◌∙◌, ◌+◌, ◌<◌, ◌≤◌, ℕ, suc, List, [], ◌∷◌, ◌++◌, Bool, Result, Ok, Err, ap, append_assoc, arith, cond, drop, false, inl, inr, length, refl, subst, sym, take, true}
+use Rattle.std.proofs.Common.{◌≡◌, ◌⊎◌, ◌∙◌, ◌+◌, ◌-◌, ◌<◌, ◌≤◌, ℕ, suc, List, [], ◌∷◌, ◌++◌, Bool, Result, Ok, Err, ap, append_assoc, arith, cond, drop, false, inl, inr, length, refl, subst, sym, take, true}
 use Rattle.std.specs.Prelude.{All, codes, ◌||◌, if◌then◌else◌}
-use Rattle.std.proofs.lemmas.List.{append-nil, drop-drop, drop_all, length-append, length-take}
+use Rattle.std.proofs.lemmas.List.{append-nil, drop-drop, drop_all, length-append, length-drop, length-take, take_all}
 use Rattle.std.proofs.lemmas.List.Sums.{sum_by-append, sum_by-cons}
 use Rattle.row_core.specs.Refusals.{map_ok}
 use Rattle.book_core.specs.History.{History}
@@ -214,7 +214,7 @@ queries-begun before number records old told fresh commands errors members are =
       left = members;
       are = refl;
       behind = subst (λ n. AreMembers n records members) start are;
-      printed = record { answers = []; each = λ after. refl; printed = same; count = commands; errors = errors };
+      printed = record { answers = []; each = λ after. refl; printed = same; commands = commands; errors = errors };
     }
   where
     text_only : List ℕ → Unwritten
@@ -228,7 +228,8 @@ queries-begun before number records old told fresh commands errors members are =
 
 -- one more is
 pub queries-more : (before : History) (number : ℕ) (records : List Record) (at taken : ℕ) (old mid new : Unwritten)
-    (told next : Outcome) (meant : Meaning) (errors : ℕ) → QueriesDone before number records at old mid told → taken ≤ length (drop at records)
+    (told next : Outcome) (meant : Meaning) (errors : ℕ) → QueriesDone before number records at old mid told
+    → taken ≤ length (drop at records)
     → ((members : List Member) → AreMembers (number + at) (drop at records) members
     → IsNext true (number + at) members (take taken (drop at records)) (drop taken (drop at records)) meant)
     → is_allowed true meant ≡ true → PrintsOne before (number + at) meant before mid new errors
@@ -254,22 +255,23 @@ queries-more before number records at taken old mid new told next meant errors d
           (subst (λ l. AreMembers (number + at + length (take taken (drop at records))) l n.more)
           (drop-drop taken at records) n.behind);
       printed = record {
-        answers = d.printed.answers ++ one.own;
+        answers = d.printed.answers ++ one.answer;
         each = λ after.
-            subst (λ l. AnswersEach before after l (d.printed.answers ++ one.own)) (sym placed_all)
-            (each-append before after (placed_in true d.gone) (command ∷ []) d.printed.answers one.own
+            subst (λ l. AnswersEach before after l (d.printed.answers ++ one.answer)) (sym placed_all)
+            (each-append before after (placed_in true d.gone) (command ∷ []) d.printed.answers one.answer
             (d.printed.each after)
-            (subst (λ (c : Placed). AnswersEach before after (c ∷ []) one.own) same
-            (query-each before after (number + at) meant one.given one.own unloading one.is one.prints)));
-        printed = Adds-trans old mid new d.printed.answers one.own d.printed.printed one.adds;
-        count = omega (
+            (subst (λ (c : Placed). AnswersEach before after (c ∷ []) one.answer) same
+            (query-each before after (number + at) meant one.answers.0 one.answer unloading one.answers.1
+            one.answers.2)));
+        printed = Adds-trans old mid new d.printed.answers one.answer d.printed.printed one.printed;
+        commands = omega (
           arith,
           commands,
-          d.printed.count,
+          d.printed.commands,
           ap length placed_all,
           length-append (placed_in true d.gone) (command ∷ []),
         );
-        errors = omega (arith, more, d.printed.errors, errors-append d.printed.answers one.own, one.count);
+        errors = omega (arith, more, d.printed.errors, errors-append d.printed.answers one.answer, one.errors);
       };
     }
   where
@@ -294,6 +296,11 @@ queries-all before number records at old new told done over members are =
     let empty : d.left ≡ [] = none-left (number + at) (drop at records) d.left (drop_all at records over) d.behind in
     let whole : d.gone ≡ members = sym (d.are ∙ (ap (λ l. d.gone ++ l) empty ∙ append-nil d.gone)) in
     subst (λ l. PrintsQueries before (placed_in true l) old new told) whole d.printed
+
+-- no record is begun behind them
+pub printed-fields : (before : History) (placed : List Placed) (old new : Unwritten) (told : Outcome)
+    → PrintsQueries before placed old new told → new.fields ≡ []
+printed-fields before placed old new told p = ap (λ (u : Unwritten). u.fields) p.printed
 
 -- ---- the whole block
 
@@ -326,25 +333,29 @@ block-printed before after members front back load errors old mid near later new
     let command : Placed = record { number = load.number; meaning = meaning_inside false load } in
     let split : placed_in false members ≡ placed_in true front ++ command ∷ placed_in true back =
     ap (placed_in false) are ∙ placed-split front back load none loads in
-    let answered = load-answered before after load.number (meaning_inside false load) one.given asks one.is in
-    let tail : List Record = one.own ++ others.answers in
+    let answered = load-answered before after load.number
+    (meaning_inside false load) one.answers.0 asks one.answers.1 in
+    let tail : List Record = one.answer ++ others.answers in
     let near_new : Adds near new others.answers = appended near later new others.answers others.printed joined in
     record {
       answers = ahead.answers ++ tail;
-      each = subst (λ l. AnswersEach before after l (ahead.answers ++ tail)) (sym split)
-          (each-append before after (placed_in true front) (command ∷ placed_in true back) ahead.answers tail
-          (ahead.each after) (one.own, others.answers, refl, (one.given, answered.0, one.prints), others.each after));
-      unloaded = λ all.
-          answered.1
-          (at-place (λ c. is_load c.meaning ≡ false) (placed_in true front) command (placed_in true back)
-          (subst (All (λ c. is_load c.meaning ≡ false)) split all));
+      block = record {
+        each = subst (λ l. AnswersEach before after l (ahead.answers ++ tail)) (sym split)
+            (each-append before after (placed_in true front) (command ∷ placed_in true back) ahead.answers tail
+            (ahead.each after)
+            (one.answer, others.answers, refl, (one.answers.0, answered.0, one.answers.2), others.each after));
+        unloaded = λ all.
+            answered.1
+            (at-place (λ c. is_load c.meaning ≡ false) (placed_in true front) command (placed_in true back)
+            (subst (All (λ c. is_load c.meaning ≡ false)) split all));
+      };
       printed = Adds-trans old mid new ahead.answers tail ahead.printed
-          (Adds-trans mid near new one.own others.answers one.adds near_new);
-      count = omega (
+          (Adds-trans mid near new one.answer others.answers one.printed near_new);
+      commands = omega (
         arith,
         commands,
-        ahead.count,
-        others.count,
+        ahead.commands,
+        others.commands,
         ap length split,
         length-append (placed_in true front) (command ∷ placed_in true back),
       );
@@ -353,9 +364,9 @@ block-printed before after members front back load errors old mid near later new
         more,
         ahead.errors,
         others.errors,
-        one.count,
+        one.errors,
         errors-append ahead.answers tail,
-        errors-append one.own others.answers,
+        errors-append one.answer others.answers,
       );
     }
 
@@ -368,10 +379,9 @@ queries-block before after members old new told none same printed =
     let p = subst (λ l. PrintsQueries before l old new told) (placed-none members none) printed in
     record {
       answers = p.answers;
-      each = p.each after;
-      unloaded = λ _. same;
+      block = record { each = p.each after; unloaded = λ _. same };
       printed = p.printed;
-      count = p.count;
+      commands = p.commands;
       errors = p.errors;
     }
 
@@ -385,14 +395,9 @@ block-stated before number commands after old mid new counted next own is opened
     let quiet : begins (codes "error") first ≡ false = refl in
     record {
       answer = first ∷ block.answers;
-      answers = record {
-        answers = block.answers;
-        each = block.each;
-        unloaded = block.unloaded;
-        printed = refl;
-      };
+      answers = record { answers = block.answers; block = block.block; printed = refl };
       printed = Adds-trans old mid new (first ∷ []) block.answers (subst (Adds old mid) is opened) block.printed;
-      commands = omega (arith, count, block.count);
+      commands = omega (arith, count, block.commands);
       errors = omega (
         arith,
         errors,
@@ -403,6 +408,13 @@ block-stated before number commands after old mid new counted next own is opened
     }
 
 -- ---- where the load stands
+
+-- the records from a place on
+pub rest-is : (all rest : List Record) (size at : ℕ) → size ≡ length all → rest ≡ take (size - at) (drop at all)
+    → rest ≡ drop at all
+rest-is all rest size at count is =
+    let room : length (drop at all) ≤ size - at = omega (arith, length-drop at all, count) in
+    is ∙ take_all (size - at) (drop at all) room
 
 -- a block's members, cut at its first load, which takes so many records behind a place
 pub record IsCut (number : ℕ) (lines : List Record) (place taken : ℕ) (members : List Member) (meant : Meaning)

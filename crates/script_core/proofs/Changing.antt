@@ -7,7 +7,7 @@ use Rattle.row_core.specs.declared.failure.Failure.TheVariants.{Refused, NoMemor
 use Rattle.version_core.specs.declared.change.Change.{Change}
 use Rattle.book_core.specs.History.{History}
 use Rattle.book_core.specs.declared.refusal.BookRefused.{BookRefused}
-use Rattle.store_core.specs.Histories.{Refuses, refusal_after}
+use Rattle.store_core.specs.Histories.{RefusesCommit, refusal_after}
 use Rattle.command_core.specs.Refusal.{fault}
 use Rattle.command_core.specs.declared.refusal.Fault.{Fault}
 use Rattle.script_core.specs.Failure.{IsFailureOf, failure_at}
@@ -20,7 +20,7 @@ meant_by number next refusal =
 
 -- whatever refuses a change, its failure is the one that is meant
 pub change-failure : (number : ℕ) (h : History) (change : Change) (why : row.Failure BookRefused) (next : History)
-    → Refuses h change why
+    → RefusesCommit h change why
     → IsFailureOf (meant_by number next (refusal_after h change)) (failure_at number book_refusal why)
 change-failure number h change (Refused name) next is = ap (meant_by number next) is
 change-failure number h change NoMemory next is = tt

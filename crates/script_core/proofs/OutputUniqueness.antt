@@ -23,7 +23,8 @@ pub one_step : (old : Place) (one other : Done) (p q : Place) → Step old one p
 one_step old one other p q s t =
     let meant = one_statement old.number s.own p.left t.own q.left one.statement other.statement
     (sym s.taken ∙ t.taken) s.states t.states in
-    let answered = one_statement_answer old.history old.number other.statement one.answer other.answer p.history q.history
+    let answered = one_statement_answer old.history old.number other.statement one.answer other.answer p.history
+    q.history
     (subst (λ said. Answers old.history old.number said one.answer p.history) meant.2 s.answers) t.answers in
     let number : p.number ≡ q.number = s.number ∙ (ap (λ l. old.number + length l) meant.0 ∙ sym t.number) in (
       ap (λ m. done_of m one.answer) meant.2 ∙ ap (λ a. done_of other.statement a) answered.0,

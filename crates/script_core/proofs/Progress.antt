@@ -37,7 +37,8 @@ placed-length : (has_load : Bool) (members : List Member) → length (placed_in 
 placed-length has_load [] = refl
 placed-length has_load (member ∷ more) = ap suc (placed-length (has_load || begins_load member) more)
 
-block-few : (number : ℕ) (opening : Record) (body : List Record) (members : List Member) → AreMembers (number + 1) body members
+block-few : (number : ℕ) (opening : Record) (body : List Record) (members : List Member)
+    → AreMembers (number + 1) body members
     → commands_in (stated number (together_told opening (placed_in false members))) ≤ 1 + length body
 block-few number [] body members are = omega arith
 block-few number (word ∷ []) body members are =
@@ -155,7 +156,8 @@ progress-stopped records old mid new before after at taken sofar statement answe
 progress-stopped records old mid new before after at taken sofar statement answer WriteFault p within states answers
     more le (grown, (size, short, writes)) = (
       omega (arith, grown, le),
-      writes_within records old new p.dones (record { statement = statement; answer = answer }) (place_at records before at)
+      writes_within records old new p.dones (record { statement = statement; answer = answer })
+          (place_at records before at)
           (place_at records after (at + taken)) size p.steps
           (step-at records before after at taken statement answer within states answers) short
           (Appends-trans old.written mid.written new.written _ _ p.written writes),

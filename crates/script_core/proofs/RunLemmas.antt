@@ -25,7 +25,8 @@ reads_and : (Writes : List Done → Sink → Sink → Type 0) (before after : St
     (records : List Record) → ReadsScript before.reader after.reader script → AreScriptRecords script records
     → Answering Writes records before.writer after.writer → ReadsAnd Writes before after
 reads_and Writes before after script records reads parsed (dones, finished, writes) =
-    let statements : AreStatementsOf script dones = record { records = records; parsed = parsed; finished = finished } in
+    let statements : AreStatementsOf script dones =
+    record { records = records; parsed = parsed; finished = finished } in
     (dones, record { script = script; reads = reads; statements = statements }, writes)
 
 explains_run : (before after : Streams) (script : List ℕ) (records : List Record) (fault : RunFault)

@@ -91,8 +91,11 @@ some_query before after number meaning legal allowed =
     let kept : reply.after ≡ before =
     keeps before number meaning reply.told.given reply.after allowed reply.told.is in
     let same : reply.after ≡ cond (is_load meaning) after before =
-    kept ∙ sym (ap (λ loads. cond loads after before) (reads-allowed meaning allowed)) in
-    (reply.told.records, subst (AnswersOne before number meaning reply.told.records) same (answers_by before number meaning reply))
+    kept ∙ sym (ap (λ loads. cond loads after before) (reads-allowed meaning allowed)) in (
+      reply.told.records,
+      subst (AnswersOne before number meaning reply.told.records) same
+          (answers_by before number meaning reply),
+    )
 
 -- ---- the commands of a block
 
@@ -145,12 +148,14 @@ placed has_load member = record { number = member.number; meaning = meaning_insi
 
 -- what the first load of a block leads to
 load_reply : (before : History) (number : ℕ) (meaning : Meaning) → IsLegal before → is_allowed false meaning ≡ true
-    → (answer : List Record) × (after : History) × AnswersOne before number meaning answer (cond (is_load meaning) after before)
+    → (answer : List Record) × (after : History)
+    × AnswersOne before number meaning answer (cond (is_load meaning) after before)
     × IsLegal after × (is_load meaning ≡ false → after ≡ before)
 load_reply before number meaning legal allowed =
     let reply : Reply (IsAnswerTo before number meaning) = some_reply before number meaning legal in
     let kept : is_load meaning ≡ false → reply.after ≡ before =
-    λ reads. keeps before number meaning reply.told.given reply.after (allowed-behind meaning allowed reads) reply.told.is in
+    λ reads. keeps before number meaning reply.told.given reply.after
+    (allowed-behind meaning allowed reads) reply.told.is in
     let same : reply.after ≡ cond (is_load meaning) reply.after before = by (is_load meaning) reply.after kept in (
       reply.told.records,
       reply.after,
@@ -184,7 +189,8 @@ some_replies before number records (member ∷ more) legal (own, later, split, f
           answers = answer ++ answers;
           each = (answer, answers, refl, answered, each);
           legal = lawful;
-          unloaded = λ none. kept (All-head (λ (c : Placed). is_load c.meaning ≡ false) command (placed_in true more) none);
+          unloaded = λ none. kept (All-head (λ (c : Placed). is_load c.meaning ≡ false) command
+              (placed_in true more) none);
         }
     by false none rest =
         let (answer, answered) = some_query before rest.after member.number command.meaning legal
@@ -194,7 +200,8 @@ some_replies before number records (member ∷ more) legal (own, later, split, f
           answers = answer ++ rest.answers;
           each = (answer, rest.answers, refl, answered, rest.each);
           legal = rest.legal;
-          unloaded = λ reads. rest.unloaded (All-tail (λ (c : Placed). is_load c.meaning ≡ false) command (placed_in false more) reads);
+          unloaded = λ reads. rest.unloaded
+              (All-tail (λ (c : Placed). is_load c.meaning ≡ false) command (placed_in false more) reads);
         }
 
 pub some_block : (before : History) (number : ℕ) (records : List Record) (members : List Member) → IsLegal before
@@ -205,6 +212,10 @@ some_block before number records members legal are =
     let replies : Replies before (placed_in false members) = some_replies before number records members legal are in (
       together_record (length before) ∷ replies.answers,
       replies.after,
-      record { answers = replies.answers; each = replies.each; unloaded = replies.unloaded; printed = refl },
+      record {
+        answers = replies.answers;
+        block = record { each = replies.each; unloaded = replies.unloaded };
+        printed = refl;
+      },
       replies.legal,
     )

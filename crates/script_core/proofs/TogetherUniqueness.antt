@@ -49,10 +49,10 @@ one_block : (before : History) (commands : List Placed) (a b : List Record) (f g
 one_block before commands a b f g t u = (
   t.printed
       ∙ (ap (λ l. together_record (length before) ∷ l)
-      (same_answers before f g commands t.answers u.answers t.each u.each)
+      (same_answers before f g commands t.answers u.answers t.block.each u.block.each)
       ∙ sym u.printed),
-  elim (same_after before f g commands t.answers u.answers t.each u.each) [
-    | inl none ↦ t.unloaded none ∙ sym (u.unloaded none)
+  elim (same_after before f g commands t.answers u.answers t.block.each u.block.each) [
+    | inl none ↦ t.block.unloaded none ∙ sym (u.block.unloaded none)
     | inr same ↦ same
   ],
 )

@@ -125,12 +125,17 @@ AnswersEach before after (command ∷ more) records =
     × AnswersOne before command.number command.meaning own (if is_load command.meaning then after else before)
     × AnswersEach before after more later
 
+-- these records answer all commands of a block, and without a load the history behind it is the one before
+pub record AnswersBlock (before : History) (commands : List Placed) (answers : List Record) (after : History)
+    : Type 0 where
+  pub each : AnswersEach before after commands answers
+  pub unloaded : All (λ command. is_load command.meaning ≡ false) commands → after ≡ before
+
 -- a block is answered by the number of the commit that its queries read, and then by each of its commands
 pub record AnswersTogether (before : History) (commands : List Placed) (records : List Record) (after : History)
     : Type 0 where
   pub answers : List Record
-  pub each : AnswersEach before after commands answers
-  pub unloaded : All (λ command. is_load command.meaning ≡ false) commands → after ≡ before
+  pub block : AnswersBlock before commands answers after
   pub printed : records ≡ together_record (length before) ∷ answers
 
 -- what a statement, whose first record has this number, is answered after a history, and the history after it

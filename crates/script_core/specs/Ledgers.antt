@@ -1,8 +1,8 @@
 -- What contracts read of a script's store, and of its snapshots.
-use Rattle.std.specs.Prelude.{ℕ, Option, Some}
+use Rattle.std.specs.Prelude.{◌≡◌, ℕ, Option, Some, length}
 use Rattle.book_core.specs.History.{History}
 use Rattle.store_core.specs.Passes.{calls_left, seen}
-use Rattle.store_core.specs.Snapshots.{number_shown}
+use Rattle.store_core.specs.Snapshots.{history, number_shown}
 use Rattle.store_core.specs.declared.snapshot.Snapshot.{Snapshot}
 use Rattle.script_core.specs.declared.ledger.Ledger.{Ledger}
 
@@ -17,3 +17,7 @@ left_in ledger = calls_left ledger.pass
 -- the commit that a snapshot shows, as a command tells one
 abbrev pub commit_shown : Snapshot → Option ℕ
 commit_shown snapshot = Some (number_shown snapshot)
+
+-- it shows all commits of its history
+abbrev pub ShowsAll : Snapshot → Type 0
+ShowsAll snapshot = number_shown snapshot ≡ length (history snapshot)

@@ -1,6 +1,6 @@
 -- What performing a command gives: its answer, or why there is none.
-use Rattle.std.specs.Prelude.{ℕ, ◌≡◌, All, List, false, length, Result, Ok, Err, ⊤}
-use Rattle.answer_core.specs.PrintedRecords.{IsPrintedAs, errors_in}
+use Rattle.std.specs.Prelude.{ℕ, ◌≡◌, ◌≤◌, List, length, true, Result, Ok, Err, ⊤}
+use Rattle.answer_core.specs.PrintedRecords.{errors_in}
 use Rattle.answer_core.specs.Unwritten.{Adds, Unwritten}
 use Rattle.answer_core.specs.declared.answer.Answer.{Answer}
 use Rattle.answer_core.specs.declared.answer.Answer.TheVariants as answer
@@ -8,8 +8,8 @@ use Rattle.book_core.specs.History.{History}
 use Rattle.command_core.specs.Meaning.{Meaning, Load, Refuse}
 use Rattle.command_core.specs.Records.{Record}
 use Rattle.command_core.specs.declared.refusal.Fault.{Fault}
-use Rattle.command_core.specs.Statement.{Placed, Statement, commands_in, is_load}
-use Rattle.script_core.specs.Answer.{Answers, AnswersEach, IsAnswerTo}
+use Rattle.command_core.specs.Statement.{AreMembers, Member, Placed, Statement, commands_in, placed_in}
+use Rattle.script_core.specs.Answer.{Answers, AnswersBlock, AnswersEach, AnswersOne, IsAnswerTo}
 use Rattle.script_core.specs.declared.outcome.Outcome.{Outcome}
 use Rattle.script_core.specs.Failure.{Failure, IsFailureOf}
 use Rattle.row_core.specs.declared.failure.Failure.TheVariants.{Refused, NoMemory}
@@ -33,32 +33,37 @@ Performs before number meaning (Err NoMemory) after = ⊤
 
 -- a command was answered, the records of its answer printed, and those that tell of a refusal counted
 pub record PrintsOne (before : History) (number : ℕ) (meaning : Meaning) (after : History) (old new : Unwritten)
-    (errors : ℕ) : Type 0 where
-  pub given : Answer
-  pub is : IsAnswerTo before number meaning given after
-  pub own : List Record
-  pub prints : IsPrintedAs given own
-  pub adds : Adds old new own
-  pub count : errors ≡ errors_in own
+    (told : ℕ) : Type 0 where
+  pub answer : List Record
+  pub answers : AnswersOne before number meaning answer after
+  pub printed : Adds old new answer
+  pub errors : told ≡ errors_in answer
 
 -- commands of a block, none of them a load that may be done, were answered one after another, whatever history the
 -- block's load leads to, and the records of their answers printed
-pub record PrintsQueries (before : History) (commands : List Placed) (old new : Unwritten) (told : Outcome)
+pub record PrintsQueries (before : History) (placed : List Placed) (old new : Unwritten) (told : Outcome)
     : Type 0 where
   pub answers : List Record
-  pub each : (after : History) → AnswersEach before after commands answers
+  pub each : (after : History) → AnswersEach before after placed answers
   pub printed : Adds old new answers
-  pub count : told.commands ≡ length commands
+  pub commands : told.commands ≡ length placed
   pub errors : told.errors ≡ errors_in answers
 
+-- the same of the commands that a stretch of a block's records holds, the first of them of this number
+pub record PrintsStretch (before : History) (number : ℕ) (records : List Record) (old new : Unwritten)
+    (told : Outcome) : Type 0 where
+  pub printed : (members : List Member) → AreMembers number records members
+      → PrintsQueries before (placed_in true members) old new told
+  pub few : told.errors ≤ told.commands
+  pub fewer : told.commands ≤ length records
+
 -- all commands of a block were answered, one after another, and the records of their answers printed
-pub record PrintsBlock (before : History) (commands : List Placed) (after : History) (old new : Unwritten)
+pub record PrintsBlock (before : History) (placed : List Placed) (after : History) (old new : Unwritten)
     (told : Outcome) : Type 0 where
   pub answers : List Record
-  pub each : AnswersEach before after commands answers
-  pub unloaded : All (λ command. is_load command.meaning ≡ false) commands → after ≡ before
+  pub block : AnswersBlock before placed answers after
   pub printed : Adds old new answers
-  pub count : told.commands ≡ length commands
+  pub commands : told.commands ≡ length placed
   pub errors : told.errors ≡ errors_in answers
 
 -- what a command with the word `load` may ask for: a load, or nothing, where it is refused

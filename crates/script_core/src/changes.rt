@@ -62,7 +62,8 @@ fn read_load(
     body: Lines<'_>,
 ) -> Result<Drafts, Failure>
     requires { number + 1 + length (lines_in body) < 2 ^ 64 }
-    ensures { Gives (load_told number (history newest.now) table (lines_in body.entry)) (λ meant rows. rows ≡ meant) result }
+    ensures { Gives (load_told number (history newest.now) table (lines_in body.entry))
+        (λ meant rows. rows ≡ meant) result }
 {
     match newest.schema(table) {
         Ok(schema) => rows_of(alloc, schema, body, number + 1),

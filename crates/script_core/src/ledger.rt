@@ -4,16 +4,14 @@ ghost use Rattle.book_core.specs.Versions.{log_of};
 ghost use Rattle.turn_core.specs.Limits.{call_limit};
 ghost use Rattle.store_core.specs.Histories.{CommitsTo};
 ghost use Rattle.store_core.specs.Passes.{IsPassOf, passes_of};
-ghost use Rattle.store_core.specs.Snapshots.{history, number_shown, Shows};
+ghost use Rattle.store_core.specs.Snapshots.{history};
 
 use book_core::{BookRefused, Change, Log};
 use period_core::NoMemory;
 use row_core::Failure;
 use std::alloc::{AllocError, Global};
 use std::sync::Wait;
-use store_core::{
-    BadCount, Future, Pass, PassSpent, Snapshot, SnapshotRefused, Store, StoreRefused,
-};
+use store_core::{BadCount, Pass, PassSpent, Snapshot, SnapshotRefused, Store, StoreRefused};
 use turn_core::CALL_LIMIT;
 
 /// A store and its one pass, whose calls answer what a book answers. Contracts see the history, and how many calls
@@ -27,7 +25,7 @@ pub(crate) struct Ledger {
 }
 
 impl Ledger {
-    ghost use Rattle.script_core.specs.Ledgers.{held, left_in};
+    ghost use Rattle.script_core.specs.Ledgers.{held, left_in, ShowsAll};
 
     /// A store without a table.
     pub(crate) fn new(alloc: Global) -> Result<Ledger, NoMemory>
@@ -62,36 +60,17 @@ impl Ledger {
         }
     }
 
-    /// What the first n commits show; all where none is told.
-    pub(crate) fn snapshot<R: Wait>(
-        &mut self,
-        rt: &R,
-        n: Option<u64>,
-    ) -> Result<Snapshot, Failure<Future>>
-        requires { 0 < left_in self.old }
-        ensures same { held self.new ≡ held self.old }
-        ensures shows { Shows (held self.old) n result }
-        ensures left { left_in self.new + 1 ≡ left_in self.old }
-    {
-        match self.store.snapshot(rt, &mut self.pass, n) {
-            Ok(snapshot) => Ok(snapshot),
-            Err(Failure::Refused(SnapshotRefused::PassSpent)) => unreachable!(),
-            Err(Failure::Refused(SnapshotRefused::Future)) => Err(Failure::Refused(Future)),
-            Err(Failure::NoMemory) => Err(Failure::NoMemory),
-        }
-    }
-
     /// What all commits show.
     pub(crate) fn newest<R: Wait>(&mut self, rt: &R) -> Result<Snapshot, NoMemory>
         requires { 0 < left_in self.old }
         ensures same { held self.new ≡ held self.old }
-        ensures shows { IfOk result (λ snapshot. (history snapshot ≡ held self.old)
-            × (number_shown snapshot ≡ length (held self.old))) }
+        ensures shows { IfOk result (λ snapshot. (history snapshot ≡ held self.old) × ShowsAll snapshot) }
         ensures left { left_in self.new + 1 ≡ left_in self.old }
     {
-        match self.snapshot(rt, None) {
+        match self.store.snapshot(rt, &mut self.pass, None) {
             Ok(snapshot) => Ok(snapshot),
-            Err(Failure::Refused(Future)) => unreachable!(),
+            Err(Failure::Refused(SnapshotRefused::PassSpent | SnapshotRefused::Future)) =>
+                unreachable!(),
             Err(Failure::NoMemory) => Err(AllocError),
         }
     }

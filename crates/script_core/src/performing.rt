@@ -8,7 +8,7 @@ ghost use Rattle.store_core.specs.Snapshots.{asked, history, number_shown};
 ghost use Rattle.script_core.specs.Answer.{IsAnswerTo};
 ghost use Rattle.script_core.specs.Effects.{rows_told};
 ghost use Rattle.script_core.specs.Failure.{IsFailureOf};
-ghost use Rattle.script_core.specs.Ledgers.{held, left_in};
+ghost use Rattle.script_core.specs.Ledgers.{held, left_in, ShowsAll};
 ghost use Rattle.script_core.specs.Performing.{IsAnswerOf, Performs, PrintsOne};
 
 use crate::changes::{delete, load, make, update};
@@ -26,9 +26,21 @@ use std::sync::Wait;
 use std::thread::Threads;
 use store_core::{Future, Snapshot};
 
+/// What a query is answered from and by: threads, memory, what all commits show, and how many workers run it.
+#[derive(Drop)]
+pub(crate) struct QueryContext<'a, T> {
+    pub rt: &'a T,
+    pub alloc: Global,
+    pub newest: &'a Snapshot,
+    pub workers: u32,
+    pub ghost all: { ShowsAll newest.now },
+    pub ghost some: { 0 < workers },
+    pub ghost few: { workers ≤ worker_limit },
+}
+
 /// What the commit shows that the command of this number tells, the newest where none is told.
 fn shown_asof(newest: &Snapshot, number: u64, asof: Option<u64>) -> Result<Snapshot, Failure>
-    requires { number_shown newest.now ≡ length (history newest.now) }
+    requires { ShowsAll newest.now }
     ensures shows { IfOk result (λ shown. (history shown ≡ history newest.now)
         × (number_shown shown ≡ asked (history newest.now) asof)) }
 
@@ -45,19 +57,21 @@ fn shown_asof(newest: &Snapshot, number: u64, asof: Option<u64>) -> Result<Snaps
 
 /// Answers a query, whose first record has this number, from a snapshot of all commits.
 pub(crate) fn query<T: Threads + Sync>(
-    rt: &T,
-    alloc: Global,
-    newest: &Snapshot,
+    context: &QueryContext<'_, T>,
     number: u64,
     command: Command<'_>,
-    workers: u32,
 ) -> Result<Answer, Failure>
-    requires newest { number_shown newest.now ≡ length (history newest.now) }
     requires query { is_allowed true (meaning_of command) ≡ true }
     requires numbers { number + behind_length (meaning_of command) < 2 ^ 64 }
-    requires workers { (0 < workers) × (workers ≤ worker_limit) }
-    ensures { Performs (history newest.now) number (meaning_of command.entry) result (history newest.now) }
+    ensures { Performs (history context.now.newest.now) number (meaning_of command.entry) result
+        (history context.now.newest.now) }
 {
+    let QueryContext {
+        rt,
+        alloc,
+        newest,
+        workers,
+    } = *context;
     match command {
         Command::Refused(fault) => Ok(Answer::Refused(fault)),
         Command::Rows { table, asof } => {
@@ -134,7 +148,13 @@ pub(crate) fn perform<T: Threads + Wait + Sync>(
         Command::Refused(fault) => Ok(Answer::Refused(fault)),
         asked => {
             let newest = ledger.newest(rt)?;
-            query(rt, alloc, &newest, number, asked, workers)
+            let context = QueryContext {
+                rt,
+                alloc,
+                newest: &newest,
+                workers,
+            };
+            query(&context, number, asked)
         }
     }
 }
@@ -153,24 +173,19 @@ pub(crate) fn answer_of(outcome: Result<Answer, Failure>) -> Result<Answer, NoMe
 /// Answers a query, whose first record has this number, from a snapshot of all commits, and prints its answer; tells
 /// how many records of it tell of a refusal.
 pub(crate) fn answer_query<T: Threads + Sync>(
-    rt: &T,
-    alloc: Global,
-    newest: &Snapshot,
+    context: &QueryContext<'_, T>,
     number: u64,
     command: Command<'_>,
-    workers: u32,
     printer: &mut AnswerWriter,
 ) -> Result<u64, NoMemory>
-    requires newest { number_shown newest.now ≡ length (history newest.now) }
     requires query { is_allowed true (meaning_of command) ≡ true }
     requires numbers { number + behind_length (meaning_of command) < 2 ^ 64 }
-    requires workers { (0 < workers) × (workers ≤ worker_limit) }
     requires begins { printer.old.fields ≡ [] }
-    ensures printed { IfOk result (PrintsOne (history newest.now) number (meaning_of command.entry) (history newest.now)
-        printer.old printer.new) }
+    ensures printed { IfOk result (PrintsOne (history context.now.newest.now) number (meaning_of command.entry)
+        (history context.now.newest.now) printer.old printer.new) }
     ensures few { IfOk result (λ errors. errors ≤ 1) }
 {
-    let answer = answer_of(query(rt, alloc, newest, number, command, workers))?;
+    let answer = answer_of(query(context, number, command))?;
     printer.print(&answer)?;
     Ok(answer.refusals())
 }

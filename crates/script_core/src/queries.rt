@@ -10,9 +10,9 @@ ghost use Rattle.match_core.specs.Items.{items_of};
 ghost use Rattle.row_core.specs.Rows.{IdsRise};
 ghost use Rattle.row_core.specs.Schema.{fits};
 ghost use Rattle.script_core.specs.Answer.{IsAggOf, IsAntiOf, IsDipOf, IsJoinOf, IsVerdictOn, IsVersions};
-ghost use Rattle.script_core.specs.Ledgers.{commit_shown};
+ghost use Rattle.script_core.specs.Ledgers.{commit_shown, ShowsAll};
 ghost use Rattle.script_core.specs.Performing.{Gives};
-ghost use Rattle.store_core.specs.Snapshots.{history, number_shown};
+ghost use Rattle.store_core.specs.Snapshots.{history};
 ghost use Rattle.script_core.specs.Effects.{aggregated_told, claim_of, columns_told, func_of, rows_on, rows_told, sides_told, versions_told};
 ghost use Rattle.answer_core.specs.declared.answer.Answer.TheVariants.{Rows};
 
@@ -232,7 +232,7 @@ pub(crate) fn between(
     first: u64,
     last: u64,
 ) -> Result<Answer, Failure>
-    requires { number_shown snapshot.now ≡ length (history snapshot.now) }
+    requires { ShowsAll snapshot.now }
     ensures { Gives (versions_told number (history snapshot.now) (nat_lt last first) table)
         (λ _ answer. IsVersions (AreBetween (history snapshot.now) (length (history snapshot.now)) first last table)
         answer) result }
@@ -251,7 +251,7 @@ pub(crate) fn from_to(
     first: u64,
     end: u64,
 ) -> Result<Answer, Failure>
-    requires { number_shown snapshot.now ≡ length (history snapshot.now) }
+    requires { ShowsAll snapshot.now }
     ensures { Gives (versions_told number (history snapshot.now) (nat_le end first) table)
         (λ _ answer. IsVersions (AreFromTo (history snapshot.now) (length (history snapshot.now)) first end table)
         answer) result }

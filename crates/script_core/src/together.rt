@@ -6,54 +6,44 @@ ghost use Rattle.command_core.specs.Lines.{lines_in};
 ghost use Rattle.command_core.specs.Meaning.{behind_length};
 ghost use Rattle.command_core.specs.Statement.{AreMembers, IsSplit, Member, Together, placed_in};
 ghost use Rattle.work_core.specs.Limits.{worker_limit};
-ghost use Rattle.store_core.specs.Snapshots.{history, number_shown};
+ghost use Rattle.store_core.specs.Snapshots.{history};
 ghost use Rattle.script_core.specs.Answer.{IsAnswerTo};
 ghost use Rattle.script_core.specs.Ledgers.{held, left_in};
-ghost use Rattle.script_core.specs.Performing.{AsksLoad, PrintsBlock, PrintsQueries, PrintsStatement};
+ghost use Rattle.script_core.specs.Performing.{AsksLoad, PrintsBlock, PrintsStatement, PrintsStretch};
 
 use crate::changes::load_by;
 use crate::ledger::Ledger;
 use crate::outcome::Outcome;
-use crate::performing::{answer_of, answer_query};
+use crate::performing::{QueryContext, answer_of, answer_query};
 use answer_core::{Answer, AnswerWriter};
 use command_core::{Command, Cut, Lines, first_load, next_inside};
 use period_core::NoMemory;
 use std::alloc::Global;
 use std::sync::Wait;
 use std::thread::{Threads, join_mut};
-use store_core::Snapshot;
 
-/// Records of a block, and the number of the first of them.
+/// Some whole commands of a block, one after another: their records, and the number of the first of these.
 #[derive(Clone, Copy)]
-struct Queries<'a> {
+struct Stretch<'a> {
     lines: Lines<'a>,
-    number: u64,
+    first: u64,
 }
 
-/// Answers the queries that some records of a block hold; a load among them is refused.
+/// Answers the queries of a stretch of a block, and prints their answers; tells how many commands there are, and how
+/// many of them are refused. A load among them is refused, since a block's first load, which may be done, stands in no
+/// stretch.
 fn answer_queries<T: Threads + Sync>(
-    rt: &T,
-    alloc: Global,
-    newest: &Snapshot,
-    queries: Queries<'_>,
-    workers: u32,
+    context: &QueryContext<'_, T>,
+    stretch: Stretch<'_>,
     printer: &mut AnswerWriter,
 ) -> Result<Outcome, NoMemory>
-    requires newest { number_shown newest.now ≡ length (history newest.now) }
-    requires whole { (members : List Member) × AreMembers queries.number (lines_in queries.lines) members }
-    requires numbers { queries.number + length (lines_in queries.lines) < 2 ^ 64 }
-    requires workers { (0 < workers) × (workers ≤ worker_limit) }
+    requires whole { (members : List Member) × AreMembers stretch.first (lines_in stretch.lines) members }
+    requires numbers { stretch.first + length (lines_in stretch.lines) < 2 ^ 64 }
     requires begins { printer.old.fields ≡ [] }
-    ensures printed { IfOk result (λ told. (members : List Member)
-        → AreMembers queries.entry.number (lines_in queries.entry.lines) members
-        → PrintsQueries (history newest.now) (placed_in true members) printer.old printer.new told) }
-    ensures few { IfOk result (λ told. told.errors ≤ told.commands) }
-    ensures fewer { IfOk result (λ told. told.commands ≤ length (lines_in queries.entry.lines)) }
+    ensures { IfOk result (PrintsStretch (history context.now.newest.now) stretch.entry.first
+        (lines_in stretch.entry.lines) printer.old printer.new) }
 {
-    let Queries {
-        lines,
-        number: first,
-    } = queries;
+    let Stretch { lines, first } = stretch;
     let mut told = Outcome {
         commands: 0,
         errors: 0,
@@ -62,7 +52,7 @@ fn answer_queries<T: Threads + Sync>(
     while at < lines.len() {
         let number = first + at as u64;
         let Cut { command, taken } = next_inside(lines.range(at, lines.len()), number, true);
-        let errors = answer_query(rt, alloc, newest, number, command, workers, printer)?;
+        let errors = answer_query(context, number, command, printer)?;
         told.commands += 1;
         told.errors += errors;
         at += taken;
@@ -70,49 +60,14 @@ fn answer_queries<T: Threads + Sync>(
     Ok(told)
 }
 
-/// Answers the queries before the load of a block, and those behind it, which another printer prints.
-fn answer_around<T: Threads + Sync>(
-    rt: &T,
-    alloc: Global,
-    newest: &Snapshot,
-    front: Queries<'_>,
-    back: Queries<'_>,
-    workers: u32,
-    printer: &mut AnswerWriter,
-    later: &mut AnswerWriter,
-) -> Result<(Outcome, Outcome), NoMemory>
-    requires newest { number_shown newest.now ≡ length (history newest.now) }
-    requires before { (members : List Member) × AreMembers front.number (lines_in front.lines) members }
-    requires behind { (members : List Member) × AreMembers back.number (lines_in back.lines) members }
-    requires few { front.number + length (lines_in front.lines) < 2 ^ 64 }
-    requires numbers { back.number + length (lines_in back.lines) < 2 ^ 64 }
-    requires workers { (0 < workers) × (workers ≤ worker_limit) }
-    requires begins { (printer.old.fields ≡ []) × (later.old.fields ≡ []) }
-    ensures front { IfOk result (λ told. (members : List Member)
-        → AreMembers front.entry.number (lines_in front.entry.lines) members
-        → PrintsQueries (history newest.now) (placed_in true members) printer.old printer.new told.0) }
-    ensures back { IfOk result (λ told. (members : List Member)
-        → AreMembers back.entry.number (lines_in back.entry.lines) members
-        → PrintsQueries (history newest.now) (placed_in true members) later.old later.new told.1) }
-    ensures few { IfOk result (λ told. (told.0.errors ≤ told.0.commands) × (told.1.errors ≤ told.1.commands)) }
-    ensures fewer { IfOk result (λ told. (told.0.commands ≤ length (lines_in front.entry.lines))
-        × (told.1.commands ≤ length (lines_in back.entry.lines))) }
-{
-    let first = answer_queries(rt, alloc, newest, front, workers, printer)?;
-    let last = answer_queries(rt, alloc, newest, back, workers, later)?;
-    Ok((first, last))
-}
-
 /// Does the first load of a block, whose first record has this number, or tells why it can't be done.
-fn answer_load<R: Wait>(
-    rt: &R,
-    alloc: Global,
+fn answer_load<T: Wait>(
+    context: &QueryContext<'_, T>,
     ledger: &mut Ledger,
-    newest: &Snapshot,
     number: u64,
     command: &Command<'_>,
 ) -> Result<Answer, NoMemory>
-    requires newest { history newest.now ≡ held ledger.old }
+    requires same { history context.now.newest.now ≡ held ledger.old }
     requires load { AsksLoad (meaning_of command.now) }
     requires numbers { number + behind_length (meaning_of command.now) < 2 ^ 64 }
     requires left { 0 < left_in ledger.old }
@@ -121,132 +76,121 @@ fn answer_load<R: Wait>(
     ensures left { left_in ledger.old ≤ left_in ledger.new + 1 }
 {
     match command {
-        Command::Load { table, body } => {
-            answer_of(load_by(rt, alloc, ledger, newest, number, *table, *body))
-        }
+        Command::Load { table, body } => answer_of(load_by(
+            context.rt,
+            context.alloc,
+            ledger,
+            context.newest,
+            number,
+            *table,
+            *body,
+        )),
         Command::Refused(fault) => Ok(Answer::Refused(*fault)),
         _ => unreachable!(),
     }
 }
 
-/// Does the load of a block here while the queries around it are answered by a thread of their own; after the load,
-/// where no thread can be started.
+/// Does the load of a block here while the queries before it and behind it are answered by a thread of their own;
+/// after the load, where no thread can be started.
 fn answer_both<T: Threads + Wait + Sync>(
-    rt: &T,
-    alloc: Global,
+    context: &QueryContext<'_, T>,
     ledger: &mut Ledger,
-    newest: &Snapshot,
-    front: Queries<'_>,
+    front: Stretch<'_>,
     number: u64,
     command: &Command<'_>,
-    back: Queries<'_>,
-    workers: u32,
+    back: Stretch<'_>,
     printer: &mut AnswerWriter,
     later: &mut AnswerWriter,
 ) -> (
     Result<(Outcome, Outcome), NoMemory>,
     Result<Answer, NoMemory>,
 )
-    requires newest { (number_shown newest.now ≡ length (history newest.now)) × (history newest.now ≡ held ledger.old) }
-    requires before { (members : List Member) × AreMembers front.number (lines_in front.lines) members }
-    requires behind { (members : List Member) × AreMembers back.number (lines_in back.lines) members }
-    requires few { front.number + length (lines_in front.lines) < 2 ^ 64 }
-    requires numbers { back.number + length (lines_in back.lines) < 2 ^ 64 }
+    requires same { history context.now.newest.now ≡ held ledger.old }
+    requires before { (members : List Member) × AreMembers front.first (lines_in front.lines) members }
+    requires behind { (members : List Member) × AreMembers back.first (lines_in back.lines) members }
+    requires numbers_before { front.first + length (lines_in front.lines) < 2 ^ 64 }
+    requires numbers_behind { back.first + length (lines_in back.lines) < 2 ^ 64 }
     requires load { AsksLoad (meaning_of command.now) × (number + behind_length (meaning_of command.now) < 2 ^ 64) }
-    requires workers { (0 < workers) × (workers ≤ worker_limit) }
     requires begins { (printer.old.fields ≡ []) × (later.old.fields ≡ []) }
     requires left { 0 < left_in ledger.old }
-    ensures front { IfOk result.0 (λ told. (members : List Member)
-        → AreMembers front.entry.number (lines_in front.entry.lines) members
-        → PrintsQueries (history newest.now) (placed_in true members) printer.old printer.new told.0) }
-    ensures back { IfOk result.0 (λ told. (members : List Member)
-        → AreMembers back.entry.number (lines_in back.entry.lines) members
-        → PrintsQueries (history newest.now) (placed_in true members) later.old later.new told.1) }
-    ensures few { IfOk result.0 (λ told. (told.0.errors ≤ told.0.commands) × (told.1.errors ≤ told.1.commands)) }
-    ensures fewer { IfOk result.0 (λ told. (told.0.commands ≤ length (lines_in front.entry.lines))
-        × (told.1.commands ≤ length (lines_in back.entry.lines))) }
+    ensures front { IfOk result.0 (λ told. PrintsStretch (history context.now.newest.now) front.entry.first
+        (lines_in front.entry.lines) printer.old printer.new told.0) }
+    ensures back { IfOk result.0 (λ told. PrintsStretch (history context.now.newest.now) back.entry.first
+        (lines_in back.entry.lines) later.old later.new told.1) }
     ensures load { IfOk result.1 (λ answer.
         IsAnswerTo (held ledger.old) number (meaning_of command.now) answer (held ledger.new)) }
     ensures left { left_in ledger.old ≤ left_in ledger.new + 1 }
 {
     let mut queries = || -> Result<(Outcome, Outcome), NoMemory>
-        requires { IsSync T.row × (number_shown newest.now ≡ length (history newest.now))
-            × ((members : List Member) × AreMembers front.number (lines_in front.lines) members)
-            × ((members : List Member) × AreMembers back.number (lines_in back.lines) members)
-            × (front.number + length (lines_in front.lines) < 2 ^ 64)
-            × (back.number + length (lines_in back.lines) < 2 ^ 64)
-            × ((0 < workers) × (workers ≤ worker_limit))
+        requires { IsSync T.row
+            × ((members : List Member) × AreMembers front.first (lines_in front.lines) members)
+            × ((members : List Member) × AreMembers back.first (lines_in back.lines) members)
+            × (front.first + length (lines_in front.lines) < 2 ^ 64)
+            × (back.first + length (lines_in back.lines) < 2 ^ 64)
             × ((printer.now.fields ≡ []) × (later.now.fields ≡ [])) }
-        ensures front { IfOk result (λ told. (members : List Member)
-            → AreMembers front.entry.number (lines_in front.entry.lines) members
-            → PrintsQueries (history newest.entry.now) (placed_in true members) printer.entry.now printer.exit.now told.0) }
-        ensures back { IfOk result (λ told. (members : List Member)
-            → AreMembers back.entry.number (lines_in back.entry.lines) members
-            → PrintsQueries (history newest.entry.now) (placed_in true members) later.entry.now later.exit.now told.1) }
-        ensures few { IfOk result (λ told. (told.0.errors ≤ told.0.commands) × (told.1.errors ≤ told.1.commands)) }
-        ensures fewer { IfOk result (λ told. (told.0.commands ≤ length (lines_in front.entry.lines))
-            × (told.1.commands ≤ length (lines_in back.entry.lines))) }
-    { answer_around(rt, alloc, newest, front, back, workers, printer, later) };
+        ensures front { IfOk result (λ told. PrintsStretch (history context.entry.now.newest.now) front.entry.first
+            (lines_in front.entry.lines) printer.entry.now printer.exit.now told.0) }
+        ensures back { IfOk result (λ told. PrintsStretch (history context.entry.now.newest.now) back.entry.first
+            (lines_in back.entry.lines) later.entry.now later.exit.now told.1) }
+    {
+        let before = answer_queries(context, front, printer)?;
+        let behind = answer_queries(context, back, later)?;
+        Ok((before, behind))
+    };
     let mut loading = || -> Result<Answer, NoMemory>
-        requires { (history newest.now ≡ held ledger.now) × AsksLoad (meaning_of command.now)
+        requires { (history context.now.newest.now ≡ held ledger.now) × AsksLoad (meaning_of command.now)
             × (number + behind_length (meaning_of command.now) < 2 ^ 64) × (0 < left_in ledger.now) }
         ensures answers { IfOk result (λ answer. IsAnswerTo (held ledger.entry.now) number
             (meaning_of command.entry.now) answer (held ledger.exit.now)) }
         ensures left { left_in ledger.entry.now ≤ left_in ledger.exit.now + 1 }
-    { answer_load(rt, alloc, ledger, newest, number, command) };
-    join_mut(rt, &mut queries, &mut loading)
+    { answer_load(context, ledger, number, command) };
+    join_mut(context.rt, &mut queries, &mut loading)
 }
 
 /// Answers the commands of a block, of which the one behind so many records is its first load.
 fn answer_beside_load<T: Threads + Wait + Sync>(
-    rt: &T,
-    alloc: Global,
+    context: &QueryContext<'_, T>,
     ledger: &mut Ledger,
-    newest: &Snapshot,
-    block: Queries<'_>,
+    block: Stretch<'_>,
     place: usize,
-    workers: u32,
     printer: &mut AnswerWriter,
 ) -> Result<Outcome, NoMemory>
-    requires newest { (number_shown newest.now ≡ length (history newest.now)) × (history newest.now ≡ held ledger.old) }
-    requires whole { (members : List Member) × AreMembers block.number (lines_in block.lines) members }
+    requires same { history context.now.newest.now ≡ held ledger.old }
+    requires whole { (members : List Member) × AreMembers block.first (lines_in block.lines) members }
     requires within { place < length (lines_in block.lines) }
-    requires split { (members : List Member) → AreMembers block.number (lines_in block.lines) members
-        → IsSplit block.number members (take place (lines_in block.lines)) (drop place (lines_in block.lines)) }
-    requires numbers { block.number + length (lines_in block.lines) < 2 ^ 64 }
-    requires workers { (0 < workers) × (workers ≤ worker_limit) }
+    requires split { (members : List Member) → AreMembers block.first (lines_in block.lines) members
+        → IsSplit block.first members (take place (lines_in block.lines)) (drop place (lines_in block.lines)) }
+    requires numbers { block.first + length (lines_in block.lines) < 2 ^ 64 }
     requires begins { printer.old.fields ≡ [] }
     requires left { 0 < left_in ledger.old }
     ensures printed { IfOk result (λ told. (members : List Member)
-        → AreMembers block.entry.number (lines_in block.entry.lines) members
-        → PrintsBlock (history newest.now) (placed_in false members) (held ledger.new) printer.old printer.new told) }
+        → AreMembers block.entry.first (lines_in block.entry.lines) members
+        → PrintsBlock (history context.now.newest.now) (placed_in false members) (held ledger.new)
+        printer.old printer.new told) }
     ensures few { IfOk result (λ told. told.errors ≤ told.commands) }
     ensures fewer { IfOk result (λ told. told.commands ≤ length (lines_in block.entry.lines)) }
     ensures left { left_in ledger.old ≤ left_in ledger.new + 1 }
 {
-    let Queries {
-        lines,
-        number: first,
-    } = block;
+    let Stretch { lines, first } = block;
     let rest = lines.range(place, lines.len());
     let number = first + place as u64;
     let Cut { command, taken } = next_inside(rest, number, false);
-    let front = Queries {
+    let front = Stretch {
         lines: lines.range(0, place),
-        number: first,
+        first,
     };
-    let back = Queries {
+    let back = Stretch {
         lines: rest.range(taken, rest.len()),
-        number: number + taken as u64,
+        first: number + taken as u64,
     };
-    let mut later = AnswerWriter::new(alloc);
+    let mut later = AnswerWriter::new(context.alloc);
     let (queries, load) = answer_both(
-        rt, alloc, ledger, newest, front, number, &command, back, workers, printer, &mut later,
+        context, ledger, front, number, &command, back, printer, &mut later,
     );
     let (before, behind) = queries?;
     let answer = load?;
     printer.print(&answer)?;
-    printer.append(&mut later)?;
+    printer.append(later)?;
     Ok(Outcome {
         commands: before.commands + behind.commands + 1,
         errors: before.errors + behind.errors + answer.refusals(),
@@ -255,32 +199,27 @@ fn answer_beside_load<T: Threads + Wait + Sync>(
 
 /// Answers the commands of a block, each query from what all commits showed at the block's beginning.
 fn answer_commands<T: Threads + Wait + Sync>(
-    rt: &T,
-    alloc: Global,
+    context: &QueryContext<'_, T>,
     ledger: &mut Ledger,
-    newest: &Snapshot,
-    block: Queries<'_>,
-    workers: u32,
+    block: Stretch<'_>,
     printer: &mut AnswerWriter,
 ) -> Result<Outcome, NoMemory>
-    requires newest { (number_shown newest.now ≡ length (history newest.now)) × (history newest.now ≡ held ledger.old) }
-    requires whole { (members : List Member) × AreMembers block.number (lines_in block.lines) members }
-    requires numbers { block.number + length (lines_in block.lines) < 2 ^ 64 }
-    requires workers { (0 < workers) × (workers ≤ worker_limit) }
+    requires same { history context.now.newest.now ≡ held ledger.old }
+    requires whole { (members : List Member) × AreMembers block.first (lines_in block.lines) members }
+    requires numbers { block.first + length (lines_in block.lines) < 2 ^ 64 }
     requires begins { printer.old.fields ≡ [] }
     requires left { 0 < left_in ledger.old }
     ensures printed { IfOk result (λ told. (members : List Member)
-        → AreMembers block.entry.number (lines_in block.entry.lines) members
-        → PrintsBlock (history newest.now) (placed_in false members) (held ledger.new) printer.old printer.new told) }
+        → AreMembers block.entry.first (lines_in block.entry.lines) members
+        → PrintsBlock (history context.now.newest.now) (placed_in false members) (held ledger.new)
+        printer.old printer.new told) }
     ensures few { IfOk result (λ told. told.errors ≤ told.commands) }
     ensures fewer { IfOk result (λ told. told.commands ≤ length (lines_in block.entry.lines)) }
     ensures left { left_in ledger.old ≤ left_in ledger.new + 1 }
 {
     match first_load(block.lines) {
-        Some(place) => {
-            answer_beside_load(rt, alloc, ledger, newest, block, place, workers, printer)
-        }
-        None => answer_queries(rt, alloc, newest, block, workers, printer),
+        Some(place) => answer_beside_load(context, ledger, block, place, printer),
+        None => answer_queries(context, block, printer),
     }
 }
 
@@ -300,19 +239,26 @@ pub(crate) fn answer_together<T: Threads + Wait + Sync>(
     requires workers { (0 < workers) × (workers ≤ worker_limit) }
     requires begins { printer.old.fields ≡ [] }
     requires left { 2 ≤ left_in ledger.old }
-    ensures printed { IfOk result (λ told. (members : List Member) → AreMembers (number + 1) (lines_in body.entry) members
+    ensures printed { IfOk result (λ told. (members : List Member)
+        → AreMembers (number + 1) (lines_in body.entry) members
         → PrintsStatement (held ledger.old) number (Together (placed_in false members)) (held ledger.new)
         printer.old printer.new told) }
     ensures few { IfOk result (λ told. told.errors ≤ told.commands) }
     ensures left { left_in ledger.old ≤ left_in ledger.new + 2 }
 {
     let newest = ledger.newest(rt)?;
-    printer.print(&Answer::Together(newest.number()))?;
-    let block = Queries {
+    printer.together(newest.number())?;
+    let block = Stretch {
         lines: body,
-        number: number + 1,
+        first: number + 1,
     };
-    let told = answer_commands(rt, alloc, ledger, &newest, block, workers, printer)?;
+    let context = QueryContext {
+        rt,
+        alloc,
+        newest: &newest,
+        workers,
+    };
+    let told = answer_commands(&context, ledger, block, printer)?;
     Ok(Outcome {
         commands: told.commands + 1,
         errors: told.errors,

@@ -1,6 +1,7 @@
 use Rattle.std.proofs.Common.{ap, arith, length, sym}
 use Rattle.std.proofs.lemmas.List.{length-drop}
 use Rattle.command_core.specs.Lines.{fields_in, lines_in}
+use Rattle.command_core.proofs.Blocks.{have-members}
 use Rattle.command_core.proofs.Cutting.{rest-from}
 use Rattle.command_core.proofs.FirstLoad.{searched-all, searched-closed, searched-found, searched-more, searched-none}
 use Rattle.command_core.proofs.statement.first_load.Goals as goal
@@ -34,7 +35,8 @@ unreachable-requires c =
     let behind = lines_in c.range.result in
     let rest = rest-from lines behind c.len-in-loop-at.result at c.len-in-loop-at.ensures c.range.ensures in
     searched-closed lines behind at rest (omega (arith, c.loop-at-test.true, c.len.ensures))
-    c.loop-at.invariant.searched c.requires.whole c.in-None.ensures.none
+    c.loop-at.invariant.searched
+    (have-members c.requires.whole.0 lines c.requires.whole.1 c.requires.whole.2) c.in-None.ensures.none
 
 pub returns-clause-none : goal.returns-clause-none
 returns-clause-none c = λ number members are.

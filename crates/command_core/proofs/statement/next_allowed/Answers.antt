@@ -18,7 +18,7 @@ returns-clause-behind c =
     let line = fields_in c.args.opening in
     let some = some_there (lines_in c.args.lines) line c.requires.first in
     let none = record-behind c.args.number line (verb_of line) in
-    elim c.match-read_query.branch [
+    elim c.match-read_tableless.branch [
       | in-Ok w ↦
           let own : behind_length (meaning_of w.in-Ok.command) ≤ 0 =
           subst (λ r. behind_length (told c.args.number r) ≤ 0) (sym w.in-Ok.ensures) none in

@@ -8,11 +8,14 @@ pub returns-clause-printed : goal.returns-clause-printed
 returns-clause-printed g c =
     let said = c.in_ok-print.ensures.ok in
     record {
-      given = c.in_ok-answer.answer;
-      is = performed-answer (held c.args.ledger.now) c.args.number (meaning_of c.args.command) c.perform.result (held c.perform.new.ledger)
-          c.in_ok-answer.answer c.perform.ensures.performs c.in_ok-answer.ensures;
-      own = said.0;
-      prints = said.1;
-      adds = said.2;
-      count = sym (c.refusals.ensures.told said.0 said.1);
+      answer = said.0;
+      answers = (
+        c.in_ok-answer.answer,
+        performed-answer (held c.args.ledger.now) c.args.number (meaning_of c.args.command) c.perform.result
+            (held c.perform.new.ledger)
+            c.in_ok-answer.answer c.perform.ensures.performs c.in_ok-answer.ensures,
+        said.1,
+      );
+      printed = said.2;
+      errors = sym (c.refusals.ensures.told said.0 said.1);
     }

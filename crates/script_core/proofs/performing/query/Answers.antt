@@ -18,7 +18,7 @@ pub returns-in_err-shown-in-Rows : goal.returns-in_err-shown-in-Rows
 returns-in_err-shown-in-Rows g c =
     let p = err_from_is_err_and c.from_residual.result c.from_residual.ensures.1 in
     let number = c.args.number in
-    let before = history c.args.newest.now in
+    let before = history c.args.context.now.newest.now in
     let asof = c.in-Rows.asof in
     let why = c.in_err-shown-in-Rows.field-0.0 in
     let failed = c.in_err-shown-in-Rows.ensures in
@@ -34,7 +34,7 @@ returns-in_err-shown-in-At g c =
     let p =
     err_from_is_err_and c.from_residual-in_err-shown-in-At.result c.from_residual-in_err-shown-in-At.ensures.1 in
     let number = c.args.number in
-    let before = history c.args.newest.now in
+    let before = history c.args.context.now.newest.now in
     let asof = c.in-At.asof in
     let why = c.in_err-shown-in-At.field-0.0 in
     let failed = c.in_err-shown-in-At.ensures in
@@ -51,7 +51,7 @@ returns-in_err-shown-in-Dip g c =
     let p =
     err_from_is_err_and c.from_residual-in_err-shown-in-Dip.result c.from_residual-in_err-shown-in-Dip.ensures.1 in
     let number = c.args.number in
-    let before = history c.args.newest.now in
+    let before = history c.args.context.now.newest.now in
     let asof = c.in-Dip.asof in
     let why = c.in_err-shown-in-Dip.field-0.0 in
     let failed = c.in_err-shown-in-Dip.ensures in
@@ -67,7 +67,7 @@ returns-in_err-shown-in-Join g c =
     let p =
     err_from_is_err_and c.from_residual-in_err-shown-in-Join.result c.from_residual-in_err-shown-in-Join.ensures.1 in
     let number = c.args.number in
-    let before = history c.args.newest.now in
+    let before = history c.args.context.now.newest.now in
     let asof = c.in-Join.asof in
     let why = c.in_err-shown-in-Join.field-0.0 in
     let failed = c.in_err-shown-in-Join.ensures in
@@ -83,7 +83,7 @@ returns-in_err-shown-in-Anti g c =
     let p =
     err_from_is_err_and c.from_residual-in_err-shown-in-Anti.result c.from_residual-in_err-shown-in-Anti.ensures.1 in
     let number = c.args.number in
-    let before = history c.args.newest.now in
+    let before = history c.args.context.now.newest.now in
     let asof = c.in-Anti.asof in
     let why = c.in_err-shown-in-Anti.field-0.0 in
     let failed = c.in_err-shown-in-Anti.ensures in
@@ -99,7 +99,7 @@ returns-in_err-shown-in-Agg g c =
     let p =
     err_from_is_err_and c.from_residual-in_err-shown-in-Agg.result c.from_residual-in_err-shown-in-Agg.ensures.1 in
     let number = c.args.number in
-    let before = history c.args.newest.now in
+    let before = history c.args.context.now.newest.now in
     let asof = c.in-Agg.asof in
     let why = c.in_err-shown-in-Agg.field-0.0 in
     let failed = c.in_err-shown-in-Agg.ensures in
@@ -115,7 +115,7 @@ returns-in_err-shown-in-Check g c =
     let p =
     err_from_is_err_and c.from_residual-in_err-shown-in-Check.result c.from_residual-in_err-shown-in-Check.ensures.1 in
     let number = c.args.number in
-    let before = history c.args.newest.now in
+    let before = history c.args.context.now.newest.now in
     let asof = c.in-Check.asof in
     let why = c.in_err-shown-in-Check.field-0.0 in
     let failed = c.in_err-shown-in-Check.ensures in

@@ -1,31 +1,22 @@
-use Rattle.std.proofs.Common.{◌≡◌, ◌∙◌, ◌+◌, ◌-◌, ◌≤◌, ℕ, List, ap, arith, drop, length, length-drop, refl, subst, sym, take, true, false}
-use Rattle.std.proofs.lemmas.List.{take_all}
+use Rattle.std.proofs.Common.{◌≡◌, ◌∙◌, ◌+◌, ◌-◌, ap, arith, drop, length-drop, refl, subst, sym, take, true, false}
 use Rattle.std.proofs.lemmas.Result.{IfOk-at_ok}
 use Rattle.command_core.specs.Command.{meaning_of}
 use Rattle.command_core.specs.Lines.{lines_in}
-use Rattle.command_core.specs.Records.{Record}
-use Rattle.command_core.specs.Statement.{AreMembers, Member, meaning_inside, placed_in}
+use Rattle.command_core.specs.Statement.{AreMembers, meaning_inside, placed_in}
 use Rattle.answer_core.specs.Unwritten.{Unwritten}
 use Rattle.answer_core.specs.declared.answer.Answer.{Answer}
 use Rattle.book_core.specs.History.{History}
 use Rattle.store_core.specs.Snapshots.{history}
 use Rattle.script_core.specs.Answer.{IsAnswerTo}
 use Rattle.script_core.specs.Ledgers.{held}
-use Rattle.script_core.specs.Performing.{AsksLoad, PrintsQueries}
+use Rattle.script_core.specs.Performing.{AsksLoad, PrintsQueries, PrintsStretch}
 use Rattle.script_core.specs.declared.outcome.Outcome.{Outcome}
-use Rattle.script_core.proofs.Blocks.{block-printed, load-cut, load-members}
+use Rattle.script_core.proofs.Blocks.{block-printed, load-cut, load-members, printed-fields, rest-is}
 use Rattle.script_core.proofs.together.answer_beside_load.Goals as goal
-
--- the records from a place on
-rest-is : (all rest : List Record) (size at : ℕ) → size ≡ length all → rest ≡ take (size - at) (drop at all)
-    → rest ≡ drop at all
-rest-is all rest size at count is =
-    let room : length (drop at all) ≤ size - at = omega (arith, length-drop at all, count) in
-    is ∙ take_all (size - at) (drop at all) room
 
 pub next_inside-command-requires-clause-whole : goal.next_inside-command-requires-clause-whole
 next_inside-command-requires-clause-whole g c =
-    let number = c.args.block.number in
+    let number = c.args.block.first in
     let lines = lines_in c.args.block.lines in
     let place = c.args.place in
     let rest = rest-is lines (lines_in c.range-rest.result) c.len.result place c.len.ensures c.range-rest.ensures in
@@ -35,7 +26,7 @@ next_inside-command-requires-clause-whole g c =
 
 pub answer_both-queries-requires-clause-behind : goal.answer_both-queries-requires-clause-behind
 answer_both-queries-requires-clause-behind g c κs within =
-    let number = c.args.block.number in
+    let number = c.args.block.first in
     let lines = lines_in c.args.block.lines in
     let place = c.args.place in
     let rest = rest-is lines (lines_in c.range-rest.result) c.len.result place c.len.ensures c.range-rest.ensures in
@@ -51,7 +42,7 @@ answer_both-queries-requires-clause-behind g c κs within =
 
 pub answer_both-queries-requires-clause-load : goal.answer_both-queries-requires-clause-load
 answer_both-queries-requires-clause-load g c κs within =
-    let number = c.args.block.number in
+    let number = c.args.block.first in
     let lines = lines_in c.args.block.lines in
     let place = c.args.place in
     let rest = rest-is lines (lines_in c.range-rest.result) c.len.result place c.len.ensures c.range-rest.ensures in
@@ -64,7 +55,7 @@ answer_both-queries-requires-clause-load g c κs within =
 
 pub append-requires-clause-there : goal.append-requires-clause-there
 append-requires-clause-there g c =
-    let number = c.args.block.number in
+    let number = c.args.block.first in
     let lines = lines_in c.args.block.lines in
     let place = c.args.place in
     let rest = rest-is lines (lines_in c.range-rest.result) c.len.result place c.len.ensures c.range-rest.ensures in
@@ -76,21 +67,24 @@ append-requires-clause-there g c =
     let back = rest-is (lines_in c.range-rest.result) (lines_in c.range-2.result) c.len-2.result taken
     c.len-2.ensures c.range-2.ensures in
     let last = back ∙ ap (drop taken) rest in
-    let printed =
-    IfOk-at_ok (λ (told : Outcome × Outcome). (members : List Member)
-    → AreMembers (number + place + taken) (lines_in c.range-2.result) members
-    → PrintsQueries (history c.args.newest.now) (placed_in true members) c.new-later.result
-    c.answer_both-queries.new.later told.1)
-    c.in_ok-before.was c.answer_both-queries.ensures.back cut.back
+    let behind : PrintsStretch (history c.args.context.now.newest.now) (number + place + taken)
+    (lines_in c.range-2.result)
+    c.new-later.result c.answer_both-queries.new.later c.in_ok-before.behind =
+    IfOk-at_ok (λ (told : Outcome × Outcome). PrintsStretch (history c.args.context.now.newest.now)
+    (number + place + taken)
+    (lines_in c.range-2.result) c.new-later.result c.answer_both-queries.new.later told.1)
+    c.in_ok-before.was c.answer_both-queries.ensures.back in
+    let printed = behind.printed cut.back
     (subst (λ l. AreMembers (number + place + taken) l cut.back) (sym last) cut.behind) in
-    ap (λ (u : Unwritten). u.fields) printed.printed
+    printed-fields (history c.args.context.now.newest.now) (placed_in true cut.back) c.new-later.result
+    c.answer_both-queries.new.later c.in_ok-before.behind printed
 
 pub returns-clause-printed : goal.returns-clause-printed
 returns-clause-printed g c = λ members are.
-    let number = c.args.block.number in
+    let number = c.args.block.first in
     let lines = lines_in c.args.block.lines in
     let place = c.args.place in
-    let newest = history c.args.newest.now in
+    let newest = history c.args.context.now.newest.now in
     let rest = rest-is lines (lines_in c.range-rest.result) c.len.result place c.len.ensures c.range-rest.ensures in
     let taken = c.next_inside-command.result.taken in
     let meant = meaning_of c.next_inside-command.result.command in
@@ -102,17 +96,18 @@ returns-clause-printed g c = λ members are.
     let back = rest-is (lines_in c.range-rest.result) (lines_in c.range-2.result) c.len-2.result taken
     c.len-2.ensures c.range-2.ensures in
     let last = back ∙ ap (drop taken) rest in
-    let ahead =
-    IfOk-at_ok (λ (told : Outcome × Outcome). (some : List Member)
-    → AreMembers number (lines_in c.range.result) some
-    → PrintsQueries newest (placed_in true some) c.args.printer.now c.answer_both-queries.new.printer told.0)
-    c.in_ok-before.was c.answer_both-queries.ensures.front cut.front
-    (subst (λ l. AreMembers number l cut.front) (sym front) cut.before) in
-    let behind =
-    IfOk-at_ok (λ (told : Outcome × Outcome). (some : List Member)
-    → AreMembers (number + place + taken) (lines_in c.range-2.result) some
-    → PrintsQueries newest (placed_in true some) c.new-later.result c.answer_both-queries.new.later told.1)
-    c.in_ok-before.was c.answer_both-queries.ensures.back cut.back
+    let queries = c.answer_both-queries.ensures in
+    let first : PrintsStretch newest number (lines_in c.range.result) c.args.printer.now
+    c.answer_both-queries.new.printer c.in_ok-before.before =
+    IfOk-at_ok (λ (told : Outcome × Outcome). PrintsStretch newest number (lines_in c.range.result)
+    c.args.printer.now c.answer_both-queries.new.printer told.0) c.in_ok-before.was queries.front in
+    let ahead = first.printed cut.front (subst (λ l. AreMembers number l cut.front) (sym front) cut.before) in
+    let second : PrintsStretch newest (number + place + taken) (lines_in c.range-2.result) c.new-later.result
+    c.answer_both-queries.new.later c.in_ok-before.behind =
+    IfOk-at_ok (λ (told : Outcome × Outcome). PrintsStretch newest (number + place + taken)
+    (lines_in c.range-2.result) c.new-later.result c.answer_both-queries.new.later told.1)
+    c.in_ok-before.was queries.back in
+    let behind = second.printed cut.back
     (subst (λ l. AreMembers (number + place + taken) l cut.back) (sym last) cut.behind) in
     let others = subst
     (λ (u : Unwritten). PrintsQueries newest (placed_in true cut.back) u c.answer_both-queries.new.later
@@ -120,10 +115,10 @@ returns-clause-printed g c = λ members are.
     let after = held c.answer_both-queries.new.ledger in
     let done : IsAnswerTo (held c.args.ledger.now) (number + place) meant c.in_ok-answer.answer after =
     IfOk-at_ok (λ (a : Answer). IsAnswerTo (held c.args.ledger.now) (number + place) meant a after)
-    c.in_ok-answer.was c.answer_both-queries.ensures.load in
+    c.in_ok-answer.was queries.load in
     let here : IsAnswerTo newest cut.load.number (meaning_inside false cut.load) c.in_ok-answer.answer after =
     subst (λ (h : History). IsAnswerTo h cut.load.number (meaning_inside false cut.load) c.in_ok-answer.answer after)
-    (sym c.requires.newest.1)
+    (sym c.requires.same)
     (subst (λ m. IsAnswerTo (held c.args.ledger.now) cut.load.number m c.in_ok-answer.answer after) cut.means
     (subst (λ n. IsAnswerTo (held c.args.ledger.now) n meant c.in_ok-answer.answer after) (sym cut.numbered) done)) in
     let said = c.in_ok-print.ensures.ok in
@@ -132,10 +127,8 @@ returns-clause-printed g c = λ members are.
     c.append.new.self c.in_ok-before.before c.in_ok-before.behind _ cut.are cut.none cut.loads
     (subst AsksLoad cut.means cut.asks) ahead
     (record {
-      given = c.in_ok-answer.answer;
-      is = here;
-      own = said.0;
-      prints = said.1;
-      adds = said.2;
-      count = sym (c.refusals.ensures.told said.0 said.1);
+      answer = said.0;
+      answers = (c.in_ok-answer.answer, here, said.1);
+      printed = said.2;
+      errors = sym (c.refusals.ensures.told said.0 said.1);
     }) others c.in_ok-append.ensures.ok refl refl

@@ -1,23 +1,14 @@
-use Rattle.std.proofs.Common.{◌≡◌, ◌∙◌, ◌-◌, ◌≤◌, ℕ, List, ap, arith, drop, length, length-drop, refl, take}
-use Rattle.std.proofs.lemmas.List.{take_all}
+use Rattle.std.proofs.Common.{◌≤◌, ap, arith, length, length-drop, refl}
 use Rattle.command_core.specs.Command.{meaning_of}
 use Rattle.command_core.specs.Lines.{lines_in}
-use Rattle.command_core.specs.Records.{Record}
 use Rattle.answer_core.specs.Unwritten.{Unwritten}
 use Rattle.store_core.specs.Snapshots.{history}
-use Rattle.script_core.proofs.Blocks.{queries-all, queries-more}
+use Rattle.script_core.proofs.Blocks.{queries-all, queries-more, rest-is}
 use Rattle.script_core.proofs.together.answer_queries.Goals as goal
-
--- the records from a place on
-rest-is : (all rest : List Record) (size at : ℕ) → size ≡ length all → rest ≡ take (size - at) (drop at all)
-    → rest ≡ drop at all
-rest-is all rest size at count is =
-    let room : length (drop at all) ≤ size - at = omega (arith, length-drop at all, count) in
-    is ∙ take_all (size - at) (drop at all) room
 
 pub loop-at-preserved : goal.loop-at-preserved
 loop-at-preserved g c =
-    let lines = lines_in c.args.queries.lines in
+    let lines = lines_in c.args.stretch.lines in
     let at = c.loop-at.at in
     let taken = c.next_inside-command.result.taken in
     let rest = rest-is lines (lines_in c.range.result) c.len-in-loop-at.result at c.len-in-loop-at.ensures
@@ -28,15 +19,21 @@ loop-at-preserved g c =
       within = omega (arith, next.within, length-drop at lines, c.loop-at.invariant.within);
       few = omega (arith, next.some, c.loop-at.invariant.few);
       fewer = omega (arith, c.loop-at.invariant.fewer, c.in_ok-errors.ensures.few);
-      begins = ap (λ (u : Unwritten). u.fields) one.adds;
-      done = queries-more (history c.args.newest.now) c.args.queries.number lines at taken c.args.printer.now
-          c.loop-at.printer c.answer_query.new.printer c.loop-at.told _ (meaning_of c.next_inside-command.result.command)
+      begins = ap (λ (u : Unwritten). u.fields) one.printed;
+      done = queries-more (history c.args.context.now.newest.now) c.args.stretch.first lines at taken c.args.printer.now
+          c.loop-at.printer c.answer_query.new.printer c.loop-at.told _
+          (meaning_of c.next_inside-command.result.command)
           c.in_ok-errors.errors c.loop-at.invariant.done next.within next.next next.allowed one refl refl;
     }
 
-pub returns-clause-printed : goal.returns-clause-printed
-returns-clause-printed g c = λ members are.
-    let lines = lines_in c.args.queries.lines in
+pub returns : goal.returns
+returns g c =
+    let lines = lines_in c.args.stretch.lines in
     let over : length lines ≤ c.loop-at.at = omega (arith, c.loop-at-test.false, c.len.ensures) in
-    queries-all (history c.args.newest.now) c.args.queries.number lines c.loop-at.at c.args.printer.now
-    c.loop-at.printer c.loop-at.told c.loop-at.invariant.done over members are
+    record {
+      printed = λ members are.
+          queries-all (history c.args.context.now.newest.now) c.args.stretch.first lines c.loop-at.at c.args.printer.now
+          c.loop-at.printer c.loop-at.told c.loop-at.invariant.done over members are;
+      few = c.loop-at.invariant.fewer;
+      fewer = omega (arith, c.loop-at.invariant.few, c.loop-at.invariant.within);
+    }

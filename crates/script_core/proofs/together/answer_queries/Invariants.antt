@@ -11,7 +11,7 @@ invariant-loop-at g l = record {
   few : l.told.commands ≤ l.at;
   fewer : l.told.errors ≤ l.told.commands;
   begins : l.printer.fields ≡ [];
-  done : QueriesDone (history l.newest) l.first (lines_in l.lines) l.at l.fn.printer l.printer l.told;
+  done : QueriesDone (history l.context.newest.now) l.first (lines_in l.lines) l.at l.fn.printer l.printer l.told;
 }
 
 abbrev pub decreases-loop-at : goal.decreases-loop-at

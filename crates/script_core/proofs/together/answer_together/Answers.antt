@@ -13,10 +13,9 @@ returns-clause-printed g c = λ members are.
     let before = held c.args.ledger.now in
     let after = held c.answer_commands.new.ledger in
     let shown = c.in_ok-newest.ensures.shows in
-    let said = c.in_ok-print.ensures.ok in
-    let count : c.number.result ≡ length before = c.number.ensures.number ∙ shown.1 in
-    let block = subst (λ (h : History). PrintsBlock h (placed_in false members) after c.print.new.self
+    let count : c.number.result ≡ length before = c.number.ensures.number ∙ (shown.1 ∙ ap length shown.0) in
+    let block = subst (λ (h : History). PrintsBlock h (placed_in false members) after c.together.new.self
     c.answer_commands.new.printer c.in_ok-told.told) shown.0 (c.in_ok-told.ensures.printed members are) in
-    block-stated before number (placed_in false members) after c.args.printer.now c.print.new.self
-    c.answer_commands.new.printer c.in_ok-told.told _ said.0
-    (said.1 ∙ ap (λ n. together_record n ∷ []) count) said.2 block refl refl
+    block-stated before number (placed_in false members) after c.args.printer.now c.together.new.self
+    c.answer_commands.new.printer c.in_ok-told.told _ _ (ap (λ n. together_record n ∷ []) count)
+    c.in_ok-together.ensures.ok block refl refl

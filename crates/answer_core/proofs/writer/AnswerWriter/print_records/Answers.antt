@@ -1,6 +1,6 @@
 use Rattle.std.proofs.Common.{[], ◌∷◌, refl}
 use Rattle.std.proofs.lemmas.Result.{on_ok_weaker}
-use Rattle.answer_core.specs.PrintedRecords.{division_records, error_record, ok_record, together_record, verdict_record}
+use Rattle.answer_core.specs.PrintedRecords.{division_records, error_record, ok_record, verdict_record}
 use Rattle.answer_core.proofs.writer.AnswerWriter.print_records.Goals as goal
 
 pub returns-in-Refused : goal.returns-in-Refused
@@ -27,8 +27,3 @@ pub returns-in-Verdict : goal.returns-in-Verdict
 returns-in-Verdict c =
     rw c.in-Verdict.is
     (on_ok_weaker c.verdict.result (λ adds. (verdict_record c.in-Verdict.verdict ∷ [], refl, adds)) c.verdict.ensures)
-
-pub returns-in-Together : goal.returns-in-Together
-returns-in-Together c =
-    rw c.in-Together.is
-    (on_ok_weaker c.together.result (λ adds. (together_record c.in-Together.commit ∷ [], refl, adds)) c.together.ensures)
