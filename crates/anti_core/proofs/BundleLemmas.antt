@@ -187,8 +187,8 @@ bundling_more left right lefts rights low_left high_left low_right high_right cl
       goes_on = λ rest all.
           subst (AreItemsRows left right) (sym (append_assoc old found rest))
           (i.goes_on (found ++ rest)
-          (AreItemsRows-parted class lefts low_left high_left rights low_right high_right one other found rest i.ids rows
-          all));
+          (AreItemsRows-parted class lefts low_left high_left rights low_right high_right one other found rest i.ids
+          rows all));
       left_few = (let most = i.left_few in
           let whole = ap (λ (xs : List Item). length xs) one.whole in
           omega (arith, most, whole, length-append low_left high_left));

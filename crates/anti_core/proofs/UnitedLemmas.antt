@@ -242,7 +242,8 @@ upwards a b h = elim h [ inl less ↦ omega (arith, less) | inr (same, on) ↦ o
 onwards : (a b : Item) → IsNotAfter a b → a.class ≡ b.class → a.period.from ≤ℤ b.period.from
 onwards a b h same = elim h [ inl less ↦ absurd (omega (arith, less, same)) | inr (e, on) ↦ on ]
 
-module _ (x y j : Item) (l : List Item) (c : Continues x y) (i : IsJoined x y j) (order : StandByClass (x ∷ (y ∷ l))) where
+module _ (x y j : Item) (l : List Item) (c : Continues x y) (i : IsJoined x y j)
+    (order : StandByClass (x ∷ (y ∷ l))) where
   joined_alike : CoverAlike (j ∷ l) (x ∷ (y ∷ l))
   joined_alike z t =
       let px : x.period.from <ℤ x.period.to = x.period.ordered in
@@ -352,7 +353,8 @@ not_after-by a b Greater e h = inl (nat_over b.class a.class e)
 
 -- so sorted items stand by class
 pub stand_sorted : (items : List Item)
-    → IsSortedBy (λ (a b : Item). is_lt (ordering_then (nat_cmp a.class b.class) (int_cmp a.period.from b.period.from))) items
+    → IsSortedBy (λ (a b : Item). is_lt
+    (ordering_then (nat_cmp a.class b.class) (int_cmp a.period.from b.period.from))) items
     → StandByClass items
 unfolding class_cmp
 stand_sorted items sorted = λ i j d below inside.
@@ -396,7 +398,8 @@ uniting_joined items left left' was x both united e c j i =
     record {
       goes_on = λ rest u.
           i'.goes_on rest
-          (union_same (both ∷ left') (was ∷ (x ∷ left')) rest (joined_alike was x both left' c j i'.order) (omega arith) u);
+          (union_same (both ∷ left') (was ∷ (x ∷ left')) rest (joined_alike was x both left' c j i'.order)
+          (omega arith) u);
       order = order_swap was both left' (sym j.class_is) (sym j.from) (order_skip was x left' i'.order);
       id = j.id;
       amount = j.amount;

@@ -227,10 +227,13 @@ new_entry n by c ts =
 -- an entry of those counts
 pub entry_same : (n m by added took : ℕ) (c : Change) (ts : List StoredTable) (entry : Entry) → n ≡ m
     → added ≡ added_in n c (kept_table (table_named c) ts) → took ≡ closed_in n c (kept_table (table_named c) ts)
-    → entry ≡ record { number = n + 1; by = by; kind = change_kind c; table = table_named c; added = added; closed = took }
+    → entry
+    ≡ record { number = n + 1; by = by; kind = change_kind c; table = table_named c; added = added; closed = took }
     → entry ≡ new_entry m by c ts
 entry_same n m by added took c ts entry e a b h =
-    h ∙ ap (λ k. record { number = n + 1; by = by; kind = change_kind c; table = table_named c; added = k; closed = took })
+    h
+    ∙ ap
+    (λ k. record { number = n + 1; by = by; kind = change_kind c; table = table_named c; added = k; closed = took })
     a
     ∙ ap (λ k. record {
       number = n + 1;

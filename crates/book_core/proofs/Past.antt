@@ -2,7 +2,7 @@
 use Rattle.std.proofs.Common.{◌≡◌, ℕ, ◌+◌, ◌<◌, ◌≤◌, List, [], ◌∷◌, length, map, Bool, true, false, ◌&&◌, cond, Option, Some, None, refl, ap, sym, ◌∙◌, arith, get_or, leb, ltb, suc, zero, subst, inl, inr}
 use Rattle.std.specs.Prelude.{IfSome, ◌⊎◌, Contains, MatchOption, AllPairs}
 use Rattle.std.specs.List.{filter_map, cons_option, AllByRecursion}
-use Rattle.std.proofs.lemmas.Bool.{le-leb, lt-ltb, leb-true, leb-false, ltb-true, cases_lt}
+use Rattle.std.proofs.lemmas.Bool.{and_parts, le-leb, lt-ltb, leb-true, leb-false, ltb-true, cases_lt}
 use Rattle.std.proofs.lemmas.List.Kept.{AllPairs-cons}
 use Rattle.std.proofs.lemmas.List.Elements.{All-from_recursion}
 use Rattle.row_core.specs.declared.row.Row.{Row}
@@ -61,10 +61,6 @@ from_filtered {X} {Y} f (x ∷ xs) y h = split (f x) (filter_map f xs) refl h (f
   split (Some z) ys e (inr r) rest = let g = rest r in (g.0, inr g.1, g.2)
 
 -- when a version is shown
-
-and_parts : (a b : Bool) → (a && b) ≡ true → (a ≡ true) × (b ≡ true)
-and_parts true b h = (refl, h)
-and_parts false b h = absurd (cc)
 
 after_from : (to : Option ℕ) (n : ℕ) → is_behind to n ≡ true → IsAfter to n
 after_from None n h = tt

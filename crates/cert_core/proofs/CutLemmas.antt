@@ -35,7 +35,8 @@ last-push from xs x le =
     omega (arith, length-drop from (xs ++ x ∷ [])) in
     let whole : length (drop from xs) ≤ length xs - from = omega (arith, length-drop from xs) in
     take_all (length (xs ++ x ∷ []) - from) (drop from (xs ++ x ∷ [])) long
-    ∙ (drop-append-le from xs (x ∷ []) le ∙ ap (λ l. l ++ x ∷ []) (sym (take_all (length xs - from) (drop from xs) whole)))
+    ∙ (drop-append-le from xs (x ∷ []) le
+    ∙ ap (λ l. l ++ x ∷ []) (sym (take_all (length xs - from) (drop from xs) whole)))
 
 -- one more id, in the last part
 pub cut-last : (from : ℕ) (ends xs : List ℕ) (x k : ℕ) → suc k ≡ length ends → EndsAt from ends (length xs)

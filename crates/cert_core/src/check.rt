@@ -58,7 +58,8 @@ fn first_fault(
     certificate: &Certificate,
 ) -> Result<Option<Verdict>, NoMemory>
     requires { IdsRise items.now }
-    ensures { IfOk result (λ fault. MatchOption fault (Passes items.now claim.now certificate.now) (λ verdict. IsVerdict items.now claim.now certificate.now verdict × (verdict ≢ Verdict.Yes))) }
+    ensures { IfOk result (λ fault. MatchOption fault (Passes items.now claim.now certificate.now)
+        (λ verdict. IsVerdict items.now claim.now certificate.now verdict × (verdict ≢ Verdict.Yes))) }
 {
     let parts = claim.len() as u64;
     if parts != certificate.parts {

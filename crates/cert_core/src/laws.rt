@@ -8,7 +8,8 @@ ghost use Rattle.cert_core.specs.Verdict.{IsVerdict, IsCertified};
 
 /// The law by which Yes proves a division to be least: what is certified has the least number of parts.
 pub fn certified_division_is_least()
-    ensures { (items : List Item) (claim : List (List ℕ)) (certificate : Certificate) → IsCertified items claim certificate → IsLeast items certificate.parts }
+    ensures { (items : List Item) (claim : List (List ℕ)) (certificate : Certificate)
+        → IsCertified items claim certificate → IsLeast items certificate.parts }
 {}
 
 /// Of items whose ids rise, a claim and its certificate have exactly one verdict.

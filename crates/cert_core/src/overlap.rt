@@ -14,7 +14,8 @@ use std::alloc::Global;
 // The items at the places.
 fn take_items(items: &[Item], places: &[usize], taken: &mut Vec<Item>) -> Result<(), NoMemory>
     requires { All (λ p. p < length items.now) places.now }
-    ensures { OnOk result ((ids : List ℕ) → ArePlaces items.now ids places.now → AreNamed items.now ids taken.new.items) }
+    ensures { OnOk result ((ids : List ℕ) → ArePlaces items.now ids places.now
+        → AreNamed items.now ids taken.new.items) }
 {
     taken.clear();
     for place in places {
@@ -25,7 +26,8 @@ fn take_items(items: &[Item], places: &[usize], taken: &mut Vec<Item>) -> Result
 
 // The ids of the first two neighbours that overlap.
 fn first_pair(items: &[Item]) -> Option<(u64, u64)>
-    ensures { MatchOption result (AllAdjacentBelow (λ x y. Overlap x.period y.period → ⊥) items.now (length items.now)) (λ p. IsFirstPair items.now p.0 p.1) }
+    ensures { MatchOption result (AllAdjacentBelow (λ x y. Overlap x.period y.period → ⊥) items.now (length items.now))
+        (λ p. IsFirstPair items.now p.0 p.1) }
 {
     for next in 1..items.len() {
         let (before, item) = (&items[next - 1], &items[next]);
@@ -44,7 +46,8 @@ fn overlap_of(
 ) -> Result<Option<(u64, u64)>, NoMemory>
     requires rise { IdsRise items.now }
     requires within { All (λ p. p < length items.now) places.now }
-    ensures { IfOk result (λ overlap. (part : List ℕ) → ArePlaces items.now part places.now → IsDistinct part → MatchOption overlap (HasNoOverlap items.now part) (λ p. IsFirstOverlap items.now part p.0 p.1)) }
+    ensures { IfOk result (λ overlap. (part : List ℕ) → ArePlaces items.now part places.now → IsDistinct part
+        → MatchOption overlap (HasNoOverlap items.now part) (λ p. IsFirstOverlap items.now part p.0 p.1)) }
 {
     take_items(items, places, taken)?;
     taken.sort_unstable();
@@ -61,7 +64,8 @@ pub(crate) fn first_overlap(
     requires rise { IdsRise items.now }
     requires places { ArePlaces items.now (ids_of claim.now) places.now }
     requires distinct { IsDistinct (ids_of claim.now) }
-    ensures { IfOk result (λ overlap. MatchOption overlap (All (HasNoOverlap items.now) claim.now) (λ p. IsOverlap items.now claim.now p.0 p.1)) }
+    ensures { IfOk result (λ overlap. MatchOption overlap (All (HasNoOverlap items.now) claim.now)
+        (λ p. IsOverlap items.now claim.now p.0 p.1)) }
 {
     let mut taken = Vec::new(alloc);
     let mut start = 0;

@@ -9,7 +9,8 @@ use dip_core::Item;
 // The place of the item that has the id.
 fn place_of(items: &[Item], id: u64) -> Option<usize>
     requires { IdsRise items.now }
-    ensures { MatchOption result ((p : ℕ) → p < length items.now → id_at items.now p ≢ id) (λ p. (p < length items.now) × (id_at items.now p ≡ id)) }
+    ensures { MatchOption result ((p : ℕ) → p < length items.now → id_at items.now p ≢ id)
+        (λ p. (p < length items.now) × (id_at items.now p ≡ id)) }
 {
     if let Some(place) = place_by_count(items, id) {
         return Some(place);
@@ -35,7 +36,8 @@ pub(crate) fn find_places(
 ) -> Result<Option<u64>, NoMemory>
     requires rise { IdsRise items.now }
     requires empty { places.old.items ≡ [] }
-    ensures { IfOk result (λ unknown. MatchOption unknown (ArePlaces items.now ids.now places.new.items) (IsUnknown items.now ids.now)) }
+    ensures { IfOk result (λ unknown. MatchOption unknown (ArePlaces items.now ids.now places.new.items)
+        (IsUnknown items.now ids.now)) }
 {
     for id in ids {
         let Some(place) = place_of(items, *id) else {

@@ -83,12 +83,14 @@ impl Placer {
         requires rises { ForSome self.old.last (λ last. ¬ IsBelow item last) }
         requires room { length (all_of self.old.parts) < item_limit }
         ensures place { IfOk result (IsPlaceFor self.old.parts item.period.from) }
-        ensures added { IfOk result (λ number. self.new ≡ record { parts = added self.old.parts number item; last = Some item; looks = self.new.looks }) }
+        ensures added { IfOk result (λ number. self.new
+            ≡ record { parts = added self.old.parts number item; last = Some item; looks = self.new.looks }) }
         ensures err { OnErr result (self.new ≡ self.old) }
 
         // At most two looks for each binary digit of the number of parts, and one at least where there is one.
         ensures looked { OnOk result (0 < length self.old.parts → self.old.looks < self.new.looks) }
-        ensures few_looks { OnOk result ((digits : ℕ) × HasBinaryDigits (length self.old.parts) digits × (self.new.looks ≤ self.old.looks + 2 * digits)) }
+        ensures few_looks { OnOk result ((digits : ℕ) × HasBinaryDigits (length self.old.parts) digits
+            × (self.new.looks ≤ self.old.looks + 2 * digits)) }
     {
         let mut looks = self.looks;
         let number = place_item(

@@ -37,8 +37,10 @@ pub fn join<R: Threads + Sync, G: Gate>(
 ) -> Result<JoinAnswer, Failure<QueryRefused>>
     requires workers { (0 < workers) × (workers ≤ worker_limit) }
     ensures answer { AnswersOr (columns_refusal left.entry.schema.now right.entry.schema.now on.now)
-        (λ answer. IsJoin (MatchesOn left.entry.schema.now right.entry.schema.now on.now) left.entry.rows.now right.entry.rows.now answer.rows) result }
-    ensures turns { IfOk result (λ answer. (k m : ℕ) → IsLeast (items_of left.entry.rows.now) k → IsLeast (items_of right.entry.rows.now) m
+        (λ answer. IsJoin (MatchesOn left.entry.schema.now right.entry.schema.now on.now) left.entry.rows.now
+        right.entry.rows.now answer.rows) result }
+    ensures turns { IfOk result (λ answer. (k m : ℕ) → IsLeast (items_of left.entry.rows.now) k
+        → IsLeast (items_of right.entry.rows.now) m
         → IsWithin k m (length left.entry.rows.now) (length right.entry.rows.now) answer.turns) }
 {
     if let Some(refused) = refusal_of_pairs(left.schema, right.schema, on) {
@@ -60,8 +62,11 @@ fn join_rows<R: Threads + Sync, G: Gate>(
 ) -> Result<JoinAnswer, NoMemory>
     requires allowed { columns_refusal left.schema.now right.schema.now on.now ≡ None }
     requires workers { (0 < workers) × (workers ≤ worker_limit) }
-    ensures rows { IfOk result (λ answer. IsJoin (MatchesOn left.entry.schema.now right.entry.schema.now on.now) left.entry.rows.now right.entry.rows.now answer.rows) }
-    ensures turns { IfOk result (λ answer. (k m : ℕ) → IsLeast (items_of left.entry.rows.now) k → IsLeast (items_of right.entry.rows.now) m
+    ensures rows { IfOk result (λ answer. IsJoin
+        (MatchesOn left.entry.schema.now right.entry.schema.now on.now) left.entry.rows.now right.entry.rows.now
+        answer.rows) }
+    ensures turns { IfOk result (λ answer. (k m : ℕ) → IsLeast (items_of left.entry.rows.now) k
+        → IsLeast (items_of right.entry.rows.now) m
         → IsWithin k m (length left.entry.rows.now) (length right.entry.rows.now) answer.turns) }
 {
     let classes = classes_of(alloc, left, right, on)?;

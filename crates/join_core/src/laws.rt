@@ -11,7 +11,8 @@ ghost use Rattle.join_core.specs.Join.{IsJoin};
 pub fn join_has_one_list()
     ensures exists { (left_columns right_columns : List Column) (on : List Names) (left right : List Row)
         → (rows : List JoinRow) × IsJoin (MatchesOn left_columns right_columns on) left right rows }
-    ensures one { (left_columns right_columns : List Column) (on : List Names) (left right : List Row) (one other : List JoinRow)
+    ensures one { (left_columns right_columns : List Column) (on : List Names) (left right : List Row)
+        (one other : List JoinRow)
         → IsJoin (MatchesOn left_columns right_columns on) left right one
         → IsJoin (MatchesOn left_columns right_columns on) left right other → one ≡ other }
 {}

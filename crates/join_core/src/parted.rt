@@ -40,7 +40,8 @@ fn join_parts<R: Threads + Sync, G: Gate>(
     requires workers { (0 < workers) × (workers ≤ worker_limit) }
     ensures rows { IfOk result (λ answer. (a b : List Item) → IsPermutation a (all_of left.now)
         → IsPermutation b (all_of right.now) → HasDistinctIds a → HasDistinctIds b → IsItemsJoin a b answer.rows) }
-    ensures turns { IfOk result (λ answer. IsWithin (length left.now) (length right.now) (length (all_of left.now)) (length (all_of right.now)) answer.turns) }
+    ensures turns { IfOk result (λ answer. IsWithin (length left.now) (length right.now) (length (all_of left.now))
+        (length (all_of right.now)) answer.turns) }
 {
     // What is known of each division.
     let _ = left.parts();

@@ -32,7 +32,8 @@ pub(crate) fn rows_of_pairs<R: Threads + Sync, G: Gate>(
     gate: &G,
 ) -> Result<PairRows, NoMemory>
     requires workers { (0 < workers) × (workers ≤ worker_limit) }
-    ensures { IfOk result (λ found. AreOfFirstPairs pairs.now.left.now pairs.now.right.now (length pairs.now.left.now * length pairs.now.right.now) found.rows.items found.turns) }
+    ensures { IfOk result (λ found. AreOfFirstPairs pairs.now.left.now pairs.now.right.now
+        (length pairs.now.left.now * length pairs.now.right.now) found.rows.items found.turns) }
 {
     // What is known of each division.
     let _ = pairs.left.parts();

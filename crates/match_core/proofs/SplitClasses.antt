@@ -3,6 +3,7 @@ use Rattle.std.proofs.Common.{◌≡◌, ℕ, zero, suc, ◌+◌, ◌<◌, List,
 use Rattle.std.specs.Prelude.{All, ◌&&◌, is_none, option_map, option_and_then, slice_get, IsTrue}
 use Rattle.std.proofs.lemmas.List.{append-nil, take_all, drop_all, get_or-replicate, length-replicate, get_or_append_left, length_push, get_or_push}
 use Rattle.std.proofs.lemmas.List.Elements.{All-push, All-append, All-map}
+use Rattle.std.proofs.lemmas.Bool.{and_parts}
 use Rattle.row_core.specs.Refusals.{first_of}
 use Rattle.row_core.specs.Schema.{column_of, fits, kind_in}
 use Rattle.row_core.specs.Value.{kind_of, same_kind}
@@ -126,11 +127,6 @@ column_there columns name k h = from (column_of columns name) refl h
     from None e h = absurd (cc)
     from (Some place) e h = at place (slice_get columns place) e refl h
 
--- both of two that hold together
-and_both : (a b : Bool) → (a && b) ≡ true → (a ≡ true) × (b ≡ true)
-and_both true b h = (refl, h)
-and_both false b h = absurd (cc)
-
 -- a row that fits has a value of the column's kind
 value_there : (columns : List Column) (values : List Value) (place : ℕ) (c : Column) → fits columns values ≡ true
     → slice_get columns place ≡ Some c
@@ -139,10 +135,10 @@ value_there [] values place c h e = absurd (cc)
 value_there (b ∷ columns) [] place c h e = absurd (cc)
 value_there (b ∷ columns) (v ∷ values) zero c h e =
     let same : b ≡ c = cc in
-    let k = (and_both (same_kind b.kind (kind_of v)) (fits columns values) h).0 in
+    let k = (and_parts (same_kind b.kind (kind_of v)) (fits columns values) h).0 in
     sym (ap (λ (x : Column). x.kind) (sym same) ∙ kind_is b.kind (kind_of v) k)
 value_there (b ∷ columns) (v ∷ values) (suc place) c h e =
-    value_there columns values place c (and_both (same_kind b.kind (kind_of v)) (fits columns values) h).1 e
+    value_there columns values place c (and_parts (same_kind b.kind (kind_of v)) (fits columns values) h).1 e
 
 -- the values of rows that fit are of the kind of their column
 named_kind : (columns : List Column) (rows : List Row) (name : List ℕ) (k : Kind) → kind_in columns name ≡ Some k

@@ -66,7 +66,8 @@ fn cells_of<'a>(
     requires count { length classes.now ≡ length lefts.now + length rights.now }
     requires kind { AreOneKind (values_at left_place right_place lefts.now rights.now) }
     ensures count { IfOk result (λ cells. length cells.items ≡ length classes.now) }
-    ensures cells { IfOk result (λ cells. AreCells classes.now (values_at left_place right_place lefts.now rights.now) cells.items) }
+    ensures cells { IfOk result (λ cells. AreCells classes.now
+        (values_at left_place right_place lefts.now rights.now) cells.items) }
 {
     let mut cells = Vec::with_capacity(alloc, classes.len())?;
     for i in 0..classes.len() {

@@ -26,7 +26,8 @@ pub fn classes_of(
     on: &[(Name, Name)],
 ) -> Result<Vec<u64>, NoMemory>
     requires { columns_refusal left.schema.now right.schema.now on.now ≡ None }
-    ensures { IfOk result (λ classes. AreClasses left.entry.schema.now right.entry.schema.now left.entry.rows.now right.entry.rows.now on.now classes.items) }
+    ensures { IfOk result (λ classes. AreClasses left.entry.schema.now right.entry.schema.now left.entry.rows.now
+        right.entry.rows.now on.now classes.items) }
 {
     let count = left.rows.len() + right.rows.len();
     let mut classes = vec![in alloc; 0; count]?;
@@ -46,7 +47,9 @@ fn split_by(
 ) -> Result<(), NoMemory>
     requires count { length classes.old ≡ length left.rows.now + length right.rows.now }
     requires allowed { first_of (tests_of_names left.schema.now right.schema.now pair.now) ≡ None }
-    ensures { OnOk result (Refines classes.old (values_under left.entry.schema.now right.entry.schema.now left.entry.rows.now right.entry.rows.now pair.now) classes.new) }
+    ensures { OnOk result (Refines classes.old
+        (values_under left.entry.schema.now right.entry.schema.now left.entry.rows.now right.entry.rows.now pair.now)
+        classes.new) }
 {
     let Some(left_place) = left.schema.column(pair.0) else {
         unreachable!()

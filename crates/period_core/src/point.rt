@@ -49,7 +49,8 @@ impl Point {
         ensures point { result_ok result ≡ point_of text.now }
 
         // The text is the one that is written, or a midnight with its time.
-        ensures writes_back { IfOk result (λ point. (text.now ≡ point_text point) ⊎ (text.now ≡ point_text point ++ time_text midnight)) }
+        ensures writes_back { IfOk result (λ point. (text.now ≡ point_text point)
+            ⊎ (text.now ≡ point_text point ++ time_text midnight)) }
     {
         let Some((front, behind)) = text.split_at_checked(10) else {
             return Err(BadPoint);
@@ -94,7 +95,8 @@ impl Point {
         ensures reads_back { point_of (point_text self.now) ≡ Some self.now }
 
         // Each other text of the point is longer.
-        ensures shortest { (other : List ℕ) → IsPointText other self.now → (other ≡ point_text self.now) ⊎ (length (point_text self.now) < length other) }
+        ensures shortest { (other : List ℕ) → IsPointText other self.now → (other ≡ point_text self.now)
+            ⊎ (length (point_text self.now) < length other) }
     {
         let date = text_of(&self.date());
         let second = self.second();
@@ -127,7 +129,8 @@ impl Point {
 
 // The number that two digits write.
 fn two_digits(tens: u8, ones: u8) -> Option<u8>
-    ensures { MatchOption result ((n : ℕ) → tens ∷ ones ∷ [] ≢ digits 2 n) (λ n. (n < 100) × (tens ∷ ones ∷ [] ≡ digits 2 n)) }
+    ensures { MatchOption result ((n : ℕ) → tens ∷ ones ∷ [] ≢ digits 2 n)
+        (λ n. (n < 100) × (tens ∷ ones ∷ [] ≡ digits 2 n)) }
 {
     if tens.is_ascii_digit() && ones.is_ascii_digit() {
         Some((tens - b'0') * 10 + (ones - b'0'))
@@ -139,7 +142,8 @@ fn two_digits(tens: u8, ones: u8) -> Option<u8>
 // The year, the month and the day that a text names, which there need not be.
 fn date_parts(text: &[u8]) -> Option<(u16, u8, u8)>
     ensures { MatchOption result ((d : YearMonthDay) → text.now ≢ date_text d)
-        (λ p. (p.0 ≤ 9999) × (p.1 < 100) × (p.2 < 100) × (text.now ≡ date_text (record { year = p.0; month = p.1; day = p.2 }))) }
+        (λ p. (p.0 ≤ 9999) × (p.1 < 100) × (p.2 < 100)
+        × (text.now ≡ date_text (record { year = p.0; month = p.1; day = p.2 }))) }
 {
     if text.len() != 10 || text[4] != b'-' || text[7] != b'-' {
         return None;
@@ -167,7 +171,8 @@ fn date_of(year: u16, month: u8, day: u8) -> Option<civil::Date>
 // The hour, the minute and the second that a text names, which there need not be.
 fn time_parts(text: &[u8]) -> Option<(u8, u8, u8)>
     ensures { MatchOption result ((t : HourMinuteSecond) → text.now ≢ time_text t)
-        (λ p. (p.0 < 100) × (p.1 < 100) × (p.2 < 100) × (text.now ≡ time_text (record { hour = p.0; minute = p.1; second = p.2 }))) }
+        (λ p. (p.0 < 100) × (p.1 < 100) × (p.2 < 100)
+        × (text.now ≡ time_text (record { hour = p.0; minute = p.1; second = p.2 }))) }
 {
     if text.len() != 9 || text[0] != b'T' || text[3] != b':' || text[6] != b':' {
         return None;
@@ -181,7 +186,8 @@ fn time_parts(text: &[u8]) -> Option<(u8, u8, u8)>
 // The time that the bytes behind a date name: midnight where there are none.
 fn time_of(text: &[u8]) -> Option<(u8, u8, u8)>
     ensures { MatchOption result ((t : HourMinuteSecond) → IsTime t → IsTimeText text.now t → ⊥)
-        (λ p. IsTime (record { hour = p.0; minute = p.1; second = p.2 }) × IsTimeText text.now (record { hour = p.0; minute = p.1; second = p.2 })) }
+        (λ p. IsTime (record { hour = p.0; minute = p.1; second = p.2 })
+        × IsTimeText text.now (record { hour = p.0; minute = p.1; second = p.2 })) }
 {
     if text.is_empty() {
         return Some((0, 0, 0));

@@ -333,12 +333,14 @@ step_plateaus measure class steps old new added e lists =
           (λ k i. record {
             class_is = i.class_is;
             maximal = IsMaximal-same (HasValueAt (valued measure class steps) k.value)
-                (GivesValue measure steps k.value) k.period (valued_at measure class steps k.value) (at_valued measure class steps k.value) i.maximal;
+                (GivesValue measure steps k.value) k.period (valued_at measure class steps k.value)
+                (at_valued measure class steps k.value) i.maximal;
           })
           (λ k i. record {
             class_is = i.class_is;
             maximal = IsMaximal-same (GivesValue measure steps k.value)
-                (HasValueAt (valued measure class steps) k.value) k.period (at_valued measure class steps k.value) (valued_at measure class steps k.value) i.maximal;
+                (HasValueAt (valued measure class steps) k.value) k.period (at_valued measure class steps k.value)
+                (valued_at measure class steps k.value) i.maximal;
           })
           lists;
     }

@@ -124,7 +124,8 @@ first_and_others measure l ls added rest above one others =
     ])
 
 pub collecting_more : (measure : Measure) (all left left' : List ClassSteps) (l : ClassSteps)
-    (rows rows' : List Plateau) → left ≡ l ∷ left' → AddsAll PlateauBefore (IsStepPlateau measure l.class l.steps.steps) rows rows'
+    (rows rows' : List Plateau) → left ≡ l ∷ left'
+    → AddsAll PlateauBefore (IsStepPlateau measure l.class l.steps.steps) rows rows'
     → IsCollecting measure all left rows → IsCollecting measure all left' rows'
 collecting_more measure all left left' l rows rows' e adds was =
     let was' : IsCollecting measure all (l ∷ left') rows = subst (λ z. IsCollecting measure all z rows) e was in

@@ -162,7 +162,8 @@ filled_alone (Aside list ∷ slots) = ap (λ z. list ∷ z) (filled_alone slots)
 filled_alone (OfTwo k ∷ slots) = refl
 
 pub filled_without : (all : List ClassSteps) (slots : List Slot) (twos made : List StepList)
-    → sorted_lists slots twos ≡ all → AreBoths twos made → twos ≡ [] → HaveNoNeighbours all → HaveNoNeighbours (filled slots made)
+    → sorted_lists slots twos ≡ all → AreBoths twos made → twos ≡ [] → HaveNoNeighbours all
+    → HaveNoNeighbours (filled slots made)
 filled_without all slots [] [] e are none h = subst HaveNoNeighbours (sym (filled_alone slots ∙ e)) h
 filled_without all slots [] (o ∷ made) e are none h = absurd are
 filled_without all slots (a ∷ twos) made e are none h = let l = ap length none in absurd (omega (arith, l))

@@ -91,7 +91,8 @@ filling_aside all lists lists' slots slots' made list e f was =
     }
 
 pub filling_two : (all lists lists' : List ClassSteps) (slots slots' : List Slot) (made made' : List StepList)
-    (class : ℕ) (steps : StepList) → slots ≡ OfTwo class ∷ slots' → made ≡ steps ∷ made' → lists' ≡ lists ++ of class steps ∷ []
+    (class : ℕ) (steps : StepList) → slots ≡ OfTwo class ∷ slots' → made ≡ steps ∷ made'
+    → lists' ≡ lists ++ of class steps ∷ []
     → IsFilling all lists slots made → IsFilling all lists' slots' made'
 filling_two all lists lists' slots slots' made made' class steps e f g was =
     record {

@@ -4,14 +4,9 @@ use Rattle.std.specs.Prelude.{replicate, nat_le}
 use Rattle.std.specs.List.{list_all, prefix_len}
 use Rattle.std.proofs.lemmas.List.{drop-replicate}
 use Rattle.std.proofs.Math.Seq.{take-append_seam}
-use Rattle.std.proofs.lemmas.Bool.{ne_eqb}
+use Rattle.std.proofs.lemmas.Bool.{and_parts, ne_eqb}
 use Rattle.std.proofs.lemmas.Bool.Decides.{nat_tests}
 use Rattle.row_core.specs.Name.{is_name, is_name_byte, is_reserved, starts_with_letter, padded, unpadded}
-
-and-true : (a b : Bool) → (a && b) ≡ true → (a ≡ true) × (b ≡ true)
-and-true true true h = (refl, refl)
-and-true true false h = absurd (cc)
-and-true false b h = absurd (cc)
 
 name_byte-not_zero : (c : ℕ) → is_name_byte c ≡ true → c ≢ 0
 name_byte-not_zero c h e = let t : is_name_byte 0 ≡ true = ap is_name_byte (sym e) ∙ h in absurd (cc)
@@ -24,7 +19,7 @@ prefix_len-padded : (text : List ℕ) (k : ℕ) → list_all is_name_byte text �
     → prefix_len (λ byte. not (byte == 0)) (text ++ replicate k 0) ≡ length text
 prefix_len-padded [] k h = prefix_len-zeros k
 prefix_len-padded (c ∷ cs) k h =
-    let both = and-true (is_name_byte c) (list_all is_name_byte cs) h in
+    let both = and_parts (is_name_byte c) (list_all is_name_byte cs) h in
     let rest = prefix_len (λ byte. not (byte == 0)) (cs ++ replicate k 0) in
     ap (λ b. cond (not b) (1 + rest) 0) (ne_eqb c 0 (name_byte-not_zero c both.0))
     ∙ (omega (arith, prefix_len-padded cs k both.1))
@@ -37,10 +32,10 @@ unpadded-append text k h =
 -- a name is of name's bytes, and short
 name-parts : (text : List ℕ) → is_name text ≡ true → (list_all is_name_byte text ≡ true) × (length text ≤ 32)
 name-parts text h =
-    let one = and-true (starts_with_letter text)
+    let one = and_parts (starts_with_letter text)
     (nat_le (length text) 32 && (list_all is_name_byte text && not (is_reserved text))) h in
-    let two = and-true (nat_le (length text) 32) (list_all is_name_byte text && not (is_reserved text)) one.1 in
-    let three = and-true (list_all is_name_byte text) (not (is_reserved text)) two.1 in
+    let two = and_parts (nat_le (length text) 32) (list_all is_name_byte text && not (is_reserved text)) one.1 in
+    let three = and_parts (list_all is_name_byte text) (not (is_reserved text)) two.1 in
     (three.0, let short = two.0 in grind (arith, nat_tests))
 
 -- what is kept of a name

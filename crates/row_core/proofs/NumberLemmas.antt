@@ -6,7 +6,7 @@ use Rattle.std.specs.Result.{result_ok}
 use Rattle.std.specs.Str.Parse.{AllDigits, IsNumeral, digits_value, signed_digits_value, without_leading_sign, without_leading_plus, ParsesSigned}
 use Rattle.std.specs.Fmt.{decimal}
 use Rattle.std.specs.Cmp.Lexicographic.{pointwise, bytes_decides}
-use Rattle.std.proofs.lemmas.Bool.{ne_eqb}
+use Rattle.std.proofs.lemmas.Bool.{and_parts, ne_eqb}
 use Rattle.std.proofs.lemmas.Bool.Decides.{nat_tests, eqb_tells}
 use Rattle.std.proofs.lemmas.Str.Parse.{IsNumeralModel, numerals_by_value, tells_digits, digit_from_value}
 use Rattle.std.proofs.lemmas.Str.{IsUtf8-from_ascii}
@@ -29,11 +29,6 @@ is_number-from_mag : (z : ℤ) → mag z < 2 ^ 63 → is_number z ≡ true
 is_number-from_mag (pos n) h = grind (arith, nat_tests)
 is_number-from_mag (negsuc n) h = grind (arith, nat_tests)
 
-and-true : (a b : Bool) → (a && b) ≡ true → (a ≡ true) × (b ≡ true)
-and-true true true h = (refl, refl)
-and-true true false h = absurd (cc)
-and-true false b h = absurd (cc)
-
 none_from : (z : ℤ) (test : Bool) → (test ≡ true → ⊥) → cond test (Some z) None ≡ None
 none_from z true h = absurd (h refl)
 none_from z false h = refl
@@ -43,7 +38,7 @@ pub number_of-none : (text : List ℕ) → ((z : ℤ) → is_number z ≡ true �
 number_of-none text h =
     let z = signed_digits_value 10 text in
     none_from z (is_number z && pointwise nat_eq (number_text z) text) (λ e.
-    let both = and-true (is_number z) (pointwise nat_eq (number_text z) text) e in
+    let both = and_parts (is_number z) (pointwise nat_eq (number_text z) text) e in
     h z both.0 (sym ((bytes_decides (number_text z) text).0 both.1)))
 
 -- the number that is printed so

@@ -7,7 +7,7 @@ use Rattle.book_core.specs.declared.commit.Commit.{Commit}
 use Rattle.book_core.specs.declared.refusal.BookRefused.{BookRefused}
 use Rattle.turn_core.specs.Entries.{own, AreOfCallers}
 use Rattle.store_core.specs.Histories.{by_of, commit, CommitsTo, refusal_after}
-use Rattle.store_core.specs.Passes.{Commits, Counts, mine, number_of, passes_of, seen}
+use Rattle.store_core.specs.Passes.{Commits, Counts, mine, pass_number, passes_of, seen}
 use Rattle.store_core.specs.declared.pass.Pass.{Pass}
 use Rattle.store_core.specs.declared.refusal.StoreRefused.TheVariants as store
 
@@ -20,11 +20,11 @@ own-all (c ∷ cs) all =
     ∙ ap (λ (l : History). c ∷ l) (own-all cs (λ k d l. all (suc k) d (omega arith)))
 
 -- all that the pass has seen is its own
-pub own-alone : (pass : Pass) → passes_of pass ≡ 1 → (number_of pass ≡ 1) × (seen pass ≡ mine pass)
+pub own-alone : (pass : Pass) → passes_of pass ≡ 1 → (pass_number pass ≡ 1) × (seen pass ≡ mine pass)
 own-alone pass one =
     let some = pass.some in
     let within = pass.seat.within in
-    let number : number_of pass ≡ 1 = omega (arith, some, within, one) in (
+    let number : pass_number pass ≡ 1 = omega (arith, some, within, one) in (
       number,
       sym (own-all (seen pass) (subst (λ (k : ℕ). AreOfCallers by_of k (seen pass)) one pass.seat.numbered))
           ∙ (ap (λ (k : ℕ). own by_of k (seen pass)) (sym (pass.seat.source some ∙ number)) ∙ pass.seat.own),
@@ -66,9 +66,9 @@ module _ (p q : Pass) (one : passes_of p ≡ 1) where
   commits-alone change n (counts, (before, is, accepted), number) =
       let c = commit 1 change in
       let grown : seen q ≡ seen p ++ c ∷ [] =
-      grows-alone (commit (number_of p) change ∷ []) counts
+      grows-alone (commit (pass_number p) change ∷ []) counts
       ∙ ap (λ (k : ℕ). seen p ++ commit k change ∷ []) (own-alone p one).0 in
-      let same : before ≡ seen p = front-same before (seen p) (commit (number_of p) change) c (sym is ∙ grown) in
+      let same : before ≡ seen p = front-same before (seen p) (commit (pass_number p) change) c (sym is ∙ grown) in
       (subst (λ (h : History). refusal_after h change ≡ None) same accepted, grown, number)
 
   -- and refused so

@@ -6,7 +6,7 @@ use Rattle.version_core.specs.declared.change.Change.{Change}
 use Rattle.book_core.specs.History.{History}
 use Rattle.book_core.specs.State.{IsRefusedAs}
 use Rattle.book_core.specs.declared.refusal.BookRefused.{BookRefused}
-use Rattle.store_core.specs.Histories.{refusal_after, Refuses}
+use Rattle.store_core.specs.Histories.{refusal_after, RefusesCommit}
 
 name_in : BookRefused → Result ℕ (Failure BookRefused) → BookRefused
 name_in other (Ok x) = other
@@ -16,7 +16,7 @@ name_in other (Err NoMemory) = other
 module _ (h : History) (change : Change) where
   by-name : (why : Failure BookRefused) (o : Option BookRefused) → refusal_after h change ≡ o
       → IfSome o (IsRefusedAs {T = ℕ} (Err why)) → IfNone o (IsOkUnless {T = ℕ} (Err why) NoMemory)
-      → Refuses h change why
+      → RefusesCommit h change why
   unfolding name_in
   by-name NoMemory o is some none = tt
   by-name (Refused why) None is some none = absurd (cc)
@@ -24,9 +24,9 @@ module _ (h : History) (change : Change) where
   by-name (Refused why) (Some name) is (inr e) none = absurd (let f = e.1 in cc)
 
   -- what a book answers is the first refusal that applies, or memory is refused
-  pub Refuses-of : (why : Failure BookRefused) → IfSome (refusal_after h change) (IsRefusedAs {T = ℕ} (Err why))
-      → IfNone (refusal_after h change) (IsOkUnless {T = ℕ} (Err why) NoMemory) → Refuses h change why
-  Refuses-of why some none = by-name why (refusal_after h change) refl some none
+  pub RefusesCommit-of : (why : Failure BookRefused) → IfSome (refusal_after h change) (IsRefusedAs {T = ℕ} (Err why))
+      → IfNone (refusal_after h change) (IsOkUnless {T = ℕ} (Err why) NoMemory) → RefusesCommit h change why
+  RefusesCommit-of why some none = by-name why (refusal_after h change) refl some none
 
 -- what holds of the error holds of the answer
 pub exit-answers : {U E : Type 0} (r : Result U E) (e : E) (P : E → Type 0) → (y : E) × (r ≡ Err y) × (y ≡ e) → P e

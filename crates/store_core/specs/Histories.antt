@@ -24,15 +24,15 @@ abbrev pub refusal_after : History → Change → Option BookRefused
 refusal_after h change = refusal_of (length h) (state_after h) change
 
 -- the change is refused by the first name that applies after the history, or memory is
-abbrev pub Refuses : History → Change → Failure BookRefused → Type 0
-Refuses h change (Refused why) = refusal_after h change ≡ Some why
-Refuses h change NoMemory = ⊤
+abbrev pub RefusesCommit : History → Change → Failure BookRefused → Type 0
+RefusesCommit h change (Refused why) = refusal_after h change ≡ Some why
+RefusesCommit h change NoMemory = ⊤
 
 -- what a change of a pass does to the history, and is answered: it is accepted, and its number is how many changes
 -- there are with it, or the history stays
 abbrev pub CommitsTo : History → ℕ → Change → Result ℕ (Failure BookRefused) → History → Type 0
 CommitsTo h by change (Ok n) k = (refusal_after h change ≡ None) × (k ≡ h ++ commit by change ∷ []) × (n ≡ length k)
-CommitsTo h by change (Err why) k = (k ≡ h) × Refuses h change why
+CommitsTo h by change (Err why) k = (k ≡ h) × RefusesCommit h change why
 
 -- that there is no value can be shown in one way, so that a type may keep that a history is legal
 module _ {T : Type 0} where

@@ -36,8 +36,8 @@ abbrev pub mine : Pass → History
 mine p = (view p).mine
 
 -- its number
-abbrev pub number_of : Pass → ℕ
-number_of p = (view p).number
+abbrev pub pass_number : Pass → ℕ
+pass_number p = (view p).number
 
 -- how many passes its store has
 abbrev pub passes_of : Pass → ℕ
@@ -54,11 +54,11 @@ IsPassOf s p = IsSeatOf s.turn p.seat
 -- what a pass knows after a call: it has seen what it had seen, and maybe more, in one legal history, which has its
 -- own changes, each once, and else only those of other passes
 pub record Sees (p q : Pass) : Type 0 where
-  pub number : number_of q ≡ number_of p
+  pub number : pass_number q ≡ pass_number p
   pub passes : passes_of q ≡ passes_of p
   pub before : IsPrefix (seen p) (seen q)
   pub legal : IsLegal (seen q)
-  pub own : own by_of (number_of q) (seen q) ≡ mine q
+  pub own : own by_of (pass_number q) (seen q) ≡ mine q
   pub numbered : AreOfCallers by_of (passes_of q) (seen q)
 
 -- the same of a call that counts, by which these changes of its own came
@@ -74,9 +74,9 @@ IsSpent p q = (calls_left p ≡ 0) × (q ≡ p)
 -- what a pass is replied when it commits a change: its change is the last that it has seen, accepted in its place,
 -- or it is refused as after all that it has seen
 abbrev pub Commits : Pass → Change → Result ℕ (Failure StoreRefused) → Pass → Type 0
-Commits p change (Ok n) q = Counts p q (commit (number_of p) change ∷ [])
+Commits p change (Ok n) q = Counts p q (commit (pass_number p) change ∷ [])
     × ((before : History)
-    × (seen q ≡ before ++ commit (number_of p) change ∷ []) × (refusal_after before change ≡ None))
+    × (seen q ≡ before ++ commit (pass_number p) change ∷ []) × (refusal_after before change ≡ None))
     × (n ≡ length (seen q))
 Commits p change (Err (Refused store.PassSpent)) q = IsSpent p q
 Commits p change (Err (Refused (store.Book why))) q = Counts p q [] × (refusal_after (seen q) change ≡ Some why)
@@ -97,7 +97,7 @@ ReadsLog p (Err NoMemory) q = Counts p q []
 
 -- a pass that has seen nothing and made nothing, of this number, of so many, with so many calls
 pub record IsFresh (k n calls : ℕ) (p : Pass) : Type 0 where
-  pub number : number_of p ≡ k
+  pub number : pass_number p ≡ k
   pub passes : passes_of p ≡ n
   pub left : calls_left p ≡ calls
   pub seen : seen p ≡ []
@@ -122,7 +122,7 @@ pub record MakesNote (s : Store) (p q : Pass) (n : Note) : Type 0 where
   pub note : IsNoteOf s n
   pub left : calls_left q ≡ calls_left p
   pub same : view q ≡ view p
-  pub number : (told_in n).source ≡ number_of p
+  pub number : (told_in n).source ≡ pass_number p
   pub seen : (told_in n).seen ≡ seen p
   pub mine : (told_in n).mine ≡ mine p
 

@@ -30,11 +30,11 @@ pub struct Note {
 }
 
 impl Pass {
-    ghost use Rattle.store_core.specs.Passes.{calls_left, mine, number_of, passes_of, seen};
+    ghost use Rattle.store_core.specs.Passes.{calls_left, mine, pass_number, passes_of, seen};
 
     /// Its number, from 1 on.
     pub fn number(&self) -> u32
-        ensures { result ≡ number_of self.now }
+        ensures { result ≡ pass_number self.now }
     {
         self.seat.number()
     }
@@ -48,6 +48,6 @@ impl Pass {
 
     /// A law: in a store of one pass, all that the pass has seen is its own.
     pub fn has_seen_its_own(&self)
-        ensures { passes_of self.now ≡ 1 → (number_of self.now ≡ 1) × (seen self.now ≡ mine self.now) }
+        ensures { passes_of self.now ≡ 1 → (pass_number self.now ≡ 1) × (seen self.now ≡ mine self.now) }
     {}
 }

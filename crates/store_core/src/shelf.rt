@@ -6,7 +6,7 @@ ghost use Rattle.book_core.specs.History.{IsLegal};
 ghost use Rattle.book_core.specs.Versions.{log_of};
 ghost use Rattle.turn_core.specs.Entries.{AreOfCallers};
 ghost use Rattle.turn_core.specs.Limits.{seat_limit};
-ghost use Rattle.store_core.specs.Histories.{by_of, commit, CommitsTo, IsLegal-prop, refusal_after, Refuses};
+ghost use Rattle.store_core.specs.Histories.{by_of, commit, CommitsTo, IsLegal-prop, refusal_after, RefusesCommit};
 ghost use Rattle.store_core.specs.Snapshots.{Shows};
 
 use crate::refusal::Future;
@@ -51,7 +51,7 @@ fn changed_copy(
 ) -> Result<Arc<Book>, Failure<BookRefused>>
     ensures ok { IfOk result (λ changed. (refusal_after book.now change ≡ None)
         × (arc_value changed ≡ book.now ++ commit by change ∷ [])) }
-    ensures err { IfErr result (Refuses book.now change) }
+    ensures err { IfErr result (RefusesCommit book.now change) }
 {
     let mut copy = book.copy(alloc)?;
     copy.apply(by, change)?;
@@ -68,7 +68,7 @@ fn change_book(
     ensures ok { OnOk result ((refusal_after (arc_value shared.old) change ≡ None)
         × (arc_value shared.new ≡ arc_value shared.old ++ commit by change ∷ [])) }
     ensures err { IfErr result (λ why. (arc_value shared.new ≡ arc_value shared.old)
-        × Refuses (arc_value shared.old) change why) }
+        × RefusesCommit (arc_value shared.old) change why) }
 {
     match Arc::get_mut(shared) {
         Some(book) => {

@@ -12,7 +12,7 @@ use Rattle.turn_core.specs.declared.view.Stage.TheVariants.{Resting}
 use Rattle.turn_core.specs.Entries.{own, AreOfCallers}
 use Rattle.turn_core.specs.Limits.{call_limit, seat_limit}
 use Rattle.turn_core.specs.Rule.{Round, StageFits, Fits, Serves}
-use Rattle.turn_core.specs.Steps.{view_from, sole, following, longer, telling, told_by, spent_view, Learns}
+use Rattle.turn_core.specs.Steps.{view_from, sole, following, longer, telling, hearing, spent_view, Learns}
 use Rattle.turn_core.proofs.RoundLemmas.{pick, pick-yes, pick-no, each-set}
 use Rattle.turn_core.proofs.ViewSums.{sum-set}
 use Rattle.turn_core.proofs.EntryLemmas.{at-push, own-between, longer-meets, numbered-front}
@@ -195,12 +195,12 @@ module _ {S E : Type 0} (entries : S → List E) (by : E → ℕ) (mark_of : S �
       (at_set s.views id other z w there)
 
   pub may_join : (id : ℕ) (v : V) (other : ℕ) (w : V) → 0 < v.number → v.stage ≡ Resting
-      → Joins Rule id v other w (told_by v w) spent_view
+      → Joins Rule id v other w (hearing v w) spent_view
   may_join id v other w pos rests s r at apart there =
       let x : Round E = r.x in
       let old = r.each id v at in
       let q = old.sits pos in
-      let z : V = told_by v w in
+      let z : V = hearing v w in
       let its = at-other s r id other z w apart there in
       let t = sum-set (λ (u : V). u.left) s.views id v z at in
       let t' = sum-set (λ (u : V). u.left) (set s.views id z) other w spent_view there in

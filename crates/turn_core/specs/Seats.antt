@@ -7,8 +7,8 @@ use Rattle.turn_core.specs.declared.turn.Turn.{Turn}
 use Rattle.turn_core.specs.declared.view.View.{View}
 
 -- which table the turn is played at
-abbrev pub table_of : {S E : Type 0} → Turn S E → TableId
-table_of turn = turn.table.shared.table_id
+abbrev pub table_in : {S E : Type 0} → Turn S E → TableId
+table_in turn = turn.table.shared.table_id
 
 module _ {S E : Type 0} {kept : Ghosts S E} where
   -- what the seat knows
@@ -17,4 +17,4 @@ module _ {S E : Type 0} {kept : Ghosts S E} where
 
   -- the seat is one of this turn, or was split off one
   abbrev pub IsSeatOf : Turn S E → Seat S E kept → Type 0
-  IsSeatOf turn seat = seat.seat.table_id ≡ table_of turn
+  IsSeatOf turn seat = seat.seat.table_id ≡ table_in turn

@@ -60,8 +60,8 @@ module _ {E : Type 0} where
   telling v = rested 0 v.source v.mark 0 0 v.seen v.mine
 
   -- v, after it was told what w knows
-  abbrev pub told_by : View E → View E → View E
-  told_by v w = record v { seen = longer v.seen w.seen; before = v.seen; told = w.seen }
+  abbrev pub hearing : View E → View E → View E
+  hearing v w = record v { seen = longer v.seen w.seen; before = v.seen; told = w.seen }
 
   -- a seat that knows nothing
   abbrev pub spent_view : View E

@@ -1,7 +1,7 @@
 //! The rule of the table, and what each step on it tells. These types are for proofs alone.
 
 ghost use Rattle.turn_core.specs.Rule.{Serves};
-ghost use Rattle.turn_core.specs.Steps.{view_from, sole, following, telling, told_by, spent_view, Draws, Looks, PassesOn, Learns};
+ghost use Rattle.turn_core.specs.Steps.{view_from, sole, following, telling, hearing, spent_view, Draws, Looks, PassesOn, Learns};
 
 use crate::kept::Kept;
 use crate::view::View;
@@ -62,7 +62,7 @@ impl<E> Split<View<E>> for Tell {
 pub(crate) struct Hear;
 
 impl<E> Join<View<E>> for Hear {
-    ghost both = { λ v w. told_by v w };
+    ghost both = { λ v w. hearing v w };
 
     ghost spent = { spent_view };
 }

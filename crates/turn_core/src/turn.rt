@@ -37,7 +37,7 @@ pub struct Turn<S: Kept> {
 }
 
 impl<S: Kept> Turn<S> {
-    ghost use Rattle.turn_core.specs.Seats.{IsSeatOf, table_of, view_of};
+    ghost use Rattle.turn_core.specs.Seats.{IsSeatOf, table_in, view_of};
 
     /// A turn over a state without entries, and its seats: the one with number i + 1 stands at place i, and may
     /// make 2^40 calls. A state whose turn is out of memory is dropped.
@@ -62,7 +62,7 @@ impl<S: Kept> Turn<S> {
 
     // Deals a seat for each number.
     fn deal(&self, first: TableSeat<S>, seats: u32, list: &mut Vec<Seat<S>>)
-        requires turn { first.table_id ≡ table_of self.now }
+        requires turn { first.table_id ≡ table_in self.now }
         requires seats { 1 ≤ seats }
         requires first { first.me ≡ (view_from 1 seats, []) }
         requires list { (list.old.items ≡ []) × (seats ≤ vec_capacity list.old) }
@@ -138,7 +138,7 @@ impl<S: Kept> Turn<S> {
 
     // Draws the next ticket.
     fn draw(&self, seat: &mut TableSeat<S>) -> u64
-        requires turn { seat.old.table_id ≡ table_of self.now }
+        requires turn { seat.old.table_id ≡ table_in self.now }
         requires left { 0 < seat.old.me.0.left }
         ensures turn { (seat.new.table_id ≡ seat.old.table_id) × (seat.new.id ≡ seat.old.id) }
         ensures drew { (seat.new.me.1 ≡ seat.old.me.1)
@@ -149,7 +149,7 @@ impl<S: Kept> Turn<S> {
 
     // Waits for the ticket, and takes the state out.
     fn take<R: Wait>(&self, rt: &R, seat: &mut TableSeat<S>, ticket: u64) -> S
-        requires turn { seat.old.table_id ≡ table_of self.now }
+        requires turn { seat.old.table_id ≡ table_in self.now }
         requires number { 0 < seat.old.me.0.number }
         requires waits { seat.old.me.0.stage ≡ Waiting ticket }
         requires empty { seat.old.me.1 ≡ [] }
@@ -172,7 +172,7 @@ impl<S: Kept> Turn<S> {
 
     // Puts the state home, and lets the next caller have it.
     fn pass_on(&self, seat: &mut TableSeat<S>, state: S)
-        requires turn { seat.old.table_id ≡ table_of self.now }
+        requires turn { seat.old.table_id ≡ table_in self.now }
         requires number { 0 < seat.old.me.0.number }
         requires serves { (k : ℕ) × (seat.old.me.0.stage ≡ Serving k) }
         requires slot { seat.old.me.1 ≡ (0, None) ∷ [] }

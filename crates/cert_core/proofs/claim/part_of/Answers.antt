@@ -6,7 +6,8 @@ use Rattle.cert_core.proofs.claim.part_of.Goals.{After-start_at-start}
 bounds : (c : After-start_at-start) → (c.start_at-start.result ≤ get_or c.args.ends.now c.args.number 0)
     × (get_or c.args.ends.now c.args.number 0 ≤ length c.args.ids.now)
 bounds c =
-    subst (λ n. (n ≤ get_or c.args.ends.now c.args.number 0) × (get_or c.args.ends.now c.args.number 0 ≤ length c.args.ids.now))
+    subst (λ n. (n ≤ get_or c.args.ends.now c.args.number 0)
+    × (get_or c.args.ends.now c.args.number 0 ≤ length c.args.ids.now))
     (sym c.start_at-start.ensures)
     (EndsAt-part 0 c.args.ends.now (length c.args.ids.now) c.args.number c.requires.ends c.requires.there)
 
@@ -25,4 +26,5 @@ slice_bounds-result-end c = (bounds c).1
 pub returns : goal.returns
 returns c =
     slice_get-cut 0 c.args.ends.now c.args.ids.now c.args.number c.requires.there
-    ∙ ap (λ n. Some (take (get_or c.args.ends.now c.args.number 0 - n) (drop n c.args.ids.now))) (sym c.start_at-start.ensures)
+    ∙ ap (λ n. Some (take (get_or c.args.ends.now c.args.number 0 - n) (drop n c.args.ids.now)))
+    (sym c.start_at-start.ensures)

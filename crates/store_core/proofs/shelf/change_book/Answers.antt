@@ -2,8 +2,8 @@ use Rattle.std.proofs.Common.{◌≡◌, ◌∙◌, subst}
 use Rattle.std.specs.Arc.{arc_value}
 use Rattle.std.proofs.lemmas.Result.{err_from_is_err_and}
 use Rattle.book_core.specs.History.{History}
-use Rattle.store_core.specs.Histories.{Refuses}
-use Rattle.store_core.proofs.Refusing.{Refuses-of, exit-answers}
+use Rattle.store_core.specs.Histories.{RefusesCommit}
+use Rattle.store_core.proofs.Refusing.{RefusesCommit-of, exit-answers}
 use Rattle.store_core.proofs.shelf.change_book.Goals as goal
 
 pub returns-in_err-apply-in-Some-clause-err : goal.returns-in_err-apply-in-Some-clause-err
@@ -13,8 +13,8 @@ returns-in_err-apply-in-Some-clause-err c =
     let why = c.in_err-apply-in-Some.field-0.0 in
     let failed = c.in_err-apply-in-Some.ensures in
     let same : c.in-Some.book.now ≡ old = c.in-Some.ensures.value in
-    exit-answers c.from_residual.result why (λ e. (c.apply.new.self ≡ old) × Refuses old c.args.change e) p (
+    exit-answers c.from_residual.result why (λ e. (c.apply.new.self ≡ old) × RefusesCommit old c.args.change e) p (
       failed.err ∙ same,
-      subst (λ (h : History). Refuses h c.args.change why) same
-          (Refuses-of c.in-Some.book.now c.args.change why failed.refused failed.accepted),
+      subst (λ (h : History). RefusesCommit h c.args.change why) same
+          (RefusesCommit-of c.in-Some.book.now c.args.change why failed.refused failed.accepted),
     )

@@ -1,8 +1,8 @@
 use Rattle.std.proofs.Common.{subst}
 use Rattle.std.proofs.lemmas.Result.{err_from_is_err_and}
 use Rattle.book_core.specs.History.{History}
-use Rattle.store_core.specs.Histories.{Refuses}
-use Rattle.store_core.proofs.Refusing.{Refuses-of, exit-answers}
+use Rattle.store_core.specs.Histories.{RefusesCommit}
+use Rattle.store_core.proofs.Refusing.{RefusesCommit-of, exit-answers}
 use Rattle.store_core.proofs.shelf.changed_copy.Goals as goal
 
 pub returns-in_err-apply-clause-err : goal.returns-in_err-apply-clause-err
@@ -10,6 +10,6 @@ returns-in_err-apply-clause-err c =
     let p = err_from_is_err_and c.from_residual-in_err-apply.result c.from_residual-in_err-apply.ensures.1 in
     let why = c.in_err-apply.field-0.0 in
     let failed = c.in_err-apply.ensures in
-    exit-answers c.from_residual-in_err-apply.result why (Refuses c.args.book.now c.args.change) p
-    (subst (λ (h : History). Refuses h c.args.change why) c.in_ok-copy.ensures
-    (Refuses-of c.in_ok-copy.copy c.args.change why failed.refused failed.accepted))
+    exit-answers c.from_residual-in_err-apply.result why (RefusesCommit c.args.book.now c.args.change) p
+    (subst (λ (h : History). RefusesCommit h c.args.change why) c.in_ok-copy.ensures
+    (RefusesCommit-of c.in_ok-copy.copy c.args.change why failed.refused failed.accepted))

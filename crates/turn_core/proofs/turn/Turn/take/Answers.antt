@@ -14,7 +14,8 @@ load-requires g c = let same = c.loop.invariant.2 in (
 pub exchange-requires : goal.exchange-requires
 exchange-requires g c =
     let same = c.loop.invariant.2 in
-    let hit = (c.load.ensures.2 c.args.ticket (ap (λ m. m.0.stage) same ∙ c.requires.waits)).1 c.if-load-ticket.true in (
+    let hit = (c.load.ensures.2 c.args.ticket (ap (λ m. m.0.stage) same ∙ c.requires.waits)).1
+    c.if-load-ticket.true in (
       search rules,
       (Some hit.0, hit.1 ∙ ap (λ (l : List (ℕ × Option g.row.S.Denot)). (0, Some hit.0) ∷ l) (sym (ap rest hit.1))),
     )
