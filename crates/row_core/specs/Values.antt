@@ -1,11 +1,13 @@
 -- What the values of a row stand for.
-use Rattle.std.specs.Prelude.{List, [], Option, Some, None}
+use Rattle.std.specs.Prelude.{List, []}
 use Rattle.std.specs.Arc.{arc_value}
-use Rattle.std.specs.declared.sync.Arc.{Arc}
-use Rattle.std.specs.declared.vec.Vec.{Vec}
+use Rattle.row_core.specs.declared.value.Shared.{Shared}
+use Rattle.row_core.specs.declared.value.Shared.TheVariants.{Nothing, One, Two, More}
 use Rattle.row_core.specs.declared.value.Value.{Value}
 
--- the values that are shared, or none
-abbrev pub values_in : {A B : Type 0} → Option (Arc (Vec Value A) B) → List Value
-values_in None = []
-values_in (Some items) = (arc_value items).items
+-- the values that are shared
+abbrev pub values_in : Shared → List Value
+values_in Nothing = []
+values_in (One one) = arc_value one
+values_in (Two two) = arc_value two
+values_in (More items) = (arc_value items).items

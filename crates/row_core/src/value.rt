@@ -3,6 +3,7 @@ ghost use Rattle.std.specs.Option.{option_copied};
 ghost use Rattle.std.specs.Result.{result_err};
 ghost use Rattle.row_core.specs.Refusals.{IsAnswer};
 ghost use Rattle.row_core.specs.Value.{kind_of, same_kind, value_of};
+ghost use Rattle.row_core.specs.Values.{values_in};
 
 use crate::NoMemory;
 use crate::failure::Failure;
@@ -147,13 +148,63 @@ impl DeepCopy for Value {
     }
 }
 
+/// Values, and how many own them. One or two values lie beside that count, in one block of memory; for none there
+/// is no block.
+#[derive(Debug, Drop)]
+pub(crate) enum Shared {
+    Nothing,
+    One(Arc<[Value; 1]>),
+    Two(Arc<[Value; 2]>),
+    More(Arc<Vec<Value>>),
+}
+
+impl Shared {
+    fn new(alloc: Global, items: Vec<Value>) -> Result<Shared, NoMemory>
+        ensures { IfOk result (λ shared. values_in shared ≡ items.items) }
+    {
+        if items.is_empty() {
+            return Ok(Shared::Nothing);
+        }
+        let items = match <[Value; 1]>::try_from(items) {
+            Ok(one) => return Ok(Shared::One(Arc::new(alloc, one)?)),
+            Err(items) => items,
+        };
+        match <[Value; 2]>::try_from(items) {
+            Ok(two) => Ok(Shared::Two(Arc::new(alloc, two)?)),
+            Err(items) => Ok(Shared::More(Arc::new(alloc, items)?)),
+        }
+    }
+
+    fn as_slice(&self) -> &[Value]
+        ensures { result.now ≡ values_in self.now }
+    {
+        match self {
+            Shared::Nothing => &[],
+            Shared::One(one) => one.as_slice(),
+            Shared::Two(two) => two.as_slice(),
+            Shared::More(items) => items.as_slice(),
+        }
+    }
+
+    /// One more owner.
+    fn share(&self) -> Result<Shared, NoMemory>
+        ensures { IfOk result (λ shared. values_in shared ≡ values_in self.now) }
+    {
+        match self {
+            Shared::Nothing => Ok(Shared::Nothing),
+            Shared::One(one) => Ok(Shared::One(Arc::try_clone(one)?)),
+            Shared::Two(two) => Ok(Shared::Two(Arc::try_clone(two)?)),
+            Shared::More(items) => Ok(Shared::More(Arc::try_clone(items)?)),
+        }
+    }
+}
+
 /// The values of a row, one for each column. Copies share them, so a row that is kept as a version and in
 /// its change, and is listed, has its values once.
 #[derive(Debug, Drop)]
 pub struct Values {
     alloc: Global,
-    /// None where there are none, which takes no memory.
-    shared: Option<Arc<Vec<Value>>>,
+    shared: Shared,
 }
 
 impl Model for Values {
@@ -173,7 +224,7 @@ impl Values {
     {
         Values {
             alloc,
-            shared: None,
+            shared: Shared::Nothing,
         }
     }
 
@@ -181,11 +232,7 @@ impl Values {
     pub fn of(alloc: Global, items: Vec<Value>) -> Result<Values, NoMemory>
         ensures { IfOk result (λ values. values ≡ items.items) }
     {
-        let shared = if items.is_empty() {
-            None
-        } else {
-            Some(Arc::new(alloc, items)?)
-        };
+        let shared = Shared::new(alloc, items)?;
         Ok(Values { alloc, shared })
     }
 
@@ -214,10 +261,7 @@ impl Values {
     pub fn as_slice(&self) -> &[Value]
         ensures { result.now ≡ self.now }
     {
-        match &self.shared {
-            Some(items) => items.as_slice(),
-            None => &[],
-        }
+        self.shared.as_slice()
     }
 
     /// Adds a value at the end, which copies those before it. On `NoMemory` the list is as before, and the
@@ -235,10 +279,7 @@ impl Values {
 
 impl DeepCopy for Values {
     fn copy(&self, alloc: Global) -> Result<Values, NoMemory> {
-        let shared = match &self.shared {
-            Some(items) => Some(Arc::try_clone(items)?),
-            None => None,
-        };
+        let shared = self.shared.share()?;
         Ok(Values { alloc, shared })
     }
 }
