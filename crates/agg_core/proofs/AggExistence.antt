@@ -12,6 +12,7 @@ use Rattle.std.proofs.lemmas.Map.Lookups.{exact_signed}
 use Rattle.row_core.specs.declared.row.Row.{Row}
 use Rattle.row_core.specs.declared.value.Value.{Value}
 use Rattle.dip_core.specs.declared.item.Item.{Item}
+use Rattle.list_core.proofs.MadeLemmas.{Contains-map, Contains-map_source}
 use Rattle.list_core.proofs.WantedExistence.{IsUnorderedListOf, WantedForSome, some_unordered, some_wanted}
 use Rattle.list_core.proofs.WantedLemmas.{AllPairs-cases, AllPairs-other}
 use Rattle.merge_core.specs.Gaps.{IsMaximal}
@@ -23,9 +24,8 @@ use Rattle.round_core.proofs.PlateauExistence.{some_plateaus}
 use Rattle.agg_core.specs.declared.rows.AggRow.{AggRow}
 use Rattle.agg_core.specs.Agg.{AggHasSomeList, AreAggRows, IsAggRow, amount_in, item_of, items_of_group, measure_of, value_in}
 use Rattle.agg_core.specs.Groups.{AggRowBefore, agg_row_cmp, rows_of_group}
-use Rattle.agg_core.proofs.GroupLemmas.{Contains-map_source}
 use Rattle.agg_core.proofs.OrderLemmas.{agg_row_total, group_exact, ties_self}
-use Rattle.agg_core.proofs.PlateauLemmas.{Contains-map, filtered_in, filtered_passes, period_held, row_of_group}
+use Rattle.agg_core.proofs.PlateauLemmas.{filtered_in, filtered_passes, period_held, row_of_group}
 
 -- a row is determined by its fields
 AggRow-same : (a b : AggRow) → a.group ≡ b.group → a.period ≡ b.period → a.value ≡ b.value → a ≡ b

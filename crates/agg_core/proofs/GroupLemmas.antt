@@ -15,6 +15,7 @@ use Rattle.row_core.specs.declared.row.Row.{Row}
 use Rattle.row_core.specs.declared.value.Value.{Value}
 use Rattle.dip_core.specs.declared.item.Item.{Item}
 use Rattle.list_core.proofs.RisingLemmas.{Contains-cons, Contains-cons_cases, Contains-head, Contains-none}
+use Rattle.list_core.proofs.MadeLemmas.{Contains-map_source}
 use Rattle.list_core.proofs.WantedLemmas.{AllPairs-append}
 use Rattle.round_core.specs.Plateaus.{of_class}
 use Rattle.agg_core.specs.declared.entries.Entry.{Entry}
@@ -282,15 +283,6 @@ entry_listed amount_of groups (b ∷ es) (x ∷ items) all e h = elim (Contains-
       (Contains-get_or groups x.class (Some b.value.now)
       (slice_get_within groups x.class (Some b.value.now) all.0.at)))
   | inr later ↦ entry_listed amount_of groups es items all.1 e later
-]
-
--- what is made of a list is made of a thing in it
-pub Contains-map_source : {X Y : Type 0} (f : X → Y) (xs : List X) (y : Y) → Contains (map f xs) y
-    → (x : X) × Contains xs x × (f x ≡ y)
-Contains-map_source f [] y h = absurd (Contains-none y h)
-Contains-map_source f (x ∷ xs) y h = elim (Contains-cons_cases (f x) (map f xs) y h) [
-  | inl same ↦ (x, Contains-head x xs, same)
-  | inr later ↦ let (z, there, is) = Contains-map_source f xs y later in (z, Contains-cons x xs z there, is)
 ]
 
 -- rows that were sorted and numbered

@@ -1,5 +1,5 @@
 -- The rows of an aggregate are those of the plateaus of its groups' numbers.
-use Rattle.std.proofs.Common.{◌≡◌, ◌<◌, ◌==◌, ℕ, ℤ, Bool, true, List, [], ◌∷◌, length, map, get_or, All, AllPairs, Option, Some, None, inl, inr, refl, sym, ap, subst, ◌∙◌, arith}
+use Rattle.std.proofs.Common.{◌≡◌, ◌<◌, ◌==◌, ℕ, ℤ, Bool, true, List, [], ◌∷◌, length, map, get_or, All, Option, Some, None, inl, inr, refl, sym, ap, subst, ◌∙◌, arith}
 use Rattle.std.specs.Prelude.{filter, slice_get, slice_index_or, ◌<ℤ◌, Contains}
 use Rattle.std.specs.declared.cmp.Ordering.{Ordering}
 use Rattle.std.specs.declared.cmp.Ordering.TheVariants.{Less}
@@ -15,8 +15,7 @@ use Rattle.row_core.specs.declared.row.Row.{Row}
 use Rattle.row_core.specs.declared.schema.Column.{Column}
 use Rattle.row_core.specs.declared.value.Value.{Value}
 use Rattle.dip_core.specs.declared.item.Item.{Item}
-use Rattle.list_core.proofs.RisingLemmas.{AllPairs-head, AllPairs-tail, Contains-cons, Contains-cons_cases, Contains-head, Contains-none}
-use Rattle.list_core.proofs.WantedLemmas.{AllPairs-before}
+use Rattle.list_core.proofs.MadeLemmas.{AllPairs-map, Contains-map, Contains-map_source}
 use Rattle.merge_core.specs.declared.tally.Tally.{Tally}
 use Rattle.merge_core.specs.Gaps.{IsMaximal}
 use Rattle.merge_core.specs.Tallies.{IsTally, amounts, held, total}
@@ -32,28 +31,9 @@ use Rattle.agg_core.specs.Entries.{amount_at, place_in, value_at}
 use Rattle.agg_core.specs.Groups.{AggRowBefore, group_cmp, rows_of_group, same_group}
 use Rattle.agg_core.specs.Grouping.{IsGrouping, agg_row_of}
 use Rattle.agg_core.proofs.EntryLemmas.{filter-map}
-use Rattle.agg_core.proofs.GroupLemmas.{Contains-map_source}
 use Rattle.agg_core.proofs.OrderLemmas.{group_decides, group_total, ties_self}
 
 -- ---- lists
-
--- what is made of a thing in a list is in the list of all that is made
-pub Contains-map : {X Y : Type 0} (f : X → Y) (xs : List X) (x : X) → Contains xs x → Contains (map f xs) (f x)
-Contains-map f [] x h = absurd (Contains-none x h)
-Contains-map f (z ∷ xs) x h = elim (Contains-cons_cases z xs x h) [
-  | inl e ↦ subst (Contains (f z ∷ map f xs)) (ap f e) (Contains-head (f z) (map f xs))
-  | inr k ↦ Contains-cons (f z) (map f xs) (f x) (Contains-map f xs x k)
-]
-
--- what is made stands in order where what it is made of does
-AllPairs-map : {X Y : Type 0} (R : X → X → Type 0) (S : Y → Y → Type 0) (f : X → Y) (xs : List X) → AllPairs R xs
-    → ((a b : X) → Contains xs b → R a b → S (f a) (f b)) → AllPairs S (map f xs)
-AllPairs-map R S f [] rises gives = λ i j d less h. absurd (omega arith)
-AllPairs-map R S f (x ∷ xs) rises gives =
-    AllPairs-before S (f x) (map f xs)
-    (λ y h. let (z, there, is) = Contains-map_source f xs y h in
-    subst (S (f x)) is (gives x z (Contains-cons x xs z there) (AllPairs-head R x xs z rises there)))
-    (AllPairs-map R S f xs (AllPairs-tail R x xs rises) (λ a b h. gives a b (Contains-cons x xs b h)))
 
 -- what passes stands in the list
 pub filtered_in : {X : Type 0} (p : X → Bool) (xs : List X) (x : X) → Contains (filter p xs) x → Contains xs x
@@ -224,8 +204,8 @@ module _ (measure : Measure) (amount_of : Row → ℤ) (group_of : Row → Optio
   pub answer_of : (ps : List Plateau) (answer : List AggRow) → ArePlateaus measure items ps
       → answer ≡ map (agg_row_of groups) ps → AreAggRows measure amount_of group_of rows answer
   answer_of ps answer all e = subst (AreAggRows measure amount_of group_of rows) (sym e) (record {
-    ordered = AllPairs-map PlateauBefore AggRowBefore (agg_row_of groups) ps all.ordered
-        (λ a b h. rows_before a b ((all.exactly b).0 h));
+    ordered = AllPairs-map PlateauBefore AggRowBefore (agg_row_of groups) ps
+        (λ a b there. rows_before a b ((all.exactly b).0 there)) all.ordered;
     exactly = λ row. (
       λ h. let (p, there, is) = Contains-map_source (agg_row_of groups) ps row h in
           subst (IsAggRow measure amount_of group_of rows) is (row_of_plateau p ((all.exactly p).0 there)),

@@ -1,6 +1,6 @@
 //! Rows of two tables that held together.
 ghost use Rattle.std.specs.Prelude.{◌≡◌, IfOk};
-ghost use Rattle.row_core.specs.Rows.{IdsRise};
+ghost use Rattle.row_core.specs.Rows.{RowsRise};
 
 use join_core::{JoinRow, JoinRows};
 use period_core::NoMemory;
@@ -19,19 +19,19 @@ pub struct Joined {
 
 impl Model for Joined {
     ghost use Rattle.answer_core.specs.JoinedRows.{JoinedRows};
-    ghost use Rattle.row_core.specs.Rows.{IdsRise};
+    ghost use Rattle.row_core.specs.Rows.{RowsRise};
 
     ghost Value = { JoinedRows };
 
     ghost view = { λ j. record { left = j.left; right = j.right; rows = j.rows } };
 
-    ghost invariant = { λ j. IdsRise j.left × IdsRise j.right };
+    ghost invariant = { λ j. RowsRise j.left × RowsRise j.right };
 }
 
 impl Joined {
     /// The rows of two tables, and which of them were joined.
     pub fn new(left: RowList, right: RowList, rows: JoinRows) -> Joined
-        requires { IdsRise left × IdsRise right }
+        requires { RowsRise left × RowsRise right }
         ensures { result ≡ record { left = left; right = right; rows = rows } }
     {
         Joined { left, right, rows }

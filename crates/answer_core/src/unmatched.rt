@@ -1,6 +1,6 @@
 //! Rows of a table when none of another matched them.
 ghost use Rattle.std.specs.Prelude.{◌≡◌, IfOk};
-ghost use Rattle.row_core.specs.Rows.{IdsRise};
+ghost use Rattle.row_core.specs.Rows.{RowsRise};
 
 use anti_core::{AntiRow, AntiRows};
 use period_core::NoMemory;
@@ -18,19 +18,19 @@ pub struct Unmatched {
 
 impl Model for Unmatched {
     ghost use Rattle.answer_core.specs.UnmatchedRows.{UnmatchedRows};
-    ghost use Rattle.row_core.specs.Rows.{IdsRise};
+    ghost use Rattle.row_core.specs.Rows.{RowsRise};
 
     ghost Value = { UnmatchedRows };
 
     ghost view = { λ u. record { left = u.left; rows = u.rows } };
 
-    ghost invariant = { λ u. IdsRise u.left };
+    ghost invariant = { λ u. RowsRise u.left };
 }
 
 impl Unmatched {
     /// The left table's rows, and when each held with no right row that matched it.
     pub fn new(left: RowList, rows: AntiRows) -> Unmatched
-        requires { IdsRise left }
+        requires { RowsRise left }
         ensures { result ≡ record { left = left; rows = rows } }
     {
         Unmatched { left, rows }

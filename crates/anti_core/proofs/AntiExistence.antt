@@ -20,7 +20,7 @@ use Rattle.merge_core.specs.Gaps.{IsMaximal}
 use Rattle.merge_core.proofs.SharedLemmas.{first_held}
 use Rattle.anti_core.specs.declared.rows.AntiRow.{AntiRow}
 use Rattle.anti_core.specs.Anti.{anti_cmp, AntiRowBefore, IsMet, IsUnmet, IsAntiRow, IsAnti}
-use Rattle.anti_core.proofs.ListLemmas.{Contains-map, Contains-map_source}
+use Rattle.list_core.proofs.MadeLemmas.{Contains-map, Contains-map_source}
 use Rattle.anti_core.proofs.MaximalLemmas.{AreMaximal, AreMaximal-same, AreMaximal-whole, Without, maximal-once, some_without}
 use Rattle.anti_core.proofs.OrderLemmas.{AntiRowBefore-asym, AntiRow-same_fields, anti_total, tied_rows}
 

@@ -16,7 +16,7 @@ use Rattle.merge_core.proofs.SweepLemmas.{IsMaximal-same}
 use Rattle.anti_core.specs.declared.rows.AntiRow.{AntiRow}
 use Rattle.anti_core.specs.Anti.{anti_cmp}
 use Rattle.anti_core.specs.ItemAnti.{row_of_gap, IsItemsRow, AreItemsRows, IsItemsAnti}
-use Rattle.anti_core.proofs.ListLemmas.{Contains-map, Contains-map_source, AllPairs-map}
+use Rattle.list_core.proofs.MadeLemmas.{Contains-map, Contains-map_source, AllPairs-map}
 use Rattle.anti_core.proofs.OrderLemmas.{AntiRow-same_fields, sorted_rows}
 use Rattle.anti_core.proofs.PartLemmas.{all_of-more, parts-apart}
 
@@ -47,7 +47,7 @@ AreItemsRows-from_gaps : (p right : List Item) (gaps : List Gap) → ListsGaps p
     → AreItemsRows p right (map row_of_gap gaps)
 AreItemsRows-from_gaps p right gaps lists = record {
   ordered = AllPairs-map GapStartsBefore (λ (a b : AntiRow). a ≢ b) row_of_gap gaps
-      (λ g k before same.
+      (λ g k there before same.
       let first : g.period.from <ℤ k.period.from = before in
       let e : g.period.from ≡ k.period.from = ap (λ (v : AntiRow). v.period.from) same in
       absurd (omega (arith, ints)))

@@ -2,7 +2,6 @@ pub mod AntiExistence
 pub mod BorderLemmas
 pub mod BundleLemmas
 pub mod ItemLemmas
-pub mod ListLemmas
 pub mod MaximalLemmas
 pub mod OrderLemmas
 pub mod PartLemmas

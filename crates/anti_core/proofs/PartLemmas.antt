@@ -11,7 +11,7 @@ use Rattle.dip_core.specs.Division.{all_of, part_at}
 use Rattle.dip_core.proofs.StepLemmas.{contains-all_of}
 use Rattle.list_core.proofs.RisingLemmas.{Contains-cons_cases, Contains-none}
 use Rattle.merge_core.specs.Meets.{IdsTell}
-use Rattle.anti_core.proofs.ListLemmas.{counted}
+use Rattle.list_core.proofs.MadeLemmas.{counted}
 
 -- ---- all items of some parts
 

@@ -2,7 +2,7 @@
 use Rattle.std.proofs.Common.{◌≡◌, ◌+◌, ◌<◌, ◌≤◌, ℕ, ℤ, List, length, [], ◌∷◌, AllPairs, sym, subst, ◌∙◌, arith}
 use Rattle.period_core.specs.declared.period.Period.{Period}
 use Rattle.period_core.specs.Period.{Holds}
-use Rattle.row_core.specs.Rows.{IdsRise}
+use Rattle.row_core.specs.Rows.{RowsRise}
 use Rattle.row_core.specs.declared.row.Row.{Row}
 use Rattle.dip_core.specs.declared.item.Item.{Item}
 use Rattle.dip_core.specs.Item.{HasDistinctIds}
@@ -34,7 +34,7 @@ items-rise (r ∷ rows) (c ∷ classes) rise =
     (items-rise rows classes (AllPairs-tail (λ (x : Row) (z : Row). x.id < z.id) r rows rise))
 
 -- so they are distinct
-pub side-distinct : (rows : List Row) (classes : List ℕ) (items : List Item) → IsSide rows classes items → IdsRise rows
+pub side-distinct : (rows : List Row) (classes : List ℕ) (items : List Item) → IsSide rows classes items → RowsRise rows
     → HasDistinctIds items
 side-distinct rows classes items side rise =
     let all = items-rise rows classes (ids_rise rows rise) in

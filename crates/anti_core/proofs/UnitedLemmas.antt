@@ -8,7 +8,7 @@ use Rattle.std.specs.Ordering.{is_lt, nat_cmp, int_cmp, ordering_then}
 use Rattle.std.specs.Int.{int_max}
 use Rattle.std.proofs.lemmas.Int.{ints, clamps}
 use Rattle.std.proofs.lemmas.Bool.Decides.{nat_tests}
-use Rattle.std.proofs.lemmas.Cmp.{then_total, on_total, int_cmp_total, nat_cmp_total}
+use Rattle.std.proofs.lemmas.Cmp.{then_total, on_total, int_cmp_total, nat_cmp_total, ranked}
 use Rattle.std.proofs.lemmas.List.Sorted.{Contains-permutation, IsPermutation-sym, sorted_far, ranks_by, length_permutation}
 use Rattle.period_core.specs.declared.period.Period.{Period}
 use Rattle.period_core.specs.Period.{Holds}
@@ -21,9 +21,8 @@ use Rattle.merge_core.proofs.SweepLemmas.{IsMaximal-same}
 use Rattle.anti_core.specs.declared.rows.AntiRow.{AntiRow}
 use Rattle.anti_core.specs.Anti.{AntiRowBefore}
 use Rattle.anti_core.specs.ItemAnti.{IsItemsRow, IsItemsAnti}
-use Rattle.anti_core.specs.United.{IsUnited, IsUnion, StandsBefore, CoverAlike, StandByClass, Continues, IsPlain, IsJoined}
+use Rattle.anti_core.specs.United.{IsUnited, IsUnion, StandsBefore, CoverAlike, StandByClass, RunsInto, IsPlain, IsMerged}
 use Rattle.anti_core.proofs.MaximalLemmas.{maximal-once}
-use Rattle.anti_core.proofs.OrderLemmas.{nat_tie}
 
 -- an item is determined by its fields
 Item-same : (a b : Item) → a.period ≡ b.period → a.id ≡ b.id → a.class ≡ b.class → a.amount ≡ b.amount → a ≡ b
@@ -242,7 +241,7 @@ upwards a b h = elim h [ inl less ↦ omega (arith, less) | inr (same, on) ↦ o
 onwards : (a b : Item) → IsNotAfter a b → a.class ≡ b.class → a.period.from ≤ℤ b.period.from
 onwards a b h same = elim h [ inl less ↦ absurd (omega (arith, less, same)) | inr (e, on) ↦ on ]
 
-module _ (x y j : Item) (l : List Item) (c : Continues x y) (i : IsJoined x y j)
+module _ (x y j : Item) (l : List Item) (c : RunsInto x y) (i : IsMerged x y j)
     (order : StandByClass (x ∷ (y ∷ l))) where
   joined_alike : CoverAlike (j ∷ l) (x ∷ (y ∷ l))
   joined_alike z t =
@@ -300,7 +299,7 @@ order_skip x y l order =
     (AllPairs-tail IsNotAfter y l (AllPairs-tail IsNotAfter x (y ∷ l) order))
 
 -- what doesn't continue x has all later ones of its class behind x
-cut_off : (x y : Item) (l : List Item) → StandByClass (x ∷ (y ∷ l)) → (Continues x y → ⊥) → (z : Item)
+cut_off : (x y : Item) (l : List Item) → StandByClass (x ∷ (y ∷ l)) → (RunsInto x y → ⊥) → (z : Item)
     → Contains (y ∷ l) z → z.class ≡ x.class → x.period.to <ℤ z.period.from
 cut_off x y l order not z h same =
     let first : IsNotAfter x y = not_after x (y ∷ l) y order (Contains-head y l) in
@@ -348,7 +347,7 @@ int_upto a b h = grind (arith, ints)
 not_after-by : (a b : Item) (r : Ordering) → nat_cmp b.class a.class ≡ r
     → is_lt (ordering_then r (int_cmp b.period.from a.period.from)) ≡ false → IsNotAfter a b
 not_after-by a b Less e h = cc
-not_after-by a b Equal e h = inr (sym (nat_tie b.class a.class e), int_upto b.period.from a.period.from h)
+not_after-by a b Equal e h = inr (sym (ranked b.class a.class Equal (sym e)), int_upto b.period.from a.period.from h)
 not_after-by a b Greater e h = inl (nat_over b.class a.class e)
 
 -- so sorted items stand by class
@@ -392,7 +391,7 @@ uniting_start items left first last united e plain none order =
 
 -- an item that continues the last one
 pub uniting_joined : (items left left' : List Item) (was x both : Item) (united : List Item) → left ≡ x ∷ left'
-    → Continues was x → IsJoined was x both → IsUniting items left was united → IsUniting items left' both united
+    → RunsInto was x → IsMerged was x both → IsUniting items left was united → IsUniting items left' both united
 uniting_joined items left left' was x both united e c j i =
     let i' : IsUniting items (x ∷ left') was united = subst (λ z. IsUniting items z was united) e i in
     record {
@@ -407,7 +406,7 @@ uniting_joined items left left' was x both united e c j i =
 
 -- one that does not
 pub uniting_cut : (items left left' : List Item) (was x next : Item) (united new : List Item) → left ≡ x ∷ left'
-    → (Continues was x → ⊥) → IsPlain x next → new ≡ united ++ was ∷ [] → IsUniting items left was united
+    → (RunsInto was x → ⊥) → IsPlain x next → new ≡ united ++ was ∷ [] → IsUniting items left was united
     → IsUniting items left' next new
 uniting_cut items left left' was x next united new e not plain g i =
     let i' : IsUniting items (x ∷ left') was united = subst (λ z. IsUniting items z was united) e i in

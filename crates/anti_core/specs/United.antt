@@ -36,7 +36,7 @@ StandByClass items =
     AllPairs (λ (a b : Item). (a.class < b.class) ⊎ ((a.class ≡ b.class) × (a.period.from ≤ℤ b.period.from))) items
 
 -- b is of the class of a, and starts before a ends or as it does
-pub record Continues (a b : Item) : Type 0 where
+pub record RunsInto (a b : Item) : Type 0 where
   pub same : a.class ≡ b.class
   pub reaches : b.period.from ≤ℤ a.period.to
 
@@ -48,7 +48,7 @@ pub record IsPlain (x plain : Item) : Type 0 where
   pub period : plain.period ≡ x.period
 
 -- both as one, from the start of the first to the later of the ends
-pub record IsJoined (a b joined : Item) : Type 0 where
+pub record IsMerged (a b joined : Item) : Type 0 where
   pub id : joined.id ≡ 0
   pub amount : joined.amount ≡ pos 0
   pub class_is : joined.class ≡ a.class

@@ -1,7 +1,7 @@
 //! The right items of each class united, before they are divided: all that counts is which instants they hold.
 
 ghost use Rattle.std.specs.Prelude.{IfOk, IsPermutation, MatchOption};
-ghost use Rattle.anti_core.specs.United.{Continues, IsJoined, IsPlain, IsUnion, StandByClass};
+ghost use Rattle.anti_core.specs.United.{RunsInto, IsMerged, IsPlain, IsUnion, StandByClass};
 
 use dip_core::Item;
 use period_core::{NoMemory, Period};
@@ -60,8 +60,8 @@ fn plain(item: &Item) -> Item
 
 /// Both as one, where the second is of the first one's class and starts no later than it ends. It may end sooner.
 fn joined(last: &Item, next: &Item) -> Option<Item>
-    ensures { MatchOption result (Continues last.now next.now → ⊥)
-        (λ both. Continues last.now next.now × IsJoined last.now next.now both) }
+    ensures { MatchOption result (RunsInto last.now next.now → ⊥)
+        (λ both. RunsInto last.now next.now × IsMerged last.now next.now both) }
 {
     if last.class == next.class && next.period.from <= last.period.to {
         let from = last.period.from;

@@ -6,7 +6,7 @@ use Rattle.std.proofs.lemmas.Bool.{and_parts, le-leb, lt-ltb, leb-true, leb-fals
 use Rattle.std.proofs.lemmas.List.Kept.{AllPairs-cons}
 use Rattle.std.proofs.lemmas.List.Elements.{All-from_recursion}
 use Rattle.row_core.specs.declared.row.Row.{Row}
-use Rattle.version_core.specs.Shown.{is_behind, shows, row_shown, shown, end_at, version_seen, seen}
+use Rattle.version_core.specs.Shown.{is_behind, shows, row_shown, shown, end_at, version_as_of, versions_as_of}
 use Rattle.version_core.specs.declared.version.Version.{Version}
 use Rattle.book_core.specs.History.{History, rows_at}
 use Rattle.book_core.specs.Versions.{HasId, IsVersion, IsAfter, AreVersions}
@@ -210,7 +210,7 @@ module _ (h : History) (name : List ℕ) (t : StoredTable) (table : IsTableOf h 
       ] in
       ap (λ b. cond b (Some x) None) (le-leb x at (let z = m.1 in omega (arith, z))) ∙ ap Some same
 
-  seen_parts : (at m last : ℕ) (u v : Version) → version_seen at m last u ≡ Some v → (u.sysfrom ≤ at)
+  seen_parts : (at m last : ℕ) (u v : Version) → version_as_of at m last u ≡ Some v → (u.sysfrom ≤ at)
       × (u.sysfrom ≤ last) × IsAfter (end_at at u.systo) m
       × (record { row = u.row; sysfrom = u.sysfrom; systo = end_at at u.systo } ≡ v)
   seen_parts at m last u v e =
@@ -226,7 +226,7 @@ module _ (h : History) (name : List ℕ) (t : StoredTable) (table : IsTableOf h 
         by_test false r q = absurd (cc)
 
   parts_seen : (at m last : ℕ) (u : Version) → u.sysfrom ≤ at → u.sysfrom ≤ last → IsAfter (end_at at u.systo) m
-      → version_seen at m last u ≡ Some (record { row = u.row; sysfrom = u.sysfrom; systo = end_at at u.systo })
+      → version_as_of at m last u ≡ Some (record { row = u.row; sysfrom = u.sysfrom; systo = end_at at u.systo })
   parts_seen at m last u a b c =
       ap (λ x. cond (x && (leb u.sysfrom last && is_behind (end_at at u.systo) m))
       (Some (record { row = u.row; sysfrom = u.sysfrom; systo = end_at at u.systo })) None) (le-leb u.sysfrom at a)
@@ -236,16 +236,17 @@ module _ (h : History) (name : List ℕ) (t : StoredTable) (table : IsTableOf h 
       ∙ ap (λ x. cond x (Some (record { row = u.row; sysfrom = u.sysfrom; systo = end_at at u.systo })) None)
       (behind_from (end_at at u.systo) m c)
 
-  listed_is : (at m last : ℕ) (v : Version) → at ≤ length h → Contains (seen at m last t.versions) v
+  listed_is : (at m last : ℕ) (v : Version) → at ≤ length h → Contains (versions_as_of at m last t.versions) v
       → IsVersion h at name v × ((v.sysfrom ≤ last) × IsAfter v.systo m)
   listed_is at m last v k c =
-      let g = from_filtered (version_seen at m last) t.versions v (in_from (seen at m last t.versions) v c) in
+      let g =
+      from_filtered (version_as_of at m last) t.versions v (in_from (versions_as_of at m last t.versions) v c) in
       let p = seen_parts at m last g.0 v g.2 in
       let P : Version → Type 0 = λ v. IsVersion h at name v × ((v.sysfrom ≤ last) × IsAfter v.systo m) in
       subst P p.3 (version_of at g.0 k p.0 g.1, (p.1, p.2))
 
   is_listed : (at m last : ℕ) (v : Version) → at ≤ length h → IsVersion h at name v → v.sysfrom ≤ last
-      → IsAfter v.systo m → Contains (seen at m last t.versions) v
+      → IsAfter v.systo m → Contains (versions_as_of at m last t.versions) v
   is_listed at m last v k is b a =
       let within = is.within in
       let from : v.sysfrom ≤ length h = omega (arith, within) in
@@ -276,33 +277,33 @@ module _ (h : History) (name : List ℕ) (t : StoredTable) (table : IsTableOf h 
       ap (λ r. record { row = r; sysfrom = f.0.sysfrom; systo = end_at at f.0.systo }) s.1
       ∙ ap (λ n. record { row = v.row; sysfrom = n; systo = end_at at f.0.systo }) start
       ∙ ap (λ e. record { row = v.row; sysfrom = v.sysfrom; systo = e }) ends in
-      contains_from (seen at m last t.versions) v
-      (in_filtered (version_seen at m last) t.versions f.0 v f.1 (found ∙ ap Some whole))
+      contains_from (versions_as_of at m last t.versions) v
+      (in_filtered (version_as_of at m last) t.versions f.0 v f.1 (found ∙ ap Some whole))
 
 -- by rising id
 
 seen_above : (at m last k : ℕ) (vs : List Version) → IsNumbered k vs
-    → AllByRecursion (λ (w : Version). k < w.row.id) (seen at m last vs)
-    × AllPairs (λ (v w : Version). v.row.id < w.row.id) (seen at m last vs)
+    → AllByRecursion (λ (w : Version). k < w.row.id) (versions_as_of at m last vs)
+    × AllPairs (λ (v w : Version). v.row.id < w.row.id) (versions_as_of at m last vs)
 seen_above at m last k [] s = (tt, λ i j d l b. absurd (omega arith))
 seen_above at m last k (v ∷ vs) s =
     let rest = seen_above at m last (k + 1) vs s.1 in
     elim (leb v.sysfrom at && (leb v.sysfrom last && is_behind (end_at at v.systo) m)) as
     (λ b. AllByRecursion (λ (w : Version). k < w.row.id)
     (cons_option (cond b (Some (record { row = v.row; sysfrom = v.sysfrom; systo = end_at at v.systo })) None)
-    (seen at m last vs))
+    (versions_as_of at m last vs))
     × AllPairs (λ (v w : Version). v.row.id < w.row.id)
     (cons_option (cond b (Some (record { row = v.row; sysfrom = v.sysfrom; systo = end_at at v.systo })) None)
-    (seen at m last vs))) [
+    (versions_as_of at m last vs))) [
       | true ↦ (
-        (omega (arith, s.0), lower (k + 1) k (seen at m last vs) (omega arith) rest.0),
+        (omega (arith, s.0), lower (k + 1) k (versions_as_of at m last vs) (omega arith) rest.0),
         AllPairs-cons
             (λ (v w : Version). v.row.id < w.row.id)
-            (record { row = v.row; sysfrom = v.sysfrom; systo = end_at at v.systo }) (seen at m last vs)
-            (All-from_recursion (λ (w : Version). v.row.id < w.row.id) (seen at m last vs)
-            (lower (k + 1) v.row.id (seen at m last vs) (omega (arith, s.0)) rest.0)) rest.1,
+            (record { row = v.row; sysfrom = v.sysfrom; systo = end_at at v.systo }) (versions_as_of at m last vs)
+            (All-from_recursion (λ (w : Version). v.row.id < w.row.id) (versions_as_of at m last vs)
+            (lower (k + 1) v.row.id (versions_as_of at m last vs) (omega (arith, s.0)) rest.0)) rest.1,
       )
-      | false ↦ (lower (k + 1) k (seen at m last vs) (omega arith) rest.0, rest.1)
+      | false ↦ (lower (k + 1) k (versions_as_of at m last vs) (omega arith) rest.0, rest.1)
     ] where
       lower : (a b : ℕ) (vs : List Version) → b ≤ a → AllByRecursion (λ (w : Version). a < w.row.id) vs
           → AllByRecursion (λ (w : Version). b < w.row.id) vs
@@ -313,7 +314,7 @@ seen_above at m last k (v ∷ vs) s =
 pub seen_are : (h : History) (name : List ℕ) (t : StoredTable) (at m last : ℕ) (Selected : Version → Type 0)
     (vs : List Version) → IsTableOf h name t → at ≤ length h
     → ((v : Version) → Selected v → (v.sysfrom ≤ last) × IsAfter v.systo m)
-    → ((v : Version) → (v.sysfrom ≤ last) × IsAfter v.systo m → Selected v) → vs ≡ seen at m last t.versions
+    → ((v : Version) → (v.sysfrom ≤ last) × IsAfter v.systo m → Selected v) → vs ≡ versions_as_of at m last t.versions
     → AreVersions h at name Selected vs
 seen_are h name t at m last Selected vs table k to from e = rw e (record {
   ordered = (seen_above at m last 0 t.versions table.well.ids).1;
@@ -337,36 +338,38 @@ neither : (x : Bool) (v : Version) (us : List Version) (rows : List Row) → map
 neither true v us rows rest = rest
 neither false v us rows rest = rest
 
-seen_at_once : (at n : ℕ) (vs : List Version) → n ≤ at → map (λ (v : Version). v.row) (seen at n n vs) ≡ shown n vs
+seen_at_once : (at n : ℕ) (vs : List Version) → n ≤ at
+    → map (λ (v : Version). v.row) (versions_as_of at n n vs) ≡ shown n vs
 seen_at_once at n [] k = refl
 seen_at_once at n (v ∷ vs) k =
     by_test (leb v.sysfrom n) refl (is_behind (end_at at v.systo) n) (is_behind v.systo n) (same_behind at n v.systo k)
     (seen_at_once at n vs k) where
       by_test : (b : Bool) → leb v.sysfrom n ≡ b → (c d : Bool) → c ≡ d
-          → map (λ (v : Version). v.row) (seen at n n vs) ≡ shown n vs
+          → map (λ (v : Version). v.row) (versions_as_of at n n vs) ≡ shown n vs
           → map (λ (v : Version). v.row)
           (cons_option
           (cond (leb v.sysfrom at && (b && c))
           (Some (record { row = v.row; sysfrom = v.sysfrom; systo = end_at at v.systo })) None)
-          (seen at n n vs)) ≡ cons_option (cond (b && d) (Some v.row) None) (shown n vs)
+          (versions_as_of at n n vs)) ≡ cons_option (cond (b && d) (Some v.row) None) (shown n vs)
       by_test true r true true e rest =
           ap (λ x. map (λ (v : Version). v.row)
           (cons_option
           (cond (x && true) (Some (record { row = v.row; sysfrom = v.sysfrom; systo = end_at at v.systo })) None)
-          (seen at n n vs))) (le-leb v.sysfrom at (let x = leb-true v.sysfrom n r in omega (arith, x)))
+          (versions_as_of at n n vs))) (le-leb v.sysfrom at (let x = leb-true v.sysfrom n r in omega (arith, x)))
           ∙ ap (λ l. v.row ∷ l) rest
       by_test true r false false e rest =
           neither (leb v.sysfrom at) (record { row = v.row; sysfrom = v.sysfrom; systo = end_at at v.systo })
-          (seen at n n vs) (shown n vs) rest
+          (versions_as_of at n n vs) (shown n vs) rest
       by_test true r true false e rest = absurd (cc)
       by_test true r false true e rest = absurd (cc)
       by_test false r c d e rest =
           neither (leb v.sysfrom at) (record { row = v.row; sysfrom = v.sysfrom; systo = end_at at v.systo })
-          (seen at n n vs) (shown n vs) rest
+          (versions_as_of at n n vs) (shown n vs) rest
 
 pub rows_at_once : (h : History) (name : List ℕ) (t : StoredTable) (at m n : ℕ) (vs : List Version)
-    → IsTableOf h name t → at ≤ length h → m ≡ n → n ≤ at → vs ≡ seen at m n t.versions
+    → IsTableOf h name t → at ≤ length h → m ≡ n → n ≤ at → vs ≡ versions_as_of at m n t.versions
     → map (λ (v : Version). v.row) vs ≡ rows_at h n name
 rows_at_once h name t at m n vs table k e b s =
-    ap (map (λ (v : Version). v.row)) (s ∙ ap (λ m. seen at m n t.versions) e) ∙ seen_at_once at n t.versions b
+    ap (map (λ (v : Version). v.row)) (s ∙ ap (λ m. versions_as_of at m n t.versions) e)
+    ∙ seen_at_once at n t.versions b
     ∙ sym (table.past n (omega arith))

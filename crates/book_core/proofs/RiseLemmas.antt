@@ -2,7 +2,7 @@
 use Rattle.std.proofs.Common.{ℕ, ◌+◌, ◌≤◌, List, [], ◌∷◌, ◌++◌, length, take, true, false, not, cond, Some, arith}
 use Rattle.std.specs.Prelude.{filter, fold, option_map, unwrap_or, bytes_eq}
 use Rattle.std.specs.List.{AllByRecursion}
-use Rattle.row_core.specs.Rows.{IdsRise}
+use Rattle.row_core.specs.Rows.{RowsRise}
 use Rattle.row_core.specs.declared.row.Row.{Row}
 use Rattle.version_core.specs.Rows.{drafts_of, numbered, removes}
 use Rattle.version_core.specs.declared.change.Change.{Change}
@@ -57,17 +57,17 @@ Rises-from : (s : State) (h : History) → AllByRecursion Rises s
 Rises-from s [] all = all
 Rises-from s (c ∷ cs) all = Rises-from (after s c.change) cs (Rises-after c.change s all)
 
-none_rises : IdsRise []
+none_rises : RowsRise []
 none_rises k d h = absurd (omega arith)
 
-IdsRise-named : (name : List ℕ) (s : State) → AllByRecursion Rises s → IdsRise (rows_of s name)
-IdsRise-named name [] all = none_rises
-IdsRise-named name (t ∷ ts) all =
+RowsRise-named : (name : List ℕ) (s : State) → AllByRecursion Rises s → RowsRise (rows_of s name)
+RowsRise-named name [] all = none_rises
+RowsRise-named name (t ∷ ts) all =
     elim (bytes_eq t.name name) as
-    (λ b. IdsRise (unwrap_or (option_map (λ (u : Table). u.rows) (cond b (Some t) (table_of ts name))) [])) [
+    (λ b. RowsRise (unwrap_or (option_map (λ (u : Table). u.rows) (cond b (Some t) (table_of ts name))) [])) [
       | true ↦ rising-rows 0 t.used t.rows all.0
-      | false ↦ IdsRise-named name ts all.1
+      | false ↦ RowsRise-named name ts all.1
     ]
 
-pub IdsRise-rows_at : (h : History) (n : ℕ) (name : List ℕ) → IdsRise (rows_at h n name)
-IdsRise-rows_at h n name = IdsRise-named name (state_after (take n h)) (Rises-from [] (take n h) tt)
+pub RowsRise-rows_at : (h : History) (n : ℕ) (name : List ℕ) → RowsRise (rows_at h n name)
+RowsRise-rows_at h n name = RowsRise-named name (state_after (take n h)) (Rises-from [] (take n h) tt)

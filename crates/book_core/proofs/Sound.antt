@@ -9,7 +9,7 @@ use Rattle.std.proofs.lemmas.Option.{slice_get-get_or}
 use Rattle.period_core.specs.Period.{before, meet, after as later}
 use Rattle.period_core.specs.declared.period.Period.{Period}
 use Rattle.row_core.specs.Refusals.{first_of}
-use Rattle.row_core.specs.Rows.{IdsRise}
+use Rattle.row_core.specs.Rows.{RowsRise}
 use Rattle.row_core.specs.Schema.{column_of, fits}
 use Rattle.row_core.specs.Value.{kind_of, same_kind}
 use Rattle.row_core.specs.declared.draft.Draft.{Draft}
@@ -308,7 +308,7 @@ few_shown n (v ∷ vs) =
       | false ↦ omega (arith, few_shown n vs)
     ]
 
-pub rising-rows : (lo hi : ℕ) (rows : List Row) → RiseIn lo hi rows → IdsRise rows
+pub rising-rows : (lo hi : ℕ) (rows : List Row) → RiseIn lo hi rows → RowsRise rows
 rising-rows lo hi [] h k d lt = absurd (omega arith)
 rising-rows lo hi (r ∷ []) h k d lt = absurd (omega arith)
 rising-rows lo hi (r ∷ s ∷ rows) h zero d lt = h.2.0
@@ -321,7 +321,7 @@ pub rows-few : (h : History) (name : List ℕ) (t : StoredTable) (n : ℕ) (rows
 rows-few h name t n rows table e = omega (arith, ap length e, few_shown n t.versions, table.sound.few)
 
 pub rows-rise : (h : History) (name : List ℕ) (t : StoredTable) (n : ℕ) (rows : List Row) → IsTableOf h name t
-    → rows ≡ shown n t.versions → IdsRise rows
+    → rows ≡ shown n t.versions → RowsRise rows
 rows-rise h name t n rows table e =
     rw e (rising-rows 0 (length t.versions) (shown n t.versions) (shown_rise_all n t.versions table.well.ids))
 
@@ -348,7 +348,7 @@ held-few h name t n test rows table e =
     )
 
 pub held-rise : (h : History) (name : List ℕ) (t : StoredTable) (n : ℕ) (test : Row → Bool) (rows : List Row)
-    → IsTableOf h name t → rows ≡ filter test (shown n t.versions) → IdsRise rows
+    → IsTableOf h name t → rows ≡ filter test (shown n t.versions) → RowsRise rows
 held-rise h name t n test rows table e =
     rw e
     (rising-rows 0 (length t.versions) (filter test (shown n t.versions))

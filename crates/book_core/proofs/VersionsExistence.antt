@@ -2,7 +2,7 @@
 use Rattle.std.proofs.Common.{◌≡◌, ℕ, ◌-◌, ◌<◌, ◌≤◌, List, [], ◌∷◌, length, Bool, false, Option, Some, None, refl, sym, ap, arith, subst}
 use Rattle.std.specs.Prelude.{IfSome, is_none, nat_le, nat_lt}
 use Rattle.std.proofs.lemmas.Bool.{both_ways, leb-false, ltb-false}
-use Rattle.version_core.specs.Shown.{seen}
+use Rattle.version_core.specs.Shown.{versions_as_of}
 use Rattle.version_core.specs.declared.version.Version.{Version}
 use Rattle.book_core.specs.History.{History, IsLegal, state_after, versions_refusal}
 use Rattle.book_core.specs.StoredTables.{StoredTable, IsSound, IsTableOf, IsWellKept, kept_tables_from, kept_table}
@@ -56,9 +56,9 @@ pub some_between : (h : History) (at m n : ℕ) (name : List ℕ) → IsLegal h
     → versions_refusal h at (nat_lt n m) name ≡ None → (versions : List Version) × AreBetween h at m n name versions
 some_between h at m n name legal none =
     let may = may_read h at (nat_lt n m) name legal none in (
-      seen at m n may.table.versions,
+      versions_as_of at m n may.table.versions,
       seen_are h name may.table at m n (λ v. (v.sysfrom ≤ n) × IsAfter v.systo m)
-          (seen at m n may.table.versions) may.is_table may.within (λ v p. p) (λ v p. p) refl,
+          (versions_as_of at m n may.table.versions) may.is_table may.within (λ v p. p) (λ v p. p) refl,
     )
 
 pub some_from_to : (h : History) (at m n : ℕ) (name : List ℕ) → IsLegal h
@@ -66,9 +66,9 @@ pub some_from_to : (h : History) (at m n : ℕ) (name : List ℕ) → IsLegal h
 some_from_to h at m n name legal none =
     let may = may_read h at (nat_le n m) name legal none in
     let some : m < n = leb-false n m may.right in (
-      seen at m (n - 1) may.table.versions,
+      versions_as_of at m (n - 1) may.table.versions,
       seen_are h name may.table at m (n - 1) (λ v. (v.sysfrom < n) × IsAfter v.systo m)
-          (seen at m (n - 1) may.table.versions) may.is_table may.within
+          (versions_as_of at m (n - 1) may.table.versions) may.is_table may.within
           (λ v p. let x = p.0 in (omega (arith, x, some), p.1))
           (λ v p. let x = p.0 in (omega (arith, x, some), p.1)) refl,
     )

@@ -3,7 +3,7 @@
 ghost use Rattle.std.specs.Prelude.{◌≡◌, ◌+◌, ◌≤◌, ℕ, List, [], ◌∷◌, ◌++◌, filter, length, map, take, All, IfErr, IfOk, IsTrue, IfSome, IfNone, OnOk, OnErr, IsOkUnless, nat_lt, nat_le};
 ghost use Rattle.period_core.specs.Period.{holds_at};
 ghost use Rattle.row_core.specs.Refusals.{IsAnswer, map_ok};
-ghost use Rattle.row_core.specs.Rows.{IdsRise};
+ghost use Rattle.row_core.specs.Rows.{RowsRise};
 ghost use Rattle.row_core.specs.Schema.{fits};
 ghost use Rattle.row_core.specs.declared.failure.Failure.TheVariants.{NoMemory, Refused};
 ghost use Rattle.row_core.specs.declared.row.Row.{Row};
@@ -188,7 +188,7 @@ impl Book {
 
         // They are at most 1,000,000, and each fits the table's columns.
         ensures few { IfOk result (λ rows. length rows ≤ version_limit) }
-        ensures rise { IfOk result IdsRise }
+        ensures rise { IfOk result RowsRise }
         ensures fit { IfOk result (λ rows. IfSome (schema_in self.now name)
             (λ columns. All (λ row. IsTrue (fits columns row.values)) rows)) }
     {
@@ -214,7 +214,7 @@ impl Book {
             (map_ok (filter (λ (row : Row). holds_at point row.period)) (rows_given self.now n name)) result }
 
         ensures few { IfOk result (λ rows. length rows ≤ version_limit) }
-        ensures rise { IfOk result IdsRise }
+        ensures rise { IfOk result RowsRise }
         ensures fit { IfOk result (λ rows. IfSome (schema_in self.now name)
             (λ columns. All (λ row. IsTrue (fits columns row.values)) rows)) }
     {

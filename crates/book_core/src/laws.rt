@@ -1,7 +1,7 @@
 //! Laws of what a history shows.
 
 ghost use Rattle.std.specs.Prelude.{◌≡◌, ◌≤◌, ℕ, List, None, Contains, nat_le, nat_lt};
-ghost use Rattle.row_core.specs.Rows.{IdsRise};
+ghost use Rattle.row_core.specs.Rows.{RowsRise};
 ghost use Rattle.row_core.specs.declared.row.Row.{Row};
 ghost use Rattle.version_core.specs.declared.version.Version.{Version};
 ghost use Rattle.book_core.specs.History.{History, IsLegal, rows_at, versions_refusal};
@@ -24,7 +24,7 @@ pub fn history_has_one_list_of_versions()
 
 /// The rows that a commit shows are by rising id.
 pub fn rows_rise()
-    ensures { (h : History) (n : ℕ) (name : List ℕ) → IdsRise (rows_at h n name) }
+    ensures { (h : History) (n : ℕ) (name : List ℕ) → RowsRise (rows_at h n name) }
 {}
 
 /// No id of a table is used again: rows with the same id are the same row, whichever commits show them, and a

@@ -2,8 +2,9 @@
 use Rattle.std.proofs.Common.{◌≡◌, ◌≢◌, ◌⊎◌, ℕ, zero, suc, ◌+◌, ◌-◌, ◌<◌, ◌≤◌, Bool, Some, true, false, List, [], ◌∷◌, ◌++◌, length, get_or, take, drop, set, arith, refl, sym, ap, ◌∙◌, subst, inl, inr}
 use Rattle.std.specs.Prelude.{All, Contains, count_by, ◌==◌, map, slice_get}
 use Rattle.std.proofs.lemmas.Bool.{eqb-true, cases_lt}
-use Rattle.std.proofs.lemmas.List.{get_or-map, get_or_default, length-map, map-append, get_or-set_same, get_or-set_other, length-set, get_or_read, take-append-drop, take-map, drop-map}
+use Rattle.std.proofs.lemmas.List.{get_or_default, map-append, get_or-set_same, get_or-set_other, length-set, get_or_read, take-append-drop, take-map, drop-map}
 use Rattle.std.proofs.lemmas.List.Elements.{All-head, All-tail, All-map, All-push, All-weaker, All-contains, All-take, All-drop, Contains-append_left, Contains-append_right, Contains-push}
+use Rattle.list_core.proofs.MadeLemmas.{Contains-map, Contains-map_source}
 use Rattle.dip_core.specs.declared.item.Item.{Item}
 use Rattle.dip_core.specs.Item.{IdsRise}
 use Rattle.cert_core.specs.Claim.{ids_of}
@@ -39,20 +40,6 @@ ArePlaces-push items ids places id p are h is = record {
   named = map-append (id_at items) places (p ∷ [])
       ∙ (ap (λ l. l ++ id_at items p ∷ []) are.named ∙ ap (λ n. ids ++ n ∷ []) is);
 }
-
--- what f gives of a contained number
-Contains-map : (f : ℕ → ℕ) (ps : List ℕ) (p : ℕ) → Contains ps p → Contains (map f ps) (f p)
-Contains-map f ps p (k, h, is) =
-    let long : length (map f ps) ≡ length ps = length-map ps f in
-    (k, omega arith, get_or-map f ps k p (f p) h ∙ ap f is)
-
--- and back
-Contains-from_map : (f : ℕ → ℕ) (ps : List ℕ) (i : ℕ) → Contains (map f ps) i → (p : ℕ) × Contains ps p × (f p ≡ i)
-Contains-from_map f [] i (k, h, is) = absurd (omega arith)
-Contains-from_map f (p ∷ ps) i (zero, h, is) = (p, (0, omega arith, refl), is)
-Contains-from_map f (p ∷ ps) i (suc k, h, is) =
-    let (q, (m, less, there), same) =
-    Contains-from_map f ps i (k, omega arith, is) in (q, (suc m, omega arith, there), same)
 
 -- an id occurs as often as its place
 count-at : (items : List Item) → IdsRise items → (p : ℕ) → p < length items → (qs : List ℕ)
@@ -159,7 +146,7 @@ IsMissing-at items ids places marks p rise are marked long free =
       known = HasItem-at items p place;
       missing = λ there.
           let (q, stands, same) =
-          Contains-from_map (id_at items) places (id_at items p)
+          Contains-map_source (id_at items) places (id_at items p)
           (subst (λ l. Contains l (id_at items p)) (sym are.named) there) in
           let q_in : q < length items = All-contains (λ q. q < length items) places q are.within stands in
           let q_marked =

@@ -5,6 +5,7 @@ use Rattle.csv.specs.Reading.{Reached}
 use Rattle.csv.specs.declared.parser.Config.{Config}
 use Rattle.csv.specs.declared.parser.State.{State}
 use Rattle.csv.specs.declared.parser.State.TheVariants as st
+use Rattle.command_core.specs.Records.{Record}
 
 -- what is left to read: the bytes, and a record that the end of the text would end
 abbrev pub work_left : State → List ℕ → ℕ
@@ -48,3 +49,11 @@ pub Reached-shrinks : (cfg : Config) (s s2 : State) (f : List (List ℕ)) (xs z 
 unfolding Reached
 Reached-shrinks cfg s s2 f xs z (p, e, fields, (state, rest)) =
     rw (sym state, sym rest) (next_record-shrinks cfg s [] [] xs p e)
+
+-- each record takes some of the text
+pub records-few : (config : Config) (records : List Record) (s t : State) (text left : List ℕ)
+    → Reached config s text records t left → length records ≤ work_left s text
+unfolding Reached
+records-few config [] s t text left reached = omega arith
+records-few config (r ∷ rs) s t text left (read, is, fields, more) =
+    omega (arith, next_record-shrinks config s [] [] text read is, records-few config rs read.1 t read.2 left more)

@@ -2,6 +2,7 @@
 use Rattle.std.proofs.Common.{◌≡◌, ◌≢◌, ◌*◌, List, length, AllPairs, refl, sym, subst, ap}
 use Rattle.std.specs.Prelude.{IsPermutation, IsSorted, Contains}
 use Rattle.std.proofs.lemmas.List.Sorted.{Contains-permutation, IsPermutation-sym}
+use Rattle.list_core.proofs.MadeLemmas.{Contains-map, Contains-map_source}
 use Rattle.dip_core.specs.declared.item.Item.{Item}
 use Rattle.dip_core.specs.Item.{HasDistinctIds}
 use Rattle.dip_core.specs.Division.{all_of}
@@ -14,7 +15,7 @@ use Rattle.join_core.specs.declared.rows.JoinRow.{JoinRow}
 use Rattle.join_core.specs.Join.{join_cmp}
 use Rattle.join_core.specs.ItemJoin.{IsItemsRow, IsItemsJoin}
 use Rattle.join_core.specs.PairValues.{AreFirstValues, hits_in, rows_in, row_of_hit}
-use Rattle.join_core.proofs.ListLemmas.{Contains-map, Contains-map_source, differ-map}
+use Rattle.join_core.proofs.ListLemmas.{differ-map}
 use Rattle.join_core.proofs.OrderLemmas.{JoinRow-same_fields, sorted_rows}
 use Rattle.join_core.proofs.PairLemmas.{hit-of_parts, hit-of_pairs, all_hits-differ}
 use Rattle.join_core.proofs.PartLemmas.{part_of, one_item}

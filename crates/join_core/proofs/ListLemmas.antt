@@ -1,12 +1,12 @@
 -- What stands in lists that are made of lists, and what lists have in common.
-use Rattle.std.proofs.Common.{◌≡◌, ◌≢◌, ◌⊎◌, ℕ, zero, suc, ◌+◌, ◌<◌, ◌≤◌, List, [], ◌∷◌, ◌++◌, length, map, take, drop, flat_map, AllPairs, Bool, true, false, cond, Some, refl, sym, subst, ap, ◌∙◌, inl, inr, arith}
-use Rattle.std.specs.Prelude.{Contains, slice_get, count_by}
+use Rattle.std.proofs.Common.{◌≡◌, ◌≢◌, ◌⊎◌, ℕ, zero, suc, ◌+◌, ◌<◌, List, [], ◌∷◌, ◌++◌, length, map, take, drop, flat_map, AllPairs, Bool, true, false, Some, refl, sym, subst, ◌∙◌, inl, inr, arith}
+use Rattle.std.specs.Prelude.{Contains, slice_get}
 use Rattle.std.specs.Bool.{Decides}
 use Rattle.std.proofs.Math.Logic.{∥∥₁_elim, ∥∥₁_map}
 use Rattle.std.proofs.Props.{props}
 use Rattle.std.proofs.lemmas.List.Elements.{Contains-append_left, Contains-append_right, Contains-append_cases}
-use Rattle.std.proofs.lemmas.List.Sums.{sum_by-cons}
 use Rattle.list_core.proofs.RisingLemmas.{AllPairs-head, AllPairs-tail, Contains-head, Contains-cons, Contains-cons_cases, Contains-none}
+use Rattle.list_core.proofs.MadeLemmas.{Contains-map_source}
 use Rattle.list_core.proofs.WantedLemmas.{AllPairs-append, AllPairs-before}
 
 -- nothing holds of what can't be
@@ -67,23 +67,6 @@ AllPairs-flat_map R f (x ∷ xs) each across =
     let r = Contains-flat_map_source f xs b k in
     across 0 (suc r.0) x r.1 a b (omega arith) refl r.2 h r.3)
 
--- what the function makes of a thing in the list stands in the list that it makes
-pub Contains-map : {X Y : Type 0} (f : X → Y) (xs : List X) (x : X) → Contains xs x → Contains (map f xs) (f x)
-Contains-map f [] x h = absurd (Contains-none x h)
-Contains-map f (z ∷ xs) x h = elim (Contains-cons_cases z xs x h) [
-  | inl e ↦ subst (Contains (f z ∷ map f xs)) (ap f e) (Contains-head (f z) (map f xs))
-  | inr k ↦ Contains-cons (f z) (map f xs) (f x) (Contains-map f xs x k)
-]
-
--- what stands in the list that it makes is made of a thing in the list
-pub Contains-map_source : {X Y : Type 0} (f : X → Y) (xs : List X) (y : Y) → Contains (map f xs) y
-    → (x : X) × Contains xs x × (f x ≡ y)
-Contains-map_source f [] y h = absurd (Contains-none y h)
-Contains-map_source f (z ∷ xs) y h = elim (Contains-cons_cases (f z) (map f xs) y h) [
-  | inl e ↦ (z, Contains-head z xs, e)
-  | inr k ↦ let r = Contains-map_source f xs y k in (r.0, Contains-cons z xs r.0 r.1, r.2)
-]
-
 -- things that differ are made into things that differ, where the function tells those of the list apart
 pub differ-map : {X Y : Type 0} (f : X → Y) (xs : List X)
     → ((a b : X) → Contains xs a → Contains xs b → f a ≡ f b → a ≡ b)
@@ -97,18 +80,6 @@ differ-map {X} {Y} f (x ∷ xs) tells differ =
     (tells x r.0 (Contains-head x xs) (Contains-cons x xs r.0 r.1) (e ∙ sym r.2)))
     (differ-map f xs (λ a b h k e. tells a b (Contains-cons x xs a h) (Contains-cons x xs b k) e)
     (AllPairs-tail (λ (a : X) (b : X). a ≢ b) x xs differ))
-
--- a thing in the list that passes a test is counted
-pub counted : {X : Type 0} (test : X → Bool) (xs : List X) (x : X) → Contains xs x → test x ≡ true
-    → 1 ≤ count_by test xs
-counted test [] x h passes = absurd (Contains-none x h)
-counted test (y ∷ ys) x h passes =
-    let split : count_by test (y ∷ ys) ≡ cond (test y) 1 0 + count_by test ys =
-    sum_by-cons (λ z. cond (test z) 1 0) y ys in
-    elim (Contains-cons_cases y ys x h) [
-      | inl e ↦ let first : test y ≡ true = ap test e ∙ passes in grind arith
-      | inr k ↦ let rest : 1 ≤ count_by test ys = counted test ys x k passes in grind arith
-    ]
 
 -- an element of one list behind another
 pub slice_get-append_cases : {X : Type 0} (xs ys : List X) (i : ℕ) (x : X) → slice_get (xs ++ ys) i ≡ Some x

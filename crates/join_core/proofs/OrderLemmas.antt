@@ -1,14 +1,13 @@
 -- The order of the rows of a join, and lists of rows that are sorted by it.
-use Rattle.std.proofs.Common.{◌≡◌, ◌≢◌, ℤ, ℕ, false, List, get_or, AllPairs, refl, sym, ap, arith}
+use Rattle.std.proofs.Common.{◌≡◌, ◌≢◌, false, List, get_or, AllPairs, refl, sym, ap, arith}
 use Rattle.std.specs.Prelude.{IsPermutation, IsSorted}
 use Rattle.std.specs.Bool.{Decides}
 use Rattle.std.specs.declared.cmp.Ordering.{Ordering}
 use Rattle.std.specs.declared.cmp.Ordering.TheVariants.{Less, Equal, Greater}
-use Rattle.std.specs.Ordering.{is_lt, ordering_reverse, ordering_then, int_cmp, nat_cmp}
+use Rattle.std.specs.Ordering.{is_lt, ordering_reverse, ordering_then}
 use Rattle.std.specs.Cmp.{IsTotalOrder}
-use Rattle.std.proofs.lemmas.Cmp.{then_total, on_total, int_cmp_total, nat_cmp_total}
-use Rattle.std.proofs.lemmas.Int.{ints}
-use Rattle.std.proofs.lemmas.Bool.Decides.{nat_tests, Decides-eqb, Decides-int_eq, Decides-and, Decides-like}
+use Rattle.std.proofs.lemmas.Cmp.{then_total, on_total, int_cmp_total, nat_cmp_total, int_ranked, ranked}
+use Rattle.std.proofs.lemmas.Bool.Decides.{Decides-eqb, Decides-int_eq, Decides-and, Decides-like}
 use Rattle.std.proofs.lemmas.List.Sorted.{sorted_far, ranks_by}
 use Rattle.std.proofs.lemmas.Map.Made.{AllPairs-from_IsDistinct, IsDistinct-from_AllPairs}
 use Rattle.std.proofs.lemmas.Map.Keys.{IsDistinct-IsPermutation}
@@ -60,14 +59,6 @@ both_tie Less s e = cc
 both_tie Equal s e = (refl, e)
 both_tie Greater s e = cc
 
--- numbers that tie are one
-int_tie : (a b : ℤ) → int_cmp a b ≡ Equal → a ≡ b
-int_tie a b e = grind (arith, ints)
-
--- so are natural numbers
-nat_tie : (a b : ℕ) → nat_cmp a b ≡ Equal → a ≡ b
-nat_tie a b e = grind (arith, nat_tests)
-
 -- rows that tie are one
 pub tied_rows : (a b : JoinRow) → join_cmp a b ≡ Equal → a ≡ b
 tied_rows a b e =
@@ -75,9 +66,9 @@ tied_rows a b e =
     let ends = both_tie _ _ halves.0 in
     let ids = both_tie _ _ halves.1 in
     JoinRow-same_fields a b
-    (Period-same_ends a.period b.period (int_tie a.period.from b.period.from ends.0)
-    (int_tie a.period.to b.period.to ends.1))
-    (nat_tie a.left b.left ids.0) (nat_tie a.right b.right ids.1)
+    (Period-same_ends a.period b.period (int_ranked a.period.from b.period.from Equal (sym ends.0))
+    (int_ranked a.period.to b.period.to Equal (sym ends.1)))
+    (ranked a.left b.left Equal (sym ids.0)) (ranked a.right b.right Equal (sym ids.1))
 
 -- what differs from a row, and does not come before it, comes after it
 before_by : (x y : JoinRow) (r s : Ordering) → r ≡ join_cmp x y → s ≡ join_cmp y x → r ≡ ordering_reverse s

@@ -6,8 +6,9 @@ use Rattle.dip_core.specs.declared.item.Item.{Item}
 use Rattle.dip_core.specs.Item.{HasDistinctIds}
 use Rattle.dip_core.specs.Division.{all_of, part_at}
 use Rattle.dip_core.proofs.StepLemmas.{contains-all_of}
+use Rattle.list_core.proofs.MadeLemmas.{counted}
 use Rattle.list_core.proofs.RisingLemmas.{Contains-cons_cases, Contains-none}
-use Rattle.join_core.proofs.ListLemmas.{Contains-flat_map_source, counted}
+use Rattle.join_core.proofs.ListLemmas.{Contains-flat_map_source}
 use Rattle.std.proofs.lemmas.Bool.Decides.{Decides-eqb}
 
 -- an item is one with its id

@@ -1,10 +1,10 @@
 -- Sorted cells, and their runs.
-use Rattle.std.proofs.Common.{◌≡◌, ◌↔◌, ℕ, zero, suc, ◌+◌, ◌-◌, ◌<◌, ◌≤◌, ℤ, ◌<ℤ◌, Bool, true, false, cond, List, length, get_or, refl, sym, subst, ap, ◌∙◌, inl, inr, arith}
+use Rattle.std.proofs.Common.{◌≡◌, ◌↔◌, ℕ, zero, suc, ◌+◌, ◌-◌, ◌<◌, ◌≤◌, ℤ, Bool, true, false, cond, List, length, get_or, refl, sym, subst, ap, ◌∙◌, inl, inr, arith}
 use Rattle.std.specs.Prelude.{IsSorted}
 use Rattle.std.specs.Bool.{Decides}
 use Rattle.std.specs.Cmp.{IsTotalOrder}
 use Rattle.std.specs.Cmp.Lexicographic.{slice_cmp, bytes_decides, texts_ties}
-use Rattle.std.specs.Ordering.{is_lt, is_eq, ordering_then, ordering_reverse, nat_cmp, int_cmp, MatchOrdering}
+use Rattle.std.specs.Ordering.{is_lt, is_eq, ordering_then, ordering_reverse, nat_cmp, int_cmp}
 use Rattle.std.specs.declared.cmp.Ordering.{Ordering}
 use Rattle.std.specs.declared.cmp.Ordering.TheVariants.{Less, Equal, Greater}
 use Rattle.std.proofs.lemmas.Bool.{cases_eq, cases_lt}
@@ -52,14 +52,6 @@ all_equal Equal Less t h = absurd (cc)
 all_equal Equal Greater t h = absurd (cc)
 all_equal Equal Equal t h = (refl, (refl, h))
 
--- numbers that tie are one
-nat_tied : (a b : ℕ) → nat_cmp a b ≡ Equal → a ≡ b
-nat_tied a b h = let same : MatchOrdering Equal (a < b) (a ≡ b) (b < a) = ranked a b Equal (sym h) in same
-
--- signed numbers that tie are one
-int_tied : (a b : ℤ) → int_cmp a b ≡ Equal → a ≡ b
-int_tied a b h = let same : MatchOrdering Equal (a <ℤ b) (a ≡ b) (b <ℤ a) = int_ranked a b Equal (sym h) in same
-
 -- texts that tie are one
 text_tied : (a b : List ℕ) → slice_cmp nat_cmp a b ≡ Equal → a ≡ b
 text_tied a b h = (bytes_decides a b).0 (texts_ties a b ∙ ap is_eq h)
@@ -68,8 +60,10 @@ text_tied a b h = (bytes_decides a b).0 (texts_ties a b ∙ ap is_eq h)
 tied_same : (a b : Cell) → cell_cmp a b ≡ Equal → SameCell a b
 tied_same a b h =
     let all = all_equal (nat_cmp a.class b.class) (int_cmp a.number b.number)
-    (slice_cmp nat_cmp a.text.now b.text.now) h in
-    (nat_tied _ _ all.0, (int_tied _ _ all.1.0, text_tied _ _ all.1.1))
+    (slice_cmp nat_cmp a.text.now b.text.now) h in (
+      ranked a.class b.class Equal (sym all.0),
+      (int_ranked a.number b.number Equal (sym all.1.0), text_tied _ _ all.1.1),
+    )
 
 -- cells that are the same tie
 same_tied : (a b : Cell) → SameCell a b → cell_cmp a b ≡ Equal

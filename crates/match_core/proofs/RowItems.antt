@@ -1,7 +1,7 @@
 -- Rows and their items.
 use Rattle.std.proofs.Common.{◌≡◌, ◌<◌, ◌≤◌, ℕ, zero, suc, ◌+◌, List, length, [], ◌∷◌, get_or, take, ◌++◌, Some, refl, subst, ap, ◌∙◌, inl, inr, arith}
 use Rattle.std.specs.Prelude.{slice_get, AllPairs, Contains}
-use Rattle.row_core.specs.Rows.{IdsRise}
+use Rattle.row_core.specs.Rows.{RowsRise}
 use Rattle.row_core.specs.declared.row.Row.{Row}
 use Rattle.dip_core.specs.declared.item.Item.{Item}
 use Rattle.list_core.proofs.RisingLemmas.{AllPairs-head, Contains-cons, Contains-cons_cases, Contains-head, Contains-none}
@@ -70,7 +70,7 @@ item_of_row (q ∷ rows) (c ∷ classes) r enough h =
     ]
 
 -- rising ids are ids that differ
-pub ids_rise : (rows : List Row) → IdsRise rows → AllPairs (λ x y. x.id < y.id) rows
+pub ids_rise : (rows : List Row) → RowsRise rows → AllPairs (λ x y. x.id < y.id) rows
 ids_rise [] rise = λ i j d less h. absurd (omega arith)
 ids_rise (x ∷ []) rise = λ i j d less h. absurd (omega arith)
 ids_rise (x ∷ (y ∷ ys)) rise =

@@ -11,7 +11,7 @@ use Rattle.std.proofs.lemmas.Cmp.{nat_cmp_total, ranked}
 use Rattle.std.proofs.lemmas.List.{get_or_read, length-set}
 use Rattle.std.proofs.lemmas.List.Elements.{Contains-get_or}
 use Rattle.std.proofs.lemmas.List.Sorted.{searchable_from_sorted}
-use Rattle.row_core.specs.Rows.{IdsRise}
+use Rattle.row_core.specs.Rows.{RowsRise}
 use Rattle.row_core.specs.declared.row.Row.{Row}
 use Rattle.list_core.proofs.RisingLemmas.{AllPairs-head, AllPairs-tail, Contains-cons_cases, Contains-none}
 use Rattle.match_core.proofs.RowItems.{ids_rise}
@@ -19,7 +19,7 @@ use Rattle.match_core.proofs.RowItems.{ids_rise}
 -- ---- rows by rising id
 
 -- ids that rise are at least as far apart as their rows
-pub ids_apart : (rows : List Row) → IdsRise rows → (i k : ℕ) (d : Row) → i + k < length rows
+pub ids_apart : (rows : List Row) → RowsRise rows → (i k : ℕ) (d : Row) → i + k < length rows
     → (get_or rows i d).id + k ≤ (get_or rows (i + k) d).id
 ids_apart rows rise i zero d within = let e : i + 0 ≡ i = omega arith in
     subst (λ n. (get_or rows i d).id + 0 ≤ (get_or rows n d).id) (sym e) (omega arith)
@@ -30,7 +30,7 @@ ids_apart rows rise i (suc k) d within =
     subst (λ n. (get_or rows i d).id + suc k ≤ (get_or rows n d).id) (sym e) (omega (arith, far, next))
 
 -- the first row's id is the least
-pub first_low : (rows : List Row) (k : ℕ) (x d : Row) → IdsRise rows → 0 < length rows → x ≡ get_or rows 0 x
+pub first_low : (rows : List Row) (k : ℕ) (x d : Row) → RowsRise rows → 0 < length rows → x ≡ get_or rows 0 x
     → k < length rows → (get_or rows 0 x).id ≤ (get_or rows k d).id
 first_low rows k x d rise some here within =
     let far : (get_or rows 0 d).id + k ≤ (get_or rows (0 + k) d).id = ids_apart rows rise 0 k d (omega arith) in
@@ -42,7 +42,7 @@ first_low rows k x d rise some here within =
     omega (arith, there, same)
 
 -- rows of one id stand at one place
-pub one_place : (rows : List Row) → IdsRise rows → (i k : ℕ) (d : Row) → i < length rows → k < length rows
+pub one_place : (rows : List Row) → RowsRise rows → (i k : ℕ) (d : Row) → i < length rows → k < length rows
     → (get_or rows i d).id ≡ (get_or rows k d).id → i ≡ k
 one_place rows rise i k d hi hk same = elim (cases_lt i k) [
   | inl less ↦ (
@@ -78,7 +78,7 @@ find_in (r ∷ rows) x rise h =
     ]
 
 -- the row at a place is found by its id
-pub find_at_place : (rows : List Row) (p id : ℕ) (x : Row) → IdsRise rows → p < length rows → x ≡ get_or rows p x
+pub find_at_place : (rows : List Row) (p id : ℕ) (x : Row) → RowsRise rows → p < length rows → x ≡ get_or rows p x
     → x.id ≡ id → Some x ≡ find (λ row. row.id == id) rows
 find_at_place rows p id x rise within here same =
     let has : Contains rows x = subst (Contains rows) (sym here) (Contains-get_or rows p x within) in
@@ -101,7 +101,7 @@ ArePlacesOf n first rows places = (k : ℕ) (d : Row) → k < n → (get_or rows
     → get_or places ((get_or rows k d).id - first) 0 ≡ k
 
 -- a row stands no later than its id comes behind the first
-pub place_low : (rows : List Row) (first i : ℕ) (x : Row) → IdsRise rows
+pub place_low : (rows : List Row) (first i : ℕ) (x : Row) → RowsRise rows
     → All (λ (row : Row). first ≤ row.id) rows → i < length rows → x ≡ get_or rows i x → i ≤ x.id - first
 place_low rows first i x rise low within here =
     let far : (get_or rows 0 x).id + i ≤ (get_or rows (0 + i) x).id = ids_apart rows rise 0 i x (omega arith) in
@@ -113,7 +113,7 @@ place_low rows first i x rise low within here =
     omega (arith, there, least, same)
 
 -- the place of one more row
-pub placed_more : (rows : List Row) (places : List ℕ) (first i at : ℕ) (x : Row) → IdsRise rows
+pub placed_more : (rows : List Row) (places : List ℕ) (first i at : ℕ) (x : Row) → RowsRise rows
     → All (λ (row : Row). first ≤ row.id) rows → i < length rows → x ≡ get_or rows i x → at ≡ x.id - first
     → at < length places → ArePlacesOf i first rows places → ArePlacesOf (i + 1) first rows (set places at i)
 placed_more rows places first i at x rise low within here is inside before k d lt room =
@@ -154,11 +154,11 @@ not_lower : (m n : ℕ) → n < m → is_lt (nat_cmp m n) ≡ false
 not_lower m n less = grind (arith, nat_tests)
 
 -- rows by rising id are sorted by their ids
-sorted_ids : (rows : List Row) → IdsRise rows → IsSortedBy (λ x y. is_lt (nat_cmp x.id y.id)) rows
+sorted_ids : (rows : List Row) → RowsRise rows → IsSortedBy (λ x y. is_lt (nat_cmp x.id y.id)) rows
 sorted_ids rows rise k d low h = not_lower (get_or rows (k + 1) d).id (get_or rows k d).id (rise k d h)
 
 -- a search by halves finds the place of the row of the id
-pub place_searched : (rows : List Row) (id : ℕ) (r : Result ℕ ℕ) → IdsRise rows → IsSearchInRange r (length rows)
+pub place_searched : (rows : List Row) (id : ℕ) (r : Result ℕ ℕ) → RowsRise rows → IsSearchInRange r (length rows)
     → IsBinarySearchResult (λ x. nat_cmp x.id id) rows r
     → (k : ℕ) (d : Row) → k < length rows → (get_or rows k d).id ≡ id → result_ok r ≡ Some k
 place_searched rows id (Ok p) rise within found k d lt same =

@@ -1,6 +1,6 @@
 -- Where rows stand that are looked for by their ids.
 use Rattle.std.specs.Prelude.{◌≡◌, ℕ, ◌-◌, ◌<◌, ◌≤◌, All, List, length, slice_index, slice_index_or}
-use Rattle.row_core.specs.Rows.{IdsRise}
+use Rattle.row_core.specs.Rows.{RowsRise}
 use Rattle.row_core.specs.declared.row.Row.{Row}
 
 -- the most places that are kept
@@ -15,6 +15,6 @@ ArePlacesFrom first rows places = (i : ℕ) (d : Row) → i < length rows
 
 -- the rows' ids rise from the first on, and the places are those of the rows
 pub record ArePlacesOfRows (first : ℕ) (rows : List Row) (places : List ℕ) : Type 0 where
-  pub rise : IdsRise rows
+  pub rise : RowsRise rows
   pub low : All (λ row. first ≤ row.id) rows
   pub found : ArePlacesFrom first rows places

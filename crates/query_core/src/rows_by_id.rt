@@ -2,7 +2,7 @@
 
 ghost use Rattle.std.specs.Prelude.{◌≡◌, ◌==◌, ℕ, ◌*◌, ◌<◌, ◌≤◌, All, IfOk, Some, find, length, slice_index_or};
 ghost use Rattle.std.specs.Option.{option_copied};
-ghost use Rattle.row_core.specs.Rows.{IdsRise};
+ghost use Rattle.row_core.specs.Rows.{RowsRise};
 ghost use Rattle.row_core.specs.declared.row.Row.{Row};
 ghost use Rattle.query_core.specs.Places.{ArePlacesOfRows, ArePlacesFrom, place_limit};
 
@@ -47,7 +47,7 @@ impl<'a> RowsById<'a> {
     ///
     /// `NoMemory` where a growth is refused.
     pub fn new(alloc: Global, rows: &'a RowList) -> Result<RowsById<'a>, NoMemory>
-        requires { IdsRise rows.now }
+        requires { RowsRise rows.now }
         ensures { IfOk result (λ found. found ≡ rows.entry.now) }
     {
         let rows = rows.as_slice();
@@ -71,7 +71,7 @@ impl<'a> RowsById<'a> {
 
 // The first row's id, and 0 without rows.
 fn first_id(rows: &[Row]) -> u64
-    requires { IdsRise rows.now }
+    requires { RowsRise rows.now }
     ensures { All (λ row. result ≤ row.id) rows.now }
 {
     if rows.is_empty() {
@@ -99,7 +99,7 @@ fn count_of_places(rows: &[Row], first: u64) -> usize
 
 // The places of the rows by their ids.
 fn places_of(alloc: Global, rows: &[Row], first: u64) -> Result<Vec<u32>, NoMemory>
-    requires rise { IdsRise rows.now }
+    requires rise { RowsRise rows.now }
     requires low { All (λ row. first ≤ row.id) rows.now }
     ensures { IfOk result (λ places. ArePlacesFrom first rows.now places.items) }
 {
@@ -111,7 +111,7 @@ fn places_of(alloc: Global, rows: &[Row], first: u64) -> Result<Vec<u32>, NoMemo
 
 // Puts the place of each row to its id.
 fn put_places(rows: &[Row], first: u64, places: &mut [u32])
-    requires rise { IdsRise rows.now }
+    requires rise { RowsRise rows.now }
     requires low { All (λ row. first ≤ row.id) rows.now }
     requires few { length places.old ≤ place_limit }
     ensures count { length places.new ≡ length places.old }

@@ -8,7 +8,7 @@ use Rattle.std.specs.declared.cmp.Ordering.{Ordering}
 use Rattle.std.specs.declared.cmp.Ordering.TheVariants.{Less, Equal, Greater}
 use Rattle.std.proofs.Math.Dec.{T}
 use Rattle.std.proofs.lemmas.Bool.Decides.{nat_tests}
-use Rattle.std.proofs.lemmas.Cmp.{then_total, on_total, int_cmp_total, nat_cmp_total}
+use Rattle.std.proofs.lemmas.Cmp.{then_total, on_total, int_cmp_total, nat_cmp_total, int_ranked, ranked}
 use Rattle.std.proofs.lemmas.Int.{ints}
 use Rattle.period_core.specs.declared.period.Period.{Period}
 use Rattle.period_core.specs.Period.{Holds, holds_at}
@@ -277,12 +277,6 @@ both_tie Less s e = cc
 both_tie Equal s e = (refl, e)
 both_tie Greater s e = cc
 
-int_tie : (a b : ℤ) → int_cmp a b ≡ Equal → a ≡ b
-int_tie a b e = grind (arith, ints)
-
-nat_tie : (a b : ℕ) → nat_cmp a b ≡ Equal → a ≡ b
-nat_tie a b e = grind (arith, nat_tests)
-
 int_less : (a b : ℤ) → int_cmp a b ≡ Less → a <ℤ b
 int_less a b e = grind (arith, ints)
 
@@ -295,10 +289,10 @@ tied_plateaus a b e =
     let halves = both_tie _ _ e in
     let first = both_tie _ _ halves.0 in
     let second = both_tie _ _ halves.1 in
-    Plateau-same a b (nat_tie a.class b.class first.0)
-    (Period-same a.period b.period (int_tie a.period.from b.period.from first.1)
-    (int_tie a.period.to b.period.to second.0))
-    (int_tie a.value b.value second.1)
+    Plateau-same a b (ranked a.class b.class Equal (sym first.0))
+    (Period-same a.period b.period (int_ranked a.period.from b.period.from Equal (sym first.1))
+    (int_ranked a.period.to b.period.to Equal (sym second.0)))
+    (int_ranked a.value b.value Equal (sym second.1))
 
 -- what comes first comes first by class, or by start, or ties by both
 first_of : (r s rest : Ordering) → ordering_then (ordering_then r s) rest ≡ Less
@@ -324,11 +318,11 @@ before_of measure items a b i j less =
     (ordering_then (int_cmp a.period.to b.period.to) (int_cmp a.value b.value)) less) [
       | inl e ↦ inl (nat_less a.class b.class e)
       | inr (e, rest) ↦ elim rest [
-        | inl f ↦ inr (nat_tie a.class b.class e, int_less a.period.from b.period.from f)
+        | inl f ↦ inr (ranked a.class b.class Equal (sym e), int_less a.period.from b.period.from f)
         | inr f ↦ absurd (
-            let start : a.period.from ≡ b.period.from = int_tie a.period.from b.period.from f in
+            let start : a.period.from ≡ b.period.from = int_ranked a.period.from b.period.from Equal (sym f) in
             let same : a ≡ b =
-            one_at measure items a b a.period.from (nat_tie a.class b.class e) (first_held a.period)
+            one_at measure items a b a.period.from (ranked a.class b.class Equal (sym e)) (first_held a.period)
             (subst (Holds b.period) (sym start) (first_held b.period)) i j in
             not_before_itself a (subst (λ z. plateau_cmp a z ≡ Less) (sym same) less))
       ]

@@ -4,6 +4,7 @@ use Rattle.std.specs.Prelude.{nat_lt, nat_eq, if◌then◌else◌}
 use Rattle.std.proofs.Props.{props}
 use Rattle.std.proofs.lemmas.Bool.Decides.{nat_tests}
 use Rattle.std.proofs.lemmas.Option.{cond_some}
+use Rattle.dip_core.specs.Item.{item_limit}
 use Rattle.merge_core.specs.declared.tally.Tally.{Tally}
 use Rattle.merge_core.specs.Tallies.{both}
 use Rattle.merge_core.specs.Steps.{StepList, IsBoth, tally_at}
@@ -38,7 +39,7 @@ and_second true b e = e
 and_second false b e = cc
 
 -- there are no more pairs than a job may have
-pub few_twos : (n : ℕ) → n ≤ 1_000_000 → n / 2 ≤ 2 ^ 40
+pub few_twos : (n : ℕ) → n ≤ item_limit → n / 2 ≤ 2 ^ 40
 few_twos n h = omega arith
 
 -- a pair is found by its name

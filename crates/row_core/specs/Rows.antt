@@ -4,5 +4,5 @@ use Rattle.list_core.specs.Order.{RiseBy}
 use Rattle.row_core.specs.declared.row.Row.{Row}
 
 -- each id is below the next one's
-abbrev pub IdsRise : List Row → Type 0
-IdsRise rows = RiseBy (λ (row : Row). row.id) rows
+abbrev pub RowsRise : List Row → Type 0
+RowsRise rows = RiseBy (λ (row : Row). row.id) rows

@@ -1,7 +1,7 @@
 //! Rows of tables.
 
 ghost use Rattle.std.specs.Prelude.{◌↔◌, IsTrue};
-ghost use Rattle.row_core.specs.Rows.{IdsRise};
+ghost use Rattle.row_core.specs.Rows.{RowsRise};
 
 use crate::NoMemory;
 use crate::value::Values;
@@ -38,14 +38,14 @@ pub trait RowOrder {
 
 impl RowOrder for RowList {
     fn ids_rise(&self) -> bool
-        ensures { IsTrue result ↔ IdsRise self.now }
+        ensures { IsTrue result ↔ RowsRise self.now }
     {
         rows_rise(self.as_slice())
     }
 }
 
 fn rows_rise(rows: &[Row]) -> bool
-    ensures { IsTrue result ↔ IdsRise rows.now }
+    ensures { IsTrue result ↔ RowsRise rows.now }
 {
     rows.windows(2).all(|pair| pair[0].id < pair[1].id)
 }

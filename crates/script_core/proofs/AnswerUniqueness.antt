@@ -2,13 +2,13 @@
 use Rattle.std.proofs.Common.{◌≡◌, ℕ, ◌+◌, List, Option, Some, None, Result, Ok, Err, length, refl, sym, ap, ◌∙◌, subst}
 use Rattle.std.specs.Prelude.{⊤, nat_le, nat_lt, unwrap_or}
 use Rattle.row_core.specs.Refusals.{map_err, refused_or}
-use Rattle.row_core.specs.Rows.{IdsRise}
+use Rattle.row_core.specs.Rows.{RowsRise}
 use Rattle.row_core.specs.declared.row.Row.{Row}
 use Rattle.book_core.specs.History.{History, rows_at}
 use Rattle.book_core.specs.Versions.{AreBetween, AreFromTo}
 use Rattle.version_core.specs.declared.version.Version.{Version}
 use Rattle.book_core.proofs.VersionsUniqueness.{one_list}
-use Rattle.book_core.proofs.RiseLemmas.{IdsRise-rows_at}
+use Rattle.book_core.proofs.RiseLemmas.{RowsRise-rows_at}
 use Rattle.dip_core.specs.Division.{IsDivision}
 use Rattle.dip_core.specs.declared.item.Item.{Item}
 use Rattle.dip_core.proofs.DipUniqueness.{one_dip, one_instant_of}
@@ -95,10 +95,10 @@ both-first (Ok v) (Err why) x y e = absurd (not_Ok (x, y) why e)
 both-first {S} {T} {E} (Ok v) (Ok w) x y e = ap (λ (p : S × T). Ok p.0) (same_Ok {T = S × T} {E = E} (v, w) (x, y) e)
 
 pub rise-told : (number : ℕ) (h : History) (asof : Option ℕ) (name : List ℕ) (rows : List Row)
-    → rows_told number h asof name ≡ Ok rows → IdsRise rows
+    → rows_told number h asof name ≡ Ok rows → RowsRise rows
 rise-told number h asof name rows e =
-    subst IdsRise (given-ok _ _ (rows_at h (unwrap_or asof (length h)) name) rows e)
-    (IdsRise-rows_at h (unwrap_or asof (length h)) name)
+    subst RowsRise (given-ok _ _ (rows_at h (unwrap_or asof (length h)) name) rows e)
+    (RowsRise-rows_at h (unwrap_or asof (length h)) name)
 
 -- ---- answers
 

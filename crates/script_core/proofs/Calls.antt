@@ -1,12 +1,10 @@
 -- A script's store has calls enough: its bytes are few, and each record takes some.
 use Rattle.std.proofs.Common.{ℕ, ◌*◌, ◌≤◌, List, [], ◌∷◌, Bool, true, false, cond, length, arith}
-use Rattle.csv.specs.Reading.{Reached, default_config, is_bom, strip_bom}
-use Rattle.csv.specs.declared.parser.Config.{Config}
-use Rattle.csv.specs.declared.parser.State.{State}
+use Rattle.csv.specs.Reading.{default_config, is_bom, strip_bom}
 use Rattle.csv.specs.declared.parser.State.TheVariants as st
 use Rattle.turn_core.specs.Limits.{call_limit}
 use Rattle.command_core.specs.Records.{AreScriptRecords, Record}
-use Rattle.command_core.proofs.Shrinking.{next_record-shrinks, work_left}
+use Rattle.command_core.proofs.Shrinking.{records-few, work_left}
 use Rattle.stream_core.specs.Faults.{script_limit}
 
 -- no more is left of a text without its mark
@@ -20,13 +18,6 @@ strip-less (a ∷ b ∷ c ∷ rest) = by (is_bom a b c)
     by : (mark : Bool) → length (cond mark rest (a ∷ b ∷ c ∷ rest)) ≤ length (a ∷ b ∷ c ∷ rest)
     by true = omega arith
     by false = omega arith
-
-records-few : (config : Config) (records : List Record) (s t : State) (text left : List ℕ)
-    → Reached config s text records t left → length records ≤ work_left s text
-unfolding Reached
-records-few config [] s t text left reached = omega arith
-records-few config (r ∷ rs) s t text left (read, is, fields, more) =
-    omega (arith, next_record-shrinks config s [] [] text read is, records-few config rs read.1 t read.2 left more)
 
 -- two for each record
 pub calls-enough : (script : List ℕ) (records : List Record) → AreScriptRecords script records

@@ -7,7 +7,7 @@ ghost use Rattle.command_core.specs.PairsIn.{compared_in, name_pairs_in};
 ghost use Rattle.version_core.specs.Limits.{version_limit};
 ghost use Rattle.work_core.specs.Limits.{worker_limit};
 ghost use Rattle.match_core.specs.Items.{items_of};
-ghost use Rattle.row_core.specs.Rows.{IdsRise};
+ghost use Rattle.row_core.specs.Rows.{RowsRise};
 ghost use Rattle.row_core.specs.Schema.{fits};
 ghost use Rattle.script_core.specs.Answer.{IsAggOf, IsAntiOf, IsDipOf, IsJoinOf, IsVerdictOn, IsVersions};
 ghost use Rattle.script_core.specs.Ledgers.{commit_shown, ShowsAll};
@@ -43,7 +43,7 @@ fn shown_table<'a>(
         (λ rows read. read.1 ≡ rows) result }
     ensures columns { IfOk result (λ read. columns_told number (history snapshot.now) table ≡ Ok read.0.now) }
     ensures few { IfOk result (λ read. length read.1 ≤ version_limit) }
-    ensures rise { IfOk result (λ read. IdsRise read.1) }
+    ensures rise { IfOk result (λ read. RowsRise read.1) }
     ensures fit { IfOk result (λ read. All (λ row. IsTrue (fits read.0.now row.values)) read.1) }
 {
     let rows = match snapshot.rows(table) {

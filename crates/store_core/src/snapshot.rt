@@ -5,7 +5,7 @@ ghost use Rattle.std.specs.Arc.{arc_value};
 ghost use Rattle.period_core.specs.Period.{holds_at};
 ghost use Rattle.row_core.specs.Refusals.{AnswersOr, IsAnswer, map_ok};
 ghost use Rattle.row_core.specs.declared.row.Row.{Row};
-ghost use Rattle.row_core.specs.Rows.{IdsRise};
+ghost use Rattle.row_core.specs.Rows.{RowsRise};
 ghost use Rattle.row_core.specs.Schema.{fits};
 ghost use Rattle.version_core.specs.Limits.{version_limit};
 ghost use Rattle.book_core.specs.History.{IsLegal, rows_at, schema_in};
@@ -92,7 +92,7 @@ impl Snapshot {
 
         // They are at most 1,000,000, and each fits the table's columns.
         ensures few { IfOk result (λ rows. length rows ≤ version_limit) }
-        ensures rise { IfOk result IdsRise }
+        ensures rise { IfOk result RowsRise }
         ensures fit { IfOk result (λ rows. IfSome (schema_in (history self.now) name)
             (λ columns. All (λ row. IsTrue (fits columns row.values)) rows)) }
     {
@@ -115,7 +115,7 @@ impl Snapshot {
             (rows_of_snapshot (history self.now) (number_shown self.now) name)) result }
 
         ensures few { IfOk result (λ rows. length rows ≤ version_limit) }
-        ensures rise { IfOk result IdsRise }
+        ensures rise { IfOk result RowsRise }
         ensures fit { IfOk result (λ rows. IfSome (schema_in (history self.now) name)
             (λ columns. All (λ row. IsTrue (fits columns row.values)) rows)) }
     {

@@ -4,33 +4,34 @@ use Rattle.std.specs.List.{cons_option, filter}
 use Rattle.std.proofs.lemmas.List.{append-nil, take_more}
 use Rattle.std.proofs.lemmas.List.Elements.{filter-append, filter_map-append}
 use Rattle.row_core.specs.declared.row.Row.{Row}
-use Rattle.version_core.specs.Shown.{shows, row_shown, shown, is_behind, end_at, version_seen, seen}
+use Rattle.version_core.specs.Shown.{shows, row_shown, shown, is_behind, end_at, version_as_of, versions_as_of}
 use Rattle.version_core.specs.declared.version.Version.{Version}
 
-seen-take_more : (at m last i : ℕ) (vs : List Version) (v : Version) → i < length vs → v ≡ get_or vs i v
-    → seen at m last (take (i + 1) vs) ≡ seen at m last (take i vs) ++ cons_option (version_seen at m last v) []
-seen-take_more at m last i vs v h e =
-    ap (seen at m last) (take_more vs i v h)
-    ∙ filter_map-append (version_seen at m last) (take i vs) (get_or vs i v ∷ [])
-    ∙ ap (λ u. seen at m last (take i vs) ++ cons_option (version_seen at m last u) []) (sym e)
+versions_as_of-take_more : (at m last i : ℕ) (vs : List Version) (v : Version) → i < length vs → v ≡ get_or vs i v
+    → versions_as_of at m last (take (i + 1) vs)
+    ≡ versions_as_of at m last (take i vs) ++ cons_option (version_as_of at m last v) []
+versions_as_of-take_more at m last i vs v h e =
+    ap (versions_as_of at m last) (take_more vs i v h)
+    ∙ filter_map-append (version_as_of at m last) (take i vs) (get_or vs i v ∷ [])
+    ∙ ap (λ u. versions_as_of at m last (take i vs) ++ cons_option (version_as_of at m last u) []) (sym e)
 
-pub seen-more : (at m last i : ℕ) (vs : List Version) (v : Version) (us : List Version) → i < length vs
+pub versions_as_of-more : (at m last i : ℕ) (vs : List Version) (v : Version) (us : List Version) → i < length vs
     → v ≡ get_or vs i v → (leb v.sysfrom at && (leb v.sysfrom last && is_behind (end_at at v.systo) m)) ≡ true
-    → us ≡ seen at m last (take i vs)
-    → us ++ record { row = v.row; sysfrom = v.sysfrom; systo = end_at at v.systo } ∷ [] ≡ seen at m last
+    → us ≡ versions_as_of at m last (take i vs)
+    → us ++ record { row = v.row; sysfrom = v.sysfrom; systo = end_at at v.systo } ∷ [] ≡ versions_as_of at m last
     (take (i + 1) vs)
-seen-more at m last i vs v us h e t k =
+versions_as_of-more at m last i vs v us h e t k =
     ap (λ l. l ++ record { row = v.row; sysfrom = v.sysfrom; systo = end_at at v.systo } ∷ []) k
-    ∙ sym (seen-take_more at m last i vs v h e
-    ∙ ap (λ b. seen at m last (take i vs) ++ cons_option
+    ∙ sym (versions_as_of-take_more at m last i vs v h e
+    ∙ ap (λ b. versions_as_of at m last (take i vs) ++ cons_option
     (cond b (Some (record { row = v.row; sysfrom = v.sysfrom; systo = end_at at v.systo })) None) []) t)
 
-pub seen-same : (at m last i : ℕ) (vs : List Version) (v : Version) (us : List Version) → i < length vs
+pub versions_as_of-same : (at m last i : ℕ) (vs : List Version) (v : Version) (us : List Version) → i < length vs
     → v ≡ get_or vs i v → (leb v.sysfrom at && (leb v.sysfrom last && is_behind (end_at at v.systo) m)) ≡ false
-    → us ≡ seen at m last (take i vs) → us ≡ seen at m last (take (i + 1) vs)
-seen-same at m last i vs v us h e t k =
-    k ∙ sym (seen-take_more at m last i vs v h e
-    ∙ ap (λ b. seen at m last (take i vs) ++ cons_option
+    → us ≡ versions_as_of at m last (take i vs) → us ≡ versions_as_of at m last (take (i + 1) vs)
+versions_as_of-same at m last i vs v us h e t k =
+    k ∙ sym (versions_as_of-take_more at m last i vs v h e
+    ∙ ap (λ b. versions_as_of at m last (take i vs) ++ cons_option
     (cond b (Some (record { row = v.row; sysfrom = v.sysfrom; systo = end_at at v.systo })) None) []) t ∙ append-nil _)
 
 shown-take_more : (n i : ℕ) (vs : List Version) (v : Version) → i < length vs → v ≡ get_or vs i v

@@ -27,11 +27,11 @@ end_at at None = None
 end_at at (Some to) = if nat_le to at then Some to else None
 
 -- the version as the first commits show it, where it begins up to `last` and is not over by m
-abbrev pub version_seen : ℕ → ℕ → ℕ → Version → Option Version
-version_seen at m last v = let end = end_at at v.systo in
+abbrev pub version_as_of : ℕ → ℕ → ℕ → Version → Option Version
+version_as_of at m last v = let end = end_at at v.systo in
     if nat_le v.sysfrom at && (nat_le v.sysfrom last && is_behind end m) then Some
     (record { row = v.row; sysfrom = v.sysfrom; systo = end }) else None
 
 -- the versions that the first commits show, of those
-abbrev pub seen : ℕ → ℕ → ℕ → List Version → List Version
-seen at m last versions = filter_map (version_seen at m last) versions
+abbrev pub versions_as_of : ℕ → ℕ → ℕ → List Version → List Version
+versions_as_of at m last versions = filter_map (version_as_of at m last) versions

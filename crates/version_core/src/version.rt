@@ -4,7 +4,7 @@ ghost use Rattle.std.specs.Prelude.{◌≡◌, ◌&&◌, ◌==◌, IfOk, filter,
 ghost use Rattle.std.specs.Option.{option_copied};
 ghost use Rattle.period_core.specs.Period.{holds_at};
 ghost use Rattle.row_core.specs.declared.row.Row.{Row};
-ghost use Rattle.version_core.specs.Shown.{shows, shown, seen, end_at, is_behind};
+ghost use Rattle.version_core.specs.Shown.{shows, shown, versions_as_of, end_at, is_behind};
 
 use list_core::{DeepCopy, List};
 use period_core::Point;
@@ -86,7 +86,7 @@ pub fn versions_seen(
     m: u64,
     last: u64,
 ) -> Result<VersionList, NoMemory>
-    ensures { IfOk result (λ list. list ≡ seen at m last versions.now) }
+    ensures { IfOk result (λ list. list ≡ versions_as_of at m last versions.now) }
 {
     let mut seen = VersionList::new(alloc);
     for version in versions {

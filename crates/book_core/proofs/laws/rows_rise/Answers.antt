@@ -1,5 +1,5 @@
-use Rattle.book_core.proofs.RiseLemmas.{IdsRise-rows_at}
+use Rattle.book_core.proofs.RiseLemmas.{RowsRise-rows_at}
 use Rattle.book_core.proofs.laws.rows_rise.Goals as goal
 
 pub returns : goal.returns
-returns c = IdsRise-rows_at
+returns c = RowsRise-rows_at

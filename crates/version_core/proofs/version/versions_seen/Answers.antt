@@ -1,6 +1,6 @@
 use Rattle.std.proofs.Common.{sym, ◌∙◌, ap, ◌++◌, ◌∷◌, [], ◌&&◌, leb}
 use Rattle.version_core.specs.Shown.{is_behind}
-use Rattle.version_core.proofs.Seen.{seen-more, seen-same}
+use Rattle.version_core.proofs.Seen.{versions_as_of-more, versions_as_of-same}
 use Rattle.version_core.proofs.version.versions_seen.Goals as goal
 use Rattle.version_core.proofs.version.versions_seen.Goals.{then-is_seen+in_ok-copy+in_ok-push, else-is_seen}
 
@@ -19,12 +19,12 @@ loop-version-preserved c =
           ∙ ap (λ end. c.loop-version.seen ++ record
           { row = c.version-item.result.row; sysfrom = c.version-item.result.sysfrom; systo = end } ∷ [])
           c.end_at-end.ensures
-          ∙ seen-more c.args.at c.args.m c.args.last c.loop-version.version-index c.args.versions.now
+          ∙ versions_as_of-more c.args.at c.args.m c.args.last c.loop-version.version-index c.args.versions.now
           c.version-item.result c.loop-version.seen c.loop-version-test.true c.version-item.is
           (test ∙ w.if-is_seen.true) c.loop-version.invariant
       | else-is_seen w ↦
           w.seen-is
-          ∙ seen-same c.args.at c.args.m c.args.last c.loop-version.version-index c.args.versions.now
+          ∙ versions_as_of-same c.args.at c.args.m c.args.last c.loop-version.version-index c.args.versions.now
           c.version-item.result c.loop-version.seen c.loop-version-test.true c.version-item.is
           (test ∙ w.if-is_seen.false) c.loop-version.invariant
     ]

@@ -1,7 +1,7 @@
 use Rattle.std.proofs.Common.{◌≡◌, take}
-use Rattle.version_core.specs.Shown.{seen}
+use Rattle.version_core.specs.Shown.{versions_as_of}
 use Rattle.version_core.proofs.version.versions_seen.Given as goal
 
 -- the versions so far
 abbrev pub invariant-loop-version : goal.invariant-loop-version
-invariant-loop-version l = l.seen ≡ seen l.at l.m l.last (take l.version-index l.versions)
+invariant-loop-version l = l.seen ≡ versions_as_of l.at l.m l.last (take l.version-index l.versions)

@@ -1,5 +1,5 @@
 use Rattle.std.proofs.Common.{◌≤◌, ◌∙◌, ap, length, arith}
-use Rattle.version_core.specs.Shown.{seen}
+use Rattle.version_core.specs.Shown.{versions_as_of}
 use Rattle.book_core.specs.Versions.{IsAfter}
 use Rattle.book_core.proofs.Past.{seen_are, rows_at_once}
 use Rattle.book_core.proofs.book.Book.between.Goals as goal
@@ -12,7 +12,8 @@ returns-in_ok-versions_seen-in-Some-clause-versions c =
     × IsAfter v.systo c.args.m) c.in_ok-versions_seen-in-Some.field-0 c.in-Some.ensures.found within (λ v p. p)
     (λ v p. p)
     (c.in_ok-versions_seen-in-Some.ensures
-    ∙ ap (seen c.args.at c.args.m c.args.n) (c.as_slice.ensures ∙ ap (λ t. t.versions) c.table-in-Some.view_is))
+    ∙ ap (versions_as_of c.args.at c.args.m c.args.n)
+    (c.as_slice.ensures ∙ ap (λ t. t.versions) c.table-in-Some.view_is))
 
 pub returns-in_ok-versions_seen-in-Some-clause-at_once : goal.returns-in_ok-versions_seen-in-Some-clause-at_once
 returns-in_ok-versions_seen-in-Some-clause-at_once c = λ e b.
@@ -20,4 +21,5 @@ returns-in_ok-versions_seen-in-Some-clause-at_once c = λ e b.
     rows_at_once c.args.self.now c.args.name c.in-Some.table.now c.args.at c.args.m c.args.n
     c.in_ok-versions_seen-in-Some.field-0 c.in-Some.ensures.found within e b
     (c.in_ok-versions_seen-in-Some.ensures
-    ∙ ap (seen c.args.at c.args.m c.args.n) (c.as_slice.ensures ∙ ap (λ t. t.versions) c.table-in-Some.view_is))
+    ∙ ap (versions_as_of c.args.at c.args.m c.args.n)
+    (c.as_slice.ensures ∙ ap (λ t. t.versions) c.table-in-Some.view_is))

@@ -1,5 +1,5 @@
 use Rattle.std.proofs.Common.{◌≤◌, ◌<◌, ◌-◌, ◌∙◌, ap, length, arith}
-use Rattle.version_core.specs.Shown.{seen}
+use Rattle.version_core.specs.Shown.{versions_as_of}
 use Rattle.book_core.specs.Versions.{IsAfter}
 use Rattle.book_core.proofs.Past.{seen_are}
 use Rattle.book_core.proofs.book.Book.from_to.Goals as goal
@@ -13,5 +13,5 @@ returns-in_ok-versions_seen-in-Some-clause-versions c =
     × IsAfter v.systo c.args.m) c.in_ok-versions_seen-in-Some.field-0 c.in-Some.ensures.found within
     (λ v p. let x = p.0 in (omega (arith, x, some), p.1)) (λ v p. let x = p.0 in (omega (arith, x, some), p.1))
     (c.in_ok-versions_seen-in-Some.ensures
-    ∙ ap (seen c.args.at c.args.m (c.args.n - 1))
+    ∙ ap (versions_as_of c.args.at c.args.m (c.args.n - 1))
     (c.as_slice.ensures ∙ ap (λ t. t.versions) c.table-in-Some.view_is))

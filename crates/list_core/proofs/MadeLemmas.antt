@@ -1,4 +1,4 @@
--- What stands in lists that are made of lists.
+-- What stands in the lists that functions make of lists, and how it is counted.
 use Rattle.std.proofs.Common.{◌≡◌, ◌+◌, ◌≤◌, List, [], ◌∷◌, map, AllPairs, Bool, true, cond, subst, ap, ◌∙◌, inl, inr, arith}
 use Rattle.std.specs.Prelude.{Contains, count_by}
 use Rattle.std.proofs.lemmas.List.Sums.{sum_by-cons}
@@ -24,14 +24,14 @@ Contains-map_source f (z ∷ xs) y h = elim (Contains-cons_cases (f z) (map f xs
 
 -- things in one order are made into things in another, where the function takes the one to the other
 pub AllPairs-map : {X Y : Type 0} (R : X → X → Type 0) (S : Y → Y → Type 0) (f : X → Y) (xs : List X)
-    → ((a b : X) → R a b → S (f a) (f b)) → AllPairs R xs → AllPairs S (map f xs)
+    → ((a b : X) → Contains xs b → R a b → S (f a) (f b)) → AllPairs R xs → AllPairs S (map f xs)
 AllPairs-map R S f [] gives ordered = λ i j d less h. absurd (omega arith)
 AllPairs-map R S f (x ∷ xs) gives ordered =
     AllPairs-before S (f x) (map f xs)
     (λ y h.
-    let r = Contains-map_source f xs y h in
-    subst (S (f x)) r.2 (gives x r.0 (AllPairs-head R x xs r.0 ordered r.1)))
-    (AllPairs-map R S f xs gives (AllPairs-tail R x xs ordered))
+    let (z, there, is) = Contains-map_source f xs y h in
+    subst (S (f x)) is (gives x z (Contains-cons x xs z there) (AllPairs-head R x xs z ordered there)))
+    (AllPairs-map R S f xs (λ a b h. gives a b (Contains-cons x xs b h)) (AllPairs-tail R x xs ordered))
 
 -- a thing in the list that passes a test is counted
 pub counted : {X : Type 0} (test : X → Bool) (xs : List X) (x : X) → Contains xs x → test x ≡ true
