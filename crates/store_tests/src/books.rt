@@ -3,7 +3,7 @@
 use book_core::{Book, BookRefused, Change, RowsRefused};
 use list_core::DeepCopy;
 use period_core::{Period, Point};
-use row_core::{Draft, Drafts, Failure, Kind, Name, Row, Schema, Value, Values};
+use row_core::{Draft, Drafts, Failure, Name, Row, Schema, Values};
 use std::alloc::Global;
 use std::test::Fail;
 
@@ -71,26 +71,6 @@ fn shows_each_commit(rt: HostRuntime) -> Result<(), Fail> {
 }
 
 #[test]
-fn refuses_values_of_another_kind(rt: HostRuntime) -> Result<(), Fail> {
-    let table = Name::parse(b"u")?;
-    let column = (Name::parse(b"v")?, Kind::Text);
-    let mut book = Book::new(rt.alloc());
-    let schema = Schema::new(rt.alloc(), &[column])?;
-    assert_eq!(rt; book.apply(1, Change::Make { table, schema }), Ok(1));
-    let from = Point::parse(b"2024-01-01")?;
-    let period = Period::new(from, Point::parse(b"2024-01-10")?)?;
-    let mut values = Values::new(rt.alloc());
-    values.push(Value::Int(1))?;
-    let mut rows = Drafts::new(rt.alloc());
-    rows.push(Draft { period, values })?;
-    let refused = book.apply(1, Change::Load { table, rows });
-    assert_eq!(rt; refused, Err(Failure::Refused(BookRefused::WrongKind)));
-    assert_eq!(rt; book.commits(), 1);
-    assert!(rt; book.rows_at(1, table)?.is_empty());
-    Ok(())
-}
-
-#[test]
 fn copies_go_their_own_way(rt: HostRuntime) -> Result<(), Fail> {
     let table = Name::parse(b"t")?;
     let mut book = Book::new(rt.alloc());
@@ -112,28 +92,6 @@ fn copies_go_their_own_way(rt: HostRuntime) -> Result<(), Fail> {
     ] {
         assert_eq!(rt; ids(rt.alloc(), shown.as_slice())?.as_slice(), want);
     }
-    Ok(())
-}
-
-#[test]
-fn has_sixty_four_tables(rt: HostRuntime) -> Result<(), Fail> {
-    let mut book = Book::new(rt.alloc());
-    for first in b"abcdefgh" {
-        for second in b"abcdefgh" {
-            let made = book.apply(1, make(rt.alloc(), &[*first, *second])?);
-            assert_eq!(rt; made, Ok(book.commits()));
-        }
-    }
-    assert_eq!(rt; book.commits(), 64);
-    assert_eq!(rt;
-        book.apply(1, make(rt.alloc(), b"i")?),
-        Err(Failure::Refused(BookRefused::TooMany))
-    );
-    assert_eq!(rt;
-        book.apply(1, make(rt.alloc(), b"aa")?),
-        Err(Failure::Refused(BookRefused::TableExists))
-    );
-    assert_eq!(rt; book.commits(), 64);
     Ok(())
 }
 

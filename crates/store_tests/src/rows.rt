@@ -1,10 +1,10 @@
-//! Names, columns, values and rows, and their copies.
+//! Keys, values and rows, and their copies.
 
 use list_core::DeepCopy;
 use period_core::{Period, Point};
 use row_core::{
-    BadName, Draft, Drafts, Failure, Field, KeyRefused, Kind, Name, Row, RowList, RowRefused,
-    Schema, SchemaRefused, Text, TextRefused, Value, ValueRefused, Values,
+    Failure, Field, KeyRefused, Kind, Name, Row, RowList, RowRefused, Schema, Text, TextRefused,
+    Value, ValueRefused, Values,
 };
 use std::alloc::Global;
 use std::convert::AsSlice;
@@ -18,60 +18,15 @@ fn columns(alloc: Global) -> Result<Schema, Fail> {
 }
 
 #[test]
-fn knows_names(rt: HostRuntime) -> Result<(), Fail> {
-    for text in [&b"a"[..], b"z_9", b"abcdefghijklmnopqrstuvwxyzabcdef"] {
-        let name = Name::parse(text)?;
-        assert_eq!(rt; name.as_bytes(), text);
-    }
-    for text in [
-        &b"asof"[..],
-        b"1a",
-        b"abcdefghijklmnopqrstuvwxyzabcdefg",
-        b"",
-        b"_a",
-        b"A",
-        b"a-b",
-    ] {
-        assert_eq!(rt; Name::parse(text), Err(BadName));
-    }
-    Ok(())
-}
-
-#[test]
-fn knows_columns(rt: HostRuntime) -> Result<(), Fail> {
-    let schema = columns(rt.alloc())?;
-    assert_eq!(rt; schema.width(), 2);
-    assert_eq!(rt; schema.column(Name::parse(b"d")?), Some(1));
-    assert_eq!(rt; schema.column(Name::parse(b"e")?), None);
-    let copy = schema.copy(rt.alloc())?;
-    assert_eq!(rt; copy.as_slice(), schema.as_slice());
-    let column = (Name::parse(b"c")?, Kind::Int);
-    let twice = Schema::new(rt.alloc(), &[column, column]);
-    assert_eq!(rt;
-        twice.err(),
-        Some(Failure::Refused(SchemaRefused::TwiceNamed))
-    );
-    let many = Schema::new(rt.alloc(), &[column; 17]);
-    assert_eq!(rt; many.err(), Some(Failure::Refused(SchemaRefused::TooMany)));
-    Ok(())
-}
-
-#[test]
 fn knows_keys(rt: HostRuntime) -> Result<(), Fail> {
     let [c, d, e] = [Name::parse(b"c")?, Name::parse(b"d")?, Name::parse(b"e")?];
-    let none = columns(rt.alloc())?.with_key(rt.alloc(), &[])?;
-    assert_eq!(rt; none.key_len(), 0);
-    assert_eq!(rt; none.as_slice(), columns(rt.alloc())?.as_slice());
-    let first = columns(rt.alloc())?.with_key(rt.alloc(), &[c])?;
-    assert_eq!(rt; (first.key_len(), first.key_column(0)), (1, 0));
-    let both = first.with_key(rt.alloc(), &[d, c])?;
+    let both = columns(rt.alloc())?.with_key(rt.alloc(), &[d, c])?;
     assert_eq!(rt; both.key_len(), 2);
     assert_eq!(rt; (both.key_column(0), both.key_column(1)), (1, 0));
     let copy = both.copy(rt.alloc())?;
     assert_eq!(rt; copy.as_slice(), both.as_slice());
     assert_eq!(rt; copy.key_places(rt.alloc())?.as_slice(), [1, 0].as_slice());
     for (names, refused) in [
-        (&[e][..], KeyRefused::NoColumn),
         (&[c, e, c][..], KeyRefused::NoColumn),
         (&[c, c, e][..], KeyRefused::TwiceNamed),
     ] {
@@ -167,21 +122,6 @@ fn values(alloc: Global) -> Result<Values, Fail> {
 fn day() -> Result<Period, Fail> {
     let from = Point::parse(b"2024-01-01")?;
     Ok(Period::new(from, Point::parse(b"2024-01-02")?)?)
-}
-
-#[test]
-fn adds_values_and_drafts(rt: HostRuntime) -> Result<(), Fail> {
-    let values = values(rt.alloc())?;
-    assert_eq!(rt; values.len(), 2);
-    assert_eq!(rt; values.get(0), Some(&Value::Int(1)));
-    let mut drafts = Drafts::new(rt.alloc());
-    drafts.push(Draft {
-        period: day()?,
-        values: values.copy(rt.alloc())?,
-    })?;
-    let added = drafts.get(0).map(|draft| draft.values.as_slice());
-    assert_eq!(rt; added, Some(values.as_slice()));
-    Ok(())
 }
 
 #[test]
