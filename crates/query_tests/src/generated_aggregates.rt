@@ -200,3 +200,27 @@ fn sums_are_wider_than_numbers(rt: HostRuntime) -> Result<(), Fail> {
     assert_eq!(rt; rows.as_slice(), want.as_slice());
     Ok(())
 }
+
+// As many rows as a table has, all of one day, with the greatest number and with the least.
+#[test]
+fn sums_reach_their_bounds(rt: HostRuntime) -> Result<(), Fail> {
+    for (number, value) in [
+        (i64::MAX, 9_223_372_036_854_775_807_000_000),
+        (i64::MIN, -9_223_372_036_854_775_808_000_000),
+    ] {
+        let mut rows = Vec::new(rt.alloc());
+        for _ in 0..1_000_000 {
+            rows.push((1, 2, number))?;
+        }
+        let table = numbers(&rt, &rows)?;
+        let sum = Func::Sum(Name::parse(b"c")?);
+        let rows = agg(&rt, rt.alloc(), side(&rt, &table), sum, None, 2, &OpenGate)?;
+        let want = [AggRow {
+            group: None,
+            period: january(&rt, 1, 2),
+            value,
+        }];
+        assert_eq!(rt; rows.as_slice(), want.as_slice());
+    }
+    Ok(())
+}

@@ -1,8 +1,8 @@
-//! Worked hits and gaps of two parts.
+//! Worked hits and gaps of two parts, and steps of two taken together.
 
-use crate::tables::{item, january};
+use crate::tables::{date, item, january, steps_of};
 use dip_core::{Item, Part};
-use merge_core::{Cursor, Gap, Gaps, Hit, meet_gaps, merge_gaps, merge_join};
+use merge_core::{Cursor, Gap, Gaps, Hit, Tally, combine, meet_gaps, merge_gaps, merge_join};
 use std::alloc::Global;
 use std::process::Abort;
 use std::test::Fail;
@@ -105,5 +105,40 @@ fn meets_gaps(rt: HostRuntime) -> Result<(), Fail> {
     check_gap(&rt, &gaps, 3);
     let shared = meet_gaps(rt.alloc(), &whole, &gaps)?;
     check_gap(&rt, &shared, 3);
+    Ok(())
+}
+
+// Two items that hold together for three days.
+#[test]
+fn combines_steps(rt: HostRuntime) -> Result<(), Fail> {
+    let mut longer = item(&rt, 1, 1, 10, 1);
+    longer.amount = 1;
+    let mut shorter = item(&rt, 2, 5, 8, 1);
+    shorter.amount = 2;
+    let one = steps_of(&rt, longer)?;
+    let other = steps_of(&rt, shorter)?;
+    let steps = combine(rt.alloc(), &one, &other)?;
+    assert_eq!(rt; steps.weight(), 2);
+    let alone = Tally {
+        count: 1,
+        sum: 1,
+        min: 1,
+        max: 1,
+    };
+    let together = Tally {
+        count: 2,
+        sum: 3,
+        min: 1,
+        max: 2,
+    };
+    for (day, want) in [
+        (1, Some(alone)),
+        (5, Some(together)),
+        (8, Some(alone)),
+        (10, None),
+    ] {
+        let at = date(1, day).expect(&rt, "a day");
+        assert_eq!(rt; steps.tally_at(at), want);
+    }
     Ok(())
 }

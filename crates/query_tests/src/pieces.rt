@@ -3,9 +3,9 @@
 ghost use Rattle.std.specs.Prelude.{◌≡◌, IfOk};
 ghost use Rattle.round_core.specs.Together.{all_weight};
 
-use crate::tables::{item, january};
+use crate::tables::{item, january, steps_of};
 use anti_core::GapPairs;
-use dip_core::{Division, Item, Part, create_dip};
+use dip_core::{Division, Item, create_dip};
 use join_core::{JoinOut, JoinPairs};
 use merge_core::{Gap, Gaps, Hit, Step, Steps, Tally};
 use round_core::TallyRound;
@@ -40,8 +40,8 @@ fn check_refusal<'j, W: PairWork>(
     assert_eq!(rt; refused.piece.name(), PairName { left, right });
 }
 
-// Collects the pieces of a job in this order, but for one that another job makes of equal inputs, and one that comes
-// last, of which that job has other inputs.
+// Collects the pieces of a job in this order, and one more behind them. Each is accepted once, and so is what another
+// job makes of equal inputs; of the last pair that job has other inputs.
 fn collect<'j, W: PairWork>(
     rt: &(impl Abort + Alloc<A = Global>),
     job: &'j W,
@@ -54,13 +54,16 @@ fn collect<'j, W: PairWork>(
     for pair in order {
         assert!(rt; collector.accept(piece(rt, job, *pair)?).is_ok());
     }
-    assert!(rt; collector.accept(piece(rt, changed, equal)?).is_ok());
     let Err(unfinished) = collector.finish() else {
         panic!(rt; "a pair is missing")
     };
     assert_eq!(rt; (unfinished.first.left, unfinished.first.right), last);
     let mut collector = unfinished.collector;
-    let double = collector.accept(piece(rt, job, equal)?);
+    for pair in order {
+        let double = collector.accept(piece(rt, job, *pair)?);
+        check_refusal(rt, double, *pair, Why::Double);
+    }
+    let double = collector.accept(piece(rt, changed, equal)?);
     check_refusal(rt, double, equal, Why::Double);
     let stranger = collector.accept(piece(rt, changed, last)?);
     check_refusal(rt, stranger, last, Why::Stranger);
@@ -138,7 +141,14 @@ fn collects_a_join_of_pieces(rt: HostRuntime) -> Result<(), Fail> {
     let changed = divide(&rt, &rights(&rt, 1))?;
     let job = JoinPairs::new(&left, &right);
     let changed = JoinPairs::new(&left, &changed);
-    let outs = collect(&rt, &job, &changed, &[(1, 1), (1, 0)], (0, 0), (0, 1))?;
+    let outs = collect(
+        &rt,
+        &job,
+        &changed,
+        &[(1, 1), (0, 0), (1, 0)],
+        (0, 0),
+        (0, 1),
+    )?;
     check_values(&rt, &outs);
     Ok(())
 }
@@ -160,7 +170,14 @@ fn collects_an_anti_join_of_pieces(rt: HostRuntime) -> Result<(), Fail> {
     let changed = divide(&rt, &rights(&rt, 1))?;
     let job = GapPairs::new(&left, &right);
     let changed = GapPairs::new(&left, &changed);
-    let outs = collect(&rt, &job, &changed, &[(1, 1), (1, 0)], (0, 0), (0, 1))?;
+    let outs = collect(
+        &rt,
+        &job,
+        &changed,
+        &[(1, 1), (0, 0), (1, 0)],
+        (0, 0),
+        (0, 1),
+    )?;
     assert_eq!(rt; outs.len(), 4);
     let lefts = lefts(&rt);
     check_gap(&rt, &outs, 0, &lefts[0], 1, 3);
@@ -170,13 +187,11 @@ fn collects_an_anti_join_of_pieces(rt: HostRuntime) -> Result<(), Fail> {
     Ok(())
 }
 
-// The steps of one item.
+// The steps of an item without an amount.
 fn steps(rt: &(impl Abort + Alloc<A = Global>), from: u8, to: u8) -> Result<Steps, Fail>
     ensures { IfOk result (λ steps. steps.weight ≡ 1) }
 {
-    let items = [item(rt, 1, from, to, 1)];
-    let part = Part::new(&items).expect(rt, "an item");
-    Ok(Steps::of_part(rt.alloc(), part)?)
+    steps_of(rt, item(rt, 1, from, to, 1))
 }
 
 // Three times the steps of two items: those of the first two hold from the first of January on, the second of them
@@ -215,7 +230,7 @@ fn collects_a_round_of_pieces(rt: HostRuntime) -> Result<(), Fail> {
     let changed = lists(&rt, 9)?;
     let job = TallyRound::new(&all);
     let changed = TallyRound::new(&changed);
-    let outs = collect(&rt, &job, &changed, &[(4, 5)], (2, 3), (0, 1))?;
+    let outs = collect(&rt, &job, &changed, &[(4, 5), (2, 3)], (2, 3), (0, 1))?;
     assert_eq!(rt; outs.len(), 3);
     check_both(&rt, &outs, 0, 1, 2);
     check_both(&rt, &outs, 1, 2, 3);

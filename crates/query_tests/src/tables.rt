@@ -1,10 +1,11 @@
 //! Days of 2024, items and tables for tests.
 
-ghost use Rattle.std.specs.Prelude.{All, IsTrue};
+ghost use Rattle.std.specs.Prelude.{◌≡◌, All, IfOk, IsTrue};
 ghost use Rattle.row_core.specs.Schema.{fits};
 
-use dip_core::Item;
+use dip_core::{Item, Part};
 use match_core::Side;
+use merge_core::Steps;
 use period_core::{BadPoint, Period, Point};
 use row_core::{Kind, Name, Row, RowList, RowOrder, Schema, Value, Values};
 use std::alloc::Global;
@@ -18,8 +19,8 @@ pub struct Table {
     pub rows: RowList,
 }
 
-// The midnight of a day of 2024; Err where the month has no such day.
-fn date(month: u8, day: u8) -> Result<Point, BadPoint> {
+/// The midnight of a day of 2024; Err where the month has no such day.
+pub fn date(month: u8, day: u8) -> Result<Point, BadPoint> {
     Point::parse(&[
         b'2',
         b'0',
@@ -67,6 +68,15 @@ pub fn item(rt: &impl Abort, id: u64, from: u8, to: u8, class: u64) -> Item {
         class,
         amount: 0,
     }
+}
+
+/// The steps of one item.
+pub fn steps_of(rt: &(impl Abort + Alloc<A = Global>), item: Item) -> Result<Steps, Fail>
+    ensures { IfOk result (λ steps. steps.weight ≡ 1) }
+{
+    let items = [item];
+    let part = Part::new(&items).expect(rt, "an item");
+    Ok(Steps::of_part(rt.alloc(), part)?)
 }
 
 /// A table with a column `c` of numbers. Its rows, with ids from 1 on, hold from one day of January 2024 on and

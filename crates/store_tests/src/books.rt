@@ -3,7 +3,7 @@
 use book_core::{Book, BookRefused, Change, RowsRefused};
 use list_core::DeepCopy;
 use period_core::{Period, Point};
-use row_core::{Draft, Drafts, Failure, Name, Row, Schema, Values};
+use row_core::{Draft, Drafts, Failure, Kind, Name, Row, Schema, Value, Values};
 use std::alloc::Global;
 use std::test::Fail;
 
@@ -67,6 +67,26 @@ fn shows_each_commit(rt: HostRuntime) -> Result<(), Fail> {
     );
     assert!(rt; book.schema(other).is_err());
     assert_eq!(rt; book.schema(table)?.width(), 0);
+    Ok(())
+}
+
+#[test]
+fn refuses_values_of_another_kind(rt: HostRuntime) -> Result<(), Fail> {
+    let table = Name::parse(b"u")?;
+    let column = (Name::parse(b"v")?, Kind::Text);
+    let mut book = Book::new(rt.alloc());
+    let schema = Schema::new(rt.alloc(), &[column])?;
+    assert_eq!(rt; book.apply(1, Change::Make { table, schema }), Ok(1));
+    let from = Point::parse(b"2024-01-01")?;
+    let period = Period::new(from, Point::parse(b"2024-01-10")?)?;
+    let mut values = Values::new(rt.alloc());
+    values.push(Value::Int(1))?;
+    let mut rows = Drafts::new(rt.alloc());
+    rows.push(Draft { period, values })?;
+    let refused = book.apply(1, Change::Load { table, rows });
+    assert_eq!(rt; refused, Err(Failure::Refused(BookRefused::WrongKind)));
+    assert_eq!(rt; book.commits(), 1);
+    assert!(rt; book.rows_at(1, table)?.is_empty());
     Ok(())
 }
 

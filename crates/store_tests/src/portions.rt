@@ -1,8 +1,9 @@
 //! Changes of a portion of time: what commits show of them, their versions, the log, and copies.
 
-use book_core::{Book, Change, ChangeKind, Entry, Pairs, Version};
+use book_core::{Book, Change, ChangeKind, Entry, Pairs, Version, VersionsRefused};
+use list_core::DeepCopy;
 use period_core::{Period, Point};
-use row_core::{Draft, Drafts, Kind, Name, Row, Schema, Text, Value, Values};
+use row_core::{Draft, Drafts, Failure, Kind, Name, Row, Schema, Text, Value, Values};
 use std::alloc::Global;
 use std::test::Fail;
 
@@ -130,7 +131,13 @@ fn gives_versions(rt: HostRuntime) -> Result<(), Fail> {
     let table = Name::parse(b"u")?;
     let book = updated_book(rt.alloc())?;
     for (versions, want) in [
-        (book.from_to(3, 2, 3, table)?, &[(1, 2, Some(3))][..]),
+        (book.between(2, 2, 9, table)?, &[(1, 2, None)][..]),
+        (book.from_to(3, 2, 3, table)?, &[(1, 2, Some(3))]),
+        (book.from_to(3, 0, 2, table)?, &[]),
+        (
+            book.between(3, 3, 3, table)?,
+            &[(2, 3, None), (3, 3, None), (4, 3, None)],
+        ),
         (
             book.between(3, 0, 9, table)?,
             &[(1, 2, Some(3)), (2, 3, None), (3, 3, None), (4, 3, None)],
@@ -138,6 +145,25 @@ fn gives_versions(rt: HostRuntime) -> Result<(), Fail> {
     ] {
         assert_eq!(rt; spans(rt.alloc(), versions.as_slice())?.as_slice(), want);
     }
+    Ok(())
+}
+
+#[test]
+fn refuses_versions(rt: HostRuntime) -> Result<(), Fail> {
+    let table = Name::parse(b"u")?;
+    let other = Name::parse(b"t")?;
+    let book = updated_book(rt.alloc())?;
+    for (refused, want) in [
+        (book.between(4, 3, 2, other), VersionsRefused::Future),
+        (book.from_to(4, 3, 3, other), VersionsRefused::Future),
+        (book.between(3, 3, 2, other), VersionsRefused::BadPeriod),
+        (book.from_to(3, 3, 3, other), VersionsRefused::BadPeriod),
+        (book.between(3, 3, 3, other), VersionsRefused::NoTable),
+        (book.from_to(3, 3, 4, other), VersionsRefused::NoTable),
+    ] {
+        assert_eq!(rt; refused.err(), Some(Failure::Refused(want)));
+    }
+    assert!(rt; book.rows_at(4, table).is_err());
     Ok(())
 }
 
@@ -185,5 +211,57 @@ fn finds_rows_by_their_values(rt: HostRuntime) -> Result<(), Fail> {
     let counts = counts(alloc, log.as_slice())?;
     let want = [(0, 0), (300, 0), (9, 3), (3, 3), (3, 3), (0, 0), (891, 297)];
     assert_eq!(rt; counts.as_slice(), want.as_slice());
+    Ok(())
+}
+
+#[test]
+fn adds_pairs_at_the_end(rt: HostRuntime) -> Result<(), Fail> {
+    let name = Name::parse(b"v")?;
+    let other = Name::parse(b"w")?;
+    let mut pairs = Pairs::new(rt.alloc());
+    assert!(rt; pairs.is_empty());
+    pairs.push((name, Value::Int(1)))?;
+    pairs.push((other, Value::Int(2)))?;
+    assert_eq!(rt; pairs.len(), 2);
+    let want = [(name, Value::Int(1)), (other, Value::Int(2))];
+    assert_eq!(rt; pairs.as_slice(), want.as_slice());
+    assert_eq!(rt; pairs.get(1), Some(&want[1]));
+    assert_eq!(rt; pairs.copy(rt.alloc())?.as_slice(), want.as_slice());
+    Ok(())
+}
+
+// What a change of a portion tells: its table, portion, settings and conditions. A deletion has no settings.
+fn told(change: &Change) -> Option<(Name, Period, &[(Name, Value)], &[(Name, Value)])> {
+    match change {
+        Change::Update {
+            table,
+            portion,
+            sets,
+            conds,
+        } => Some((*table, *portion, sets.as_slice(), conds.as_slice())),
+        Change::Delete {
+            table,
+            portion,
+            conds,
+        } => Some((*table, *portion, &[], conds.as_slice())),
+        Change::Make { .. } => None,
+        Change::Load { .. } => None,
+    }
+}
+
+#[test]
+fn copies_changes_of_a_portion(rt: HostRuntime) -> Result<(), Fail> {
+    let alloc = rt.alloc();
+    let update = update(alloc, pair(alloc, b"v", text(alloc, b"x")?)?)?;
+    let delete = Change::Delete {
+        table: Name::parse(b"u")?,
+        portion: period(b"2024-01-04", b"2024-01-06")?,
+        conds: pair(alloc, b"v", text(alloc, b"x")?)?,
+    };
+    for change in [update, delete] {
+        let copy = change.copy(alloc)?;
+        assert!(rt; told(&copy).is_some());
+        assert_eq!(rt; told(&copy), told(&change));
+    }
     Ok(())
 }

@@ -1,10 +1,10 @@
-//! Keys, values and rows, and their copies.
+//! Names, columns, values and rows, and their copies.
 
 use list_core::DeepCopy;
 use period_core::{Period, Point};
 use row_core::{
-    Failure, Field, KeyRefused, Kind, Name, Row, RowList, RowRefused, Schema, Text, TextRefused,
-    Value, ValueRefused, Values,
+    BadName, Draft, Drafts, Failure, Field, KeyRefused, Kind, Name, Row, RowList, RowRefused,
+    Schema, SchemaRefused, Text, TextRefused, Value, ValueRefused, Values,
 };
 use std::alloc::Global;
 use std::convert::AsSlice;
@@ -15,6 +15,45 @@ fn columns(alloc: Global) -> Result<Schema, Fail> {
     let number = (Name::parse(b"c")?, Kind::Int);
     let text = (Name::parse(b"d")?, Kind::Text);
     Ok(Schema::new(alloc, &[number, text])?)
+}
+
+#[test]
+fn knows_names(rt: HostRuntime) -> Result<(), Fail> {
+    for text in [&b"a"[..], b"z_9", b"abcdefghijklmnopqrstuvwxyzabcdef"] {
+        let name = Name::parse(text)?;
+        assert_eq!(rt; name.as_bytes(), text);
+    }
+    for text in [
+        &b"asof"[..],
+        b"1a",
+        b"abcdefghijklmnopqrstuvwxyzabcdefg",
+        b"",
+        b"_a",
+        b"A",
+        b"a-b",
+    ] {
+        assert_eq!(rt; Name::parse(text), Err(BadName));
+    }
+    Ok(())
+}
+
+#[test]
+fn knows_columns(rt: HostRuntime) -> Result<(), Fail> {
+    let schema = columns(rt.alloc())?;
+    assert_eq!(rt; schema.width(), 2);
+    assert_eq!(rt; schema.column(Name::parse(b"d")?), Some(1));
+    assert_eq!(rt; schema.column(Name::parse(b"e")?), None);
+    let copy = schema.copy(rt.alloc())?;
+    assert_eq!(rt; copy.as_slice(), schema.as_slice());
+    let column = (Name::parse(b"c")?, Kind::Int);
+    let twice = Schema::new(rt.alloc(), &[column, column]);
+    assert_eq!(rt;
+        twice.err(),
+        Some(Failure::Refused(SchemaRefused::TwiceNamed))
+    );
+    let many = Schema::new(rt.alloc(), &[column; 17]);
+    assert_eq!(rt; many.err(), Some(Failure::Refused(SchemaRefused::TooMany)));
+    Ok(())
 }
 
 #[test]
@@ -122,6 +161,21 @@ fn values(alloc: Global) -> Result<Values, Fail> {
 fn day() -> Result<Period, Fail> {
     let from = Point::parse(b"2024-01-01")?;
     Ok(Period::new(from, Point::parse(b"2024-01-02")?)?)
+}
+
+#[test]
+fn adds_values_and_drafts(rt: HostRuntime) -> Result<(), Fail> {
+    let values = values(rt.alloc())?;
+    assert_eq!(rt; values.len(), 2);
+    assert_eq!(rt; values.get(0), Some(&Value::Int(1)));
+    let mut drafts = Drafts::new(rt.alloc());
+    drafts.push(Draft {
+        period: day()?,
+        values: values.copy(rt.alloc())?,
+    })?;
+    let added = drafts.get(0).map(|draft| draft.values.as_slice());
+    assert_eq!(rt; added, Some(values.as_slice()));
+    Ok(())
 }
 
 #[test]
