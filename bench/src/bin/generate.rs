@@ -18,10 +18,9 @@
 //! A script of `join` or `anti` has two tables with so many rows each, and so many joins or anti-joins of them: by
 //! their one column, which is one of so many numbers as there are groups, or without columns where these are 0. One
 //! of `agg` has a table of groups of equal size and of numbers, and so many sums of these by groups, or of all where
-//! there are 0. One of `together` has two
-//! such tables whose rows all hold on one day, so each row is a part of its own, and without columns each row joins
-//! each. One of `apart` has two tables without columns, whose rows all hold on one day, another one for each table:
-//! so each row is a part of its own, and no two rows join.
+//! there are 0. One of `together` has two tables to join whose rows all hold on one day, so each row is a part of its
+//! own, and without columns each row joins each. One of `apart` has two tables without columns, whose rows all hold on
+//! one day, another one for each table: so each row is a part of its own, and no two rows join.
 
 use bench::point::Point;
 use std::fmt::Display;
