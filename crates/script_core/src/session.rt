@@ -5,7 +5,7 @@ ghost use Rattle.command_core.specs.Statement as said;
 ghost use Rattle.command_core.specs.Statement.{StandsFor, behind_of};
 ghost use Rattle.stream_core.specs.Counted.{failures_of, inner_of, sink_of};
 ghost use Rattle.stream_core.specs.FailureCount.{greatest_count};
-ghost use Rattle.stream_core.specs.Faults.{last_failures};
+ghost use Rattle.stream_core.specs.Faults.{last_failures, retry_limit};
 ghost use Rattle.work_core.specs.Limits.{worker_limit};
 ghost use Rattle.script_core.specs.Ledgers.{held, left_in};
 ghost use Rattle.script_core.specs.Performing.{PrintsStatement};
@@ -121,8 +121,8 @@ fn answer_all<T: Threads + Wait + Sync, W: Write>(
 /// # Errors
 ///
 /// `ReadFault` or `TooLong` where the script could not be read: then nothing is written. `NoMemory`
-/// with the answers of all statements before written. `WriteFault` with those and a front of the
-/// statement's own answer.
+/// with nothing written, or the answers of some first statements, of which there are more. `WriteFault`
+/// with the answers of all statements before written, and a front of the statement's own.
 pub fn run<T: Threads + Wait + Sync, R: Read, W: Write>(
     rt: &T,
     alloc: Global,
@@ -161,7 +161,7 @@ pub fn run<T: Threads + Wait + Sync, R: Read, W: Write>(
 
     // A failed call is tried again at most 1,000 times in a run, and only the one that ends it isn't.
     ensures tries { failures_of reader.new + failures_of writer.new
-        ≤ failures_of reader.old + failures_of writer.old + 1_000 + last_failures result }
+        ≤ failures_of reader.old + failures_of writer.old + retry_limit + last_failures result }
 {
     let mut patience = Patience::new();
     let ledger = Ledger::new(alloc)?;
