@@ -6,17 +6,19 @@ use Rattle.std.specs.Ordering.{int_cmp, ordering_then}
 use Rattle.std.specs.declared.cmp.Ordering.{Ordering}
 use Rattle.std.specs.declared.cmp.Ordering.TheVariants.{Less, Equal, Greater}
 use Rattle.std.proofs.lemmas.Bool.Decides.{Decides-eqb}
-use Rattle.std.proofs.lemmas.Cmp.{int_cmp_total, on_total, then_total}
+use Rattle.std.proofs.lemmas.Cmp.{int_cmp_total, on_total, then_total, tied_itself}
 use Rattle.std.proofs.lemmas.Int.{ints}
 use Rattle.std.proofs.lemmas.Map.Lookups.{exact_signed}
 use Rattle.row_core.specs.declared.row.Row.{Row}
 use Rattle.row_core.specs.declared.value.Value.{Value}
+use Rattle.row_core.proofs.ValueLemmas.{maybe_exact}
 use Rattle.dip_core.specs.declared.item.Item.{Item}
 use Rattle.list_core.proofs.MadeLemmas.{Contains-map, Contains-map_source}
 use Rattle.list_core.proofs.WantedExistence.{IsUnorderedListOf, WantedForSome, some_unordered, some_wanted}
 use Rattle.list_core.proofs.WantedLemmas.{AllPairs-cases, AllPairs-other}
+use Rattle.list_core.proofs.OrderedLemmas.{both_tie}
+use Rattle.period_core.proofs.PeriodLemmas.{Period-same}
 use Rattle.merge_core.specs.Gaps.{IsMaximal}
-use Rattle.merge_core.proofs.SharedLemmas.{Period-same}
 use Rattle.round_core.specs.declared.measure.Measure.{Measure}
 use Rattle.round_core.specs.declared.plateau.Plateau.{Plateau}
 use Rattle.round_core.specs.Plateaus.{HasValue, IsPlateau, PlateauBefore, of_class}
@@ -24,7 +26,7 @@ use Rattle.round_core.proofs.PlateauExistence.{some_plateaus}
 use Rattle.agg_core.specs.declared.rows.AggRow.{AggRow}
 use Rattle.agg_core.specs.Agg.{AggHasSomeList, AreAggRows, IsAggRow, amount_in, item_of, items_of_group, measure_of, value_in}
 use Rattle.agg_core.specs.Groups.{AggRowBefore, agg_row_cmp, rows_of_group}
-use Rattle.agg_core.proofs.OrderLemmas.{agg_row_total, group_exact, ties_self}
+use Rattle.agg_core.proofs.OrderLemmas.{agg_row_total}
 use Rattle.agg_core.proofs.PlateauLemmas.{filtered_in, filtered_passes, period_held, row_of_group}
 
 -- a row is determined by its fields
@@ -45,17 +47,11 @@ full_total =
     (then_total (on_total (λ (x : AggRow). x.period.to) int_cmp_total)
     (on_total (λ (x : AggRow). x.value) int_cmp_total))
 
--- two orders tie where both do
-both_tie : (r s : Ordering) → ordering_then r s ≡ Equal → (r ≡ Equal) × (s ≡ Equal)
-both_tie Less s e = cc
-both_tie Equal s e = (refl, e)
-both_tie Greater s e = cc
-
 -- rows that tie by group and start are of one group and start
 tied_starts : (a b : AggRow) → agg_row_cmp a b ≡ Equal → (a.group ≡ b.group) × (a.period.from ≡ b.period.from)
 tied_starts a b e =
     let parts = both_tie _ _ e in
-    (group_exact a.group b.group parts.0, exact_signed a.period.from b.period.from parts.1)
+    (maybe_exact a.group b.group parts.0, exact_signed a.period.from b.period.from parts.1)
 
 -- rows that tie in the full order are one
 tied_rows : (a b : AggRow) → full_cmp a b ≡ Equal → a ≡ b
@@ -182,7 +178,7 @@ module _ (measure : Measure) (amount_of : Row → ℤ) (group_of : Row → Optio
     by_cmp Equal e less =
         let starts = tied_starts a b e in
         let same : a ≡ b = one_row_at a b is is' starts.0 starts.1 in
-        let tie : full_cmp a b ≡ Equal = subst (λ c. full_cmp a c ≡ Equal) same (ties_self full_cmp full_total a) in
+        let tie : full_cmp a b ≡ Equal = subst (λ c. full_cmp a c ≡ Equal) same (tied_itself full_total a) in
         let bad : Less ≡ Equal = sym less ∙ tie in cc
     by_cmp Greater e less =
         let bad : Greater ≡ Less =

@@ -10,12 +10,14 @@ use Rattle.std.proofs.lemmas.List.{take_more}
 use Rattle.std.proofs.lemmas.List.Elements.{All-cons, All-head, All-tail, All-nil, All-contains}
 use Rattle.std.proofs.lemmas.List.Sorted.{All-permutation, IsPermutation-map, ranks_by, sorted_far}
 use Rattle.std.proofs.lemmas.Slice.Zip.{all_zipped_more}
+use Rattle.row_core.specs.ValueOrder.{same_maybe, value_cmp}
 use Rattle.row_core.specs.declared.row.Row.{Row}
 use Rattle.row_core.specs.declared.value.Value.{Value}
+use Rattle.row_core.proofs.ValueLemmas.{maybe_decides, value_total}
 use Rattle.agg_core.specs.declared.entries.Entry.{Entry}
-use Rattle.agg_core.specs.Groups.{rows_of_group, same_group, value_cmp}
+use Rattle.agg_core.specs.Groups.{rows_of_group}
 use Rattle.agg_core.specs.Entries.{AreEntries, AreSortedEntries, row_in, sort_value, value_at}
-use Rattle.agg_core.proofs.OrderLemmas.{group_decides, not_after, not_after-from, value_lt, value_total}
+use Rattle.agg_core.proofs.OrderLemmas.{not_after, not_after-from, value_lt}
 
 -- ---- lists side by side
 
@@ -89,7 +91,7 @@ filter_first {A} p (x ∷ xs) = split (p x) refl (filter_first p xs)
 
 -- the entry is of the group
 abbrev in_group : Option Value → Entry → Bool
-in_group group e = same_group (Some (sort_value e)) group
+in_group group e = same_maybe (Some (sort_value e)) group
 
 -- where both are denied, both are false
 neither : (p q : Bool) → not p && not q ≡ true → (p ≡ false) × (q ≡ false)
@@ -113,15 +115,15 @@ tie_decides x m = (
 tie_is : (x m : Entry) → ties value_lt x m ≡ in_group (Some (sort_value x)) m
 tie_is x m =
     same_from_decides (ties value_lt x m) (in_group (Some (sort_value x)) m) (tie_decides x m)
-    (group_decides (Some (sort_value m)) (Some (sort_value x)))
+    (maybe_decides (Some (sort_value m)) (Some (sort_value x)))
 
 -- the entries of a group stand in the order in which they stood
 group_stable : (old new : List Entry) → IsStableByKey sort_value value_cmp old new → (group : Option Value)
     → filter (in_group group) new ≡ filter (in_group group) old
 group_stable old new stable group = elim (filter_first (in_group group) new) [
-  | inr f ↦ by f.0 ((group_decides (Some (sort_value f.0)) group).0 f.1)
+  | inr f ↦ by f.0 ((maybe_decides (Some (sort_value f.0)) group).0 f.1)
   | inl none ↦ elim (filter_first (in_group group) old) [
-    | inr f ↦ by f.0 ((group_decides (Some (sort_value f.0)) group).0 f.1)
+    | inr f ↦ by f.0 ((maybe_decides (Some (sort_value f.0)) group).0 f.1)
     | inl also ↦ none ∙ sym also
   ]
 ]
@@ -139,11 +141,11 @@ group_stable old new stable group = elim (filter_first (in_group group) new) [
 group_rows : (place : ℕ) (group : Option Value) (es : List Entry) → All (IsKept place) es
     → rows_of_group (value_at (Some place)) group (map row_in es) ≡ map row_in (filter (in_group group) es)
 group_rows place group es kept =
-    filter-map row_in (λ (r : Row). same_group (value_at (Some place) r) group) es
+    filter-map row_in (λ (r : Row). same_maybe (value_at (Some place) r) group) es
     ∙ ap (map row_in)
-    (filter_alike (λ (e : Entry). same_group (value_at (Some place) (row_in e)) group) (in_group group) es
+    (filter_alike (λ (e : Entry). same_maybe (value_at (Some place) (row_in e)) group) (in_group group) es
     (λ k d h. let at : IsKept place (get_or es k d) = kept k d h in
-    ap (λ (v : Option Value). same_group v group) (at.0 ∙ ap Some (sym at.1))))
+    ap (λ (v : Option Value). same_maybe v group) (at.0 ∙ ap Some (sym at.1))))
 
 -- ---- sorted entries
 

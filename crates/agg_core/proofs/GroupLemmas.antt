@@ -11,19 +11,23 @@ use Rattle.std.proofs.lemmas.List.Elements.{All-map, All-cons, All-nil, All-cont
 use Rattle.std.proofs.lemmas.List.Sorted.{Contains-permutation, length_permutation}
 use Rattle.std.proofs.lemmas.Option.{slice_get_within, slice_get-get_or, get_or_from_slice_get}
 use Rattle.std.proofs.lemmas.Slice.Zip.{AllZip-long}
+use Rattle.row_core.specs.ValueOrder.{maybe_cmp, same_maybe, value_cmp}
 use Rattle.row_core.specs.declared.row.Row.{Row}
 use Rattle.row_core.specs.declared.value.Value.{Value}
+use Rattle.row_core.proofs.ValueLemmas.{maybe_decides, maybe_total}
 use Rattle.dip_core.specs.declared.item.Item.{Item}
 use Rattle.list_core.proofs.RisingLemmas.{Contains-cons, Contains-cons_cases, Contains-head, Contains-none}
 use Rattle.list_core.proofs.MadeLemmas.{Contains-map_source}
 use Rattle.list_core.proofs.WantedLemmas.{AllPairs-append}
+use Rattle.list_core.proofs.OrderedLemmas.{before-asym}
+use Rattle.list_core.proofs.PlaceLemmas.{slice_get-append_left, slice_get-seam}
 use Rattle.round_core.specs.Plateaus.{of_class}
 use Rattle.agg_core.specs.declared.entries.Entry.{Entry}
 use Rattle.agg_core.specs.Agg.{item_of}
-use Rattle.agg_core.specs.Groups.{group_cmp, rows_of_group, same_group, value_cmp}
+use Rattle.agg_core.specs.Groups.{rows_of_group}
 use Rattle.agg_core.specs.Entries.{AreRising, AreSortedEntries, row_in, value_at}
 use Rattle.agg_core.specs.Grouping.{AreNotAfter, GroupBefore, IsClassOf, IsGrouping, IsLast, IsNumbered, IsNumberedItem, RisesByGroup, values_in}
-use Rattle.agg_core.proofs.OrderLemmas.{before-asym, group_decides, group_total, not_after}
+use Rattle.agg_core.proofs.OrderLemmas.{not_after}
 use Rattle.agg_core.proofs.EntryLemmas.{AllZip-more}
 
 -- ---- the number of a value's group
@@ -49,19 +53,7 @@ place_once groups c d g rise at there = elim (by_order c d) [
         let itself : GroupBefore g g =
         subst (λ (v : Option Value). GroupBefore v g) (get_or_from_slice_get groups c g g at)
         (subst (GroupBefore (get_or groups c g)) (get_or_from_slice_get groups d g g there) before) in
-        before-asym group_cmp group_total g g itself itself
-
--- what stands in a list stands there before others
-slice_get-front : {X : Type 0} (xs ys : List X) (i : ℕ) (x : X) → slice_get xs i ≡ Some x
-    → slice_get (xs ++ ys) i ≡ Some x
-slice_get-front [] ys i x e = cc
-slice_get-front (z ∷ xs) ys zero x e = e
-slice_get-front (z ∷ xs) ys (suc i) x e = slice_get-front xs ys i x e
-
--- what stands behind a list
-slice_get-behind : {X : Type 0} (xs : List X) (x : X) → slice_get (xs ++ x ∷ []) (length xs) ≡ Some x
-slice_get-behind [] x = refl
-slice_get-behind (z ∷ xs) x = slice_get-behind xs x
+        before-asym maybe_cmp maybe_total g g itself itself
 
 -- all groups come before one that none of them comes after, and that is not the last
 before_all : (groups : List (Option Value)) (group : Option Value) → RisesByGroup groups → AreNotAfter groups group
@@ -75,8 +67,8 @@ before_all groups group rise upto not_last g (k, inside, e) = elim (not_after g 
   ])
 ]
   where
-    here : is_lt (group_cmp group g) ≡ false
-    here = subst (λ (v : Option Value). is_lt (group_cmp group v) ≡ false) e (upto k g inside)
+    here : is_lt (maybe_cmp group g) ≡ false
+    here = subst (λ (v : Option Value). is_lt (maybe_cmp group v) ≡ false) e (upto k g inside)
 
     by_order : (k n : ℕ) → k < n → (k < n - 1) ⊎ (k ≡ n - 1)
     by_order k n h = grind arith
@@ -88,9 +80,9 @@ before_all groups group rise upto not_last g (k, inside, e) = elim (not_after g 
         let before : GroupBefore g end =
         subst (λ (v : Option Value). GroupBefore v end) e (rise k (length groups - 1) g earlier within) in
         elim (not_after end group (upto (length groups - 1) g within)) [
-          | inl less ↦ before-asym group_cmp group_total g end before
+          | inl less ↦ before-asym maybe_cmp maybe_total g end before
               (subst (GroupBefore end) (sym same) less)
-          | inr is ↦ before-asym group_cmp group_total g g (subst (GroupBefore g) (is ∙ sym same) before)
+          | inr is ↦ before-asym maybe_cmp maybe_total g g (subst (GroupBefore g) (is ∙ sym same) before)
               (subst (GroupBefore g) (is ∙ sym same) before)
         ]
 
@@ -113,8 +105,8 @@ class_of_added value old new class rise upto not_last put e =
       last =
           let long : length (old ++ Some value ∷ []) ≡ length old + 1 = length-append old (Some value ∷ []) in
           omega arith;
-      at = ap (slice_get (old ++ Some value ∷ [])) e ∙ slice_get-behind old (Some value);
-      kept = λ c g h. slice_get-front old (Some value ∷ []) c g h;
+      at = ap (slice_get (old ++ Some value ∷ [])) e ∙ slice_get-seam old (Some value) [];
+      kept = λ c g h. slice_get-append_left old (Some value ∷ []) c g h;
       added = λ g h. elim (Contains-push_cases old (Some value) g h) [
         | inl k ↦ inl k
         | inr same ↦ inr (sym same)
@@ -147,7 +139,7 @@ pub upto_next : (amount_of : Row → ℤ) (entries : List Entry) (i : ℕ) (e : 
     → IsNumbered amount_of (take i entries) items groups → AreNotAfter groups (Some e.value.now)
 upto_next amount_of entries i e items groups rising inside at numbered k d h =
     let (before, (j, near, is), same) = numbered.listed (get_or groups k d) (Contains-get_or groups k d h) in
-    subst (λ (g : Option Value). is_lt (group_cmp (Some e.value.now) g) ≡ false) same (earlier before j near is)
+    subst (λ (g : Option Value). is_lt (maybe_cmp (Some e.value.now) g) ≡ false) same (earlier before j near is)
   where
     earlier : (before : Entry) (j : ℕ) → j < length (take i entries) → get_or (take i entries) j before ≡ before
         → is_lt (value_cmp e.value.now before.value.now) ≡ false
@@ -246,9 +238,9 @@ of_class-rows amount_of group_of groups [] [] c g rise at grouped all = refl
 of_class-rows amount_of group_of groups [] (x ∷ items) c g rise at grouped all = absurd all
 of_class-rows amount_of group_of groups (e ∷ es) [] c g rise at grouped all = absurd all
 of_class-rows amount_of group_of groups (e ∷ es) (x ∷ items) c g rise at grouped all =
-    cond-item (item_of amount_of c) x e.row.now (x.class == c) (same_group (group_of e.row.now) g) (of_class c items)
+    cond-item (item_of amount_of c) x e.row.now (x.class == c) (same_maybe (group_of e.row.now) g) (of_class c items)
     (rows_of_group group_of g (map row_in es)) alike
-    (λ t. all.0.is ∙ ap (λ n. item_of amount_of n e.row.now) (to_class ((group_decides (group_of e.row.now) g).0 t)))
+    (λ t. all.0.is ∙ ap (λ n. item_of amount_of n e.row.now) (to_class ((maybe_decides (group_of e.row.now) g).0 t)))
     (of_class-rows amount_of group_of groups es items c g rise at
     (λ b h. grouped b (Contains-cons e es b h)) all.1)
   where
@@ -263,11 +255,11 @@ of_class-rows amount_of group_of groups (e ∷ es) (x ∷ items) c g rise at gro
         let one : Some (Some e.value.now) ≡ Some g = sym all.0.at ∙ ap (slice_get groups) same ∙ at in
         here ∙ ap (λ (o : Option (Option Value)). unwrap_or o g) one
 
-    alike : (x.class == c) ≡ same_group (group_of e.row.now) g
+    alike : (x.class == c) ≡ same_maybe (group_of e.row.now) g
     alike =
-        same_from_decides (x.class == c) (same_group (group_of e.row.now) g)
+        same_from_decides (x.class == c) (same_maybe (group_of e.row.now) g)
         (λ t. to_group ((Decides-eqb x.class c).0 t), λ same. (Decides-eqb x.class c).1 (to_class same))
-        (group_decides (group_of e.row.now) g)
+        (maybe_decides (group_of e.row.now) g)
 
 -- ---- rows by group
 

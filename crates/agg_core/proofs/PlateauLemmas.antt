@@ -5,15 +5,18 @@ use Rattle.std.specs.declared.cmp.Ordering.{Ordering}
 use Rattle.std.specs.declared.cmp.Ordering.TheVariants.{Less}
 use Rattle.std.specs.Ordering.{int_cmp, ordering_then}
 use Rattle.std.proofs.lemmas.Bool.Decides.{Decides-eqb}
+use Rattle.std.proofs.lemmas.Cmp.{tied_itself}
 use Rattle.std.proofs.lemmas.Int.{ints}
 use Rattle.std.proofs.lemmas.List.{length-map}
 use Rattle.std.proofs.lemmas.List.Elements.{All-contains, All-contains_itself, All-filter, Contains-get_or, filter_passes}
 use Rattle.std.proofs.lemmas.Option.{get_or_from_slice_get, slice_get-get_or}
 use Rattle.period_core.specs.declared.period.Period.{Period}
 use Rattle.period_core.specs.Period.{holds_at}
+use Rattle.row_core.specs.ValueOrder.{maybe_cmp, same_maybe}
 use Rattle.row_core.specs.declared.row.Row.{Row}
 use Rattle.row_core.specs.declared.schema.Column.{Column}
 use Rattle.row_core.specs.declared.value.Value.{Value}
+use Rattle.row_core.proofs.ValueLemmas.{maybe_decides, maybe_total}
 use Rattle.dip_core.specs.declared.item.Item.{Item}
 use Rattle.list_core.proofs.MadeLemmas.{AllPairs-map, Contains-map, Contains-map_source}
 use Rattle.merge_core.specs.declared.tally.Tally.{Tally}
@@ -28,10 +31,9 @@ use Rattle.agg_core.specs.declared.rows.AggRow.{AggRow}
 use Rattle.agg_core.specs.declared.func.Func.{Func}
 use Rattle.agg_core.specs.Agg.{AreAggRows, IsAgg, IsAggRow, amount_in, item_of, measure_of, number_column, amount_of_value, value_in}
 use Rattle.agg_core.specs.Entries.{amount_at, place_in, value_at}
-use Rattle.agg_core.specs.Groups.{AggRowBefore, group_cmp, rows_of_group, same_group}
+use Rattle.agg_core.specs.Groups.{AggRowBefore, rows_of_group}
 use Rattle.agg_core.specs.Grouping.{IsGrouping, agg_row_of}
 use Rattle.agg_core.proofs.EntryLemmas.{filter-map}
-use Rattle.agg_core.proofs.OrderLemmas.{group_decides, group_total, ties_self}
 
 -- ---- lists
 
@@ -121,10 +123,10 @@ row_of_group measure amount_of group_of rows row is =
     let (x, there) = period_held measure (map (item_of amount_of 0) (rows_of_group group_of row.group rows)) row.value
     row.period is.maximal in
     let (r, within, made) = Contains-map_source (item_of amount_of 0) (rows_of_group group_of row.group rows) x there in
-    let test = filtered_passes (λ (z : Row). same_group (group_of z) row.group) rows r within in (
+    let test = filtered_passes (λ (z : Row). same_maybe (group_of z) row.group) rows r within in (
       r,
-      filtered_in (λ (z : Row). same_group (group_of z) row.group) rows r within,
-      (group_decides (group_of r) row.group).0 test,
+      filtered_in (λ (z : Row). same_maybe (group_of z) row.group) rows r within,
+      (maybe_decides (group_of r) row.group).0 test,
     )
 
 module _ (measure : Measure) (amount_of : Row → ℤ) (group_of : Row → Option Value) (rows : List Row) (items : List Item)
@@ -196,8 +198,8 @@ module _ (measure : Measure) (amount_of : Row → ℤ) (group_of : Row → Optio
       (grouping.rise a.class b.class None less (class_within b is))
   rows_before a b is (inr (same, earlier)) =
       ap (λ (o : Ordering). ordering_then o (int_cmp a.period.from b.period.from))
-      (ap (λ n. group_cmp (slice_index_or groups n None) (slice_index_or groups b.class None)) same
-      ∙ ties_self group_cmp group_total (slice_index_or groups b.class None))
+      (ap (λ n. maybe_cmp (slice_index_or groups n None) (slice_index_or groups b.class None)) same
+      ∙ tied_itself maybe_total (slice_index_or groups b.class None))
       ∙ int_less a.period.from b.period.from earlier
 
   -- the rows of all plateaus are all that is wanted

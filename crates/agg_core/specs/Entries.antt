@@ -3,12 +3,13 @@ use Rattle.std.specs.Prelude.{◌≡◌, ℕ, ℤ, List, map, AllPairs, Contains
 use Rattle.std.specs.List.{AllZip}
 use Rattle.std.specs.Ordering.{is_lt}
 use Rattle.row_core.specs.Schema.{column_of}
+use Rattle.row_core.specs.ValueOrder.{value_cmp}
 use Rattle.row_core.specs.declared.row.Row.{Row}
 use Rattle.row_core.specs.declared.schema.Column.{Column}
 use Rattle.row_core.specs.declared.value.Value.{Value}
 use Rattle.row_core.specs.declared.value.Value.TheVariants as value
 use Rattle.agg_core.specs.Agg.{amount_of_value}
-use Rattle.agg_core.specs.Groups.{rows_of_group, value_cmp}
+use Rattle.agg_core.specs.Groups.{rows_of_group}
 use Rattle.agg_core.specs.declared.entries.Entry.{Entry}
 use Rattle.agg_core.specs.declared.entries.Key.{Key}
 use Rattle.agg_core.specs.declared.entries.Key.TheVariants.{Number, Text}

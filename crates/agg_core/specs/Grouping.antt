@@ -5,13 +5,14 @@ use Rattle.std.specs.List.{AllZip}
 use Rattle.std.specs.Option.{option_copied}
 use Rattle.std.specs.declared.cmp.Ordering.TheVariants.{Less}
 use Rattle.std.specs.Ordering.{is_lt}
+use Rattle.row_core.specs.ValueOrder.{maybe_cmp}
 use Rattle.row_core.specs.declared.row.Row.{Row}
 use Rattle.row_core.specs.declared.value.Value.{Value}
 use Rattle.dip_core.specs.declared.item.Item.{Item}
 use Rattle.round_core.specs.declared.plateau.Plateau.{Plateau}
 use Rattle.round_core.specs.Plateaus.{of_class}
 use Rattle.agg_core.specs.Agg.{item_of}
-use Rattle.agg_core.specs.Groups.{group_cmp, rows_of_group}
+use Rattle.agg_core.specs.Groups.{rows_of_group}
 use Rattle.agg_core.specs.declared.entries.Entry.{Entry}
 use Rattle.agg_core.specs.declared.rows.AggRow.{AggRow}
 
@@ -19,9 +20,9 @@ use Rattle.agg_core.specs.declared.rows.AggRow.{AggRow}
 abbrev pub HaveValues : Option ℕ → List Row → Type 0
 HaveValues place rows = IfSome place (λ p. All (λ row. p < length row.values) rows)
 
--- a group comes before another
+-- a group comes before another: that of no value before those of values, and these by value
 abbrev pub GroupBefore : Option Value → Option Value → Type 0
-GroupBefore a b = group_cmp a b ≡ Less
+GroupBefore a b = maybe_cmp a b ≡ Less
 
 -- each group comes before all later ones
 abbrev pub RisesByGroup : List (Option Value) → Type 0
@@ -29,7 +30,7 @@ RisesByGroup groups = AllPairs GroupBefore groups
 
 -- no group comes after that one
 abbrev pub AreNotAfter : List (Option Value) → Option Value → Type 0
-AreNotAfter groups group = All (λ g. is_lt (group_cmp group g) ≡ false) groups
+AreNotAfter groups group = All (λ g. is_lt (maybe_cmp group g) ≡ false) groups
 
 -- the group is the last one
 abbrev pub IsLast : List (Option Value) → Option Value → Type 0

@@ -2,7 +2,7 @@
 
 ghost use Rattle.std.specs.Prelude.{◌≡◌, ◌<◌, All, IfOk, IsPermutation, IsSortedByKey, OnOk, Some, length};
 ghost use Rattle.std.specs.List.Sorted.{IsStableByKey};
-ghost use Rattle.agg_core.specs.Groups.{value_cmp};
+ghost use Rattle.row_core.specs.ValueOrder.{value_cmp};
 ghost use Rattle.agg_core.specs.Entries.{AreEntries, AreSortedEntries, sort_value, value_at, value_of_key};
 
 use period_core::NoMemory;

@@ -8,10 +8,11 @@ use Rattle.row_core.specs.declared.row.Row.{Row}
 use Rattle.row_core.specs.declared.schema.Column.{Column}
 use Rattle.list_core.proofs.RisingLemmas.{Contains-head, Contains-none}
 use Rattle.match_core.specs.Columns.{MatchesOn, Names}
+use Rattle.match_core.proofs.Matching.{match_or_not}
 use Rattle.merge_core.specs.Gaps.{IsMaximal}
 use Rattle.merge_core.proofs.SharedLemmas.{by_order, first_held}
 use Rattle.anti_core.specs.Anti.{IsMet, IsUnmet, IsBordered}
-use Rattle.anti_core.proofs.AntiExistence.{match_or_not, met-more, met-cases}
+use Rattle.anti_core.proofs.AntiExistence.{met-more, met-cases}
 
 module _ (Matches : Row → Row → Type 0) (decided : (x y : Row) → Matches x y ⊎ (Matches x y → ⊥)) where
   -- a row holds an instant or not

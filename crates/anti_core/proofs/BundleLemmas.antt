@@ -10,6 +10,7 @@ use Rattle.std.proofs.Math.Seq.{drop-append_seam}
 use Rattle.dip_core.specs.declared.item.Item.{Item}
 use Rattle.dip_core.specs.Item.{HasDistinctIds}
 use Rattle.list_core.proofs.WantedLemmas.{IsListOf-append}
+use Rattle.dip_core.proofs.PartedLemmas.{distinct-earlier, distinct-later, ids-apart}
 use Rattle.merge_core.specs.Gaps.{IsCovered, IsUncovered}
 use Rattle.merge_core.proofs.SweepLemmas.{IsMaximal-same}
 use Rattle.anti_core.specs.declared.rows.AntiRow.{AntiRow}
@@ -17,7 +18,6 @@ use Rattle.anti_core.specs.Bundles.{ArePartedBehind, ClassesRise}
 use Rattle.anti_core.specs.ItemAnti.{IsItemsRow, AreItemsRows}
 use Rattle.anti_core.specs.United.{StandsBefore}
 use Rattle.anti_core.proofs.ItemLemmas.{AreItemsRows-none, covered-there}
-use Rattle.anti_core.proofs.PartLemmas.{distinct-earlier, distinct-later, ids-apart}
 
 -- ---- parted items
 

@@ -17,8 +17,9 @@ use Rattle.anti_core.specs.declared.rows.AntiRow.{AntiRow}
 use Rattle.anti_core.specs.Anti.{anti_cmp}
 use Rattle.anti_core.specs.ItemAnti.{row_of_gap, IsItemsRow, AreItemsRows, IsItemsAnti}
 use Rattle.list_core.proofs.MadeLemmas.{Contains-map, Contains-map_source, AllPairs-map}
+use Rattle.dip_core.proofs.PartedLemmas.{all_of-more}
 use Rattle.anti_core.proofs.OrderLemmas.{AntiRow-same_fields, sorted_rows}
-use Rattle.anti_core.proofs.PartLemmas.{all_of-more, parts-apart}
+use Rattle.anti_core.proofs.PartLemmas.{parts-apart}
 
 -- ---- part by part
 

@@ -9,7 +9,7 @@ use Rattle.period_core.specs.Period.{Holds, HoldsIn, before, after}
 use Rattle.period_core.proofs.PeriodLemmas.{before-holds, after-holds}
 use Rattle.list_core.proofs.RisingLemmas.{Contains-head, Contains-cons, Contains-cons_cases, Contains-none}
 use Rattle.merge_core.specs.Gaps.{IsMaximal}
-use Rattle.merge_core.proofs.SharedLemmas.{Period-same, by_order, first_held}
+use Rattle.merge_core.proofs.SharedLemmas.{by_order, first_held}
 use Rattle.merge_core.proofs.SweepLemmas.{IsMaximal-same}
 
 -- the periods are maximal in the set, and together they hold all of it
@@ -24,38 +24,6 @@ AreMaximal-same S R periods to back are = record {
   maximal = λ p h. IsMaximal-same S R p to back (are.maximal p h);
   all = λ t w. are.all t (back t w);
 }
-
--- ---- one instant lies in one of them
-
--- of two that hold an instant, neither starts before the other
-no-earlier : (Within : ℤ → Type 0) (p q : Period) (t : ℤ) → IsMaximal Within p → IsMaximal Within q → Holds p t
-    → Holds q t → q.from ≤ℤ p.from
-no-earlier Within p q t a b hp hq =
-    elim (by_order q.from p.from) [
-      | inl h ↦ h
-      | inr h ↦ absurd (b.before (a.inside (q.from -ℤ pos 1)
-          (let lo = hq.0 in let hi = hp.1 in (omega (arith, ints), omega (arith, ints)))))
-    ]
-
--- and neither ends behind it
-no-later : (Within : ℤ → Type 0) (p q : Period) (t : ℤ) → IsMaximal Within p → IsMaximal Within q → Holds p t
-    → Holds q t → q.to ≤ℤ p.to
-no-later Within p q t a b hp hq =
-    elim (by_order q.to p.to) [
-      | inl h ↦ h
-      | inr h ↦ absurd (a.after (b.inside p.to
-          (let lo = hq.0 in let hi = hp.1 in (omega (arith, ints), h))))
-    ]
-
--- so they are one
-pub maximal-once : (Within : ℤ → Type 0) (p q : Period) (t : ℤ) → IsMaximal Within p → IsMaximal Within q → Holds p t
-    → Holds q t → p ≡ q
-maximal-once Within p q t a b hp hq =
-    let one : q.from ≤ℤ p.from = no-earlier Within p q t a b hp hq in
-    let other : p.from ≤ℤ q.from = no-earlier Within q p t b a hq hp in
-    let last : q.to ≤ℤ p.to = no-later Within p q t a b hp hq in
-    let end : p.to ≤ℤ q.to = no-later Within q p t b a hq hp in
-    Period-same p q (omega (arith, ints)) (omega (arith, ints))
 
 -- ---- all of a period
 

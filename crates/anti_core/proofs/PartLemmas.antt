@@ -1,96 +1,16 @@
 -- Items, their ids, and the parts that they are divided into.
-use Rattle.std.proofs.Common.{◌≡◌, ℕ, zero, suc, ◌+◌, ◌<◌, ◌≤◌, List, [], ◌∷◌, ◌++◌, length, take, drop, cond, refl, sym, subst, ap, ◌∙◌, inl, inr, arith, append-nil, length-append}
-use Rattle.std.specs.Prelude.{Contains, count_by, ◌==◌}
-use Rattle.std.proofs.lemmas.Bool.Decides.{Decides-eqb}
-use Rattle.std.proofs.lemmas.List.{take_more, take-append-drop}
-use Rattle.std.proofs.lemmas.List.Concat.{flat_map-append}
-use Rattle.std.proofs.lemmas.List.Sums.{sum_by-append}
+use Rattle.std.proofs.Common.{◌≡◌, ℕ, ◌+◌, ◌<◌, List, length, take, drop, sym, subst}
+use Rattle.std.specs.Prelude.{Contains}
 use Rattle.dip_core.specs.declared.item.Item.{Item}
 use Rattle.dip_core.specs.Item.{HasDistinctIds}
 use Rattle.dip_core.specs.Division.{all_of, part_at}
 use Rattle.dip_core.proofs.StepLemmas.{contains-all_of}
-use Rattle.list_core.proofs.RisingLemmas.{Contains-cons_cases, Contains-none}
 use Rattle.merge_core.specs.Meets.{IdsTell}
-use Rattle.list_core.proofs.MadeLemmas.{counted}
+use Rattle.dip_core.proofs.PartedLemmas.{distinct-earlier, ids-apart, one_item, all_of-more, all_of-split}
 
--- ---- all items of some parts
-
--- those of some parts and of those behind them
-pub all_of-append : (ps qs : List (List Item)) → all_of (ps ++ qs) ≡ all_of ps ++ all_of qs
-all_of-append ps qs = flat_map-append (λ (p : List Item). p) ps qs
-
--- those of one part more
-pub all_of-more : (ps : List (List Item)) (l : ℕ) → l < length ps
-    → all_of (take (l + 1) ps) ≡ all_of (take l ps) ++ part_at ps l
-all_of-more ps l h =
-    ap all_of (take_more ps l [] h) ∙ all_of-append (take l ps) (part_at ps l ∷ [])
-    ∙ ap (λ z. all_of (take l ps) ++ z) (append-nil (part_at ps l))
-
--- those of the first parts, and of the others
-pub all_of-split : (ps : List (List Item)) (l : ℕ) → all_of (take l ps) ++ all_of (drop l ps) ≡ all_of ps
-all_of-split ps l = sym (all_of-append (take l ps) (drop l ps)) ∙ ap all_of (take-append-drop l ps)
-
--- a part has no more items than all parts have
-pub length-part_at : (ps : List (List Item)) (k : ℕ) → length (part_at ps k) ≤ length (all_of ps)
-length-part_at [] k = omega arith
-length-part_at (p ∷ ps) zero = omega (arith, length-append p (all_of ps))
-length-part_at (p ∷ ps) (suc k) = let r = length-part_at ps k in omega (arith, r, length-append p (all_of ps))
-
--- ---- ids
-
--- how many items have that id
-abbrev count_of : ℕ → List Item → ℕ
-count_of i items = count_by (λ x. x.id == i) items
-
--- an item is one with its id
-has_id : (items : List Item) (x : Item) (i : ℕ) → Contains items x → x.id ≡ i → 1 ≤ count_of i items
-has_id items x i h e = counted (λ (y : Item). y.id == i) items x h ((Decides-eqb x.id i).1 e)
-
--- those of two lists
-count_of-append : (i : ℕ) (xs ys : List Item) → count_of i (xs ++ ys) ≡ count_of i xs + count_of i ys
-count_of-append i xs ys = sum_by-append (λ (y : Item). cond (y.id == i) 1 0) xs ys
-
--- where ids are distinct in two lists together, they are in the first
-pub distinct-earlier : (xs ys : List Item) → HasDistinctIds (xs ++ ys) → HasDistinctIds xs
-distinct-earlier xs ys distinct i =
-    let both = count_of-append i xs ys in
-    let most = distinct i in
-    omega (arith, most, both)
-
--- and in the second
-pub distinct-later : (xs ys : List Item) → HasDistinctIds (xs ++ ys) → HasDistinctIds ys
-distinct-later xs ys distinct i =
-    let both = count_of-append i xs ys in
-    let most = distinct i in
-    omega (arith, most, both)
-
--- and no item of the one has the id of an item of the other
-pub ids-apart : (xs ys : List Item) (x y : Item) → HasDistinctIds (xs ++ ys) → Contains xs x → Contains ys y
-    → x.id ≡ y.id → ⊥
-ids-apart xs ys x y distinct h k e =
-    let one : 1 ≤ count_of x.id xs = has_id xs x x.id h refl in
-    let other : 1 ≤ count_of x.id ys = has_id ys y x.id k (sym e) in
-    let both = count_of-append x.id xs ys in
-    let most = distinct x.id in
-    omega (arith, one, other, most, both)
-
--- where ids are distinct, items of one id are one
+-- where ids are distinct they tell items apart
 pub IdsTell-from_distinct : (items : List Item) → HasDistinctIds items → IdsTell items
-IdsTell-from_distinct [] distinct x y h k e = absurd (Contains-none x h)
-IdsTell-from_distinct (z ∷ zs) distinct x y h k e =
-    elim (Contains-cons_cases z zs x h) [
-      | inl first ↦ elim (Contains-cons_cases z zs y k) [
-        | inl second ↦ sym first ∙ second
-        | inr later ↦ absurd (twice y later (ap (λ (v : Item). v.id) first ∙ e))
-      ]
-      | inr later ↦ elim (Contains-cons_cases z zs y k) [
-        | inl second ↦ absurd (twice x later (ap (λ (v : Item). v.id) second ∙ sym e))
-        | inr after ↦ IdsTell-from_distinct zs (distinct-later (z ∷ []) zs distinct) x y later after e
-      ]
-    ]
-  where
-    twice : (w : Item) → Contains zs w → z.id ≡ w.id → ⊥
-    twice w later same = ids-apart (z ∷ []) zs z w distinct (0, omega arith, refl) later same
+IdsTell-from_distinct items distinct x y h k e = one_item items x y distinct h k e
 
 -- so it is in each part
 pub IdsTell-part : (ps : List (List Item)) (l : ℕ) → HasDistinctIds (all_of ps) → IdsTell (part_at ps l)

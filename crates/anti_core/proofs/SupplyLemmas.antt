@@ -1,5 +1,5 @@
 -- The gaps of pairs as they are run, and those of one left part against more and more right parts.
-use Rattle.std.proofs.Common.{◌≡◌, ℕ, zero, suc, ◌+◌, ◌-◌, ◌*◌, ◌/◌, ◌%◌, ◌<◌, ◌≤◌, All, List, [], ◌∷◌, ◌++◌, length, take, drop, Option, Some, sym, subst, ap, ◌∙◌, arith, append-nil, suc-mul, mul-le-mul_right}
+use Rattle.std.proofs.Common.{◌≡◌, ℕ, zero, suc, ◌+◌, ◌-◌, ◌*◌, ◌/◌, ◌%◌, ◌<◌, ◌≤◌, All, List, [], ◌∷◌, ◌++◌, length, take, drop, Option, Some, sym, subst, ap, ◌∙◌, arith, append-nil}
 use Rattle.std.specs.Prelude.{slice_get}
 use Rattle.std.proofs.Math.Seq.{take-add}
 use Rattle.std.proofs.lemmas.List.{drop-drop}
@@ -7,12 +7,12 @@ use Rattle.std.proofs.lemmas.Nat.{div-mul-add, mod-mul-add}
 use Rattle.dip_core.specs.declared.item.Item.{Item}
 use Rattle.dip_core.specs.Item.{IsChain}
 use Rattle.dip_core.specs.Division.{all_of, part_at}
+use Rattle.dip_core.proofs.PartedLemmas.{all_of-append}
 use Rattle.merge_core.specs.declared.gap.Gap.{Gap}
 use Rattle.merge_core.specs.Gaps.{ListsGaps}
 use Rattle.merge_core.proofs.GapExistence.{ListsGaps-opened}
 use Rattle.anti_core.specs.declared.supply.Supply.{Supply}
 use Rattle.anti_core.specs.PairGaps.{AreGapsFrom, AreGapsAgainst}
-use Rattle.anti_core.proofs.PartLemmas.{all_of-append}
 
 -- ---- as they are run
 
@@ -32,10 +32,6 @@ AreGapsFrom-opened ps qs first values lefts rights bare i gaps at =
     ListsGaps-opened (part_at ps ((first + i) / length qs)) (part_at qs ((first + i) % length qs)) gaps
     (IsChain-part_at ps ((first + i) / length qs) lefts) (IsChain-part_at qs ((first + i) % length qs) rights)
     (bare i gaps at)
-
--- a left part's pair is one of all pairs
-pub number-within : (m n l r : ℕ) → l < m → r < n → l * n + r < m * n
-number-within m n l r a b = let h : suc l * n ≤ m * n = mul-le-mul_right n a in omega (arith, suc-mul l n, h)
 
 -- the gaps of pairs of one left part are those of the part against right parts
 pub AreGapsAgainst-from_pairs : (ps qs : List (List Item)) (l done first from count : ℕ) (values : List (List Gap))

@@ -15,18 +15,15 @@ use Rattle.period_core.specs.Period.{Holds}
 use Rattle.dip_core.specs.declared.item.Item.{Item}
 use Rattle.list_core.proofs.RisingLemmas.{AllPairs-head, AllPairs-tail, Contains-head, Contains-cons, Contains-cons_cases, Contains-none}
 use Rattle.list_core.proofs.WantedLemmas.{AllPairs-before, IsListOf-append, IsListOf-one, IsListOf-none, IsListOf-same}
+use Rattle.dip_core.proofs.PartedLemmas.{Item-same}
 use Rattle.merge_core.specs.Gaps.{IsCovered, IsUncovered, IsMaximal}
 use Rattle.merge_core.proofs.SharedLemmas.{by_order, first_held}
 use Rattle.merge_core.proofs.SweepLemmas.{IsMaximal-same}
+use Rattle.merge_core.proofs.MaximalAround.{maximal-once}
 use Rattle.anti_core.specs.declared.rows.AntiRow.{AntiRow}
 use Rattle.anti_core.specs.Anti.{AntiRowBefore}
 use Rattle.anti_core.specs.ItemAnti.{IsItemsRow, IsItemsAnti}
 use Rattle.anti_core.specs.United.{IsUnited, IsUnion, StandsBefore, CoverAlike, StandByClass, RunsInto, IsPlain, IsMerged}
-use Rattle.anti_core.proofs.MaximalLemmas.{maximal-once}
-
--- an item is determined by its fields
-Item-same : (a b : Item) → a.period ≡ b.period → a.id ≡ b.id → a.class ≡ b.class → a.amount ≡ b.amount → a ≡ b
-Item-same a b p i c m = λ k. record { period = p k; id = i k; class = c k; amount = m k }
 
 -- ---- what some items cover
 

@@ -5,10 +5,6 @@ use Rattle.dip_core.specs.Division.{part_at}
 use Rattle.merge_core.specs.declared.gap.Gap.{Gap}
 use Rattle.merge_core.specs.Gaps.{ListsGaps}
 
--- that something holds is not held in two ways
-pub squashed_prop : (A : Type 0) → IsProp ∥ A ∥₁
-squashed_prop A = squash₁
-
 -- the gaps of the pairs of two divisions from number `first` on, by left part and then by right part
 abbrev pub AreGapsFrom : List (List Item) → List (List Item) → ℕ → List (List Gap) → Type 0
 AreGapsFrom lefts rights first values = (i : ℕ) (gaps : List Gap) → slice_get values i ≡ Some gaps

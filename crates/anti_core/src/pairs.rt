@@ -5,9 +5,8 @@ ghost use Rattle.dip_core.specs.declared.item.Item.{Item};
 ghost use Rattle.dip_core.specs.Item.{item_limit};
 ghost use Rattle.dip_core.specs.Division.{part_at};
 ghost use Rattle.grid_core.specs.Grid.{grid_name, grid_place};
-ghost use Rattle.grid_core.specs.GridLaws.{grid_placed, grid_named, few_pairs};
+ghost use Rattle.grid_core.specs.GridLaws.{grid_placed, grid_named, few_pairs, squashed_prop};
 ghost use Rattle.merge_core.specs.Gaps.{ListsGaps};
-ghost use Rattle.anti_core.specs.PairGaps.{squashed_prop};
 
 use dip_core::Division;
 use grid_core::{name_in, place_in, same_part};

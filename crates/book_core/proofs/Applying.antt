@@ -5,6 +5,7 @@ use Rattle.std.specs.List.{position_from, AllByRecursion, list_all}
 use Rattle.std.proofs.lemmas.Bool.{or_parts, leb-false, ltb-false, cases_lt}
 use Rattle.std.proofs.lemmas.List.{take-append-le, take_all}
 use Rattle.std.proofs.lemmas.Iterator.Adapters.{position_from-zero}
+use Rattle.list_core.proofs.PlaceLemmas.{slice_get-before}
 use Rattle.row_core.specs.Schema.{fits}
 use Rattle.row_core.specs.Refusals.{first_of}
 use Rattle.version_core.specs.Limits.{version_limit}
@@ -161,11 +162,6 @@ slice_get-push [] c d zero k e = (refl, cc)
 slice_get-push [] c d (suc n) k e = absurd (cc)
 slice_get-push (x ∷ xs) c d zero k e = absurd (omega arith)
 slice_get-push (x ∷ xs) c d (suc n) k e = let r = slice_get-push xs c d n (omega arith) e in (ap suc r.0, r.1)
-
-slice_get-before : (h more : History) (n : ℕ) → n < length h → slice_get (h ++ more) n ≡ slice_get h n
-slice_get-before [] more n k = absurd (omega arith)
-slice_get-before (x ∷ xs) more zero k = refl
-slice_get-before (x ∷ xs) more (suc n) k = slice_get-before xs more n (omega arith)
 
 pub IsLegal-push : (h : History) (c : Commit) → IsLegal h → refusal_of (length h) (state_after h) c.change ≡ None
     → IsLegal (h ++ c ∷ [])

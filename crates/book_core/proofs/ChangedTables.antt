@@ -3,6 +3,7 @@ use Rattle.std.proofs.Common.{◌≡◌, ℕ, ◌+◌, ◌≤◌, List, [], ◌�
 use Rattle.std.specs.Prelude.{position, count_by, IfSome, bytes_eq}
 use Rattle.std.specs.List.{position_from}
 use Rattle.std.proofs.lemmas.Iterator.Adapters.{position_from-zero}
+use Rattle.list_core.proofs.MadeLemmas.{count-cons}
 use Rattle.row_core.specs.declared.row.Row.{Row}
 use Rattle.row_core.specs.declared.schema.Column.{Column}
 use Rattle.version_core.specs.Limits.{version_limit}
@@ -12,7 +13,7 @@ use Rattle.version_core.specs.Made.{made}
 use Rattle.version_core.specs.Shown.{shown}
 use Rattle.version_core.specs.declared.change.Change.{Change}
 use Rattle.version_core.specs.declared.change.Change.TheVariants.{Make}
-use Rattle.version_core.proofs.ListLemmas.{at_some, count-cons}
+use Rattle.version_core.proofs.ListLemmas.{at_some}
 use Rattle.book_core.specs.State.{changed}
 use Rattle.book_core.specs.StoredTables.{kept_table, IsWellKept, StoredTable, added_in, at_kept, closed_in, kept_table_after, table_at}
 use Rattle.book_core.proofs.Applying.{absent_from, place}

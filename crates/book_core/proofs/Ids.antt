@@ -5,6 +5,8 @@ use Rattle.std.specs.List.{cons_option, list_any, AllByRecursion}
 use Rattle.std.proofs.lemmas.Bool.{eq-eqb, ne_eqb}
 use Rattle.std.proofs.lemmas.List.{length-map}
 use Rattle.std.proofs.lemmas.List.Folds.{list_any-append}
+use Rattle.std.proofs.Math.Bool.{not-not, or-false, or-true}
+use Rattle.list_core.proofs.MadeLemmas.{count-cons, count-append}
 use Rattle.row_core.specs.declared.draft.Draft.{Draft}
 use Rattle.row_core.specs.declared.row.Row.{Row}
 use Rattle.version_core.specs.Rows.{numbered, drafts_of, removes}
@@ -14,8 +16,8 @@ use Rattle.version_core.specs.OpenVersions.{closed}
 use Rattle.version_core.specs.declared.change.Change.{Change}
 use Rattle.version_core.specs.declared.change.Change.TheVariants.{Make, Load, Update, Delete}
 use Rattle.version_core.specs.declared.version.Version.{Version}
-use Rattle.version_core.proofs.ListLemmas.{count-append, count-cons}
 use Rattle.version_core.proofs.MakingLemmas.{length-numbered}
+use Rattle.version_core.proofs.FindingLemmas.{row_closed}
 use Rattle.book_core.specs.History.{History}
 use Rattle.book_core.specs.Versions.{new_ids}
 use Rattle.book_core.specs.StoredTables.{kept_table, StoredTable, kept_table_after, at_kept, kept_tables_after, kept_tables_from, IsNumbered, IsTimely, IsWellKept}
@@ -112,31 +114,23 @@ in_filtered p lo hi (r ∷ rs) s = by_test (in_filtered p r.id hi rs s.2) (p r) 
   by_test rest false e =
       (has-low r.id hi r.id (filter p rs) (RiseIn-filter p r.id hi rs s.2) (omega arith) ∙ sym e, rest)
 
-or_no : (b : Bool) → (b || false) ≡ b
-or_no true = refl
-or_no false = refl
-
 with_tail : (p : Row → Bool) (ys tail : List Row) (lo hi top : ℕ) (rows : List Row) → RiseIn lo hi rows
     → RiseIn hi top tail → AllByRecursion (λ (x : Row). has x.id ys ≡ p x) rows
     → AllByRecursion (λ (x : Row). has x.id (ys ++ tail) ≡ p x) rows
 with_tail p ys tail lo hi top [] s u h = tt
 with_tail p ys tail lo hi top (r ∷ rs) s u h = (
   list_any-append (λ y. nat_eq y.id r.id) ys tail ∙ ap (λ b. has r.id ys || b) (has-low hi top r.id tail u s.1)
-      ∙ or_no (has r.id ys) ∙ h.0,
+      ∙ or-false (has r.id ys) ∙ h.0,
   with_tail p ys tail r.id hi top rs s.2 u h.1,
 )
 
 -- counts
 
-not_not : (b : Bool) → not (not b) ≡ b
-not_not true = refl
-not_not false = refl
-
 counted : (q g : Row → Bool) (rows : List Row) → AllByRecursion (λ (x : Row). g x ≡ not (q x)) rows
     → count_by (λ x. not (g x)) rows ≡ count_by q rows
 counted q g [] h = refl
 counted q g (r ∷ rs) h =
-    count-cons (λ x. not (g x)) r rs ∙ ap (λ b. cond b 1 0 + count_by (λ x. not (g x)) rs) (ap not h.0 ∙ not_not (q r))
+    count-cons (λ x. not (g x)) r rs ∙ ap (λ b. cond b 1 0 + count_by (λ x. not (g x)) rs) (ap not h.0 ∙ not-not (q r))
     ∙ ap (λ k. cond (q r) 1 0 + k) (counted q g rs h.1) ∙ sym (count-cons q r rs)
 
 all_counted : (g : Row → Bool) (rows : List Row) → AllByRecursion (λ (x : Row). g x ≡ false) rows
@@ -154,14 +148,10 @@ none_counted g (r ∷ rs) h =
     ∙ ap (λ k. 0 + k) (none_counted g rs h.1)
 
 -- each row has its id among the rows
-or_yes : (b : Bool) → (b || true) ≡ true
-or_yes true = refl
-or_yes false = refl
-
 one_more : (r : Row) (ys rows : List Row) → AllByRecursion (λ (x : Row). has x.id ys ≡ true) rows
     → AllByRecursion (λ (x : Row). has x.id (r ∷ ys) ≡ true) rows
 one_more r ys [] h = tt
-one_more r ys (x ∷ xs) h = (ap (λ b. nat_eq r.id x.id || b) h.0 ∙ or_yes (nat_eq r.id x.id), one_more r ys xs h.1)
+one_more r ys (x ∷ xs) h = (ap (λ b. nat_eq r.id x.id || b) h.0 ∙ or-true (nat_eq r.id x.id), one_more r ys xs h.1)
 
 has_own : (rows : List Row) → AllByRecursion (λ (x : Row). has x.id rows ≡ true) rows
 has_own [] = tt
@@ -206,16 +196,11 @@ ids_taken q used rows ds s =
 
 -- tables stay well kept
 
-same_row : (n : ℕ) (goes : Row → Bool) (v : Version) → (closed n goes v).row ≡ v.row
-same_row n goes v =
-    elim (is_none v.systo && goes v.row) as
-    (λ b. (cond b (record v { systo = Some n }) v).row ≡ v.row) [ true ↦ refl | false ↦ refl ]
-
 numbered_closed : (n k : ℕ) (goes : Row → Bool) (vs : List Version) → IsNumbered k vs
     → IsNumbered k (map (closed n goes) vs)
 numbered_closed n k goes [] s = tt
 numbered_closed n k goes (v ∷ vs) s =
-    (ap (λ (r : Row). r.id) (same_row n goes v) ∙ s.0, numbered_closed n (k + 1) goes vs s.1)
+    (ap (λ (r : Row). r.id) (row_closed n goes v) ∙ s.0, numbered_closed n (k + 1) goes vs s.1)
 
 numbered_more : (k : ℕ) (vs us : List Version) → IsNumbered k vs → IsNumbered (k + length vs) us
     → IsNumbered k (vs ++ us)

@@ -2,7 +2,7 @@
 use Rattle.std.proofs.Common.{◌≡◌, ℕ, ◌+◌, ◌≤◌, List, [], ◌∷◌, ◌++◌, length, map, Bool, true, false, ◌&&◌, ◌||◌, not, cond, Option, Some, None, refl, ap, ◌∙◌, arith, zero, suc, take, get_or, leb, ltb}
 use Rattle.std.specs.Prelude.{All, IfSome, IsTrue, filter, flat_map, fold, is_none, option_map, option_and_then, slice_get, slice_set, unwrap_or, bytes_eq}
 use Rattle.std.specs.List.{AllByRecursion, cons_option, list_all}
-use Rattle.std.proofs.lemmas.Bool.{and_parts, ltb-false, or_parts}
+use Rattle.std.proofs.lemmas.Bool.{and_parts, ltb-false, or_parts, and_from, not-false}
 use Rattle.std.proofs.lemmas.List.Elements.{All-filter, All-from_recursion}
 use Rattle.std.proofs.lemmas.List.Sums.{count_by-le-length, length-filter}
 use Rattle.std.proofs.lemmas.Option.{slice_get-get_or}
@@ -47,9 +47,6 @@ FitVersions columns vs = AllByRecursion (λ (v : Version). fits columns v.row.va
 abbrev FitDrafts : List Column → List Draft → Type 0
 FitDrafts columns ds = AllByRecursion (λ (d : Draft). fits columns d.values ≡ true) ds
 
-both-true : (a b : Bool) → a ≡ true → b ≡ true → (a && b) ≡ true
-both-true a b e f = ap (λ x. x && b) e ∙ f
-
 -- a value of its column's kind keeps the fit
 fits-set : (columns : List Column) (values : List Value) (i : ℕ) (column : Column) (value : Value)
     → fits columns values ≡ true → slice_get columns i ≡ Some column → same_kind column.kind (kind_of value) ≡ true
@@ -60,11 +57,11 @@ fits-set (c ∷ cs) [] i column value h g k = absurd (cc)
 fits-set (c ∷ cs) (v ∷ vs) zero column value h g k =
     let parts = and_parts (same_kind c.kind (kind_of v)) (fits cs vs) h in
     let same : c ≡ column = cc in
-    both-true (same_kind c.kind (kind_of value)) (fits cs vs)
+    and_from (same_kind c.kind (kind_of value)) (fits cs vs)
     (ap (λ (x : Column). same_kind x.kind (kind_of value)) same ∙ k) parts.1
 fits-set (c ∷ cs) (v ∷ vs) (suc i) column value h g k =
     let parts = and_parts (same_kind c.kind (kind_of v)) (fits cs vs) h in
-    both-true (same_kind c.kind (kind_of v)) (fits cs (slice_set vs i value)) parts.0
+    and_from (same_kind c.kind (kind_of v)) (fits cs (slice_set vs i value)) parts.0
     (fits-set cs vs i column value parts.1 g k)
 
 abbrev kind_test : Option Column → Value → Bool
@@ -93,10 +90,6 @@ fits-sets columns values (pair ∷ sets) h k =
     fits-sets columns (set_at columns values pair) sets (fits-set_at columns values pair h k.0) k.1
 
 -- what passed the tests
-
-not-false : (b : Bool) → not b ≡ false → b ≡ true
-not-false true h = refl
-not-false false h = absurd (cc)
 
 pairs-of_kind : (columns : List Column) (pairs : List Pair)
     → AllByRecursion (λ (t : Bool × BookRefused). t.0 ≡ false) (flat_map (pair_tests columns) pairs)

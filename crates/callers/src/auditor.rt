@@ -2,7 +2,7 @@
 
 ghost use Rattle.store_core.specs.Passes.{IsPassOf};
 
-use crate::fault::Fault;
+use crate::stopped::Stopped;
 use row_core::{Failure, Name};
 use std::sync::Wait;
 use store_core::{Pass, Snapshot, Store};
@@ -22,22 +22,27 @@ pub struct Watched {
 
 impl Watched {
     /// Whether the kept snapshot still shows as many rows as when it was taken.
-    pub fn stays(&self, table: Name) -> Result<bool, Fault> {
+    pub fn stays(&self, table: Name) -> Result<bool, Stopped> {
         Ok(rows_shown(&self.kept, table)? == self.rows)
     }
 }
 
 /// How many rows of a table a snapshot shows: none where the table wasn't made yet.
-pub fn rows_shown(snapshot: &Snapshot, table: Name) -> Result<usize, Fault> {
+pub fn rows_shown(snapshot: &Snapshot, table: Name) -> Result<usize, Stopped> {
     match snapshot.rows(table) {
         Ok(rows) => Ok(rows.len()),
         Err(Failure::Refused(_)) => Ok(0),
-        Err(Failure::NoMemory) => Err(Fault::NoMemory),
+        Err(Failure::NoMemory) => Err(Stopped::NoMemory),
     }
 }
 
 /// Takes snapshots, one after another, and compares how many rows they show.
-pub fn watch<R: Wait>(rt: &R, store: &Store, table: Name, pass: &mut Pass) -> Result<Watched, Fault>
+pub fn watch<R: Wait>(
+    rt: &R,
+    store: &Store,
+    table: Name,
+    pass: &mut Pass,
+) -> Result<Watched, Stopped>
     requires { IsPassOf store.now pass.old }
     ensures { IsPassOf store.now pass.new }
 {

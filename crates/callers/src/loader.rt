@@ -3,7 +3,7 @@
 ghost use Rattle.std.specs.Prelude.{◌≡◌, ◌+◌, ◌≤◌, length, IfOk, OnOk};
 ghost use Rattle.store_core.specs.Passes.{IsNoteOf, IsPassOf, calls_left, mine, told_in};
 
-use crate::fault::Fault;
+use crate::stopped::Stopped;
 use book_core::{Change, ChangeKind, Entry};
 use period_core::{Period, Point};
 use row_core::{Draft, Drafts, Kind, Name, Schema, Value, Values};
@@ -21,7 +21,7 @@ pub const COMMITS: u64 = 1_001;
 const LOADER: u32 = 1;
 
 /// The rows of one change: a single row of this number, which holds for a day.
-pub fn one_row(alloc: Global, number: u32) -> Result<Drafts, Fault> {
+pub fn one_row(alloc: Global, number: u32) -> Result<Drafts, Stopped> {
     let period = Period::new(Point::parse(b"2024-01-08")?, Point::parse(b"2024-01-09")?)?;
     let mut values = Values::new(alloc);
     values.push(Value::Int(number as i64))?;
@@ -38,7 +38,7 @@ pub fn load<R: Wait>(
     store: &Store,
     table: Name,
     pass: &mut Pass,
-) -> Result<Note, Fault>
+) -> Result<Note, Stopped>
     requires { IsPassOf store.now pass.old }
     ensures pass { IsPassOf store.now pass.new }
     ensures note { IfOk result (IsNoteOf store.now) }

@@ -1,18 +1,16 @@
 -- Numbers that occur once, and items whose ids rise.
 use Rattle.std.proofs.Common.{◌≡◌, ◌≢◌, ℕ, zero, suc, ◌+◌, ◌-◌, ◌<◌, ◌≤◌, true, cond, List, [], ◌∷◌, ◌++◌, length, get_or, arith, refl, sym, ap, ◌∙◌, subst, inl, inr}
 use Rattle.std.specs.Prelude.{Contains, count_by, ◌==◌}
-use Rattle.std.proofs.lemmas.Bool.{eqb-true, cases_lt}
+use Rattle.std.proofs.lemmas.Bool.{eqb-true, cases_lt, eq-eqb}
 use Rattle.std.proofs.lemmas.List.{get_or-map, get_or_default}
 use Rattle.std.proofs.lemmas.List.Sums.{sum_by-cons, sum_by-append}
+use Rattle.list_core.proofs.MadeLemmas.{counted}
 use Rattle.dip_core.specs.declared.item.Item.{Item}
 use Rattle.dip_core.specs.Item.{IdsRise}
 use Rattle.cert_core.specs.Ids.{IsDistinct, IsTwice}
 use Rattle.cert_core.specs.Places.{id_at}
 
 -- ---- counts of a number
-
-pub eqb-same : (i : ℕ) → (i == i) ≡ true
-eqb-same i = grind arith
 
 pub count-cons : (x i : ℕ) (xs : List ℕ)
     → count_by (λ id. id == i) (x ∷ xs) ≡ cond (x == i) 1 0 + count_by (λ id. id == i) xs
@@ -21,18 +19,6 @@ count-cons x i xs = sum_by-cons (λ id. cond (id == i) 1 0) x xs
 pub count-append : (xs ys : List ℕ) (i : ℕ)
     → count_by (λ id. id == i) (xs ++ ys) ≡ count_by (λ id. id == i) xs + count_by (λ id. id == i) ys
 count-append xs ys i = sum_by-append (λ id. cond (id == i) 1 0) xs ys
-
--- what is contained is counted
-count-contained : (xs : List ℕ) (i k : ℕ) → k < length xs → get_or xs k i ≡ i → 1 ≤ count_by (λ id. id == i) xs
-count-contained [] i k h e = absurd (omega arith)
-count-contained (x ∷ xs) i zero h e =
-    let split = count-cons x i xs in
-    let yes : (x == i) ≡ true = subst (λ n. (n == i) ≡ true) (sym e) (eqb-same i) in
-    grind arith
-count-contained (x ∷ xs) i (suc k) h e =
-    let split = count-cons x i xs in
-    let rest : 1 ≤ count_by (λ id. id == i) xs = count-contained xs i k (omega arith) e in
-    omega arith
 
 count-missing : (xs : List ℕ) (i : ℕ) → (Contains xs i → ⊥) → count_by (λ id. id == i) xs ≡ 0
 count-missing [] i none = refl
@@ -81,9 +67,9 @@ twice_is_not_distinct ids id twice distinct =
     count-append twice.before (id ∷ twice.after) id in
     let here : count_by (λ n. n == id) (id ∷ twice.after) ≡ cond (id == id) 1 0 + count_by (λ n. n == id) twice.after =
     count-cons id id twice.after in
-    let same : (id == id) ≡ true = eqb-same id in
+    let same : (id == id) ≡ true = eq-eqb id id refl in
     let some : 1 ≤ count_by (λ n. n == id) twice.before =
-    count-contained twice.before id twice.again.0 twice.again.1 twice.again.2 in
+    counted (λ n. n == id) twice.before id twice.again same in
     grind arith
 
 -- at two places stand two numbers
@@ -94,9 +80,9 @@ distinct-differ (x ∷ xs) distinct i zero d less h same = absurd (omega arith)
 distinct-differ (x ∷ xs) distinct zero (suc j) d less h same =
     let split = count-cons x x xs in
     let most : count_by (λ id. id == x) (x ∷ xs) ≤ 1 = distinct x in
-    let yes : (x == x) ≡ true = eqb-same x in
+    let yes : (x == x) ≡ true = eq-eqb x x refl in
     let there : get_or xs j x ≡ x = get_or_default xs j x d (omega arith) ∙ sym same in
-    let some : 1 ≤ count_by (λ id. id == x) xs = count-contained xs x j (omega arith) there in
+    let some : 1 ≤ count_by (λ id. id == x) xs = counted (λ id. id == x) xs x (j, omega arith, there) yes in
     grind arith
 distinct-differ (x ∷ xs) distinct (suc i) (suc j) d less h same =
     distinct-differ xs (IsDistinct-tail x xs distinct) i j d (omega arith) (omega arith) same

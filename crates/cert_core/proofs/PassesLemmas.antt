@@ -6,10 +6,10 @@ use Rattle.std.proofs.lemmas.List.Elements.{All-head, All-tail, All-cons, All-ni
 use Rattle.std.proofs.lemmas.List.Sums.{sum_by-cons}
 use Rattle.std.proofs.lemmas.List.Sorted.{IsPermutation-refl, IsPermutation-sym, IsPermutation-cons, IsPermutation-trans, IsPermutation-remove, Contains-permutation}
 use Rattle.list_core.proofs.RisingLemmas.{Contains-cons, Contains-cons_cases, Contains-none}
+use Rattle.list_core.proofs.PlaceLemmas.{All-front, All-back}
 use Rattle.dip_core.specs.declared.item.Item.{Item}
 use Rattle.dip_core.specs.Item.{IdsRise, HasDistinctIds, IsApart}
 use Rattle.dip_core.specs.Division.{all_of}
-use Rattle.dip_core.proofs.GrownLemmas.{All-front}
 use Rattle.dip_core.proofs.IdsLemmas.{HasDistinctIds-from_rising}
 use Rattle.dip_core.proofs.DivisionLemmas.{HasDistinctIds-permutation}
 use Rattle.cert_core.specs.declared.verdict.Certificate.{Certificate}
@@ -103,10 +103,6 @@ named_items items (id ∷ ids) known =
         named = ap (λ n. n ∷ map (λ (y : Item). y.id) xs) same ∙ ap (λ l. id ∷ l) named.named;
       },
     )
-
-pub All-back : {X : Type 0} (P : X → Type 0) (xs ys : List X) → All P (xs ++ ys) → All P ys
-All-back P [] ys all = all
-All-back P (x ∷ xs) ys all = All-back P xs ys (All-tail P x (xs ++ ys) all)
 
 record AreParts (items : List Item) (claim : List (List ℕ)) (parts : List (List Item)) : Type 0 where
   pub claimed : map (map (λ x. x.id)) parts ≡ claim

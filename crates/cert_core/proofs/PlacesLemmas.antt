@@ -1,7 +1,7 @@
 -- What is known of places is known of the ids there.
 use Rattle.std.proofs.Common.{◌≡◌, ◌≢◌, ◌⊎◌, ℕ, zero, suc, ◌+◌, ◌-◌, ◌<◌, ◌≤◌, Bool, Some, true, false, List, [], ◌∷◌, ◌++◌, length, get_or, take, drop, set, arith, refl, sym, ap, ◌∙◌, subst, inl, inr}
 use Rattle.std.specs.Prelude.{All, Contains, count_by, ◌==◌, map, slice_get}
-use Rattle.std.proofs.lemmas.Bool.{eqb-true, cases_lt}
+use Rattle.std.proofs.lemmas.Bool.{eqb-true, cases_lt, eq-eqb}
 use Rattle.std.proofs.lemmas.List.{get_or_default, map-append, get_or-set_same, get_or-set_other, length-set, get_or_read, take-append-drop, take-map, drop-map}
 use Rattle.std.proofs.lemmas.List.Elements.{All-head, All-tail, All-map, All-push, All-weaker, All-contains, All-take, All-drop, Contains-append_left, Contains-append_right, Contains-push}
 use Rattle.list_core.proofs.MadeLemmas.{Contains-map, Contains-map_source}
@@ -12,7 +12,7 @@ use Rattle.cert_core.specs.Ids.{IsDistinct, IsTwice}
 use Rattle.cert_core.specs.Places.{id_at, ArePlaces, AreMarks, IsFirstUnmarked}
 use Rattle.cert_core.specs.Verdict.{HasItem, IsMissing}
 use Rattle.cert_core.proofs.ClaimLemmas.{ids_of-part}
-use Rattle.cert_core.proofs.IdsLemmas.{eqb-same, count-cons, IsDistinct-tail, IsDistinct-append_left, IsDistinct-append_right, id_at-get_or, item_at, id_at-rises, same_place}
+use Rattle.cert_core.proofs.IdsLemmas.{count-cons, IsDistinct-tail, IsDistinct-append_left, IsDistinct-append_right, id_at-get_or, item_at, id_at-rises, same_place}
 
 -- ---- the ids at places
 
@@ -54,9 +54,10 @@ count-at items rise p h (q ∷ qs) within =
     let other = count-cons q p qs in
     let there : (id_at items q == id_at items p) ≡ true → (q == p) ≡ true =
     λ yes. subst (λ n. (q == n) ≡ true)
-    (same_place items rise q p first h (eqb-true (id_at items q) (id_at items p) yes)) (eqb-same q) in
+    (same_place items rise q p first h (eqb-true (id_at items q) (id_at items p) yes)) (eq-eqb q q refl) in
     let back : (q == p) ≡ true → (id_at items q == id_at items p) ≡ true =
-    λ yes. subst (λ n. (id_at items q == id_at items n) ≡ true) (eqb-true q p yes) (eqb-same (id_at items q)) in
+    λ yes. subst (λ n. (id_at items q == id_at items n) ≡ true) (eqb-true q p yes)
+    (eq-eqb (id_at items q) (id_at items q) refl) in
     grind arith
 
 distinct-map : (items : List Item) → IdsRise items → (places : List ℕ) → All (λ p. p < length items) places

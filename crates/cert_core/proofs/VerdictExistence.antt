@@ -11,10 +11,10 @@ use Rattle.period_core.specs.declared.period.Period.{Period}
 use Rattle.period_core.specs.Period.{Overlap}
 use Rattle.period_core.proofs.PeriodLemmas.{Overlap-ends, Overlap-from_ends}
 use Rattle.list_core.proofs.RisingLemmas.{Contains-cons, Contains-cons_cases, Contains-none}
+use Rattle.list_core.proofs.PlaceLemmas.{All-front, All-back}
 use Rattle.dip_core.specs.declared.item.Item.{Item}
 use Rattle.dip_core.specs.Item.{IdsRise, IsRising, crowd, item_cmp}
 use Rattle.dip_core.proofs.DipExistence.{sorted_items}
-use Rattle.dip_core.proofs.GrownLemmas.{All-front}
 use Rattle.dip_core.proofs.DipUniqueness.{less-from_test}
 use Rattle.cert_core.specs.declared.verdict.Certificate.{Certificate}
 use Rattle.cert_core.specs.declared.verdict.Verdict.{Verdict}
@@ -26,7 +26,7 @@ use Rattle.cert_core.specs.Places.{IsFirstPair, id_at}
 use Rattle.cert_core.specs.Verdict.{HasItem, HasNoOverlap, IsFirstOverlap, IsMissing, IsOverlap, IsUnknown, IsVerdict, holders}
 use Rattle.cert_core.proofs.IdsLemmas.{IsDistinct-append_left, IsDistinct-append_right, IsDistinct-push, id_at-get_or, id_at-rises}
 use Rattle.cert_core.proofs.OverlapLemmas.{AreSorted, AreSorted-from_sort, HasNoOverlap-from_pairs, IsFirstOverlap-from_pair}
-use Rattle.cert_core.proofs.PassesLemmas.{All-back, named_items}
+use Rattle.cert_core.proofs.PassesLemmas.{named_items}
 use Rattle.cert_core.proofs.VerdictLemmas.{first_verdict, missing-first, not_crowded-first, not_empty, not_wrong, overlap-first, twice-first, yes-first}
 
 -- ---- parts without ids

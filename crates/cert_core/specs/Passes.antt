@@ -6,6 +6,7 @@ use Rattle.cert_core.specs.Claim.{ids_of}
 use Rattle.cert_core.specs.Ids.{IsDistinct}
 use Rattle.cert_core.specs.Verdict.{HasItem, HasNoOverlap, HasRightInstant}
 
+-- all tests of a check hold
 pub record Passes (items : List Item) (claim : List (List ℕ)) (certificate : Certificate) : Type 0 where
   pub counted : length claim ≡ certificate.parts
   pub filled : All (λ part. 0 < length part) claim

@@ -1,3 +1,5 @@
+//! The check of a claimed division: the first fault that it has, or that it has none.
+
 ghost use Rattle.std.specs.Prelude.{◌≡◌, ◌≢◌, ◌<◌, ◌↔◌, length, All, MatchOption, IfOk};
 ghost use Rattle.dip_core.specs.Item.{IdsRise, crowd};
 ghost use Rattle.dip_core.specs.Division.{IsLeast};

@@ -1,3 +1,5 @@
+//! Claims of divisions.
+
 ghost use Rattle.std.specs.Prelude.{◌≡◌, ◌↔◌, ◌<◌, [], ◌∷◌, ◌++◌, length, Some, IsTrue, OnOk, OnErr, slice_get, slice_set, ◌-◌};
 ghost use Rattle.std.specs.Option.{option_copied};
 ghost use Rattle.list_core.specs.Cut.{cut, EndsAt};

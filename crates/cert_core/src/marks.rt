@@ -1,3 +1,5 @@
+//! Marks of the places that a claim names.
+
 ghost use Rattle.std.specs.Prelude.{◌≡◌, ℕ, ◌<◌, true, false, length, All, MatchOption};
 ghost use Rattle.cert_core.specs.Ids.{IsDistinct, IsTwice};
 ghost use Rattle.cert_core.specs.Places.{AreMarks, IsFirstUnmarked};

@@ -1,3 +1,5 @@
+//! Items of one claimed part that overlap.
+
 ghost use Rattle.std.specs.Prelude.{◌≡◌, ℕ, ◌<◌, List, length, All, MatchOption, IfOk, OnOk};
 ghost use Rattle.std.specs.List.{AllAdjacentBelow};
 ghost use Rattle.period_core.specs.Period.{Overlap};

@@ -1,3 +1,5 @@
+//! The places of items, by their ids.
+
 ghost use Rattle.std.specs.Prelude.{◌≡◌, ◌≢◌, ℕ, ◌<◌, [], length, vec_len, MatchOption, IfOk, IfSome};
 ghost use Rattle.dip_core.specs.Item.{IdsRise};
 ghost use Rattle.cert_core.specs.Places.{id_at, ArePlaces};

@@ -1,3 +1,5 @@
+//! What is claimed of a division, and what a check says of it.
+
 use period_core::Point;
 
 /// What is claimed of a division: how many parts it has, and an instant that as many items hold,

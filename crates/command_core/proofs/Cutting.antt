@@ -4,17 +4,7 @@ use Rattle.std.specs.List.{slice_get}
 use Rattle.csv.specs.Records.{field_at}
 use Rattle.std.proofs.lemmas.List.{take_all, length-take, length-drop, drop-take, drop-drop, take-take}
 use Rattle.std.proofs.lemmas.Option.{slice_get_past}
-
-pub slice_get-drop : {X : Type 0} (m : ℕ) (xs : List X) (i : ℕ) → slice_get (drop m xs) i ≡ slice_get xs (m + i)
-slice_get-drop zero xs i = let e : 0 + i ≡ i = omega arith in rw e refl
-slice_get-drop (suc m) [] i = refl
-slice_get-drop (suc m) (x ∷ xs) i = let e : suc m + i ≡ suc (m + i) = omega arith in rw e (slice_get-drop m xs i)
-
-slice_get-take : {X : Type 0} (n : ℕ) (xs : List X) (i : ℕ) → i < n → slice_get (take n xs) i ≡ slice_get xs i
-slice_get-take zero xs i lt = absurd (omega arith)
-slice_get-take (suc n) [] i lt = refl
-slice_get-take (suc n) (x ∷ xs) zero lt = refl
-slice_get-take (suc n) (x ∷ xs) (suc i) lt = slice_get-take n xs i (omega arith)
+use Rattle.list_core.proofs.PlaceLemmas.{slice_get-take, slice_get-drop}
 
 -- an element of a part
 pub slice_get-part : {X : Type 0} (from to : ℕ) (xs : List X) (i : ℕ) → i < to - from

@@ -147,12 +147,6 @@ same_members number body rest taken left (one ∷ ones) (other ∷ others) e (ow
       ap (λ m. m ∷ ones) same.2 ∙ ap (λ l. other ∷ l) more.2,
     )
 
--- records have one list of members
-pub one_members : (number : ℕ) (records : List Record) (one other : List Member) → AreMembers number records one
-    → AreMembers number records other → one ≡ other
-one_members number records one other are were =
-    (same_members number records [] records [] one other refl are were tt tt).2
-
 -- ---- members of more records
 
 -- members, and those of the records behind theirs

@@ -3,6 +3,8 @@ use Rattle.std.proofs.Common.{◌≡◌, ℕ, zero, suc, ◌+◌, ◌*◌, ◌%�
 use Rattle.std.specs.Prelude.{codes, option_map}
 use Rattle.std.specs.List.{list_all, slice_get}
 use Rattle.std.specs.Option.{IfSome}
+use Rattle.std.proofs.lemmas.Bool.{and_parts}
+use Rattle.std.proofs.lemmas.List.{drop_all}
 use Rattle.row_core.specs.Name.{is_name}
 use Rattle.command_core.specs.Meaning.{delete_meaning, delete_of, if_formed, update_meaning, update_of}
 use Rattle.command_core.specs.Pairs.{TextPair, all_columns, are_pairs, pairs_of}
@@ -116,23 +118,15 @@ pairs-get (c ∷ t ∷ fields) (suc k) column text e f =
     pairs-get fields k column text (subst (λ n. slice_get (c ∷ t ∷ fields) n ≡ Some column) (double k) e)
     (subst (λ n. slice_get (c ∷ t ∷ fields) n ≡ Some text) (double-more k) f)
 
-both-left : (a b : Bool) → (a && b) ≡ true → a ≡ true
-both-left true b e = refl
-both-left false b e = absurd (cc e)
-
-both-right : (a b : Bool) → (a && b) ≡ true → b ≡ true
-both-right true b e = e
-both-right false b e = absurd (cc e)
-
 -- each of them has a name, where all have
 pub all_columns-get : (pairs : List TextPair) (k : ℕ) (pair : TextPair) → all_columns pairs ≡ true
     → slice_get pairs k ≡ Some pair → is_name pair.0 ≡ true
 all_columns-get [] k pair all e = absurd (cc e)
 all_columns-get (p ∷ pairs) zero pair all e =
     let same : p ≡ pair = cc in
-    ap (λ (q : TextPair). is_name q.0) (sym same) ∙ both-left (is_name p.0) (all_columns pairs) all
+    ap (λ (q : TextPair). is_name q.0) (sym same) ∙ (and_parts (is_name p.0) (all_columns pairs) all).0
 all_columns-get (p ∷ pairs) (suc k) pair all e =
-    all_columns-get pairs k pair (both-right (is_name p.0) (all_columns pairs) all) e
+    all_columns-get pairs k pair (and_parts (is_name p.0) (all_columns pairs) all).1 e
 
 -- with at most one field left there is no pair more
 pub pairs-over : (fields : Record) (k : ℕ) → length fields ≤ 2 * k + 1
@@ -174,13 +168,7 @@ pub names-over : (fields : Record) (k : ℕ) → length fields ≤ k
     → list_all is_name (drop k fields) ≡ list_all is_name fields → true ≡ list_all is_name fields
 names-over [] k short e = refl
 names-over (field ∷ fields) zero short e = absurd (omega arith)
-names-over (field ∷ fields) (suc k) short e = ap (list_all is_name) (sym (none-left fields k (omega arith))) ∙ e
-  where
-    none-left : (rest : Record) (n : ℕ) → length rest ≤ n → drop n rest ≡ []
-    none-left [] zero h = refl
-    none-left [] (suc n) h = refl
-    none-left (r ∷ rest) zero h = absurd (omega arith)
-    none-left (r ∷ rest) (suc n) h = none-left rest n (omega arith)
+names-over (field ∷ fields) (suc k) short e = ap (list_all is_name) (sym (drop_all k fields (omega arith))) ∙ e
 
 -- each field is a name, where all are
 pub names-get : (fields : Record) (k : ℕ) (field : List ℕ) → list_all is_name fields ≡ true
@@ -188,9 +176,9 @@ pub names-get : (fields : Record) (k : ℕ) (field : List ℕ) → list_all is_n
 names-get [] k field all e = absurd (cc e)
 names-get (f ∷ fields) zero field all e =
     let same : f ≡ field = cc in
-    ap is_name (sym same) ∙ both-left (is_name f) (list_all is_name fields) all
+    ap is_name (sym same) ∙ (and_parts (is_name f) (list_all is_name fields) all).0
 names-get (f ∷ fields) (suc k) field all e =
-    names-get fields k field (both-right (is_name f) (list_all is_name fields) all) e
+    names-get fields k field (and_parts (is_name f) (list_all is_name fields) all).1 e
 
 -- ---- whole records
 

@@ -9,6 +9,7 @@ use Rattle.command_core.specs.declared.command.Command.{Command}
 use Rattle.command_core.specs.declared.command.Command.TheVariants.{Refused, Make, Load, Update, Delete, Rows, At, Between, FromTo, Dip, Join, Anti, Agg, Check, Log}
 use Rattle.command_core.specs.declared.refusal.Refusal.{Refusal}
 
+-- what a command that was read means
 abbrev pub meaning_of : Command → Meaning
 meaning_of (Refused fault) = M.Refuse fault
 meaning_of (Make table schema) = M.Make table schema

@@ -29,6 +29,7 @@ natural (negsuc n) = None
 abbrev pub natural_of : List ℕ → Option ℕ
 natural_of text = option_and_then natural (number_of text)
 
+-- the same, or that the text is no such number
 abbrev pub natural_in : List ℕ → Result ℕ Refusal
 natural_in text = ok_or (natural_of text) BadNumber
 

@@ -95,6 +95,7 @@ name_table name None = Err BadCommand
 name_table name (Some form) =
     if is_name name && is_named form then make_table name (table_columns form) else Err BadName
 
+-- what a record of `table` means
 abbrev pub table_meaning : Record → Result Meaning Refusal
 table_meaning (word ∷ name ∷ fields) = name_table name (table_form fields)
 table_meaning line = Err BadCommand
@@ -109,6 +110,7 @@ update_of name from to parts =
     and_then (named_pairs parts.1) (λ conds.
     and_then (period_in from to) (λ portion. Ok (Update table portion sets conds)))))
 
+-- the same of a deletion, which has conditions alone
 abbrev pub delete_of : List ℕ → List ℕ → List ℕ → List TextPair → Result Meaning Refusal
 delete_of name from to conds =
     and_then (name_in name) (λ table.
@@ -120,40 +122,51 @@ abbrev pub if_formed : {T : Type 0} → (T → Result Meaning Refusal) → Optio
 if_formed follow None = Err BadCommand
 if_formed follow (Some fields) = follow fields
 
+-- what a record of `update` means
 abbrev pub update_meaning : Record → Result Meaning Refusal
 update_meaning (word ∷ name ∷ from ∷ to ∷ fields) = if_formed (update_of name from to) (settings_in fields)
 update_meaning line = Err BadCommand
 
+-- what a record of `delete` means
 abbrev pub delete_meaning : Record → Result Meaning Refusal
 delete_meaning (word ∷ name ∷ from ∷ to ∷ fields) = if_formed (delete_of name from to) (conditions_in fields)
 delete_meaning line = Err BadCommand
 
 -- ---- queries
 
+-- what a record of `rows` means
 abbrev pub rows_meaning : Record → Result Meaning Refusal
 rows_meaning line = map_ok (λ r. Rows r.0 r.1) (with_asof named line)
 
+-- of `at`
 abbrev pub at_meaning : Record → Result Meaning Refusal
 at_meaning line = map_ok (λ r. At r.0.0 r.0.1 r.1) (with_asof dated line)
 
+-- of `dip`
 abbrev pub dip_meaning : Record → Result Meaning Refusal
 dip_meaning line = map_ok (λ r. Dip r.0 r.1) (with_asof named line)
 
+-- of `between`
 abbrev pub between_meaning : Record → Result Meaning Refusal
 between_meaning line = map_ok (λ r. Between r.0 r.1.0 r.1.1) (spanned line)
 
+-- of `fromto`
 abbrev pub from_to_meaning : Record → Result Meaning Refusal
 from_to_meaning line = map_ok (λ r. FromTo r.0 r.1.0 r.1.1) (spanned line)
 
+-- of `join`
 abbrev pub join_meaning : Record → Result Meaning Refusal
 join_meaning line = map_ok (λ r. Join r.0 r.1) (with_asof compared line)
 
+-- of `anti`
 abbrev pub anti_meaning : Record → Result Meaning Refusal
 anti_meaning line = map_ok (λ r. Anti r.0 r.1) (with_asof compared line)
 
+-- of `agg`
 abbrev pub agg_meaning : Record → Result Meaning Refusal
 agg_meaning line = map_ok (λ r. Agg r.0 r.1) (with_asof aggregated line)
 
+-- of `log`, which has no other field
 abbrev pub log_meaning : Record → Result Meaning Refusal
 log_meaning (word ∷ []) = Ok Log
 log_meaning line = Err BadCommand
@@ -176,16 +189,19 @@ verb_meaning line (Some verb.Anti) = anti_meaning line
 verb_meaning line (Some verb.Agg) = agg_meaning line
 verb_meaning line (Some verb.Log) = log_meaning line
 
+-- what a command of one record means
 abbrev pub record_meaning : Record → Result Meaning Refusal
 record_meaning line = verb_meaning line (verb_of line)
 
--- what a block means, by the word that opens it
+-- what a block of `load` means
 abbrev pub load_meaning : Record → List Record → Result Meaning Refusal
 load_meaning opening body = map_ok (λ name. Load name body) (named opening)
 
+-- what a block of `check` means
 abbrev pub check_meaning : Record → List Record → Result Meaning Refusal
 check_meaning opening body = map_ok (λ r. Check r.0.0 r.0.1.0 r.0.1.1 r.1 body) (with_asof claimed opening)
 
+-- what a block means, by the word that opens it
 abbrev pub block_meaning : Record → List Record → Result Meaning Refusal
 block_meaning opening body =
     if begins (codes "load") opening then load_meaning opening body else check_meaning opening body

@@ -11,6 +11,7 @@ use Rattle.command_core.specs.declared.table_command.RawTable.{RawTable}
 abbrev pub raw_column : Bor (List ℕ) × Kind → List ℕ × Kind
 raw_column column = (column.0.now, column.1)
 
+-- those of all columns
 abbrev pub raw_of : List (Bor (List ℕ) × Kind) → List (List ℕ × Kind)
 raw_of columns = map raw_column columns
 

@@ -1,9 +1,8 @@
 -- A heap of last ends: what comes first, and one step of moving an end down or up.
-use Rattle.std.proofs.Common.{◌≡◌, ℕ, zero, suc, ◌+◌, ◌-◌, ◌*◌, ◌/◌, ◌<◌, ◌≤◌, List, [], ◌∷◌, ◌++◌, length, get_or, set, arith, refl, sym, ap, ◌∙◌, inl, inr, subst, length-append, length-set, get_or-set_other}
+use Rattle.std.proofs.Common.{◌≡◌, ℕ, zero, suc, ◌+◌, ◌-◌, ◌*◌, ◌/◌, ◌<◌, ◌≤◌, List, length, get_or, arith, refl, sym, ap, ◌∙◌, inl, inr, subst}
 use Rattle.std.specs.List.{SwappedAt}
 use Rattle.std.proofs.lemmas.Bool.{cases_eq}
 use Rattle.std.proofs.lemmas.Int.{ints}
-use Rattle.std.proofs.lemmas.List.{get_or_append_left}
 use Rattle.dip_core.specs.Heap.{ComesFirst, ComesFirstBelow, Ending, IsHeap, IsHeapButAbove, IsHeapButBelow}
 
 -- ---- the order
@@ -43,18 +42,7 @@ top ends d k heap within = top-within ends d heap k k (omega arith) within
 
 -- ---- moving down
 
--- another first one
-pub down-begins : (ends : List Ending) (v : Ending) → IsHeap ends → IsHeapButBelow (set ends 0 v) 0
-down-begins ends v heap = record {
-  others = λ p k d ne lo hi within.
-      let long : length (set ends 0 v) ≡ length ends = length-set ends 0 v in
-      first-at (get_or (set ends 0 v) p d) (get_or (set ends 0 v) k d) (get_or ends p d) (get_or ends k d)
-      (get_or-set_other ends 0 p v d ne) (get_or-set_other ends 0 k v d (omega arith))
-      (heap p k d lo hi (omega arith));
-  across = λ p k d lo hi. absurd (omega arith);
-}
-
--- it changes places with the first of those below it
+-- one that moves changes places with the first of those below it
 pub down-goes : (xs ys : List Ending) (j c : ℕ) → SwappedAt xs ys j c → length ys ≡ length xs → j * 2 + 1 ≤ c
     → c ≤ j * 2 + 2 → c < length xs
     → ((d : Ending) → ComesFirst (get_or xs c d) (get_or xs j d)) → ComesFirstBelow xs j c → IsHeapButBelow xs j
@@ -85,19 +73,7 @@ down-goes xs ys j c sw long lo hi within before best was = record {
 
 -- ---- moving up
 
--- one more at the end
-pub up-begins : (ends : List Ending) (v : Ending) → IsHeap ends → IsHeapButAbove (ends ++ v ∷ []) (length ends)
-up-begins ends v heap =
-    let long : length (ends ++ v ∷ []) ≡ length ends + 1 = length-append ends (v ∷ []) in
-    record {
-      others = λ p k d ne lo hi within.
-          first-at _ _ _ _ (get_or_append_left ends (v ∷ []) d p (omega arith))
-          (get_or_append_left ends (v ∷ []) d k (omega arith))
-          (heap p k d lo hi (omega arith));
-      across = λ p k d plo phi klo khi within. absurd (omega arith);
-    }
-
--- it changes places with the one above it
+-- one that moves changes places with the one above it
 pub up-goes : (xs ys : List Ending) (a j : ℕ) → SwappedAt xs ys a j → length ys ≡ length xs → a * 2 + 1 ≤ j
     → j ≤ a * 2 + 2 → j < length xs
     → ((d : Ending) → ComesFirst (get_or xs j d) (get_or xs a d)) → IsHeapButAbove xs j → IsHeapButAbove ys a

@@ -8,6 +8,7 @@ pub mod CrowdLemmas
 pub mod GrownLemmas
 pub mod IdsLemmas
 pub mod OrderLemmas
+pub mod PartedLemmas
 pub mod PlacedLemmas
 pub mod StepLemmas
 pub mod DivisionLemmas

@@ -1,3 +1,5 @@
+//! Divisions: items in the least number of parts without overlaps.
+
 ghost use Rattle.std.specs.Prelude.{◌≡◌, ◌<◌, ◌≤◌, ◌↔◌, List, [], length, All, IsNone, IfSome, IfOk, IsPermutation, IsSorted};
 ghost use Rattle.dip_core.specs.declared.item.Item.{Item};
 ghost use Rattle.dip_core.specs.Item.{IsChain, IsRising, HasDistinctIds, item_cmp, item_limit};

@@ -1,3 +1,5 @@
+//! What makes a division least, as laws.
+
 ghost use Rattle.std.specs.Prelude.{◌≡◌, ℤ, List, [], Option};
 ghost use Rattle.dip_core.specs.declared.item.Item.{Item};
 ghost use Rattle.dip_core.specs.Item.{IdsRise, HasDistinctIds};

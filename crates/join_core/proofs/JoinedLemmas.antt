@@ -8,8 +8,10 @@ use Rattle.dip_core.specs.Item.{HasDistinctIds}
 use Rattle.dip_core.specs.Division.{all_of}
 use Rattle.dip_core.proofs.DivisionLemmas.{HasDistinctIds-permutation}
 use Rattle.dip_core.proofs.StepLemmas.{contains-all_of}
+use Rattle.dip_core.proofs.PartedLemmas.{one_item}
 use Rattle.merge_core.specs.declared.hit.Hit.{Hit}
 use Rattle.merge_core.specs.Hits.{IsHit}
+use Rattle.merge_core.proofs.HitLemmas.{Hit-same}
 use Rattle.join_core.specs.declared.pairs.JoinOut.{JoinOut}
 use Rattle.join_core.specs.declared.rows.JoinRow.{JoinRow}
 use Rattle.join_core.specs.Join.{join_cmp}
@@ -18,8 +20,7 @@ use Rattle.join_core.specs.PairValues.{AreFirstValues, hits_in, rows_in, row_of_
 use Rattle.join_core.proofs.ListLemmas.{differ-map}
 use Rattle.join_core.proofs.OrderLemmas.{JoinRow-same_fields, sorted_rows}
 use Rattle.join_core.proofs.PairLemmas.{hit-of_parts, hit-of_pairs, all_hits-differ}
-use Rattle.join_core.proofs.PartLemmas.{part_of, one_item}
-use Rattle.join_core.proofs.ValueLemmas.{Hit-same_fields}
+use Rattle.join_core.proofs.PartLemmas.{part_of}
 
 module _ (A B : List Item) (ps qs : List (List Item)) (outs : List JoinOut) (len : length outs ≡ length ps * length qs)
     (values : AreFirstValues ps qs outs) (pa : IsPermutation A (all_of ps)) (pb : IsPermutation B (all_of qs))
@@ -50,7 +51,7 @@ module _ (A B : List Item) (ps qs : List (List Item)) (outs : List JoinOut) (len
   hit-of_row g h i j e =
       let u = hit-of_items g i in
       let v = hit-of_items h j in
-      Hit-same_fields g h (one_item A g.left h.left da u.left_in v.left_in (ap (λ (r : JoinRow). r.left) e))
+      Hit-same g h (one_item A g.left h.left da u.left_in v.left_in (ap (λ (r : JoinRow). r.left) e))
       (one_item B g.right h.right db u.right_in v.right_in (ap (λ (r : JoinRow). r.right) e))
       (ap (λ (r : JoinRow). r.period) e)
 

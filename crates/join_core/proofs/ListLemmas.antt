@@ -1,5 +1,5 @@
 -- What stands in lists that are made of lists, and what lists have in common.
-use Rattle.std.proofs.Common.{◌≡◌, ◌≢◌, ◌⊎◌, ℕ, zero, suc, ◌+◌, ◌<◌, List, [], ◌∷◌, ◌++◌, length, map, take, drop, flat_map, AllPairs, Bool, true, false, Some, refl, sym, subst, ◌∙◌, inl, inr, arith}
+use Rattle.std.proofs.Common.{◌≡◌, ◌≢◌, ◌⊎◌, ℕ, zero, suc, ◌+◌, ◌<◌, List, [], ◌∷◌, ◌++◌, length, map, take, flat_map, AllPairs, Bool, true, false, Some, refl, sym, subst, ◌∙◌, inl, inr, arith}
 use Rattle.std.specs.Prelude.{Contains, slice_get}
 use Rattle.std.specs.Bool.{Decides}
 use Rattle.std.proofs.Math.Logic.{∥∥₁_elim, ∥∥₁_map}
@@ -91,20 +91,11 @@ slice_get-append_cases (z ∷ xs) ys (suc i) x h = elim (slice_get-append_cases 
   | inr k ↦ inr (k.0, (let e = k.1 in omega (arith, e)), k.2)
 ]
 
--- an element of the front
-pub slice_get-take : {X : Type 0} (xs : List X) (n i : ℕ) (x : X) → slice_get (take n xs) i ≡ Some x
+-- an element of the front, which is one of the whole list
+pub within_take : {X : Type 0} (xs : List X) (n i : ℕ) (x : X) → slice_get (take n xs) i ≡ Some x
     → (i < n) × (slice_get xs i ≡ Some x)
-slice_get-take [] zero i x h = cc
-slice_get-take [] (suc n) i x h = cc
-slice_get-take (y ∷ xs) zero i x h = cc
-slice_get-take (y ∷ xs) (suc n) zero x h = (omega arith, h)
-slice_get-take (y ∷ xs) (suc n) (suc i) x h = let r = slice_get-take xs n i x h in (omega (arith, r.0), r.1)
-
--- an element of what is behind the front
-pub slice_get-drop : {X : Type 0} (xs : List X) (n i : ℕ) (x : X) → slice_get (drop n xs) i ≡ Some x
-    → slice_get xs (n + i) ≡ Some x
-slice_get-drop xs zero i x h = let e : i ≡ 0 + i = omega arith in subst (λ k. slice_get xs k ≡ Some x) e h
-slice_get-drop [] (suc n) i x h = cc
-slice_get-drop (y ∷ xs) (suc n) i x h =
-    let e : suc (n + i) ≡ suc n + i = omega arith in
-    subst (λ k. slice_get (y ∷ xs) k ≡ Some x) e (slice_get-drop xs n i x h)
+within_take [] zero i x h = cc
+within_take [] (suc n) i x h = cc
+within_take (y ∷ xs) zero i x h = cc
+within_take (y ∷ xs) (suc n) zero x h = (omega arith, h)
+within_take (y ∷ xs) (suc n) (suc i) x h = let r = within_take xs n i x h in (omega (arith, r.0), r.1)

@@ -1,9 +1,10 @@
 -- The hits of all pairs of two divisions.
-use Rattle.std.proofs.Common.{◌≡◌, ◌≢◌, ℕ, ◌+◌, ◌*◌, ◌/◌, ◌%◌, ◌<◌, ◌≤◌, suc, List, length, AllPairs, Some, sym, subst, ap, ◌∙◌, inl, inr, arith, suc-mul, mul-le-mul_right}
+use Rattle.std.proofs.Common.{◌≡◌, ◌≢◌, ℕ, ◌+◌, ◌*◌, ◌/◌, ◌%◌, ◌<◌, List, length, AllPairs, Some, sym, subst, ap, ◌∙◌, inl, inr, arith}
 use Rattle.std.specs.Prelude.{Contains, slice_get}
 use Rattle.std.proofs.lemmas.Int.{ints}
 use Rattle.std.proofs.lemmas.Nat.{div-add-mod', div-mul-add, mod-mul-add}
 use Rattle.std.proofs.lemmas.Option.{slice_get_cases}
+use Rattle.std.proofs.Math.Arith.{digits_lt}
 use Rattle.dip_core.specs.declared.item.Item.{Item}
 use Rattle.dip_core.specs.Item.{HasDistinctIds}
 use Rattle.dip_core.specs.Division.{all_of, part_at}
@@ -16,10 +17,6 @@ use Rattle.join_core.specs.PairValues.{IsPairValue, AreFirstValues, hits_in}
 use Rattle.join_core.proofs.ListLemmas.{Contains-flat_map, Contains-flat_map_source, AllPairs-flat_map}
 use Rattle.join_core.proofs.PartLemmas.{one_part}
 use Rattle.join_core.proofs.ValueLemmas.{IsPairValue-opened}
-
--- a pair's number is one of all numbers
-number-within : (m n l r : ℕ) → l < m → r < n → l * n + r < m * n
-number-within m n l r a b = let h : suc l * n ≤ m * n = mul-le-mul_right n a in omega (arith, suc-mul l n, h)
 
 -- where there are so many, there is one at each place
 there : (outs : List JoinOut) (i : ℕ) → i < length outs → (o : JoinOut) × (slice_get outs i ≡ Some o)
@@ -63,7 +60,7 @@ module _ (ps qs : List (List Item)) (outs : List JoinOut) (len : length outs ≡
       → Contains (hits_in outs) h
   hit-of_pairs h l r hl hr is =
       let inside : l * length qs + r < length outs =
-      (let w = number-within (length ps) (length qs) l r hl hr in omega (arith, w, len)) in
+      (let w = digits_lt hl hr in omega (arith, w, len)) in
       let at = there outs (l * length qs + r) inside in
       Contains-flat_map (λ (o : JoinOut). o.hits.items) outs (l * length qs + r) at.0 h at.1
       (((value_of l r at.0 hr at.1).hits.exactly h).1 is)

@@ -1,43 +1,17 @@
 -- From the join of items to that of their rows.
-use Rattle.std.proofs.Common.{◌≡◌, ◌+◌, ◌<◌, ◌≤◌, ℕ, List, length, [], ◌∷◌, map, AllPairs, refl, sym, subst, ap, ◌∙◌, arith}
+use Rattle.std.proofs.Common.{◌≡◌, ◌≤◌, ℕ, List, length, [], ◌∷◌, map, refl, sym, subst, ap, ◌∙◌, arith}
 use Rattle.period_core.specs.declared.period.Period.{Period}
-use Rattle.row_core.specs.Rows.{RowsRise}
 use Rattle.row_core.specs.declared.row.Row.{Row}
 use Rattle.dip_core.specs.declared.item.Item.{Item}
-use Rattle.dip_core.specs.Item.{HasDistinctIds}
-use Rattle.dip_core.proofs.IdsLemmas.{HasDistinctIds-from_rising}
-use Rattle.list_core.proofs.RisingLemmas.{AllPairs-head, AllPairs-tail}
-use Rattle.list_core.proofs.WantedLemmas.{AllPairs-before, IsListOf-same}
+use Rattle.list_core.proofs.WantedLemmas.{IsListOf-same}
 use Rattle.merge_core.specs.Hits.{IsShared}
-use Rattle.match_core.specs.Items.{item_with, items_with, item_of, items_of, unclassed}
+use Rattle.match_core.specs.Items.{items_with, item_of, items_of, unclassed}
 use Rattle.match_core.proofs.Tell.{ClassesTell}
-use Rattle.match_core.proofs.RowItems.{row_of_item, item_of_row, ids_rise}
+use Rattle.match_core.proofs.RowItems.{row_of_item, item_of_row}
 use Rattle.match_core.proofs.Sided.{IsSide}
 use Rattle.join_core.specs.declared.rows.JoinRow.{JoinRow}
 use Rattle.join_core.specs.ItemJoin.{IsItemsRow, IsItemsJoin}
 use Rattle.join_core.specs.Join.{RowBefore, IsJoinRow, IsJoin}
-
--- the ids of items rise as those of their rows
-items-rise : (rows : List Row) (classes : List ℕ) → AllPairs (λ x y. x.id < y.id) rows
-    → AllPairs (λ x y. x.id < y.id) (items_with rows classes)
-items-rise [] classes rise = λ i j d less h. absurd (omega arith)
-items-rise (r ∷ rows) [] rise = λ i j d less h. absurd (omega arith)
-items-rise (r ∷ rows) (c ∷ classes) rise =
-    AllPairs-before (λ (x : Item) (y : Item). x.id < y.id) (item_with r c) (items_with rows classes)
-    (λ y h.
-    let a = row_of_item rows classes y h in
-    let below : r.id < a.0.id = AllPairs-head (λ (x : Row) (z : Row). x.id < z.id) r rows a.0 rise a.1.row_in in
-    let same : y.id ≡ a.0.id = a.1.id in
-    omega (arith, below, same))
-    (items-rise rows classes (AllPairs-tail (λ (x : Row) (z : Row). x.id < z.id) r rows rise))
-
--- so they are distinct
-pub side-distinct : (rows : List Row) (classes : List ℕ) (items : List Item) → IsSide rows classes items → RowsRise rows
-    → HasDistinctIds items
-side-distinct rows classes items side rise =
-    let all = items-rise rows classes (ids_rise rows rise) in
-    subst HasDistinctIds (sym side.are)
-    (HasDistinctIds-from_rising (items_with rows classes) (λ i d h. all i (i + 1) d (omega arith) h))
 
 -- items without their classes are those of the rows
 unclassed-items_with : (rows : List Row) (classes : List ℕ) → length rows ≤ length classes

@@ -1,27 +1,22 @@
 -- The pairs of a join, stretch by stretch.
-use Rattle.std.proofs.Common.{◌≡◌, ℕ, ◌+◌, ◌*◌, ◌/◌, ◌%◌, ◌^◌, ◌<◌, ◌≤◌, List, [], ◌++◌, length, Some, refl, sym, subst, ap, ◌∙◌, inl, inr, arith, length-append}
+use Rattle.std.proofs.Common.{◌≡◌, ℕ, ◌+◌, ◌*◌, ◌/◌, ◌%◌, ◌^◌, ◌<◌, ◌≤◌, List, ◌++◌, length, Some, sym, subst, ap, ◌∙◌, inl, inr, arith, length-append}
 use Rattle.std.specs.Prelude.{slice_get}
 use Rattle.std.proofs.lemmas.List.Sums.{sum_by-append}
 use Rattle.dip_core.specs.declared.item.Item.{Item}
 use Rattle.dip_core.specs.Item.{item_limit}
 use Rattle.dip_core.specs.Division.{all_of, part_at}
+use Rattle.dip_core.proofs.PartedLemmas.{length-part_at}
 use Rattle.work_core.specs.Limits.{pair_limit}
 use Rattle.join_core.specs.declared.pairs.JoinOut.{JoinOut}
 use Rattle.join_core.specs.declared.rows.JoinRow.{JoinRow}
 use Rattle.join_core.specs.PairValues.{IsPairValue, AreFirstValues, AreOfFirstPairs, rows_in, turns_in}
 use Rattle.join_core.proofs.ListLemmas.{slice_get-append_cases}
 use Rattle.join_core.proofs.LoopLemmas.{rows_in-append}
-use Rattle.join_core.proofs.PartLemmas.{length-part_at}
 use Rattle.join_core.proofs.TurnLemmas.{few-turns, few-turns_of}
 
 -- the value of a pair, by its number
 abbrev pub IsValueAt : List (List Item) → List (List Item) → ℕ → JoinOut → Type 0
 IsValueAt ps qs i o = ∥ IsPairValue (part_at ps (i / length qs)) (part_at qs (i % length qs)) o ∥₁
-
--- before the first stretch
-pub AreOfFirstPairs-none : (ps qs : List (List Item)) → AreOfFirstPairs ps qs 0 [] 0
-AreOfFirstPairs-none ps qs =
-    record { outs = []; len = refl; values = λ i o h. cc; rows_are = refl; turns_are = refl }
 
 -- the values of the first pairs, and of those behind them
 values-more : (ps qs : List (List Item)) (n : ℕ) (outs new : List JoinOut) → length outs ≡ n → AreFirstValues ps qs outs

@@ -6,6 +6,7 @@ use Rattle.std.proofs.lemmas.List.{take-append-drop}
 use Rattle.std.proofs.lemmas.List.Elements.{All-head, All-tail}
 use Rattle.std.proofs.lemmas.List.Sums.{sum_by-append, sum_by-cons, sum_by-le}
 use Rattle.std.proofs.lemmas.Option.{slice_get-get_or}
+use Rattle.list_core.proofs.PlaceLemmas.{slice_get-drop}
 use Rattle.dip_core.specs.declared.item.Item.{Item}
 use Rattle.dip_core.specs.Item.{item_limit}
 use Rattle.dip_core.specs.Division.{all_of, part_at}
@@ -13,7 +14,7 @@ use Rattle.merge_core.specs.Hits.{AreAdvances}
 use Rattle.join_core.specs.declared.pairs.JoinOut.{JoinOut}
 use Rattle.join_core.specs.Join.{IsWithin}
 use Rattle.join_core.specs.PairValues.{IsPairValue, AreFirstValues, turns_in}
-use Rattle.join_core.proofs.ListLemmas.{slice_get-take, slice_get-drop}
+use Rattle.join_core.proofs.ListLemmas.{within_take}
 use Rattle.join_core.proofs.PairLemmas.{value_of}
 use Rattle.join_core.proofs.ValueLemmas.{le_prop}
 
@@ -69,12 +70,12 @@ turns-within (p ∷ ps) qs outs len lefts rights each =
     omega (arith, behind, enough, length-append (take m outs) (drop m outs), ap length whole) in
     let first = row-within p qs (take m outs) before (All-head (λ p. 0 < length p) p ps lefts) rights
     (λ r o h.
-    let at = slice_get-take outs (length qs) r o h in
+    let at = within_take outs (length qs) r o h in
     let zeroth : r ≡ 0 * length qs + r = omega arith in
     each 0 r o at.0 (subst (λ n. slice_get outs n ≡ Some o) zeroth at.1)) in
     let after = turns-within ps qs (drop m outs) behind (All-tail (λ p. 0 < length p) p ps lefts) rights
     (λ l r o inside h.
-    let at = slice_get-drop outs (length qs) (l * length qs + r) o h in
+    let at = sym (slice_get-drop (length qs) outs (l * length qs + r)) ∙ h in
     let next : length qs + (l * length qs + r) ≡ suc l * length qs + r = omega (arith, suc-mul l (length qs)) in
     each (suc l) r o inside (subst (λ n. slice_get outs n ≡ Some o) next at)) in
     let split : turns_in outs ≡ turns_in (take m outs) + turns_in (drop m outs) =

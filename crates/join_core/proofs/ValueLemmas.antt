@@ -6,24 +6,22 @@ use Rattle.std.proofs.Math.Nat.{ℕ_set}
 use Rattle.std.proofs.Props.{props}
 use Rattle.std.proofs.lemmas.Bool.Decides.{Decides-int_eq, Decides-and, Decides-like}
 use Rattle.period_core.specs.declared.period.Period.{Period}
+use Rattle.period_core.proofs.PeriodLemmas.{Period-same}
 use Rattle.dip_core.specs.declared.item.Item.{Item}
 use Rattle.dip_core.specs.contracts.item.ItemPartialEq.TheImpl.{eq-value as item_eq}
 use Rattle.merge_core.specs.declared.hit.Hit.{Hit}
 use Rattle.merge_core.specs.contracts.hit.HitPartialEq.TheImpl.{eq-value as hit_eq}
 use Rattle.merge_core.specs.Hits.{IsShared, IsHit, HitStartsBefore}
-use Rattle.grid_core.proofs.SameLemmas.{Period-same_ends, item_eq-Decides}
+use Rattle.merge_core.proofs.HitLemmas.{Hit-same}
+use Rattle.grid_core.proofs.SameLemmas.{item_eq-Decides}
 use Rattle.join_core.specs.declared.pairs.JoinOut.{JoinOut}
 use Rattle.join_core.specs.PairValues.{IsPairValue}
 use Rattle.join_core.proofs.ListLemmas.{Contains-opened}
 
--- a hit is determined by its fields
-pub Hit-same_fields : (g h : Hit) → g.left ≡ h.left → g.right ≡ h.right → g.period ≡ h.period → g ≡ h
-Hit-same_fields g h l r p = λ k. record { left = l k; right = r k; period = p k }
-
 -- `==` of two hits decides whether they are one
 hit_eq-Decides : (g h : Hit) → Decides (hit_eq.it g h) (g ≡ h)
 hit_eq-Decides g h = Decides-like _
-    (λ e. Hit-same_fields g h e.0 e.1.0 (Period-same_ends g.period h.period e.1.1.0 e.1.1.1))
+    (λ e. Hit-same g h e.0 e.1.0 (Period-same g.period h.period e.1.1.0 e.1.1.1))
     (λ e. (
       ap (λ (v : Hit). v.left) e,
       (ap (λ (v : Hit). v.right) e, (ap (λ (v : Hit). v.period.from) e, ap (λ (v : Hit). v.period.to) e)),

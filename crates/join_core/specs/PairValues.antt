@@ -13,10 +13,6 @@ pub record IsPairValue (left right : List Item) (out : JoinOut) : Type 0 where
   pub hits : IsListOf HitStartsBefore (IsHit left right) out.hits.items
   pub turns : AreAdvances left right out.turns
 
--- that something holds is not held in two ways
-pub squashed_prop : (A : Type 0) → IsProp ∥ A ∥₁
-squashed_prop A = squash₁
-
 -- the row of a hit
 abbrev pub row_of_hit : Hit → JoinRow
 row_of_hit hit = record { period = hit.period; left = hit.left.id; right = hit.right.id }

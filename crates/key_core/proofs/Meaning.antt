@@ -1,34 +1,22 @@
 -- What it means that rows do not collide.
-use Rattle.std.proofs.Common.{◌≡◌, ℕ, suc, List, [], ◌∷◌, get_or, true, false, ◌&&◌, Option, Some, None, refl, sym, ap, ◌∙◌, arith}
+use Rattle.std.proofs.Common.{◌≡◌, ℕ, suc, List, [], ◌∷◌, get_or, true, false, ◌&&◌, refl, sym, ap, ◌∙◌, arith}
 use Rattle.std.specs.Prelude.{All, is_some, slice_get}
-use Rattle.std.specs.Cmp.Lexicographic.{bytes_decides}
-use Rattle.std.proofs.lemmas.Bool.Decides.{Decides-int_eq}
 use Rattle.std.proofs.lemmas.Map.Keys.{apart_from_distinct}
 use Rattle.period_core.specs.Period.{meet}
 use Rattle.row_core.specs.declared.draft.Draft.{Draft}
 use Rattle.row_core.specs.declared.value.Value.{Value}
-use Rattle.row_core.specs.declared.value.Value.TheVariants.{Int, Text}
-use Rattle.key_core.specs.Keys.{AreWithoutOverlaps, collide, have_collision, same_key, same_maybe, same_value}
+use Rattle.row_core.proofs.ValueLemmas.{maybe_decides}
+use Rattle.key_core.specs.Keys.{AreWithoutOverlaps, collide, have_collision, same_key}
 use Rattle.key_core.proofs.Collisions.{shares}
 use Rattle.key_core.proofs.Pairs.{distinct-from_none}
 
-value-self : (a : Value) → same_value a a ≡ true
-value-self (Int a) = (Decides-int_eq a a).1 refl
-value-self (Text a) = (bytes_decides a a).1 refl
-
-maybe-self : (a : Option Value) → same_maybe a a ≡ true
-maybe-self None = refl
-maybe-self (Some a) = value-self a
-
-maybe-equal : (a b : Option Value) → a ≡ b → same_maybe a b ≡ true
-maybe-equal a b e = ap (same_maybe a) (sym e) ∙ maybe-self a
-
+-- values that are equal in each of the key's columns are of one key
 key-equal : (key : List ℕ) (a b : List Value) → All (λ column. slice_get a column ≡ slice_get b column) key
     → same_key key a b ≡ true
 key-equal [] a b h = refl
 key-equal (column ∷ columns) a b h =
     ap (λ t. t && same_key columns a b)
-    (maybe-equal (slice_get a column) (slice_get b column) (h 0 column (omega arith)))
+    ((maybe_decides (slice_get a column) (slice_get b column)).1 (h 0 column (omega arith)))
     ∙ key-equal columns a b (λ k d lt. h (suc k) d (omega arith))
 
 -- no instant is held by two rows of one key

@@ -1,25 +1,10 @@
 -- Rows of a table with a key: no two may be equal in the key's columns and share an instant.
-use Rattle.std.specs.Prelude.{◌≡◌, ℕ, ℤ, List, [], ◌∷◌, All, AllPairs, Bool, true, false, ◌&&◌, ◌||◌, Option, Some, None, is_some, slice_get, bytes_eq}
+use Rattle.std.specs.Prelude.{◌≡◌, ℕ, ℤ, List, [], ◌∷◌, All, AllPairs, Bool, false, ◌&&◌, ◌||◌, is_some, slice_get}
 use Rattle.std.specs.List.{list_all, list_any}
-use Rattle.std.specs.Ordering.{int_eq}
 use Rattle.period_core.specs.Period.{Holds, meet}
+use Rattle.row_core.specs.ValueOrder.{same_maybe}
 use Rattle.row_core.specs.declared.draft.Draft.{Draft}
 use Rattle.row_core.specs.declared.value.Value.{Value}
-use Rattle.row_core.specs.declared.value.Value.TheVariants.{Int, Text}
-
--- two values are one
-abbrev pub same_value : Value → Value → Bool
-same_value (Int a) (Int b) = int_eq a b
-same_value (Text a) (Text b) = bytes_eq a b
-same_value (Int a) (Text b) = false
-same_value (Text a) (Int b) = false
-
--- there is one value on both sides, or none on either
-abbrev pub same_maybe : Option Value → Option Value → Bool
-same_maybe None None = true
-same_maybe None (Some b) = false
-same_maybe (Some a) None = false
-same_maybe (Some a) (Some b) = same_value a b
 
 -- the values are equal in each of the columns
 abbrev pub same_key : List ℕ → List Value → List Value → Bool

@@ -1,27 +1,12 @@
 -- The order in which rows of one key stand side by side.
-use Rattle.std.specs.Prelude.{ℕ, List, [], ◌∷◌, Bool, false, ◌||◌, Option, Some, None, slice_get}
+use Rattle.std.specs.Prelude.{ℕ, List, [], ◌∷◌, Bool, false, ◌||◌, slice_get}
 use Rattle.std.specs.declared.cmp.Ordering.{Ordering}
-use Rattle.std.specs.declared.cmp.Ordering.TheVariants.{Less, Equal, Greater}
-use Rattle.std.specs.Ordering.{nat_cmp, int_cmp, ordering_then}
-use Rattle.std.specs.Cmp.Lexicographic.{slice_cmp}
+use Rattle.std.specs.declared.cmp.Ordering.TheVariants.{Equal}
+use Rattle.std.specs.Ordering.{int_cmp, ordering_then}
+use Rattle.row_core.specs.ValueOrder.{maybe_cmp}
 use Rattle.row_core.specs.declared.draft.Draft.{Draft}
 use Rattle.row_core.specs.declared.value.Value.{Value}
-use Rattle.row_core.specs.declared.value.Value.TheVariants.{Int, Text}
 use Rattle.key_core.specs.declared.keys.KeyedRow.{KeyedRow}
-
--- numbers before texts, numbers by value, texts by their bytes
-abbrev pub value_cmp : Value → Value → Ordering
-value_cmp (Int a) (Int b) = int_cmp a b
-value_cmp (Int a) (Text b) = Less
-value_cmp (Text a) (Int b) = Greater
-value_cmp (Text a) (Text b) = slice_cmp nat_cmp a b
-
--- no value before any value
-abbrev pub maybe_cmp : Option Value → Option Value → Ordering
-maybe_cmp None None = Equal
-maybe_cmp None (Some b) = Less
-maybe_cmp (Some a) None = Greater
-maybe_cmp (Some a) (Some b) = value_cmp a b
 
 -- by the values in the columns, the first column first
 abbrev pub key_cmp : List ℕ → List Value → List Value → Ordering

@@ -2,8 +2,9 @@
 
 ghost use Rattle.std.specs.Prelude.{◌≡◌, map, slice_get, IsPermutation, IsSortedBy};
 ghost use Rattle.std.specs.Ordering.{is_lt};
+ghost use Rattle.row_core.specs.ValueOrder.{maybe_cmp, value_cmp};
 ghost use Rattle.key_core.specs.Keys.{collide, have_collision};
-ghost use Rattle.key_core.specs.Order.{value_cmp, maybe_cmp, key_cmp, row_cmp, row_in, have_neighbours};
+ghost use Rattle.key_core.specs.Order.{key_cmp, row_cmp, row_in, have_neighbours};
 
 use period_core::Period;
 use row_core::Value;

@@ -1,7 +1,7 @@
 -- What stands in the lists that functions make of lists, and how it is counted.
-use Rattle.std.proofs.Common.{◌≡◌, ◌+◌, ◌≤◌, List, [], ◌∷◌, map, AllPairs, Bool, true, cond, subst, ap, ◌∙◌, inl, inr, arith}
+use Rattle.std.proofs.Common.{◌≡◌, ◌+◌, ◌≤◌, List, [], ◌∷◌, ◌++◌, map, AllPairs, Bool, true, cond, subst, ap, ◌∙◌, inl, inr, arith}
 use Rattle.std.specs.Prelude.{Contains, count_by}
-use Rattle.std.proofs.lemmas.List.Sums.{sum_by-cons}
+use Rattle.std.proofs.lemmas.List.Sums.{sum_by-cons, sum_by-append}
 use Rattle.list_core.proofs.RisingLemmas.{AllPairs-head, AllPairs-tail, Contains-head, Contains-cons, Contains-cons_cases, Contains-none}
 use Rattle.list_core.proofs.WantedLemmas.{AllPairs-before}
 
@@ -33,13 +33,21 @@ AllPairs-map R S f (x ∷ xs) gives ordered =
     subst (S (f x)) is (gives x z (Contains-cons x xs z there) (AllPairs-head R x xs z ordered there)))
     (AllPairs-map R S f xs (λ a b h. gives a b (Contains-cons x xs b h)) (AllPairs-tail R x xs ordered))
 
+-- one thing more is counted
+pub count-cons : {X : Type 0} (p : X → Bool) (x : X) (xs : List X)
+    → count_by p (x ∷ xs) ≡ cond (p x) 1 0 + count_by p xs
+count-cons p x xs = sum_by-cons (λ x. cond (p x) 1 0) x xs
+
+-- those of two lists
+pub count-append : {X : Type 0} (p : X → Bool) (xs ys : List X) → count_by p (xs ++ ys) ≡ count_by p xs + count_by p ys
+count-append p xs ys = sum_by-append (λ x. cond (p x) 1 0) xs ys
+
 -- a thing in the list that passes a test is counted
 pub counted : {X : Type 0} (test : X → Bool) (xs : List X) (x : X) → Contains xs x → test x ≡ true
     → 1 ≤ count_by test xs
 counted test [] x h passes = absurd (Contains-none x h)
 counted test (y ∷ ys) x h passes =
-    let split : count_by test (y ∷ ys) ≡ cond (test y) 1 0 + count_by test ys =
-    sum_by-cons (λ z. cond (test z) 1 0) y ys in
+    let split = count-cons test y ys in
     elim (Contains-cons_cases y ys x h) [
       | inl e ↦ let first : test y ≡ true = ap test e ∙ passes in grind arith
       | inr k ↦ let rest : 1 ≤ count_by test ys = counted test ys x k passes in grind arith

@@ -99,9 +99,3 @@ IsListOf-one Before A x is only =
         λ w. subst (Contains (x ∷ [])) (only y w) (Contains-head x []),
       );
     }
-
--- the same in an order that follows
-pub IsListOf-weaker : {X : Type 0} (Before After : X → X → Type 0) (W : X → Type 0) (xs : List X)
-    → ((x y : X) → Before x y → After x y) → IsListOf Before W xs → IsListOf After W xs
-IsListOf-weaker Before After W xs gives a =
-    record { ordered = AllPairs-other Before After xs a.ordered (λ x y h k b. gives x y b); exactly = a.exactly }

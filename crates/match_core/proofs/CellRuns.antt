@@ -170,12 +170,3 @@ runs_tell d cells i j sorted hi hj = elim (cases_lt i j) [
         (a.equal (SameCell-sym (get_or cells i d) (get_or cells j d) s)),
   ))
 ]
-
--- the next number of runs
-pub runs_next : (d : Cell) (cells : List Cell) (i : ℕ) → 0 < i
-    → runs_before d cells i ≡ runs_before d cells (i - 1) + cond
-    (same_cell (get_or cells (i - 1) d) (get_or cells i d)) 0 1
-runs_next d cells zero h = absurd (omega arith)
-runs_next d cells (suc i) h = let e : suc i - 1 ≡ i = omega arith in
-    subst (λ n. runs_before d cells (suc i) ≡ runs_before d cells n + cond
-    (same_cell (get_or cells n d) (get_or cells (suc i) d)) 0 1) (sym e) refl

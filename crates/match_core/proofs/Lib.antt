@@ -1,8 +1,10 @@
 pub mod CellRuns
 pub mod ItemIds
 pub mod MadeCells
+pub mod Matching
 pub mod RefinedClasses
 pub mod RowItems
+pub mod SideIds
 pub mod Sided
 pub mod SplitClasses
 pub mod Tell

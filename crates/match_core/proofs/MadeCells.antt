@@ -1,24 +1,18 @@
 -- Cells that are made, and numbered.
-use Rattle.std.proofs.Common.{◌≡◌, ◌≢◌, ℕ, zero, suc, ◌+◌, ◌-◌, ◌<◌, ◌≤◌, List, [], ◌∷◌, ◌++◌, length, map, set, get_or, Bool, cond, Option, Some, sym, subst, ap, ◌∙◌, inl, inr, arith, get_or-set_same, get_or-set_other}
+use Rattle.std.proofs.Common.{◌≡◌, ◌≢◌, ℕ, zero, suc, ◌+◌, ◌-◌, ◌<◌, ◌≤◌, List, [], ◌∷◌, length, map, set, get_or, Option, Some, refl, sym, subst, ap, ◌∙◌, inl, inr, arith, get_or-set_same, get_or-set_other}
 use Rattle.std.specs.Prelude.{All, slice_get}
-use Rattle.std.proofs.lemmas.Bool.{cases_eq, cases_lt}
-use Rattle.std.proofs.lemmas.List.{length-map, get_or_default, get_or_read, get_or_append_left, get_or_push, length_push}
+use Rattle.std.proofs.lemmas.Bool.{cases_eq}
+use Rattle.std.proofs.lemmas.List.{length-map, get_or_default, get_or_read}
+use Rattle.std.proofs.lemmas.Option.{slice_get_read}
+use Rattle.list_core.proofs.PlaceLemmas.{slice_get-append_left, slice_get-append_right}
 use Rattle.row_core.specs.declared.row.Row.{Row}
 use Rattle.row_core.specs.declared.value.Kind.{Kind}
 use Rattle.row_core.specs.declared.value.Value.{Value}
 use Rattle.match_core.specs.declared.cells.Cell.{Cell}
-use Rattle.match_core.specs.Cells.{IsCellAt, AreCells, AreOneKind, IsOfKind, AgreeOnPlaces, AreNumbered, values_at, runs_before, same_cell}
-use Rattle.match_core.proofs.CellRuns.{runs_next}
-use Rattle.match_core.proofs.Tell.{slice_get-map, slice_get-append_left, slice_get-append_right}
+use Rattle.match_core.specs.Cells.{AreOneKind, IsOfKind, AgreeOnPlaces, AreNumbered, values_at, runs_before}
+use Rattle.match_core.proofs.Tell.{slice_get-map}
 
 -- ---- the values of both sides
-
--- what is read at a place stands there
-pub slice_get-read : {X : Type 0} (xs : List X) (i : ℕ) (x : X) → i < length xs → x ≡ get_or xs i x
-    → slice_get xs i ≡ Some x
-slice_get-read [] i x h e = absurd (omega arith)
-slice_get-read (y ∷ xs) zero x h e = ap (λ z. Some z) (sym e)
-slice_get-read (y ∷ xs) (suc i) x h e = slice_get-read xs i x (omega arith) e
 
 -- what holds of all holds of the one at a place
 All-slice_get : {X : Type 0} (P : X → Type 0) (xs : List X) (i : ℕ) (x : X) → All P xs → slice_get xs i ≡ Some x → P x
@@ -32,7 +26,7 @@ pub values_at-left : (l r : ℕ) (left right : List Row) (i : ℕ) (x : Row) →
 values_at-left l r left right i x h e =
     slice_get-append_left (map (λ (row : Row). slice_get row.values l) left)
     (map (λ (row : Row). slice_get row.values r) right) i (slice_get x.values l)
-    (slice_get-map (λ (row : Row). slice_get row.values l) left i x (slice_get-read left i x h e))
+    (slice_get-map (λ (row : Row). slice_get row.values l) left i x (slice_get_read left (length left) i x refl h e))
 
 -- the values of a right row
 pub values_at-right : (l r : ℕ) (left right : List Row) (i : ℕ) (x : Row) → length left ≤ i
@@ -44,7 +38,8 @@ values_at-right l r left right i x low high e =
     let n : length (map fl left) + (i - length left) ≡ i = omega (arith, length-map left fl) in
     ap (slice_get (values_at l r left right)) (sym n)
     ∙ slice_get-append_right (map fl left) (map fr right) (i - length left)
-    ∙ slice_get-map fr right (i - length left) x (slice_get-read right (i - length left) x (omega arith) e)
+    ∙ slice_get-map fr right (i - length left) x
+    (slice_get_read right (length right) (i - length left) x refl (omega arith) e)
 
 -- a place with a value lies within
 has_value : (kind : Kind) (values : List Value) (place : ℕ) → IsOfKind kind (slice_get values place)
@@ -59,33 +54,7 @@ pub room_at : (column : List (Option Value)) (i place : ℕ) (values : List Valu
 room_at column i place values one h =
     has_value one.0 values place (All-slice_get (IsOfKind one.0) column i (slice_get values place) one.1 h)
 
--- one more cell
-pub cells_push : (classes : List ℕ) (column : List (Option Value)) (cells : List Cell) (e : Cell) (i : ℕ)
-    → length cells ≡ i
-    → AreCells classes column cells → IsCellAt classes column i e → AreCells classes column (cells ++ e ∷ [])
-cells_push classes column cells e i len are at k d lt = elim (cases_lt k (length cells)) [
-  | inl h ↦ subst (λ x. IsCellAt classes column k x) (sym (get_or_append_left cells (e ∷ []) d k h)) (are k d h)
-  | inr h ↦ (let n = length_push cells e in let same : k ≡ i = omega (arith, n) in
-      subst (λ m. IsCellAt classes column m (get_or (cells ++ e ∷ []) m d)) (sym same)
-      (subst (λ x. IsCellAt classes column i x) (sym (get_or_push cells e d i len)) at))
-]
-
 -- ---- the numbers of runs
-
--- no run has ended before the first place
-pub runs_first : (d : Cell) (cells : List Cell) (i : ℕ) → i ≡ 0 → runs_before d cells (i - 1) ≡ runs_before d cells i
-runs_first d cells i e = let f : i - 1 ≡ i = omega arith in ap (runs_before d cells) f
-
--- one more run has ended where two neighbours are not the same
-pub runs_by : (d : Cell) (cells : List Cell) (i : ℕ) (a b : Cell) (same : Bool) → 0 < i → i < length cells
-    → a ≡ get_or cells (i - 1) a → b ≡ get_or cells i b → same ≡ same_cell a b
-    → runs_before d cells i ≡ runs_before d cells (i - 1) + cond same 0 1
-runs_by d cells i a b same some within e f t =
-    let g : a ≡ get_or cells (i - 1) d = get_or_read cells (i - 1) a (omega arith) e d in
-    let h : b ≡ get_or cells i d = get_or_read cells i b within f d in
-    let u : same_cell (get_or cells (i - 1) d) (get_or cells i d) ≡ same =
-    ap (λ z. same_cell z (get_or cells i d)) (sym g) ∙ ap (same_cell a) (sym h) ∙ sym t in
-    runs_next d cells i some ∙ ap (λ z. runs_before d cells (i - 1) + cond z 0 1) u
 
 -- one more row has the number of its run
 pub numbered_more : (cells : List Cell) (classes : List ℕ) (i class : ℕ) (x : Cell) → i < length cells

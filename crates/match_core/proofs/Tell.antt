@@ -1,7 +1,9 @@
 -- What classes tell of a left and a right row.
-use Rattle.std.proofs.Common.{◌≡◌, ◌↔◌, ℕ, zero, suc, ◌+◌, ◌<◌, List, [], ◌∷◌, ◌++◌, length, map, take, drop, get_or, Option, Some, sym, ap, ◌∙◌, arith, get_or-take, get_or-drop}
+use Rattle.std.proofs.Common.{◌≡◌, ◌↔◌, ℕ, zero, suc, ◌+◌, ◌<◌, List, [], ◌∷◌, length, map, take, drop, get_or, Some, sym, ap, ◌∙◌, arith, get_or-take, get_or-drop}
 use Rattle.std.proofs.lemmas.List.{length-map}
+use Rattle.std.proofs.lemmas.Option.{same_Some, slice_get_within}
 use Rattle.std.specs.Prelude.{slice_get}
+use Rattle.list_core.proofs.PlaceLemmas.{slice_get-append_left, slice_get-append_right}
 use Rattle.row_core.specs.declared.row.Row.{Row}
 use Rattle.row_core.specs.declared.schema.Column.{Column}
 use Rattle.match_core.specs.Columns.{Names, value_under, MatchesOn}
@@ -13,27 +15,6 @@ pub slice_get-map : {X Y : Type 0} (f : X → Y) (xs : List X) (i : ℕ) (x : X)
 slice_get-map f [] i x h = cc
 slice_get-map f (y ∷ xs) zero x h = let e : y ≡ x = cc in ap (λ z. Some (f z)) e
 slice_get-map f (y ∷ xs) (suc i) x h = slice_get-map f xs i x h
-
--- what stands in front of other elements keeps its place
-pub slice_get-append_left : {X : Type 0} (xs ys : List X) (i : ℕ) (x : X) → slice_get xs i ≡ Some x
-    → slice_get (xs ++ ys) i ≡ Some x
-slice_get-append_left [] ys i x h = cc
-slice_get-append_left (y ∷ xs) ys zero x h = h
-slice_get-append_left (y ∷ xs) ys (suc i) x h = slice_get-append_left xs ys i x h
-
--- what stands behind others stands as much later as there are
-pub slice_get-append_right : {X : Type 0} (xs ys : List X) (i : ℕ)
-    → slice_get (xs ++ ys) (length xs + i) ≡ slice_get ys i
-slice_get-append_right [] ys i = let e : 0 + i ≡ i = omega arith in ap (slice_get ys) e
-slice_get-append_right (x ∷ xs) ys i =
-    let e : length (x ∷ xs) + i ≡ suc (length xs + i) = omega arith in
-    ap (slice_get (x ∷ (xs ++ ys))) e ∙ slice_get-append_right xs ys i
-
--- a place at which something stands lies within
-pub slice_get-within : {X : Type 0} (xs : List X) (i : ℕ) (x : X) → slice_get xs i ≡ Some x → i < length xs
-slice_get-within [] i x h = cc
-slice_get-within (y ∷ xs) zero x h = omega arith
-slice_get-within (y ∷ xs) (suc i) x h = let r = slice_get-within xs i x h in omega (arith, r)
 
 -- the value of a left row
 pub values_under-left : (left right : List Column) (lefts rights : List Row) (pair : Names) (i : ℕ) (x : Row)
@@ -55,17 +36,13 @@ values_under-right left right lefts rights pair j y h =
     ∙ slice_get-append_right (map (value_under left pair.0) lefts) (map (value_under right pair.1) rights) j
     ∙ slice_get-map (value_under right pair.1) rights j y h
 
--- what is there on both sides of an equation is one
-some_same : {X : Type 0} (a b : X) → ◌≡◌ {A = Option X} (Some a) (Some b) → a ≡ b
-some_same a b h = cc
-
 -- a left row and a right one are the same where they match
 pub same_matches : (left right : List Column) (lefts rights : List Row) (on : List Names) (i j : ℕ) (x y : Row)
     → slice_get lefts i ≡ Some x → slice_get rights j ≡ Some y
     → AreSameOn left right lefts rights on i (length lefts + j) ↔ MatchesOn left right on x y
 same_matches left right lefts rights on i j x y h k = (
   λ same n d lt. (let pair = get_or on n d in
-      some_same _ _ (sym (values_under-left left right lefts rights pair i x h) ∙ same n d lt
+      same_Some _ _ (sym (values_under-left left right lefts rights pair i x h) ∙ same n d lt
       ∙ values_under-right left right lefts rights pair j y k)),
   λ match n d lt. (let pair = get_or on n d in
       values_under-left left right lefts rights pair i x h ∙ ap (λ v. Some v) (match n d lt)
@@ -83,8 +60,8 @@ pub classes_tell : (left right : List Column) (lefts rights : List Row) (on : Li
     → AreClasses left right lefts rights on classes
     → ClassesTell (MatchesOn left right on) lefts (take (length lefts) classes) rights (drop (length lefts) classes)
 classes_tell left right lefts rights on classes are i j x y h k =
-    let within : i < length lefts = slice_get-within lefts i x h in
-    let inside : j < length rights = slice_get-within rights j y k in
+    let within : i < length lefts = slice_get_within lefts i x h in
+    let inside : j < length rights = slice_get_within rights j y k in
     let count = are.count in
     let tell = are.tell i (length lefts + j) (omega (arith, count)) (omega (arith, count)) in
     let match = same_matches left right lefts rights on i j x y h k in

@@ -11,7 +11,7 @@ use Rattle.merge_core.specs.Combining.{CanAddTallies, CanAdd, IsBothSteps, IsBot
 use Rattle.merge_core.proofs.SharedLemmas.{by_order}
 use Rattle.merge_core.proofs.StepLemmas.{apart_head, apart_tail, apart_none, at_yes, at_early, at_late, at_none, at_first, stepped}
 
-both_none : (a : Option Tally) → both a None ≡ a
+pub both_none : (a : Option Tally) → both a None ≡ a
 both_none None = refl
 both_none (Some a) = refl
 
@@ -64,75 +64,7 @@ head_is at steps x s e r from after least to tally =
     subst (λ v. IsHeadFrom at v s) (sym e)
     (head_of at x (drop 1 steps) s (subst AreStepsApart e r) from after least to tally)
 
--- ---- the first step of two
-
-pub first_left : (x y s : Step) → x.period.from <ℤ y.period.from → s.period.from ≡ x.period.from
-    → s.period.to ≤ℤ x.period.to → s.period.to ≤ℤ y.period.from → s.tally ≡ x.tally → IsFirstOfBoth x y s
-first_left x y s lt from to start tally =
-    let proper : y.period.from <ℤ y.period.to = y.period.ordered in
-    record {
-      from = λ at a b. omega (arith, ints);
-      to_left = to;
-      to_right = omega (arith, ints);
-      tallies = λ t early.
-          same_at s x t tally early (omega (arith, ints)) (λ h. omega (arith, ints)) (λ h. omega (arith, ints))
-          ∙ sym (both_none (tally_at (x ∷ []) t))
-          ∙ ap (λ (o : Option Tally). both (tally_at (x ∷ []) t) o) (sym (at_early y [] t (omega (arith, ints))));
-    }
-
-pub first_right : (x y s : Step) → y.period.from <ℤ x.period.from → s.period.from ≡ y.period.from
-    → s.period.to ≤ℤ y.period.to → s.period.to ≤ℤ x.period.from → s.tally ≡ y.tally → IsFirstOfBoth x y s
-first_right x y s lt from to start tally =
-    let proper : x.period.from <ℤ x.period.to = x.period.ordered in
-    record {
-      from = λ at a b. omega (arith, ints);
-      to_left = omega (arith, ints);
-      to_right = to;
-      tallies = λ t early.
-          same_at s y t tally early (omega (arith, ints)) (λ h. omega (arith, ints)) (λ h. omega (arith, ints))
-          ∙ ap (λ (o : Option Tally). both o (tally_at (y ∷ []) t)) (sym (at_early x [] t (omega (arith, ints))));
-    }
-
-pub first_together : (x y s : Step) → x.period.from ≡ y.period.from → s.period.from ≡ x.period.from
-    → s.period.to ≤ℤ x.period.to → s.period.to ≤ℤ y.period.to → Some s.tally ≡ both (Some x.tally) (Some y.tally)
-    → IsFirstOfBoth x y s
-first_together x y s same from to to' tally =
-    record {
-      from = λ at a b. omega (arith, ints);
-      to_left = to;
-      to_right = to';
-      tallies = λ t early. elim (by_order x.period.from t) [
-        | inl h ↦
-            at_yes s [] t (omega (arith, ints)) early ∙ tally
-            ∙ ap (λ (o : Option Tally). both o (Some y.tally)) (sym (at_yes x [] t h (omega (arith, ints))))
-            ∙ ap (λ (o : Option Tally). both (tally_at (x ∷ []) t) o)
-            (sym (at_yes y [] t (omega (arith, ints)) (omega (arith, ints))))
-        | inr h ↦
-            at_early s [] t (omega (arith, ints))
-            ∙ ap (λ (o : Option Tally). both None o) (sym (at_early y [] t (omega (arith, ints))))
-            ∙ ap (λ (o : Option Tally). both o (tally_at (y ∷ []) t)) (sym (at_early x [] t h))
-      ];
-    }
-
 -- ---- the next step of two lists
-
-pub next_left : (at : ℤ) (xs ys : List Step) (s : Step) → IsHeadFrom at xs s → ys ≡ [] → IsNextStep at xs ys s
-next_left at xs ys s h e =
-    subst (λ v. IsNextStep at xs v s) (sym e) (record {
-      from = h.from;
-      left_ends = h.ends;
-      right_ends = λ y k. absurd (Contains-none y k);
-      tallies = λ t on early. h.tallies t on early ∙ sym (both_none (tally_at xs t));
-    })
-
-pub next_right : (at : ℤ) (xs ys : List Step) (s : Step) → IsHeadFrom at ys s → xs ≡ [] → IsNextStep at xs ys s
-next_right at xs ys s h e =
-    subst (λ v. IsNextStep at v ys s) (sym e) (record {
-      from = h.from;
-      left_ends = λ x k. absurd (Contains-none x k);
-      right_ends = h.ends;
-      tallies = λ t on early. h.tallies t on early;
-    })
 
 pub next_both : (at : ℤ) (xs ys : List Step) (x y s : Step) → IsHeadFrom at xs x → IsHeadFrom at ys y
     → IsFirstOfBoth x y s → IsNextStep at xs ys s
@@ -158,15 +90,6 @@ heads_add at xs ys x y can h k =
     (subst (λ v. CanAddTallies h.origin.tally v) (sym k.tally) (can h.origin k.origin h.origin_in k.origin_in))
 
 -- ---- steps that are passed
-
-pub beyond_none : (at : ℤ) (steps : List Step) → steps ≡ [] → IsBeyond at steps steps
-beyond_none at steps e =
-    subst (λ v. IsBeyond at v v) (sym e) (record {
-      same = λ t h. refl;
-      beyond = λ s h. absurd (Contains-none s h);
-      apart = apart_none;
-      within = λ s h. h;
-    })
 
 later_end : (at : ℤ) (x : Step) (xs : List Step) → AreStepsApart (x ∷ xs) → at ≤ℤ x.period.to → EndsBeyond at xs
 later_end at x xs r h s k =
@@ -284,17 +207,11 @@ combining_end one other lefts rights at now e f i =
     (i.goes_on []
     (subst (λ v. IsBothFrom at v rights []) (sym e) (subst (λ v. IsBothFrom at [] v []) (sym f) (none_from at))))
 
-pub combining_none : (one other now : List Step) → one ≡ [] → other ≡ [] → now ≡ [] → IsBothSteps one other now
-combining_none one other now e f g =
-    subst (IsBothSteps one other) (sym g)
-    (subst (λ v. IsBothSteps v other []) (sym e)
-    (subst (λ v. IsBothSteps [] v []) (sym f) (record { apart = apart_none; tallies = λ t. refl })))
-
 tally_made : ℕ → ℤ → ℤ → ℤ → Tally
 tally_made count sum min max = record { count = count; sum = sum; min = min; max = max }
 
 -- a tally is determined by its four numbers
-Tally-same : (a b : Tally) → a.count ≡ b.count → a.sum ≡ b.sum → a.min ≡ b.min → a.max ≡ b.max → a ≡ b
+pub Tally-same : (a b : Tally) → a.count ≡ b.count → a.sum ≡ b.sum → a.min ≡ b.min → a.max ≡ b.max → a ≡ b
 unfolding tally_made
 Tally-same a b count sum min max =
     ap (λ z. tally_made z a.sum a.min a.max) count ∙ ap (λ z. tally_made b.count z a.min a.max) sum

@@ -29,16 +29,6 @@ pub nothing_passed : (x : Item) (q : List Item) → PassesWithin x q q 0
 nothing_passed x q =
     record { passed = []; split = refl; over = λ y h. absurd (Contains-none y h); count = omega arith }
 
-pub swept_start : (x : Item) (Q : List Item) (old : List Gap) → IsSwept x Q Q x.period.from old old 0
-swept_start x Q old =
-    record {
-      added = [];
-      split = sym (append-nil old);
-      goes_on = λ rest r. r;
-      passes = nothing_passed x Q;
-      within = λ g i. i;
-    }
-
 -- y is passed
 swept_past : (x : Item) (Q : List Item) (y : Item) (q : List Item) (at next : ℤ) (old mid now : List Gap) (n : ℕ)
     → IsChain (y ∷ q) → y.period.to ≤ℤ x.period.to → Covers x y at mid now next
@@ -278,17 +268,6 @@ pub record IsGapped (P Q p q : List Item) (old now : List Gap) (n : ℕ) : Type 
   pub count : n + (length p + length q) ≡ length P + length Q
   pub at_least : length P ≤ n + length p
   pub within : (g : Gap) → IsGap p q g → IsGap P Q g
-
-pub gapped_start : (P Q : List Item) (old : List Gap) → IsGapped P Q P Q old old 0
-gapped_start P Q old =
-    record {
-      added = [];
-      split = sym (append-nil old);
-      goes_on = λ rest r. r;
-      count = omega arith;
-      at_least = omega arith;
-      within = λ g i. i;
-    }
 
 gapped_past : (P Q : List Item) (x : Item) (p q q' : List Item) (old mid now : List Gap) (n m : ℕ)
     → IsChain (x ∷ p) → AddsAll GapStartsBefore (IsGapOf q x) mid now → PassesWithin x q q' m

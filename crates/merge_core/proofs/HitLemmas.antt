@@ -1,5 +1,5 @@
 -- Hits as what a merge of two parts makes.
-use Rattle.std.proofs.Common.{◌≡◌, ℕ, ◌+◌, ◌≤◌, List, [], ◌∷◌, ◌⊎◌, inl, inr, length, drop, sym, subst, ap, ◌∙◌, arith}
+use Rattle.std.proofs.Common.{◌≡◌, ℕ, ◌+◌, ◌≤◌, List, [], ◌∷◌, ◌⊎◌, length, drop, sym, subst, ap, ◌∙◌, arith}
 use Rattle.std.specs.Prelude.{◌≤ℤ◌, Contains}
 use Rattle.period_core.specs.declared.period.Period.{Period}
 use Rattle.dip_core.specs.declared.item.Item.{Item}
@@ -8,7 +8,7 @@ use Rattle.list_core.specs.Wanted.{IsListOf, AddsAll}
 use Rattle.list_core.proofs.RisingLemmas.{Contains-head}
 use Rattle.list_core.proofs.WantedLemmas.{IsListOf-same, IsListOf-one}
 use Rattle.merge_core.specs.declared.hit.Hit.{Hit}
-use Rattle.merge_core.specs.Hits.{IsShared, IsHit, HitStartsBefore, AreAdvances}
+use Rattle.merge_core.specs.Hits.{IsShared, IsHit, HitStartsBefore}
 use Rattle.merge_core.proofs.SharedLemmas.{shared_once}
 use Rattle.merge_core.proofs.PartLemmas.{AllPairs-from_chain}
 use Rattle.merge_core.proofs.MergeLemmas.{Contains-only, IsMade, IsMerging, merging_start, merging_left, merging_right, merging_end}
@@ -61,7 +61,7 @@ hit_made : Item → Item → Period → Hit
 hit_made l r p = record { left = l; right = r; period = p }
 
 -- a hit is determined by its two items and its period
-Hit-same : (h k : Hit) → h.left ≡ k.left → h.right ≡ k.right → h.period ≡ k.period → h ≡ k
+pub Hit-same : (h k : Hit) → h.left ≡ k.left → h.right ≡ k.right → h.period ≡ k.period → h ≡ k
 unfolding hit_made
 Hit-same h k e f g =
     ap (λ l. hit_made l h.right h.period) e ∙ ap (λ r. hit_made k.left r h.period) f
@@ -134,15 +134,6 @@ joining_end P Q p q old now n over j =
       all = IsListOf-same HitStartsBefore (IsMade IsHitOf P Q) (IsHit P Q) all.added
           (hit_from_made P Q) (made_from_hit P Q) all.all;
     }
-
-pub joining_advances : (P Q p q : List Item) (old now : List Hit) (n : ℕ) → (p ≡ []) ⊎ (q ≡ [])
-    → IsJoining P Q p q old now n → AreAdvances P Q n
-joining_advances P Q p q old now n (inl e) j =
-    let size : length p ≡ 0 = ap length e in
-    record { at_least = omega (arith, j.count, j.right_shorter); at_most = omega (arith, j.count) }
-joining_advances P Q p q old now n (inr e) j =
-    let size : length q ≡ 0 = ap length e in
-    record { at_least = omega (arith, j.count, j.left_shorter); at_most = omega (arith, j.count) }
 
 -- the hit of two items that are next is one of all
 pub joining_hit : (P Q p q : List Item) (x y : Item) (old now : List Hit) (n : ℕ) (h : Hit) → p ≡ x ∷ drop 1 p

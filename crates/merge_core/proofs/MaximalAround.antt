@@ -1,4 +1,4 @@
--- Around an instant of a bounded set that can be tested there is a maximal period.
+-- Around an instant of a bounded set that can be tested there is a maximal period, and one alone.
 use Rattle.std.proofs.Common.{◌≡◌, ℕ, zero, suc, ◌⊎◌, inl, inr, subst, arith}
 use Rattle.std.specs.Prelude.{ℤ, pos, ◌-ℤ◌, ◌+ℤ◌, ◌≤ℤ◌, ◌<ℤ◌, nat_abs}
 use Rattle.std.proofs.lemmas.Int.{ints}
@@ -6,6 +6,7 @@ use Rattle.std.specs.Int.Signed.{yes_non_neg, pos-nat_abs, non_neg}
 use Rattle.std.proofs.Math.Dec.{T}
 use Rattle.period_core.specs.declared.period.Period.{Period}
 use Rattle.period_core.specs.Period.{Holds}
+use Rattle.period_core.proofs.PeriodLemmas.{Period-same}
 use Rattle.merge_core.specs.Gaps.{IsMaximal}
 use Rattle.merge_core.proofs.SharedLemmas.{by_order}
 
@@ -84,3 +85,35 @@ module _ (S : ℤ → Type 0) (test : (t : ℤ) → S t ⊎ (S t → ⊥)) where
           let e : pos (nat_abs ((t -ℤ lo) +ℤ pos 1)) ≡ (t -ℤ lo) +ℤ pos 1 = pos-nat_abs ((t -ℤ lo) +ℤ pos 1) n in
           let c : lo ≤ℤ (t -ℤ ((t -ℤ lo) +ℤ pos 1)) = subst (λ v. lo ≤ℤ (t -ℤ v)) e b in
           omega (arith, ints)
+
+-- ---- of maximal periods one alone holds an instant
+
+-- of two that hold an instant, neither starts before the other
+no-earlier : (Within : ℤ → Type 0) (p q : Period) (t : ℤ) → IsMaximal Within p → IsMaximal Within q → Holds p t
+    → Holds q t → q.from ≤ℤ p.from
+no-earlier Within p q t a b hp hq =
+    elim (by_order q.from p.from) [
+      | inl h ↦ h
+      | inr h ↦ absurd (b.before (a.inside (q.from -ℤ pos 1)
+          (let lo = hq.0 in let hi = hp.1 in (omega (arith, ints), omega (arith, ints)))))
+    ]
+
+-- and neither ends behind it
+no-later : (Within : ℤ → Type 0) (p q : Period) (t : ℤ) → IsMaximal Within p → IsMaximal Within q → Holds p t
+    → Holds q t → q.to ≤ℤ p.to
+no-later Within p q t a b hp hq =
+    elim (by_order q.to p.to) [
+      | inl h ↦ h
+      | inr h ↦ absurd (a.after (b.inside p.to
+          (let lo = hq.0 in let hi = hp.1 in (omega (arith, ints), h))))
+    ]
+
+-- so they are one
+pub maximal-once : (Within : ℤ → Type 0) (p q : Period) (t : ℤ) → IsMaximal Within p → IsMaximal Within q → Holds p t
+    → Holds q t → p ≡ q
+maximal-once Within p q t a b hp hq =
+    let one : q.from ≤ℤ p.from = no-earlier Within p q t a b hp hq in
+    let other : p.from ≤ℤ q.from = no-earlier Within q p t b a hq hp in
+    let last : q.to ≤ℤ p.to = no-later Within p q t a b hp hq in
+    let end : p.to ≤ℤ q.to = no-later Within q p t b a hq hp in
+    Period-same p q (omega (arith, ints)) (omega (arith, ints))

@@ -151,23 +151,6 @@ meet_alone x y g i =
     ∙ ap (λ (v : Gap). v.left) (Contains-only x j.first j.first_in) ∙ sym j.left in
     Gap-same g k lefts (shared_once x.period y.period g.period k.period (meet_shares x y g i) (meet_shares x y k j)))
 
-pub adds_meet : (x y : Gap) (old new : List Gap) (g : Gap) → new ≡ old ++ g ∷ [] → x.left.id ≡ y.left.id
-    → g.left ≡ x.left → IsShared x.period y.period g.period → AddsAll GapStartsBefore (IsMeetOf x y) old new
-adds_meet x y old new g e id left shared =
-    record {
-      added = g ∷ [];
-      split = e;
-      all = meet_alone x y g (record {
-        first = x;
-        second = y;
-        first_in = Contains-head x [];
-        second_in = Contains-head y [];
-        same_id = id;
-        left = left;
-        shared = shared;
-      });
-    }
-
 pub meeting_start : (A B : List Gap) → AreGapsApart A → AreGapsApart B → IsMeeting A B A B []
 meeting_start A B left right = merging_start gap_period gap_period gap_period IsMeetOf meet_shares A B [] left right
 

@@ -1,5 +1,5 @@
 -- Chains without their first item, and chains as items that end before each later one.
-use Rattle.std.proofs.Common.{◌≡◌, suc, ◌+◌, List, [], ◌∷◌, drop, arith}
+use Rattle.std.proofs.Common.{◌≡◌, suc, ◌+◌, List, ◌∷◌, arith}
 use Rattle.std.specs.Prelude.{◌≤ℤ◌, AllPairs, Contains}
 use Rattle.dip_core.specs.declared.item.Item.{Item}
 use Rattle.dip_core.specs.Item.{IsChain}
@@ -15,10 +15,6 @@ pub IsChain-tail : (x : Item) (items : List Item) → IsChain (x ∷ items) → 
 IsChain-tail x items chain i d h =
     let e : suc i + 1 ≡ suc (i + 1) = omega arith in
     rw e at (chain (suc i) d (omega arith))
-
-pub IsChain-drop : (items : List Item) → IsChain items → IsChain (drop 1 items)
-IsChain-drop [] chain = chain
-IsChain-drop (x ∷ items) chain = IsChain-tail x items chain
 
 -- the first item of a chain ends at or before the start of each other
 pub chain_head : (x : Item) (items : List Item) → IsChain (x ∷ items) → (z : Item) → Contains items z

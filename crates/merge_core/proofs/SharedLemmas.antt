@@ -1,31 +1,15 @@
 -- Periods by their instants, and what two periods share.
-use Rattle.std.proofs.Common.{◌≡◌, ◌⊎◌, inl, inr, ap, subst, arith}
+use Rattle.std.proofs.Common.{◌≡◌, ◌⊎◌, inl, inr, arith}
 use Rattle.std.specs.Prelude.{ℤ, pos, ◌-ℤ◌, ◌≤ℤ◌, ◌<ℤ◌}
 use Rattle.std.proofs.lemmas.Int.{ints, by_lt_z}
-use Rattle.std.proofs.Props.{props}
 use Rattle.period_core.specs.declared.period.Period.{Period}
 use Rattle.period_core.specs.Period.{Holds}
+use Rattle.period_core.proofs.PeriodLemmas.{Period-same}
 use Rattle.merge_core.specs.Hits.{IsShared}
 
 -- one of two instants is not behind the other
 pub by_order : (a b : ℤ) → (a ≤ℤ b) ⊎ (b <ℤ a)
 by_order a b = by_lt_z b a (λ h. inr h) (λ h. inl h)
-
-period_of : (a b : ℤ) → a <ℤ b → Period
-period_of a b h = record { from = a; to = b; ordered = h }
-
-order_prop : (a b : ℤ) → IsProp (a <ℤ b)
-order_prop a b = hlevel props
-
--- a period is determined by its two ends
-pub Period-same : (p q : Period) → p.from ≡ q.from → p.to ≡ q.to → p ≡ q
-unfolding period_of
-Period-same p q from to =
-    let A : ℤ → Type 0 = λ z. (h : z <ℤ q.to) → p ≡ period_of z q.to h in
-    let B : ℤ → Type 0 = λ z. (h : p.from <ℤ z) → p ≡ period_of p.from z h in
-    let b : B p.to = λ h. ap (λ k. period_of p.from p.to k) (order_prop p.from p.to p.ordered h) in
-    let a : A p.from = λ h. subst B to b h in
-    subst A from a q.ordered
 
 -- a period holds its first instant
 pub first_held : (p : Period) → Holds p p.from

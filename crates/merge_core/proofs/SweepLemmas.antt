@@ -10,10 +10,11 @@ use Rattle.dip_core.specs.Item.{IsChain}
 use Rattle.list_core.specs.Wanted.{IsListOf, AddsAll}
 use Rattle.list_core.proofs.RisingLemmas.{Contains-head, Contains-cons, Contains-cons_cases}
 use Rattle.list_core.proofs.WantedLemmas.{IsListOf-append, IsListOf-same, IsListOf-none, IsListOf-one}
+use Rattle.period_core.proofs.PeriodLemmas.{Period-same}
 use Rattle.merge_core.specs.declared.gap.Gap.{Gap}
 use Rattle.merge_core.specs.Gaps.{IsCovered, IsUncovered, IsMaximal, GapStartsBefore}
 use Rattle.merge_core.specs.Sweep.{IsGapOf, IsBetween, IsUncoveredFrom, IsGapFrom, ListsGapsFrom, Covers, HasGapBefore}
-use Rattle.merge_core.proofs.SharedLemmas.{by_order, Period-same, first_held}
+use Rattle.merge_core.proofs.SharedLemmas.{by_order, first_held}
 use Rattle.merge_core.proofs.PartLemmas.{chain_head}
 
 gap_made : Item → Period → Gap

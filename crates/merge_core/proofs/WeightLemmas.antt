@@ -6,7 +6,7 @@ use Rattle.std.proofs.lemmas.List.{take_more}
 use Rattle.period_core.specs.declared.period.Period.{Period}
 use Rattle.period_core.specs.Period.{holds_at}
 use Rattle.dip_core.specs.declared.item.Item.{Item}
-use Rattle.dip_core.specs.Item.{IsChain}
+use Rattle.dip_core.specs.Item.{IsChain, item_limit}
 use Rattle.list_core.proofs.RisingLemmas.{Contains-head, Contains-cons, Contains-cons_cases, Contains-none}
 use Rattle.merge_core.specs.declared.tally.Tally.{Tally}
 use Rattle.merge_core.specs.declared.step.Step.{Step}
@@ -44,7 +44,7 @@ IsWeighed-more v w tally h i =
     let d = i.most in
     record { count = omega arith; least = omega (arith, ints); most = omega (arith, ints) }
 
-weighed_add : (v w : ℕ) (a b : Tally) → v + w ≤ 1_000_000 → IsWeighed v a → IsWeighed w b → CanAddTallies a b
+weighed_add : (v w : ℕ) (a b : Tally) → v + w ≤ item_limit → IsWeighed v a → IsWeighed w b → CanAddTallies a b
 weighed_add v w a b small i j =
     let ic = i.count in
     let il = i.least in
@@ -54,7 +54,7 @@ weighed_add v w a b small i j =
     let jm = j.most in
     record { count = omega arith; sum = omega (arith, ints) }
 
-pub can_add : (v w : ℕ) (xs ys : List Step) → v + w ≤ 1_000_000 → AreWeighed v xs → AreWeighed w ys → CanAdd xs ys
+pub can_add : (v w : ℕ) (xs ys : List Step) → v + w ≤ item_limit → AreWeighed v xs → AreWeighed w ys → CanAdd xs ys
 can_add v w xs ys small a b x y h k = weighed_add v w x.tally y.tally small (a x h) (b y k)
 
 -- ---- both together are within the sum of both weights

@@ -64,7 +64,7 @@ order_prop : (a b : ℤ) → IsProp (a <ℤ b)
 order_prop a b = hlevel props
 
 -- a period is determined by its two ends
-Period-same : (p q : Period) → p.from ≡ q.from → p.to ≡ q.to → p ≡ q
+pub Period-same : (p q : Period) → p.from ≡ q.from → p.to ≡ q.to → p ≡ q
 unfolding period_of
 Period-same p q from to =
     let A : ℤ → Type 0 = λ z. (h : z <ℤ q.to) → p ≡ period_of z q.to h in

@@ -1,3 +1,5 @@
+//! Periods, and how two of them lie.
+
 ghost use Rattle.std.specs.Prelude.{◌≡◌, ℤ, ◌<ℤ◌, ◌≤ℤ◌, ◌↔◌, IsTrue, IsOk, IfOk};
 ghost use Rattle.std.specs.Result.{result_ok};
 

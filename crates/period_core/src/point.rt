@@ -1,3 +1,5 @@
+//! Points of time, as texts and as numbers.
+
 ghost use Rattle.std.specs.Prelude.{Some, ◌+◌, ◌%◌, vec_len, ◌≡◌, ◌≢◌, ◌↔◌, ◌<◌, ◌≤◌, ◌≤ℤ◌, ℕ, pos, length, ◌∷◌, [], ◌++◌, ◌⊎◌, List, IsOk, IfOk, OnOk, OnErr, MatchOption, unsigned_abs};
 ghost use Rattle.std.specs.Result.{result_ok};
 ghost use Rattle.std.specs.Vec.{vec_capacity};

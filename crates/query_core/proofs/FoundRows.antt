@@ -2,11 +2,10 @@
 use Rattle.std.proofs.Common.{◌≡◌, ◌≢◌, ℕ, zero, suc, ◌+◌, ◌-◌, ◌<◌, ◌≤◌, true, false, cond, List, [], ◌∷◌, length, get_or, set, Some, None, refl, sym, subst, ap, ◌∙◌, inl, inr, arith, eq-eqb, get_or-set_same, get_or-set_other}
 use Rattle.std.specs.Prelude.{All, AllPairs, Contains, find, ◌==◌, Result, Ok, Err}
 use Rattle.std.specs.Result.{result_ok}
-use Rattle.std.specs.List.Sorted.{IsBinarySearchResult, IsSearchInRange, IsSortedBy}
+use Rattle.std.specs.List.Sorted.{IsBinarySearchResult, IsSearchInRange}
 use Rattle.std.specs.declared.cmp.Ordering.TheVariants.{Less, Equal, Greater}
-use Rattle.std.specs.Ordering.{nat_cmp, is_lt, MatchOrdering}
+use Rattle.std.specs.Ordering.{nat_cmp, MatchOrdering}
 use Rattle.std.proofs.lemmas.Bool.{cases_eq, cases_lt, ne_eqb}
-use Rattle.std.proofs.lemmas.Bool.Decides.{nat_tests}
 use Rattle.std.proofs.lemmas.Cmp.{nat_cmp_total, ranked}
 use Rattle.std.proofs.lemmas.List.{get_or_read, length-set}
 use Rattle.std.proofs.lemmas.List.Elements.{Contains-get_or}
@@ -14,6 +13,7 @@ use Rattle.std.proofs.lemmas.List.Sorted.{searchable_from_sorted}
 use Rattle.row_core.specs.Rows.{RowsRise}
 use Rattle.row_core.specs.declared.row.Row.{Row}
 use Rattle.list_core.proofs.RisingLemmas.{AllPairs-head, AllPairs-tail, Contains-cons_cases, Contains-none}
+use Rattle.list_core.proofs.OrderedLemmas.{sorted-from_rise}
 use Rattle.match_core.proofs.RowItems.{ids_rise}
 
 -- ---- rows by rising id
@@ -149,14 +149,6 @@ placed_less rows places first i at x within here is outside before k d lt room =
 
 -- ---- searches
 
--- what is above is not below
-not_lower : (m n : ℕ) → n < m → is_lt (nat_cmp m n) ≡ false
-not_lower m n less = grind (arith, nat_tests)
-
--- rows by rising id are sorted by their ids
-sorted_ids : (rows : List Row) → RowsRise rows → IsSortedBy (λ x y. is_lt (nat_cmp x.id y.id)) rows
-sorted_ids rows rise k d low h = not_lower (get_or rows (k + 1) d).id (get_or rows k d).id (rise k d h)
-
 -- a search by halves finds the place of the row of the id
 pub place_searched : (rows : List Row) (id : ℕ) (r : Result ℕ ℕ) → RowsRise rows → IsSearchInRange r (length rows)
     → IsBinarySearchResult (λ x. nat_cmp x.id id) rows r
@@ -168,7 +160,8 @@ place_searched rows id (Ok p) rise within found k d lt same =
     let one : p ≡ k = one_place rows rise p k d within lt (equal ∙ sym same) in
     ap (λ n. Some n) one
 place_searched rows id (Err i) rise within found k d lt same =
-    let point = found (searchable_from_sorted nat_cmp_total (λ x. x.id) rows id (sorted_ids rows rise)) in
+    let sorted = sorted-from_rise (λ (x : Row). x.id) rows rise in
+    let point = found (searchable_from_sorted nat_cmp_total (λ x. x.id) rows id sorted) in
     elim (cases_lt k i) [
       | inl less ↦
           let below : MatchOrdering Less ((get_or rows k d).id < id) ((get_or rows k d).id ≡ id)

@@ -8,10 +8,11 @@ use Rattle.period_core.specs.Period.{holds_at}
 use Rattle.list_core.specs.Wanted.{AddsAll}
 use Rattle.list_core.proofs.RisingLemmas.{AllPairs-head, AllPairs-tail, Contains-head, Contains-cons, Contains-cons_cases, Contains-none}
 use Rattle.list_core.proofs.WantedLemmas.{AllPairs-before, IsListOf-append, IsListOf-one, IsListOf-none, IsListOf-same}
+use Rattle.period_core.proofs.PeriodLemmas.{Period-same}
 use Rattle.merge_core.specs.declared.tally.Tally.{Tally}
 use Rattle.merge_core.specs.declared.step.Step.{Step}
 use Rattle.merge_core.specs.Steps.{tally_at, AreStepsApart}
-use Rattle.merge_core.proofs.SharedLemmas.{by_order, first_held, Period-same}
+use Rattle.merge_core.proofs.SharedLemmas.{by_order, first_held}
 use Rattle.merge_core.proofs.StepLemmas.{apart_head, apart_tail, holds_yes, holds_early, holds_late}
 use Rattle.merge_core.proofs.SweepLemmas.{IsMaximal-same}
 use Rattle.round_core.specs.declared.measure.Measure.{Measure}

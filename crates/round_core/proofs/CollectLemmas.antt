@@ -3,7 +3,7 @@ use Rattle.std.proofs.Common.{◌≡◌, ◌<◌, ◌≤◌, ℕ, List, [], ◌�
 use Rattle.std.proofs.lemmas.Option.{none-some}
 use Rattle.std.specs.Prelude.{ℤ, pos, Contains}
 use Rattle.std.proofs.lemmas.Int.{ints}
-use Rattle.std.proofs.lemmas.Bool.{cases_eq}
+use Rattle.std.proofs.lemmas.Bool.{cases_eq, eq-eqb, ne_eqb}
 use Rattle.dip_core.specs.declared.item.Item.{Item}
 use Rattle.list_core.specs.Wanted.{IsListOf, AddsAll}
 use Rattle.list_core.proofs.RisingLemmas.{Contains-head, Contains-cons, Contains-cons_cases, Contains-none}
@@ -14,6 +14,7 @@ use Rattle.merge_core.specs.Steps.{tally_at}
 use Rattle.merge_core.specs.Tallies.{held, amounts, IsTally, IsTallyAt, both}
 use Rattle.merge_core.proofs.SharedLemmas.{first_held}
 use Rattle.merge_core.proofs.SweepLemmas.{IsMaximal-same}
+use Rattle.merge_core.proofs.CombineLemmas.{both_none}
 use Rattle.round_core.specs.declared.class_steps.ClassSteps.{ClassSteps}
 use Rattle.round_core.specs.declared.measure.Measure.{Measure}
 use Rattle.round_core.specs.declared.measure.Measure.TheVariants.{Count, Sum, Min, Max}
@@ -21,7 +22,6 @@ use Rattle.round_core.specs.declared.plateau.Plateau.{Plateau}
 use Rattle.round_core.specs.Plateaus.{of_class, value_of, HasValue, IsPlateau, PlateauBefore, ArePlateaus}
 use Rattle.round_core.specs.ClassLists.{class_at, RisesFrom, HaveNoNeighbours, StandForAll, IsRound}
 use Rattle.round_core.specs.Closing.{GivesValue, IsStepPlateau, IsPlateauOfSome}
-use Rattle.round_core.proofs.RunLemmas.{both-none, eq_self, eq_other}
 
 -- ---- the lists are of distinct classes
 
@@ -57,7 +57,7 @@ none_at : (class : ℕ) (ls : List ClassSteps) (t : ℤ) → ((m : ClassSteps) �
 none_at class [] t none = refl
 none_at class (l ∷ ls) t none =
     ap (λ b. both (cond b (tally_at l.steps.steps t) None) (class_at class ls t))
-    (eq_other l.class class (none l (Contains-head l ls)))
+    (ne_eqb l.class class (none l (Contains-head l ls)))
     ∙ none_at class ls t (λ m h. none m (Contains-cons l ls m h))
 
 -- what a class comes to is what its list gives
@@ -66,13 +66,13 @@ own_at : (ls : List ClassSteps) (l : ClassSteps) (t : ℤ) → ClassesRise ls �
 own_at [] l t r h = absurd (Contains-none l h)
 own_at (k ∷ ls) l t r h = elim (Contains-cons_cases k ls l h) [
   | inl e ↦ subst (λ (v : ClassSteps). class_at v.class (k ∷ ls) t ≡ tally_at v.steps.steps t) e (
-      ap (λ b. both (cond b (tally_at k.steps.steps t) None) (class_at k.class ls t)) (eq_self k.class)
+      ap (λ b. both (cond b (tally_at k.steps.steps t) None) (class_at k.class ls t)) (eq-eqb k.class k.class refl)
       ∙ ap (both (tally_at k.steps.steps t))
       (none_at k.class ls t (λ m member same. let a = r.0 m member in omega (arith, a, same)))
-      ∙ both-none (tally_at k.steps.steps t))
+      ∙ both_none (tally_at k.steps.steps t))
   | inr later ↦
       ap (λ b. both (cond b (tally_at k.steps.steps t) None) (class_at l.class ls t))
-      (eq_other k.class l.class (λ same. let a = r.0 l later in omega (arith, a, same)))
+      (ne_eqb k.class l.class (λ same. let a = r.0 l later in omega (arith, a, same)))
       ∙ own_at ls l t r.1 later
 ]
 
@@ -84,7 +84,7 @@ list_of_class class (l ∷ ls) t a e = elim (cases_eq l.class class) [
   | inl same ↦ (l, Contains-head l ls, same)
   | inr other ↦
       let f : class_at class ls t ≡ Some a =
-      sym (ap (λ b. both (cond b (tally_at l.steps.steps t) None) (class_at class ls t)) (eq_other l.class class other))
+      sym (ap (λ b. both (cond b (tally_at l.steps.steps t) None) (class_at class ls t)) (ne_eqb l.class class other))
       ∙ e in
       let m = list_of_class class ls t a f in
       (m.0, Contains-cons l ls m.0 m.1, m.2)

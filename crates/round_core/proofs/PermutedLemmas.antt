@@ -4,6 +4,7 @@ use Rattle.std.specs.Prelude.{ℤ, pos, negsuc, ◌-ℤ◌, Contains}
 use Rattle.std.specs.List.{sum_by}
 use Rattle.std.specs.List.Sorted.{IsPermutation}
 use Rattle.std.proofs.lemmas.Int.{ints}
+use Rattle.std.proofs.lemmas.List.{nil_from_length}
 use Rattle.std.proofs.lemmas.List.Sums.{sum_by-cons, length-filter}
 use Rattle.std.proofs.lemmas.List.Sorted.{sum_by-IsPermutation, IsPermutation-sym, Contains-permutation}
 use Rattle.period_core.specs.Period.{holds_at}
@@ -135,12 +136,8 @@ IsTally-permuted xs ys t tally p i =
       max_greatest = λ a h. i.max_greatest a (amounts_permuted ys xs t a q h);
     }
 
-none_long : (zs : List Item) → length zs ≡ 0 → zs ≡ []
-none_long [] e = refl
-none_long (z ∷ zs) e = absurd (omega (arith, e))
-
 -- what the items that hold an instant come to, in whatever order the items are
 pub IsTallyAt-permuted : (xs ys : List Item) (t : ℤ) (o : Option Tally) → IsPermutation xs ys → IsTallyAt xs t o
     → IsTallyAt ys t o
-IsTallyAt-permuted xs ys t None p i = none_long (held ys t) (count_permuted xs ys t p ∙ ap length i)
+IsTallyAt-permuted xs ys t None p i = nil_from_length (held ys t) (count_permuted xs ys t p ∙ ap length i)
 IsTallyAt-permuted xs ys t (Some tally) p i = IsTally-permuted xs ys t tally p i

@@ -3,25 +3,27 @@ use Rattle.std.proofs.Common.{◌≡◌, ◌<◌, ◌⊎◌, ℕ, zero, suc, Boo
 use Rattle.std.specs.Prelude.{ℤ, pos, ◌-ℤ◌, ◌+ℤ◌, ◌≤ℤ◌, ◌<ℤ◌, nat_abs, nat_eq, Contains}
 use Rattle.std.specs.Cmp.{IsTotalOrder}
 use Rattle.std.specs.Int.Signed.{yes_non_neg, pos-nat_abs, non_neg}
-use Rattle.std.specs.Ordering.{ordering_reverse, ordering_then, int_cmp, nat_cmp}
+use Rattle.std.specs.Ordering.{ordering_then, int_cmp, nat_cmp}
 use Rattle.std.specs.declared.cmp.Ordering.{Ordering}
 use Rattle.std.specs.declared.cmp.Ordering.TheVariants.{Less, Equal, Greater}
 use Rattle.std.proofs.Math.Dec.{T}
 use Rattle.std.proofs.lemmas.Bool.Decides.{nat_tests}
 use Rattle.std.proofs.lemmas.Cmp.{then_total, on_total, int_cmp_total, nat_cmp_total, int_ranked, ranked}
 use Rattle.std.proofs.lemmas.Int.{ints}
-use Rattle.period_core.specs.declared.period.Period.{Period}
 use Rattle.period_core.specs.Period.{Holds, holds_at}
 use Rattle.dip_core.specs.declared.item.Item.{Item}
 use Rattle.list_core.specs.Wanted.{IsListOf}
 use Rattle.list_core.proofs.RisingLemmas.{Contains-head, Contains-cons, Contains-cons_cases, Contains-none, IsListOf-unique}
 use Rattle.list_core.proofs.WantedLemmas.{AllPairs-other, IsListOf-same}
 use Rattle.list_core.proofs.WantedExistence.{IsUnorderedListOf, IsUnorderedListOf-none, IsUnorderedListOf-one, WantedForSome, some_unordered, some_wanted}
+use Rattle.list_core.proofs.OrderedLemmas.{both_tie, before-asym}
+use Rattle.period_core.proofs.PeriodLemmas.{Period-same}
+use Rattle.dip_core.proofs.CrowdLemmas.{Holds-from_test}
 use Rattle.merge_core.specs.declared.tally.Tally.{Tally}
 use Rattle.merge_core.specs.Gaps.{IsMaximal}
 use Rattle.merge_core.specs.Tallies.{held, IsTally, IsTallyAt, both}
-use Rattle.merge_core.proofs.MaximalAround.{maximal_around}
-use Rattle.merge_core.proofs.SharedLemmas.{by_order, first_held, Period-same}
+use Rattle.merge_core.proofs.MaximalAround.{maximal_around, maximal-once}
+use Rattle.merge_core.proofs.SharedLemmas.{by_order, first_held}
 use Rattle.merge_core.proofs.TallyLemmas.{IsTallyAt-append}
 use Rattle.merge_core.proofs.WeightLemmas.{lone_tallies}
 use Rattle.round_core.specs.declared.measure.Measure.{Measure}
@@ -30,38 +32,6 @@ use Rattle.round_core.specs.Plateaus.{of_class, value_of, HasValue, IsPlateau, P
 use Rattle.round_core.proofs.ClosingLemmas.{Plateau-same}
 use Rattle.round_core.proofs.CollectLemmas.{IsTally-unique, no_tally}
 use Rattle.round_core.proofs.PermutedLemmas.{has_held, amount_from}
-
--- maximal periods of one set that share an instant are one
-module _ (S : ℤ → Type 0) (p q : Period) (t : ℤ) (m : IsMaximal S p) (n : IsMaximal S q) (h : Holds p t)
-    (k : Holds q t) where
-  not_earlier : p.from <ℤ q.from → ⊥
-  not_earlier less =
-      let a = h.1 in let b = k.0 in
-      n.before (m.inside (q.from -ℤ pos 1) (omega (arith, ints), omega (arith, ints)))
-
-  not_sooner : p.to <ℤ q.to → ⊥
-  not_sooner less =
-      let a = h.1 in let b = k.0 in
-      m.after (n.inside p.to (omega (arith, ints), less))
-
-pub maximal-same : (S : ℤ → Type 0) (p q : Period) (t : ℤ) → IsMaximal S p → IsMaximal S q → Holds p t → Holds q t
-    → p ≡ q
-maximal-same S p q t m n h k =
-    Period-same p q
-    (elim (by_order p.from q.from) [
-      | inr late ↦ absurd (not_earlier S q p t n m k h late)
-      | inl a ↦ elim (by_order q.from p.from) [
-        | inr late ↦ absurd (not_earlier S p q t m n h k late)
-        | inl b ↦ omega (arith, ints)
-      ]
-    ])
-    (elim (by_order p.to q.to) [
-      | inr late ↦ absurd (not_sooner S q p t n m k h late)
-      | inl a ↦ elim (by_order q.to p.to) [
-        | inr late ↦ absurd (not_sooner S p q t m n h k late)
-        | inl b ↦ omega (arith, ints)
-      ]
-    ])
 
 -- ---- what some items come to at an instant can be told
 
@@ -111,22 +81,13 @@ value_or_not measure items v t = told (some_tally items t)
 
 -- ---- items bound what they come to
 
-held_yes : (p : Period) (t : ℤ) → holds_at t p ≡ true → Holds p t
-held_yes p t e = (late p t e, early p t e)
-  where
-    late : (p : Period) (t : ℤ) → holds_at t p ≡ true → p.from ≤ℤ t
-    late p t e = grind (arith, ints)
-
-    early : (p : Period) (t : ℤ) → holds_at t p ≡ true → t <ℤ p.to
-    early p t e = grind (arith, ints)
-
 -- where items come to a value, one of them holds the instant
 holder : (measure : Measure) (items : List Item) (v t : ℤ) → HasValue measure items v t
     → (x : Item) × Contains items x × Holds x.period t
 holder measure items v t h =
     let m = amount_from (held items t) h.tally.min h.is.min_in in
     let k = has_held items t m.0 m.1 in
-    (m.0, k.0, held_yes m.0.period t k.1)
+    (m.0, k.0, Holds-from_test t m.0.period k.1)
 
 -- an item of a class is one of the items, and of that class
 own_item : (class : ℕ) (items : List Item) (x : Item) → Contains (of_class class items) x
@@ -228,7 +189,7 @@ module _ (measure : Measure) (items : List Item) where
       subst (λ v. IsMaximal (HasValue measure (of_class p.class items) v) q.period) (sym value)
       (subst (λ c. IsMaximal (HasValue measure (of_class c items) q.value) q.period) (sym same) j.maximal) in
       Plateau-same p q same
-      (maximal-same (HasValue measure (of_class p.class items) p.value) p.period q.period t i.maximal j' h k) value
+      (maximal-once (HasValue measure (of_class p.class items) p.value) p.period q.period t i.maximal j' h k) value
 
   plateau_at : (class : ℕ) (t : ℤ) → (ps : List Plateau) × IsUnorderedListOf (IsPlateauAt class t) ps
   plateau_at class t = told (some_tally (of_class class items) t)
@@ -272,17 +233,6 @@ plateau_total =
     then_total (then_total (on_total (λ x. x.class) nat_cmp_total) (on_total (λ x. x.period.from) int_cmp_total))
     (then_total (on_total (λ x. x.period.to) int_cmp_total) (on_total (λ x. x.value) int_cmp_total))
 
-both_tie : (r s : Ordering) → ordering_then r s ≡ Equal → (r ≡ Equal) × (s ≡ Equal)
-both_tie Less s e = cc
-both_tie Equal s e = (refl, e)
-both_tie Greater s e = cc
-
-int_less : (a b : ℤ) → int_cmp a b ≡ Less → a <ℤ b
-int_less a b e = grind (arith, ints)
-
-nat_less : (a b : ℕ) → nat_cmp a b ≡ Less → a < b
-nat_less a b e = grind (arith, nat_tests)
-
 tied_plateaus : (a b : Plateau) → plateau_cmp a b ≡ Equal → a ≡ b
 unfolding plateau_cmp
 tied_plateaus a b e =
@@ -304,10 +254,7 @@ first_of Equal Equal rest e = inr (refl, inr refl)
 first_of Equal Greater rest e = cc
 
 not_before_itself : (a : Plateau) → plateau_cmp a a ≡ Less → ⊥
-not_before_itself a e =
-    let f : plateau_cmp a a ≡ ordering_reverse (plateau_cmp a a) = plateau_total.antisymm a a in
-    let g : ordering_reverse (plateau_cmp a a) ≡ Greater = ap ordering_reverse e in
-    cc
+not_before_itself a e = before-asym plateau_cmp plateau_total a a e e
 
 -- of two plateaus of some items the one that comes first by all comes first by class and start
 before_of : (measure : Measure) (items : List Item) (a b : Plateau) → IsPlateau measure items a
@@ -316,9 +263,9 @@ unfolding plateau_cmp
 before_of measure items a b i j less =
     elim (first_of (nat_cmp a.class b.class) (int_cmp a.period.from b.period.from)
     (ordering_then (int_cmp a.period.to b.period.to) (int_cmp a.value b.value)) less) [
-      | inl e ↦ inl (nat_less a.class b.class e)
+      | inl e ↦ inl (ranked a.class b.class Less (sym e))
       | inr (e, rest) ↦ elim rest [
-        | inl f ↦ inr (ranked a.class b.class Equal (sym e), int_less a.period.from b.period.from f)
+        | inl f ↦ inr (ranked a.class b.class Equal (sym e), int_ranked a.period.from b.period.from Less (sym f))
         | inr f ↦ absurd (
             let start : a.period.from ≡ b.period.from = int_ranked a.period.from b.period.from Equal (sym f) in
             let same : a ≡ b =

@@ -7,6 +7,7 @@ use Rattle.merge_core.specs.declared.tally.Tally.{Tally}
 use Rattle.merge_core.specs.Tallies.{both}
 use Rattle.merge_core.specs.Steps.{StepList, IsBoth, tally_at}
 use Rattle.merge_core.proofs.TallyLemmas.{tally_both}
+use Rattle.merge_core.proofs.CombineLemmas.{Some-tally}
 use Rattle.round_core.specs.declared.class_steps.ClassSteps.{ClassSteps}
 use Rattle.round_core.specs.declared.round.Slot.{Slot}
 use Rattle.round_core.specs.declared.round.Slot.TheVariants.{Aside, OfTwo}
@@ -22,10 +23,6 @@ min-assoc a b c = omega (arith, ints, clamps)
 
 max-assoc : (a b c : ℤ) → int_max (int_max a b) c ≡ int_max a (int_max b c)
 max-assoc a b c = omega (arith, ints, clamps)
-
--- a tally is its four numbers
-Some-tally : (a b : Tally) → a.count ≡ b.count → a.sum ≡ b.sum → a.min ≡ b.min → a.max ≡ b.max → Some a ≡ Some b
-Some-tally a b c s l g = λ k. Some (record { count = c k; sum = s k; min = l k; max = g k })
 
 -- it doesn't matter which two are taken together first
 pub both-assoc : (a b c : Option Tally) → both (both a b) c ≡ both a (both b c)

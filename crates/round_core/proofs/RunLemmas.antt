@@ -1,31 +1,24 @@
 -- Lists of steps that stand for the items of each class.
-use Rattle.std.proofs.Common.{◌≡◌, ◌+◌, ◌<◌, ◌≤◌, ℕ, suc, true, false, cond, Option, Some, None, List, [], ◌∷◌, ◌++◌, length, take, drop, All, AllPairs, inl, inr, refl, sym, subst, ap, ◌∙◌, arith, append_assoc, append-nil, length-append}
+use Rattle.std.proofs.Common.{◌≡◌, ◌+◌, ◌<◌, ◌≤◌, ℕ, suc, cond, None, List, [], ◌∷◌, ◌++◌, length, take, drop, All, AllPairs, inl, inr, refl, sym, subst, ap, ◌∙◌, arith, append_assoc, length-append}
 use Rattle.std.specs.Prelude.{ℤ, ◌==◌, Contains, IsPermutation, nat_eq}
-use Rattle.std.proofs.lemmas.Bool.{cases_eq}
-use Rattle.std.proofs.lemmas.Bool.Decides.{nat_tests}
-use Rattle.std.proofs.lemmas.Grind.{flat_map-append}
-use Rattle.std.proofs.lemmas.List.{take_more, take-append-drop}
-use Rattle.std.proofs.lemmas.List.Elements.{All-head, All-tail, filter-append}
+use Rattle.std.proofs.lemmas.Bool.{cases_eq, eq-eqb, ne_eqb}
+use Rattle.std.proofs.lemmas.List.{take-append-drop}
+use Rattle.std.proofs.lemmas.List.Elements.{All-head, All-tail, filter-append, Contains-append_right}
 use Rattle.std.proofs.lemmas.List.Sorted.{length_permutation}
 use Rattle.dip_core.specs.declared.item.Item.{Item}
 use Rattle.dip_core.specs.Division.{all_of, part_at}
-use Rattle.list_core.proofs.RisingLemmas.{AllPairs-head, AllPairs-tail, Contains-head, Contains-cons}
-use Rattle.merge_core.specs.declared.tally.Tally.{Tally}
+use Rattle.list_core.proofs.RisingLemmas.{AllPairs-head, AllPairs-tail, Contains-head}
+use Rattle.dip_core.proofs.PartedLemmas.{all_of-more}
 use Rattle.merge_core.specs.Tallies.{IsTallyAt, both}
-use Rattle.merge_core.specs.Steps.{StepList, StandsFor, tally_at}
+use Rattle.merge_core.specs.Steps.{tally_at}
 use Rattle.merge_core.proofs.TallyLemmas.{IsTallyAt-append}
 use Rattle.round_core.specs.declared.class_steps.ClassSteps.{ClassSteps}
 use Rattle.round_core.specs.Plateaus.{of_class}
 use Rattle.round_core.specs.ClassLists.{tally_for, class_at, weight_of, RisesFrom, StandForAll, AreOf, AddsSteps}
-use Rattle.round_core.specs.Rounds.{of}
 use Rattle.round_core.proofs.RoundLemmas.{both-assoc}
 use Rattle.round_core.proofs.PermutedLemmas.{IsTallyAt-permuted}
 
 -- ---- lists laid together
-
-pub both-none : (a : Option Tally) → both a None ≡ a
-both-none None = refl
-both-none (Some a) = refl
 
 pub class_at-append : (class : ℕ) (xs ys : List ClassSteps) (t : ℤ)
     → class_at class (xs ++ ys) t ≡ both (class_at class xs t) (class_at class ys t)
@@ -42,41 +35,7 @@ AreOf-append : (class : ℕ) (xs ys : List ClassSteps) → AreOf class xs → Ar
 AreOf-append class [] ys a b = b
 AreOf-append class (x ∷ xs) ys a b = (a.0, AreOf-append class xs ys a.1 b)
 
-pub eq_self : (n : ℕ) → nat_eq n n ≡ true
-eq_self n = grind (arith, nat_tests)
-
-pub eq_other : (a b : ℕ) → (a ≡ b → ⊥) → nat_eq a b ≡ false
-eq_other a b h = grind (arith, nat_tests)
-
 -- ---- added steps
-
-pub adds_none : (class : ℕ) (lists : List ClassSteps) → AddsSteps class [] lists lists
-adds_none class lists =
-    record {
-      added = [];
-      split = sym (append-nil lists);
-      own = tt;
-      tallies = λ t. refl;
-      weight = refl;
-      few = omega arith;
-    }
-
--- the steps of one part
-pub adds_part : (class : ℕ) (items : List Item) (steps : StepList) (old new : List ClassSteps) → 0 < length items
-    → StandsFor items steps → new ≡ old ++ of class steps ∷ [] → AddsSteps class items old new
-adds_part class items steps old new some is e =
-    record {
-      added = of class steps ∷ [];
-      split = e;
-      own = (refl, tt);
-      tallies = λ t.
-          subst (IsTallyAt items t)
-          (sym (ap (λ b. both (cond b (tally_at steps.steps t) None) None) (eq_self class)
-          ∙ both-none (tally_at steps.steps t)))
-          (is.tallies t);
-      weight = (let w = is.weight in omega (arith, w));
-      few = omega (arith, some);
-    }
 
 -- steps of more items of the class
 pub adds_more : (class : ℕ) (xs ys : List Item) (old mid new : List ClassSteps) → AddsSteps class xs old mid
@@ -126,14 +85,15 @@ have_class class (x ∷ xs) all =
 all_of_class : (class : ℕ) (xs : List Item) → HaveClass class xs → of_class class xs ≡ xs
 all_of_class class [] h = refl
 all_of_class class (x ∷ xs) h =
-    ap (λ b. cond b (x ∷ of_class class xs) (of_class class xs)) (ap (λ n. nat_eq n class) h.0 ∙ eq_self class)
+    ap (λ b. cond b (x ∷ of_class class xs) (of_class class xs))
+    (ap (λ n. nat_eq n class) h.0 ∙ eq-eqb class class refl)
     ∙ ap (λ z. x ∷ z) (all_of_class class xs h.1)
 
 none_of_class : (class other : ℕ) (xs : List Item) → (class ≡ other → ⊥) → HaveClass class xs → of_class other xs ≡ []
 none_of_class class other [] ne h = refl
 none_of_class class other (x ∷ xs) ne h =
     ap (λ b. cond b (x ∷ of_class other xs) (of_class other xs))
-    (ap (λ n. nat_eq n other) h.0 ∙ eq_other class other ne)
+    (ap (λ n. nat_eq n other) h.0 ∙ ne_eqb class other ne)
     ∙ none_of_class class other xs ne h.1
 
 none_at_other : (class other : ℕ) (ls : List ClassSteps) (t : ℤ) → (class ≡ other → ⊥) → AreOf class ls
@@ -141,7 +101,7 @@ none_at_other : (class other : ℕ) (ls : List ClassSteps) (t : ℤ) → (class 
 none_at_other class other [] t ne h = refl
 none_at_other class other (l ∷ ls) t ne h =
     ap (λ b. both (cond b (tally_at l.steps.steps t) None) (class_at other ls t))
-    (ap (λ n. nat_eq n other) h.0 ∙ eq_other class other ne)
+    (ap (λ n. nat_eq n other) h.0 ∙ ne_eqb class other ne)
     ∙ none_at_other class other ls t ne h.1
 
 -- steps of items of one class stand for them, whatever class is asked for
@@ -215,21 +175,6 @@ pub record IsListing (all left : List Item) (lists : List ClassSteps) : Type 0 w
   pub below : (x : Item) → Contains left x → UpTo x.class lists
   pub grouped : AllPairs (λ (a b : Item). a.class ≤ b.class) left
 
-pub listing_start : (all : List Item) → AllPairs (λ (a b : Item). a.class ≤ b.class) all → IsListing all all []
-listing_start all grouped =
-    record {
-      gone = [];
-      split = refl;
-      stand = record { tallies = λ class t. refl; weight = refl; few = omega arith };
-      rises = tt;
-      below = λ x h. tt;
-      grouped = grouped;
-    }
-
-Contains-behind : (xs ys : List Item) (x : Item) → Contains ys x → Contains (xs ++ ys) x
-Contains-behind [] ys x h = h
-Contains-behind (z ∷ xs) ys x h = Contains-cons z (xs ++ ys) x (Contains-behind xs ys x h)
-
 AllPairs-behind : (xs ys : List Item) → AllPairs (λ (a b : Item). a.class ≤ b.class) (xs ++ ys)
     → AllPairs (λ (a b : Item). a.class ≤ b.class) ys
 AllPairs-behind [] ys h = h
@@ -245,7 +190,7 @@ listing_run all left rest first run lists lists' e own adds was =
     subst (AllPairs (λ (a b : Item). a.class ≤ b.class)) e was.grouped in
     let below : (x : Item) → Contains rest x → first.class ≤ x.class =
     λ x h. AllPairs-head (λ (a b : Item). a.class ≤ b.class) first (run ++ rest) x grouped
-    (Contains-behind run rest x h) in
+    (Contains-append_right run rest x h) in
     let before : UpTo first.class lists =
     was.below first (subst (λ z. Contains z first) (sym e) (Contains-head first (run ++ rest))) in
     record {
@@ -262,7 +207,7 @@ listing_run all left rest first run lists lists' e own adds was =
       below = λ x h.
           subst (UpTo x.class) (sym adds.split)
           (UpTo-append x.class lists adds.added
-          (was.below x (subst (λ z. Contains z x) (sym e) (Contains-behind (first ∷ run) rest x h)))
+          (was.below x (subst (λ z. Contains z x) (sym e) (Contains-append_right (first ∷ run) rest x h)))
           (own_up_to first.class x.class adds.added (below x h) adds.own));
       grouped = AllPairs-behind (first ∷ run) rest grouped;
     }
@@ -283,16 +228,7 @@ listing_more all left behind run rest first n lists lists' e f g own adds was =
     (refl, have_class first.class (take n behind) own)
     (subst (λ z. AddsSteps first.class z lists lists') f' adds) was
 
-pub listing_stand : (all left : List Item) (lists : List ClassSteps) → left ≡ [] → IsListing all left lists
-    → StandForAll all lists
-listing_stand all left lists e was =
-    subst (λ z. StandForAll z lists)
-    (sym (was.split ∙ ap (λ z. was.gone ++ z) e ∙ append-nil was.gone)) was.stand
-
 -- ---- part by part
-
-all_of-append : (xs ys : List (List Item)) → all_of (xs ++ ys) ≡ all_of xs ++ all_of ys
-all_of-append xs ys = flat_map-append (λ (part : List Item). part) xs ys
 
 -- the steps of one part more
 pub adds_next_part : (class i : ℕ) (parts : List (List Item)) (old mid new : List ClassSteps) → i < length parts
@@ -300,6 +236,5 @@ pub adds_next_part : (class i : ℕ) (parts : List (List Item)) (old mid new : L
     → AddsSteps class (all_of (take (i + 1) parts)) old new
 adds_next_part class i parts old mid new small a so_far =
     subst (λ z. AddsSteps class z old new)
-    (sym (ap all_of (take_more parts i [] small) ∙ all_of-append (take i parts) (part_at parts i ∷ [])
-    ∙ ap (λ z. all_of (take i parts) ++ z) (append-nil (part_at parts i))))
+    (sym (all_of-more parts i small))
     (adds_more class (all_of (take i parts)) (part_at parts i) old mid new so_far a)

@@ -4,21 +4,13 @@ use Rattle.std.specs.Bool.{Decides}
 use Rattle.std.proofs.lemmas.Bool.Decides.{Decides-eqb, Decides-int_eq, Decides-and, Decides-like}
 use lib.Pointwise.{pointwise}
 use Rattle.std.proofs.lemmas.Slice.Eq.{slice_eq-Decides}
-use Rattle.merge_core.specs.declared.tally.Tally.{Tally}
+use Rattle.period_core.proofs.PeriodLemmas.{Period-same}
 use Rattle.merge_core.specs.declared.step.Step.{Step}
 use Rattle.merge_core.specs.contracts.step.StepPartialEq.TheImpl.{eq-value}
-use Rattle.merge_core.specs.Steps.{StepList}
-use Rattle.merge_core.proofs.SharedLemmas.{Period-same}
-
-Tally-same : (a b : Tally) → a.count ≡ b.count → a.sum ≡ b.sum → a.min ≡ b.min → a.max ≡ b.max → a ≡ b
-Tally-same a b c s l g = λ k. record { count = c k; sum = s k; min = l k; max = g k }
+use Rattle.merge_core.proofs.CombineLemmas.{Tally-same}
 
 Step-same : (a b : Step) → a.period ≡ b.period → a.tally ≡ b.tally → a ≡ b
 Step-same a b p t = λ k. record { period = p k; tally = t k }
-
--- lists of the same steps and weight are one
-pub StepList-same : (a b : StepList) → a.steps ≡ b.steps → a.weight ≡ b.weight → a ≡ b
-StepList-same a b s w = λ k. record { steps = s k; weight = w k }
 
 step_decides : (a b : Step) → Decides (eq-value.it a b) (a ≡ b)
 step_decides a b = Decides-like _

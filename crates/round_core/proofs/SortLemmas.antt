@@ -17,9 +17,6 @@ pub record IsSorting (all left : List ClassSteps) (slots : List Slot) (twos : Li
   pub count : length twos ≡ twos_in slots * 2
   pub done : twos ≡ [] → HaveNoNeighbours left → HaveNoNeighbours all
 
-pub sorting_start : (all : List ClassSteps) → IsSorting all all [] []
-sorting_start all = record { goes_on = λ rest more e. e; count = omega arith; done = λ e h. h }
-
 twos_in-append : (slots rest : List Slot) → twos_in (slots ++ rest) ≡ twos_in slots + twos_in rest
 twos_in-append [] rest = omega arith
 twos_in-append (Aside list ∷ slots) rest = twos_in-append slots rest
@@ -78,29 +75,3 @@ sorting_end all left slots twos e was =
 pub record IsFilling (all lists : List ClassSteps) (slots : List Slot) (made : List StepList) : Type 0 where
   pub goes_on : lists ++ filled slots made ≡ all
   pub count : length made ≡ twos_in slots
-
-pub filling_aside : (all lists lists' : List ClassSteps) (slots slots' : List Slot) (made : List StepList)
-    (list : ClassSteps) → slots ≡ Aside list ∷ slots' → lists' ≡ lists ++ list ∷ [] → IsFilling all lists slots made
-    → IsFilling all lists' slots' made
-filling_aside all lists lists' slots slots' made list e f was =
-    record {
-      goes_on =
-          ap (λ z. z ++ filled slots' made) f ∙ append_assoc lists (list ∷ []) (filled slots' made)
-          ∙ ap (λ z. lists ++ filled z made) (sym e) ∙ was.goes_on;
-      count = was.count ∙ ap twos_in e;
-    }
-
-pub filling_two : (all lists lists' : List ClassSteps) (slots slots' : List Slot) (made made' : List StepList)
-    (class : ℕ) (steps : StepList) → slots ≡ OfTwo class ∷ slots' → made ≡ steps ∷ made'
-    → lists' ≡ lists ++ of class steps ∷ []
-    → IsFilling all lists slots made → IsFilling all lists' slots' made'
-filling_two all lists lists' slots slots' made made' class steps e f g was =
-    record {
-      goes_on =
-          ap (λ z. z ++ filled slots' made') g ∙ append_assoc lists (of class steps ∷ []) (filled slots' made')
-          ∙ ap (λ z. lists ++ filled z (steps ∷ made')) (sym e) ∙ ap (λ z. lists ++ filled slots z) (sym f)
-          ∙ was.goes_on;
-      count = (
-          let n = was.count in let m = ap twos_in e in let k = ap length f in
-          omega (arith, n, m, k));
-    }

@@ -1,6 +1,6 @@
 -- A round: which lists go in twos, which are put aside, and where the values of the twos come.
-use Rattle.std.specs.Prelude.{◌≡◌, ◌+◌, ℕ, List, [], ◌∷◌, ℤ}
-use Rattle.merge_core.specs.Steps.{StepList, IsBoth, tally_at}
+use Rattle.std.specs.Prelude.{◌+◌, ℕ, List, [], ◌∷◌}
+use Rattle.merge_core.specs.Steps.{StepList, IsBoth}
 use Rattle.round_core.specs.declared.class_steps.ClassSteps.{ClassSteps}
 use Rattle.round_core.specs.declared.round.Slot.{Slot}
 use Rattle.round_core.specs.declared.round.Slot.TheVariants.{Aside, OfTwo}
@@ -37,15 +37,3 @@ AreBoths [] (o ∷ made) = ⊥
 AreBoths (a ∷ []) made = ⊥
 AreBoths (a ∷ (b ∷ twos)) [] = ⊥
 AreBoths (a ∷ (b ∷ twos)) (o ∷ made) = IsBoth a b o × AreBoths twos made
-
--- the same tally at each instant, and the same weight
-pub record IsAlike (one other : StepList) : Type 0 where
-  pub tallies : (t : ℤ) → tally_at other.steps t ≡ tally_at one.steps t
-  pub weight : other.weight ≡ one.weight
-
--- each list is alike to the one in its place
-abbrev pub AreAlike : List StepList → List StepList → Type 0
-AreAlike [] [] = Unit {0}
-AreAlike [] (o ∷ others) = ⊥
-AreAlike (l ∷ lists) [] = ⊥
-AreAlike (l ∷ lists) (o ∷ others) = IsAlike l o × AreAlike lists others

@@ -1,14 +1,15 @@
 -- Lists of steps in twos are numbered pairs: names and numbers go with one another.
-use Rattle.std.proofs.Common.{◌≡◌, ℕ, ◌+◌, ◌*◌, ◌-◌, ◌/◌, ◌%◌, ◌^◌, ◌<◌, ◌≤◌, Bool, true, false, ◌&&◌, Option, Some, None, refl, ap, ◌∙◌, arith}
+use Rattle.std.proofs.Common.{◌≡◌, ℕ, ◌+◌, ◌*◌, ◌-◌, ◌/◌, ◌%◌, ◌<◌, ◌≤◌, Bool, true, ◌&&◌, Option, Some, None, refl, ap, ◌∙◌, arith}
 use Rattle.std.specs.Prelude.{nat_lt, nat_eq, if◌then◌else◌}
 use Rattle.std.proofs.Props.{props}
-use Rattle.std.proofs.lemmas.Bool.Decides.{nat_tests}
+use Rattle.std.proofs.lemmas.Bool.{and_parts, eq-eqb, eqb-true, lt-ltb, ltb-true}
 use Rattle.std.proofs.lemmas.Option.{cond_some}
 use Rattle.dip_core.specs.Item.{item_limit}
 use Rattle.merge_core.specs.declared.tally.Tally.{Tally}
 use Rattle.merge_core.specs.Tallies.{both}
 use Rattle.merge_core.specs.Steps.{StepList, IsBoth, tally_at}
 use Rattle.work_core.specs.declared.name.PairName.{PairName}
+use Rattle.work_core.specs.Limits.{pair_limit}
 use Rattle.round_core.specs.Twos.{two_name, two_place}
 
 -- what stands under three tests that hold
@@ -16,30 +17,8 @@ three_tests : (a b c : Bool) (x : Option ℕ) → a ≡ true → b ≡ true → 
     → (if (a && b) && c then x else None) ≡ x
 three_tests a b c x p q r = rw (p, q, r) refl
 
--- what each test of numbers tells
-lt_test : (a b : ℕ) → a < b → nat_lt a b ≡ true
-lt_test a b h = grind (arith, nat_tests)
-
-from_lt : (a b : ℕ) → nat_lt a b ≡ true → a < b
-from_lt a b h = grind (arith, nat_tests)
-
-eq_test : (a b : ℕ) → a ≡ b → nat_eq a b ≡ true
-eq_test a b h = grind (arith, nat_tests)
-
-from_eq : (a b : ℕ) → nat_eq a b ≡ true → a ≡ b
-from_eq a b h = grind (arith, nat_tests)
-
--- of two tests that both hold each holds
-and_first : (a b : Bool) → a && b ≡ true → a ≡ true
-and_first true b e = refl
-and_first false b e = cc
-
-and_second : (a b : Bool) → a && b ≡ true → b ≡ true
-and_second true b e = e
-and_second false b e = cc
-
 -- there are no more pairs than a job may have
-pub few_twos : (n : ℕ) → n ≤ item_limit → n / 2 ≤ 2 ^ 40
+pub few_twos : (n : ℕ) → n ≤ item_limit → n / 2 ≤ pair_limit
 few_twos n h = omega arith
 
 -- a pair is found by its name
@@ -48,8 +27,8 @@ two_placed n i h =
     let half : (i * 2 + 1) / 2 ≡ i = omega arith in
     three_tests (nat_lt (i * 2 + 1) n) (nat_eq ((i * 2 + 1) % 2) 1) (nat_eq (i * 2) (i * 2 + 1 - 1))
     (Some ((i * 2 + 1) / 2))
-    (lt_test (i * 2 + 1) n (omega arith)) (eq_test ((i * 2 + 1) % 2) 1 (omega arith))
-    (eq_test (i * 2) (i * 2 + 1 - 1) (omega arith))
+    (lt-ltb (i * 2 + 1) n (omega arith)) (eq-eqb ((i * 2 + 1) % 2) 1 (omega arith))
+    (eq-eqb (i * 2) (i * 2 + 1 - 1) (omega arith))
     ∙ ap (λ (j : ℕ). Some j) half
 
 -- the numbers of a pair's name, by its number
@@ -67,11 +46,11 @@ pub two_named : (n : ℕ) (p : PairName) (i : ℕ) → two_place n p ≡ Some i 
 two_named n p i e =
     let t =
     cond_some ((nat_lt p.right n && nat_eq (p.right % 2) 1) && nat_eq p.left (p.right - 1)) (p.right / 2) i e in
-    let front = and_first (nat_lt p.right n && nat_eq (p.right % 2) 1) (nat_eq p.left (p.right - 1)) t.0 in
-    let last = and_second (nat_lt p.right n && nat_eq (p.right % 2) 1) (nat_eq p.left (p.right - 1)) t.0 in
-    let a = from_lt p.right n (and_first (nat_lt p.right n) (nat_eq (p.right % 2) 1) front) in
-    let b = from_eq (p.right % 2) 1 (and_second (nat_lt p.right n) (nat_eq (p.right % 2) 1) front) in
-    let c = from_eq p.left (p.right - 1) last in
+    let whole = and_parts (nat_lt p.right n && nat_eq (p.right % 2) 1) (nat_eq p.left (p.right - 1)) t.0 in
+    let front = and_parts (nat_lt p.right n) (nat_eq (p.right % 2) 1) whole.0 in
+    let a = ltb-true p.right n front.0 in
+    let b = eqb-true (p.right % 2) 1 front.1 in
+    let c = eqb-true p.left (p.right - 1) whole.1 in
     let l : i * 2 ≡ p.left = left_of p.left p.right i b c t.1 in
     let r : i * 2 + 1 ≡ p.right = right_of p.right i b t.1 in
     (within_half p.right n i a b t.1, λ k. record { left = l k; right = r k })

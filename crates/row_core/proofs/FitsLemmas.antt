@@ -1,14 +1,11 @@
 -- When values fit.
-use Rattle.std.proofs.Common.{◌≡◌, ◌≢◌, ℕ, ◌+◌, ◌<◌, List, [], ◌∷◌, Bool, true, false, ◌&&◌, length, drop, get_or, refl, arith, sym, ◌∙◌, ap}
+use Rattle.std.proofs.Common.{◌≡◌, ◌≢◌, ℕ, ◌+◌, ◌<◌, List, [], ◌∷◌, true, false, ◌&&◌, length, drop, get_or, refl, arith, sym, ◌∙◌, ap}
 use Rattle.std.proofs.lemmas.List.{drop_more}
+use Rattle.std.proofs.Math.Bool.{and-false}
 use Rattle.row_core.specs.declared.value.Value.{Value}
 use Rattle.row_core.specs.declared.schema.Column.{Column}
 use Rattle.row_core.specs.Schema.{fits}
 use Rattle.row_core.specs.Value.{same_kind, kind_of}
-
-and_false : (b : Bool) → (b && false) ≡ false
-and_false true = refl
-and_false false = refl
 
 -- values that are not as many as the columns do not fit
 pub fits-lengths : (cs : List Column) (vs : List Value) → length cs ≢ length vs → fits cs vs ≡ false
@@ -17,7 +14,7 @@ fits-lengths [] (v ∷ vs) h = refl
 fits-lengths (c ∷ cs) [] h = refl
 fits-lengths (c ∷ cs) (v ∷ vs) h =
     ap (λ b. same_kind c.kind (kind_of v) && b) (fits-lengths cs vs (λ e. h (omega (arith, e))))
-    ∙ and_false (same_kind c.kind (kind_of v))
+    ∙ and-false (same_kind c.kind (kind_of v))
 
 -- one column on
 fits-drop : (cs : List Column) (vs : List Value) (i : ℕ) (c : Column) (v : Value) → i < length cs → i < length vs

@@ -4,10 +4,11 @@ use Rattle.std.specs.Prelude.{bytes_eq, All, AllPairs, IsSome, count_by, is_some
 use Rattle.std.specs.Cmp.Lexicographic.{bytes_decides}
 use Rattle.std.specs.List.{AllByRecursion, filter_map, list_any, position_from, range_with_len}
 use Rattle.std.specs.Option.{option_eq}
-use Rattle.std.proofs.lemmas.Bool.{eq-eqb, ne_eqb}
+use Rattle.std.proofs.lemmas.Bool.{eq-eqb, ne_eqb, or_parts}
 use Rattle.std.proofs.lemmas.Iterator.Adapters.{position_from-zero}
 use Rattle.std.proofs.lemmas.List.{append-nil}
 use Rattle.std.proofs.lemmas.List.Recursion.{is_count_by, or_push}
+use Rattle.std.proofs.Math.Bool.{or-false, or-true}
 use Rattle.row_core.specs.Refusals.{first_of}
 use Rattle.row_core.specs.Schema.{IsSchema, column_of, columns_of, in_key, is_in_key, key_of, key_place, key_tests, keyed}
 use Rattle.row_core.specs.declared.schema.Column.{Column}
@@ -44,14 +45,6 @@ among-push : (names : List (List ℕ)) (last name : List ℕ)
 among-push names last name =
     or_push (list_any (λ other. bytes_eq other name)) (λ other. bytes_eq other name) refl (λ _ _. refl) names last
 
-or_false : (a : Bool) → (a || false) ≡ a
-or_false true = refl
-or_false false = refl
-
-or_true : (a : Bool) → (a || true) ≡ true
-or_true true = refl
-or_true false = refl
-
 one_after : (n : ℕ) → 1 + n ≡ n + 1
 one_after n = omega arith
 
@@ -64,11 +57,6 @@ differs a b h = by_test (bytes_eq a b) refl where
   by_test : (t : Bool) → bytes_eq a b ≡ t → t ≡ false
   by_test false e = refl
   by_test true e = absurd (h ((bytes_decides a b).0 e))
-
-or-false : (a b : Bool) → (a || b) ≡ false → (a ≡ false) × (b ≡ false)
-or-false true b h = absurd (cc)
-or-false false true h = absurd (cc)
-or-false false false h = (refl, refl)
 
 -- ---- what the tests of names leave
 
@@ -95,7 +83,7 @@ before-last : (others names : List (List ℕ)) (last : List ℕ)
     × AllByRecursion (λ name. bytes_eq last name ≡ false) names
 before-last others [] last h = (tt, tt)
 before-last others (name ∷ names) last h =
-    let both = or-false (among others name) (bytes_eq last name) (sym (among-push others last name) ∙ h.0) in
+    let both = or_parts (among others name) (bytes_eq last name) (sym (among-push others last name) ∙ h.0) in
     let rest = before-last others names last h.1 in
     ((both.0, rest.0), (both.1, rest.1))
 
@@ -142,7 +130,7 @@ module _ (others : List (List ℕ)) (name : List ℕ) where
       ap (λ b. cond b (1 + count_named (others ++ name ∷ []) cs) (count_named (others ++ name ∷ []) cs))
       (among-push others name c.name
       ∙ ap (λ b. among others c.name || b) (differs name c.name (h 0 c (omega arith)))
-      ∙ or_false (among others c.name))
+      ∙ or-false (among others c.name))
       ∙ ap (λ n. cond (among others c.name) (1 + n) n) (none-more cs (λ k d lt. h (suc k) d (omega arith)))
 
   -- one column has a new name that is a column's
@@ -165,7 +153,7 @@ module _ (others : List (List ℕ)) (name : List ℕ) where
           ap (λ b. cond b (1 + more) more)
           (among-push others name c.name
           ∙ ap (λ b. among others c.name || b) (same-flips name c.name ∙ e)
-          ∙ or_true (among others c.name))
+          ∙ or-true (among others c.name))
           ∙ ap (λ n. 1 + n) (none-more cs (λ k d lt. λ f. distinct 0 (suc k) d (omega arith) (omega arith) (same ∙ f)))
           ∙ one_after (count_named others cs)
           ∙ ap (λ b. cond b (1 + count_named others cs) (count_named others cs) + 1)
@@ -174,7 +162,7 @@ module _ (others : List (List ℕ)) (name : List ℕ) where
           ap (λ b. cond b (1 + more) more)
           (among-push others name c.name
           ∙ ap (λ b. among others c.name || b) (same-flips name c.name ∙ e)
-          ∙ or_false (among others c.name))
+          ∙ or-false (among others c.name))
           ∙ ap (λ n. cond (among others c.name) (1 + n) n)
           (rest (sym (ap (λ b. b || list_any (λ d. bytes_eq d.name name) cs) e) ∙ found))
           ∙ one_out (among others c.name) (count_named others cs)

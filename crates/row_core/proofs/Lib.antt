@@ -6,3 +6,4 @@ pub mod ReadingLemmas
 pub mod KeyLemmas
 pub mod SchemaLemmas
 pub mod RefusalLemmas
+pub mod ValueLemmas

@@ -1,7 +1,8 @@
 -- Columns of different names.
-use Rattle.std.proofs.Common.{◌≡◌, ◌≢◌, ℕ, ◌≤◌, List, [], ◌∷◌, Bool, true, false, ◌||◌, length, take, drop, get_or, suc, Some, None, sym, ap, ◌∙◌, ◌+◌, ◌<◌, ◌++◌, refl, arith}
+use Rattle.std.proofs.Common.{◌≡◌, ◌≢◌, ℕ, ◌≤◌, List, [], ◌∷◌, Bool, true, false, length, take, drop, get_or, suc, Some, None, sym, ap, ◌∙◌, ◌+◌, ◌<◌, ◌++◌, refl, arith}
 use Rattle.std.specs.List.{list_any}
 use Rattle.std.specs.Prelude.{bytes_eq, is_none, is_some, position}
+use Rattle.std.proofs.lemmas.Bool.{or_parts}
 use Rattle.std.proofs.lemmas.List.{drop_more, take_more}
 use Rattle.row_core.specs.Refusals.{first_of}
 use Rattle.row_core.specs.declared.schema.KeyRefused.{KeyRefused}
@@ -15,11 +16,6 @@ use Rattle.row_core.specs.declared.schema.Column.{Column}
 use Rattle.row_core.specs.declared.value.Kind.{Kind}
 use Rattle.row_core.proofs.KeyLemmas.{keyed-places, keyless}
 
-or-false : (a b : Bool) → (a || b) ≡ false → (a ≡ false) × (b ≡ false)
-or-false true b h = absurd (cc)
-or-false false true h = absurd (cc)
-or-false false false h = (refl, refl)
-
 named_other : (a b : List ℕ) → bytes_eq a b ≡ false → a ≢ b
 named_other a b h e = let same = (bytes_decides a b).1 e in absurd (cc)
 
@@ -28,7 +24,7 @@ others : (name : List ℕ) (pairs : List (List ℕ × Kind)) → list_any (λ ot
     → All (λ (other : Column). name ≢ other.name) (columns_of pairs)
 others name [] h = λ k d lt. absurd (omega arith)
 others name (pair ∷ pairs) h =
-    let both = or-false (bytes_eq name pair.0) (list_any (λ other. bytes_eq name other.0) pairs) h in
+    let both = or_parts (bytes_eq name pair.0) (list_any (λ other. bytes_eq name other.0) pairs) h in
     All-cons (λ (other : Column). name ≢ other.name) (record { name = pair.0; kind = pair.1; key = None })
     (columns_of pairs) (named_other name pair.0 both.0) (others name pairs both.1)
 
@@ -37,7 +33,7 @@ columns_of-distinct : (pairs : List (List ℕ × Kind)) → has_twins pairs ≡ 
     → AllPairs (λ (one other : Column). one.name ≢ other.name) (columns_of pairs)
 columns_of-distinct [] h = λ i j d lt end. absurd (omega arith)
 columns_of-distinct (pair ∷ pairs) h =
-    let both = or-false (list_any (λ other. bytes_eq pair.0 other.0) pairs) (has_twins pairs) h in
+    let both = or_parts (list_any (λ other. bytes_eq pair.0 other.0) pairs) (has_twins pairs) h in
     AllPairs-cons (λ (one other : Column). one.name ≢ other.name) (record { name = pair.0; kind = pair.1; key = None })
     (columns_of pairs) (others pair.0 pairs both.0) (columns_of-distinct pairs both.1)
 

@@ -6,4 +6,5 @@ pub mod Refusals
 pub mod Rows
 pub mod Schema
 pub mod Value
+pub mod ValueOrder
 pub mod Values

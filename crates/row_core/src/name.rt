@@ -1,3 +1,5 @@
+//! Names of tables and columns.
+
 ghost use Rattle.std.specs.Prelude.{◌≡◌, ◌&&◌, ◌≤◌, IsTrue, ◌==◌, bytes_eq, length, not, position};
 ghost use Rattle.std.specs.List.{list_all};
 ghost use Rattle.std.specs.Result.{result_ok};

@@ -1,3 +1,5 @@
+//! Numbers as they are printed.
+
 ghost use Rattle.std.specs.Prelude.{◌≡◌, ◌≢◌, ℤ, MatchResult, IsTrue};
 ghost use Rattle.std.specs.Result.{result_ok};
 ghost use Rattle.row_core.specs.Number.{is_number, is_plain, is_leading, number_of, number_text};

@@ -1,3 +1,5 @@
+//! Rows and values, read from a record's fields.
+
 ghost use Rattle.std.specs.Prelude.{◌≡◌, ◌≤◌, length, map, IfOk};
 ghost use Rattle.std.specs.Result.{result_err};
 ghost use Rattle.row_core.specs.Refusals.{IsAnswer, Reads};

@@ -1,3 +1,5 @@
+//! The columns of a table, and its key.
+
 ghost use Rattle.std.specs.Prelude.{
   bytes_eq,
   ◌≡◌,

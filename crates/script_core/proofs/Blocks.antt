@@ -1,8 +1,9 @@
 -- How the commands of a block are answered: those before its load, the load, and those behind it.
 use Rattle.std.proofs.Common.{◌≡◌, ◌⊎◌, ◌∙◌, ◌+◌, ◌-◌, ◌<◌, ◌≤◌, ℕ, suc, List, [], ◌∷◌, ◌++◌, Bool, Result, Ok, Err, ap, append_assoc, arith, cond, drop, false, inl, inr, length, refl, subst, sym, take, true}
 use Rattle.std.specs.Prelude.{All, codes, ◌||◌, if◌then◌else◌}
-use Rattle.std.proofs.lemmas.List.{append-nil, drop-drop, drop_all, length-append, length-drop, length-take, take_all}
+use Rattle.std.proofs.lemmas.List.{append-nil, drop-drop, drop_all, length-append, length-take}
 use Rattle.std.proofs.lemmas.List.Sums.{sum_by-append, sum_by-cons}
+use Rattle.list_core.proofs.PlaceLemmas.{All-seam}
 use Rattle.row_core.specs.Refusals.{map_ok}
 use Rattle.book_core.specs.History.{History}
 use Rattle.command_core.specs.Fields.{named}
@@ -23,6 +24,7 @@ use Rattle.script_core.specs.Answer.{AnswersEach, IsAnswerTo}
 use Rattle.script_core.specs.Failure.{Failure}
 use Rattle.script_core.specs.Performing.{AsksLoad, IsAnswerOf, Performs, PrintsBlock, PrintsOne, PrintsQueries, PrintsStatement}
 use Rattle.script_core.specs.declared.outcome.Outcome.{Outcome}
+use Rattle.script_core.proofs.TogetherExistence.{reads-allowed}
 
 -- ---- one command
 
@@ -35,24 +37,6 @@ performed-answer before number meant (Ok told) after given performs is =
 performed-answer before number meant (Err (Refused wrong)) after given performs is =
     subst (λ (g : Answer). IsAnswerTo before number meant g after) (sym is) performs
 performed-answer before number meant (Err NoMemory) after given performs is = absurd is
-
--- where no load is allowed, none is done
-pub allowed-unloading : (meant : Meaning) → is_allowed true meant ≡ true → is_load meant ≡ false
-allowed-unloading (meaning.Refuse wrong) allowed = refl
-allowed-unloading (meaning.Make name columns) allowed = refl
-allowed-unloading (meaning.Load name body) allowed = absurd (cc)
-allowed-unloading (meaning.Update name portion sets conds) allowed = refl
-allowed-unloading (meaning.Delete name portion conds) allowed = refl
-allowed-unloading (meaning.Rows name asof) allowed = refl
-allowed-unloading (meaning.At name point asof) allowed = refl
-allowed-unloading (meaning.Between name first last) allowed = refl
-allowed-unloading (meaning.FromTo name first end) allowed = refl
-allowed-unloading (meaning.Dip name asof) allowed = refl
-allowed-unloading (meaning.Join tables asof) allowed = refl
-allowed-unloading (meaning.Anti tables asof) allowed = refl
-allowed-unloading (meaning.Agg asked asof) allowed = refl
-allowed-unloading (meaning.Check name parts instant asof body) allowed = refl
-allowed-unloading meaning.Log allowed = refl
 
 -- an answer to the block's load, and that nothing changes where it is refused
 abbrev LoadAnswered : History → History → ℕ → Meaning → Answer → Type 0
@@ -202,31 +186,7 @@ QueriesDone before number records at old new told =
     (members : List Member) → AreMembers number records members
     → QueriesTo before number records at members old new told
 
--- none is answered at first
-pub queries-begun : (before : History) (number : ℕ) (records : List Record) (old : Unwritten) (told : Outcome)
-    → old.fields ≡ [] → told.commands ≡ 0 → told.errors ≡ 0 → QueriesDone before number records 0 old old told
-queries-begun before number records old told fresh commands errors members are =
-    let start : number ≡ number + 0 = omega arith in
-    let same : old ≡ record { text = old.text ++ []; fields = [] } =
-    whole old fresh ∙ ap (λ t. text_only t) (sym (append-nil old.text)) in
-    record {
-      gone = [];
-      left = members;
-      are = refl;
-      behind = subst (λ n. AreMembers n records members) start are;
-      printed = record { answers = []; each = λ after. refl; printed = same; commands = commands; errors = errors };
-    }
-  where
-    text_only : List ℕ → Unwritten
-    text_only t = record { text = t; fields = [] }
-
-    whole : (u : Unwritten) → u.fields ≡ [] → u ≡ text_only u.text
-    whole u e = ap (λ f. made u.text f) e
-      where
-        made : List ℕ → Record → Unwritten
-        made t f = record { text = t; fields = f }
-
--- one more is
+-- one more query is answered
 pub queries-more : (before : History) (number : ℕ) (records : List Record) (at taken : ℕ) (old mid new : Unwritten)
     (told next : Outcome) (meant : Meaning) (errors : ℕ) → QueriesDone before number records at old mid told
     → taken ≤ length (drop at records)
@@ -246,7 +206,7 @@ queries-more before number records at taken old mid new told next meant errors d
     ap (λ k. placed k meant) (sym n.numbered) ∙ ap (placed n.member.number) n.means in
     let placed_all : placed_in true (d.gone ++ n.member ∷ []) ≡ placed_in true d.gone ++ command ∷ [] =
     placed-more d.gone n.member in
-    let unloading : is_load meant ≡ false = allowed-unloading meant allowed in
+    let unloading : is_load meant ≡ false = reads-allowed meant allowed in
     record {
       gone = d.gone ++ n.member ∷ [];
       left = n.more;
@@ -304,12 +264,6 @@ printed-fields before placed old new told p = ap (λ (u : Unwritten). u.fields) 
 
 -- ---- the whole block
 
-at-place : (Is : Placed → Type 0) (front : List Placed) (command : Placed) (back : List Placed)
-    → All Is (front ++ command ∷ back) → Is command
-at-place Is [] command back all = all 0 command (omega arith)
-at-place Is (first ∷ front) command back all =
-    at-place Is front command back (λ k d l. all (suc k) d (omega arith))
-
 -- what another printer made comes behind what one printed
 appended : (old later new : Unwritten) (ys : List Record) → Adds nothing later ys
     → new ≡ record { text = old.text ++ later.text; fields = [] } → Adds old new ys
@@ -346,7 +300,7 @@ block-printed before after members front back load errors old mid near later new
             (one.answer, others.answers, refl, (one.answers.0, answered.0, one.answers.2), others.each after));
         unloaded = λ all.
             answered.1
-            (at-place (λ c. is_load c.meaning ≡ false) (placed_in true front) command (placed_in true back)
+            (All-seam (λ c. is_load c.meaning ≡ false) (placed_in true front) command (placed_in true back)
             (subst (All (λ c. is_load c.meaning ≡ false)) split all));
       };
       printed = Adds-trans old mid new ahead.answers tail ahead.printed
@@ -408,13 +362,6 @@ block-stated before number commands after old mid new counted next own is opened
     }
 
 -- ---- where the load stands
-
--- the records from a place on
-pub rest-is : (all rest : List Record) (size at : ℕ) → size ≡ length all → rest ≡ take (size - at) (drop at all)
-    → rest ≡ drop at all
-rest-is all rest size at count is =
-    let room : length (drop at all) ≤ size - at = omega (arith, length-drop at all, count) in
-    is ∙ take_all (size - at) (drop at all) room
 
 -- a block's members, cut at its first load, which takes so many records behind a place
 pub record IsCut (number : ℕ) (lines : List Record) (place taken : ℕ) (members : List Member) (meant : Meaning)

@@ -1,7 +1,7 @@
 -- What a snapshot gives, as a script tells it.
-use Rattle.std.proofs.Common.{◌≡◌, ℕ, ◌≤◌, List, [], ◌∷◌, Bool, true, false, Some, length, refl, arith}
+use Rattle.std.proofs.Common.{◌≡◌, ℕ, ◌≤◌, List, [], ◌∷◌, Bool, true, false, Some, length, refl}
 use Rattle.std.specs.Prelude.{is_none, nat_lt}
-use Rattle.std.proofs.lemmas.Bool.Decides.{nat_tests}
+use Rattle.std.proofs.lemmas.Bool.{le-ltb}
 use Rattle.row_core.specs.Refusals.{first_of, map_err, refused_or}
 use Rattle.book_core.specs.History.{History, rows_at, state_after}
 use Rattle.book_core.specs.State.{table_of}
@@ -19,13 +19,10 @@ present : {T : Type 0} (number : ℕ) (late gone : Bool) (rows : T) → late ≡
 present number late true rows e = rw e refl
 present number late false rows e = rw e refl
 
-not-late : (n m : ℕ) → n ≤ m → nat_lt m n ≡ false
-not-late n m h = grind (arith, nat_tests)
-
 -- the rows that a snapshot gives are those of the commit that it shows
 pub rows-told : (number : ℕ) (h : History) (n : ℕ) (name : List ℕ) → n ≤ length h
     → rows_told number h (Some n) name
     ≡ map_err (λ refused. fault number (table_refusal refused)) (rows_of_snapshot h n name)
 rows-told number h n name within =
     present number (nat_lt (length h) n) (is_none (table_of (state_after h) name)) (rows_at h n name)
-    (not-late n (length h) within)
+    (le-ltb (length h) n within)

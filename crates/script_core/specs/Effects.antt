@@ -81,6 +81,7 @@ abbrev pub value_in : List ℕ → List ℕ → Option Kind → Result Pair Refu
 value_in name text None = Err NoColumn
 value_in name text (Some kind) = map_ok (λ value. (name, value)) (map_err value_refusal (value_of kind text))
 
+-- a pair's value, in the table's columns
 abbrev pub pair_read : List Column → TextPair → Result Pair Refusal
 pair_read columns pair = value_in pair.0 pair.1 (kind_in columns pair.0)
 

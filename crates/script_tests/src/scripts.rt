@@ -53,8 +53,14 @@ fn counts_commands_and_refusals(rt: HostRuntime) -> Result<(), Fail> {
     check(
         &rt,
         &Case {
-            script: b"end\nselect,t\n\xff\ntable\ntable,t,u\ntable,asof\ntable,1a\ntable,t\ntable,t\ndip,u\ndip\ndip,t,u\n",
-            answers: b"error,1,BadCommand\nerror,2,BadCommand\nerror,3,BadCommand\nerror,4,BadCommand\nerror,5,BadCommand\nerror,6,BadName\nerror,7,BadName\nok,1\nerror,9,TableExists\nerror,10,NoTable\nerror,11,BadCommand\nerror,12,BadCommand\n",
+            script: b"\
+                end\nselect,t\n\xff\ntable\ntable,t,u\ntable,asof\ntable,1a\ntable,t\ntable,t\n\
+                dip,u\ndip\ndip,t,u\n",
+            answers: b"\
+                error,1,BadCommand\nerror,2,BadCommand\nerror,3,BadCommand\nerror,4,BadCommand\n\
+                error,5,BadCommand\nerror,6,BadName\nerror,7,BadName\nok,1\n\
+                error,9,TableExists\nerror,10,NoTable\nerror,11,BadCommand\n\
+                error,12,BadCommand\n",
             commands: 12,
             errors: 11,
         },
@@ -62,8 +68,15 @@ fn counts_commands_and_refusals(rt: HostRuntime) -> Result<(), Fail> {
     check(
         &rt,
         &Case {
-            script: b"table,t\nload,t\nrow,2024-01-01\nend\nload,t\nrow,2023-02-29,2024-01-01\nend\nload,t\nrow,2024-01-01,2024-1-02\nend\nload,t\nrow,2024-01-01,2024-01-02\nrow,2024-01-03,2024-01-03\nend\nload,t\npart,1\nend\nload,u\nrow\nend\nload,t,x\nend\nload,t\nend\ndip,t\nload,t\nrow,2024-01-01,2024-01-02\n",
-            answers: b"ok,1\nerror,3,WrongWidth\nerror,6,BadPoint\nerror,9,BadPoint\nerror,13,BadPeriod\nerror,16,BadCommand\nerror,18,NoTable\nerror,21,BadCommand\nok,2\ndip,0,0,-\nerror,26,Unended\n",
+            script: b"\
+                table,t\nload,t\nrow,2024-01-01\nend\nload,t\nrow,2023-02-29,2024-01-01\nend\n\
+                load,t\nrow,2024-01-01,2024-1-02\nend\nload,t\nrow,2024-01-01,2024-01-02\n\
+                row,2024-01-03,2024-01-03\nend\nload,t\npart,1\nend\nload,u\nrow\nend\n\
+                load,t,x\nend\nload,t\nend\ndip,t\nload,t\nrow,2024-01-01,2024-01-02\n",
+            answers: b"\
+                ok,1\nerror,3,WrongWidth\nerror,6,BadPoint\nerror,9,BadPoint\n\
+                error,13,BadPeriod\nerror,16,BadCommand\nerror,18,NoTable\nerror,21,BadCommand\n\
+                ok,2\ndip,0,0,-\nerror,26,Unended\n",
             commands: 11,
             errors: 8,
         },

@@ -1,9 +1,9 @@
 -- A store with one pass: all changes are its own, and each call is one of a book that no other caller changes.
-use Rattle.std.proofs.Common.{◌≡◌, ℕ, suc, ◌<◌, [], ◌∷◌, ◌++◌, Bool, cond, Ok, Err, None, Some, drop, get_or, length, refl, sym, ap, subst, ◌∙◌, append-nil, arith, eq-eqb}
+use Rattle.std.proofs.Common.{◌≡◌, ℕ, suc, [], ◌∷◌, ◌++◌, Bool, cond, Ok, Err, None, Some, refl, sym, ap, subst, ◌∙◌, append-nil, arith, eq-eqb}
+use Rattle.std.proofs.lemmas.List.{same_from_push}
 use Rattle.row_core.specs.declared.failure.Failure.TheVariants.{Refused}
 use Rattle.version_core.specs.declared.change.Change.{Change}
 use Rattle.book_core.specs.History.{History}
-use Rattle.book_core.specs.declared.commit.Commit.{Commit}
 use Rattle.book_core.specs.declared.refusal.BookRefused.{BookRefused}
 use Rattle.turn_core.specs.Entries.{own, AreOfCallers}
 use Rattle.store_core.specs.Histories.{by_of, commit, CommitsTo, refusal_after}
@@ -30,21 +30,6 @@ own-alone pass one =
           ∙ (ap (λ (k : ℕ). own by_of k (seen pass)) (sym (pass.seat.source some ∙ number)) ∙ pass.seat.own),
     )
 
--- a list with one more is not empty
-some-more : (xs : History) (c : Commit) → 0 < length (xs ++ c ∷ [])
-some-more [] c = omega arith
-some-more (x ∷ xs) c = omega arith
-
-front-same : (xs ys : History) (c d : Commit) → xs ++ c ∷ [] ≡ ys ++ d ∷ [] → xs ≡ ys
-front-same [] [] c d e = refl
-front-same [] (y ∷ ys) c d e =
-    absurd (let n = ap length (ap (λ (l : History). drop 1 l) e) in omega (arith, n, some-more ys d))
-front-same (x ∷ xs) [] c d e =
-    absurd (let n = ap length (ap (λ (l : History). drop 1 l) e) in omega (arith, n, some-more xs c))
-front-same (x ∷ xs) (y ∷ ys) c d e =
-    ap (λ (z : Commit). z ∷ xs) (ap (λ (l : History). get_or l 0 x) e)
-    ∙ ap (λ (l : History). y ∷ l) (front-same xs ys c d (ap (λ (l : History). drop 1 l) e))
-
 module _ (p q : Pass) (one : passes_of p ≡ 1) where
   -- it has no other pass beside it after a call either
   pub stays-alone : (added : History) → Counts p q added → passes_of q ≡ 1
@@ -68,7 +53,8 @@ module _ (p q : Pass) (one : passes_of p ≡ 1) where
       let grown : seen q ≡ seen p ++ c ∷ [] =
       grows-alone (commit (pass_number p) change ∷ []) counts
       ∙ ap (λ (k : ℕ). seen p ++ commit k change ∷ []) (own-alone p one).0 in
-      let same : before ≡ seen p = front-same before (seen p) (commit (pass_number p) change) c (sym is ∙ grown) in
+      let same : before ≡ seen p =
+      (same_from_push before (seen p) (commit (pass_number p) change) c (sym is ∙ grown)).0 in
       (subst (λ (h : History). refusal_after h change ≡ None) same accepted, grown, number)
 
   -- and refused so

@@ -1,3 +1,2 @@
 pub mod Alone
-mod Opened
 mod Refusing

@@ -58,5 +58,6 @@ module _ {T : Type 0} where
   none-prop : (o : Option T) → IsProp (o ≡ None)
   none-prop o p q = sym (round o p) ∙ ap (no_value o) (IsNo-prop o (is_no o p) (is_no o q)) ∙ round o q
 
+-- that a history is legal is not so in two ways
 pub IsLegal-prop : (h : History) → IsProp (IsLegal h)
 IsLegal-prop h = Π_prop (λ n. Π_prop (λ c. →_prop (none-prop (refusal_of n (state_after (take n h)) c.change))))

@@ -10,6 +10,10 @@ use Rattle.stream_core.specs.declared.fault.RunFault.TheVariants.{ReadFault, Too
 abbrev pub script_limit : ℕ
 script_limit = 67_108_864
 
+-- the most failed calls of a run that are tried again
+abbrev pub retry_limit : ℕ
+retry_limit = 1_000
+
 -- more bytes than a script may have were read
 abbrev pub HasReadTooMuch : Source → Source → Type 0
 HasReadTooMuch before after =

@@ -1,6 +1,8 @@
 //! How many more interruptions a run takes.
+
 ghost use Rattle.std.specs.Prelude.{◌≡◌, ◌+◌, ◌≤◌, nat_lt};
 ghost use Rattle.std.specs.Bool.{OnTrue};
+ghost use Rattle.stream_core.specs.Faults.{retry_limit};
 
 /// The most reads and writes of a run that are tried again.
 const RETRIES: u32 = 1_000;
@@ -15,7 +17,7 @@ pub struct Patience {
 impl Patience {
     /// The patience of a whole run: 1,000 tries.
     pub fn new() -> Self
-        ensures { result.left ≡ 1_000 }
+        ensures { result.left ≡ retry_limit }
     {
         Patience { left: RETRIES }
     }

@@ -1,5 +1,6 @@
 -- Fronts of lists, and the entries of one caller.
 use Rattle.std.proofs.Common.{◌≡◌, ◌≢◌, ℕ, zero, suc, ◌==◌, ◌<◌, ◌≤◌, ◌⊎◌, inl, inr, List, [], ◌∷◌, ◌++◌, All, length, sym, refl, ap, ◌∙◌, subst, arith, eq-eqb, ne_eqb, ⊎_elim, cond, Bool, append-nil, append_assoc, length-append, drop, get_or}
+use Rattle.std.proofs.lemmas.List.{nil_from_length}
 use Rattle.std.proofs.lemmas.List.Elements.{filter-append, All-push}
 use mathlib.Core.Option.{some, some-injective, some-ne-none}
 use mathlib.Core.List.{IsPrefix}
@@ -51,10 +52,6 @@ longer-one {A} (x ∷ xs) (y ∷ ys) (t, e) =
     ⊎_elim (λ (h : longer xs ys ≡ xs). inl (ap (λ (l : List A). x ∷ l) h))
     (λ (h : longer xs ys ≡ ys). inr (λ i. head i ∷ h i)) (longer-one xs ys (t, ap (drop 1) e))
 
-none-of-length : {A : Type 0} (l : List A) → length l ≡ 0 → l ≡ []
-none-of-length [] e = refl
-none-of-length (x ∷ xs) e = absurd (omega arith)
-
 module _ {E : Type 0} (by : E → ℕ) where
   -- a list between two with the same entries of a caller has those entries too
   pub own-between : (p : ℕ) (xs ys zs : List E) → IsPrefix xs ys → IsPrefix ys zs → own by p xs ≡ own by p zs
@@ -67,7 +64,7 @@ module _ {E : Type 0} (by : E → ℕ) where
       let a = ap length first ∙ length-append (own by p xs) (own by p t) in
       let b = ap length second ∙ length-append (own by p ys) (own by p u) in
       let c = ap length same in
-      first ∙ (ap (λ l. own by p xs ++ l) (none-of-length (own by p t) (omega arith)) ∙ append-nil (own by p xs))
+      first ∙ (ap (λ l. own by p xs ++ l) (nil_from_length (own by p t) (omega arith)) ∙ append-nil (own by p xs))
 
   own-one : (p : ℕ) (e : E) → by e ≡ p → own by p (e ∷ []) ≡ e ∷ []
   own-one p e h = ap (λ (b : Bool). cond b (e ∷ []) []) (eq-eqb (by e) p h)

@@ -5,7 +5,9 @@ use Rattle.std.specs.List.{AllByRecursion, list_any, range_with_len}
 use Rattle.std.proofs.lemmas.List.{append-nil, length-map, map-append, take_at}
 use Rattle.std.proofs.lemmas.List.Elements.{filter-append, filter_agree, All-append, All-filter, All-from_recursion, All-weaker, recursion_from_All}
 use Rattle.std.proofs.lemmas.List.Sums.{count_by-le-length, length-filter}
-use Rattle.std.proofs.lemmas.Option.{slice_get-get_or}
+use Rattle.std.proofs.lemmas.Option.{slice_get-get_or, slice_get-map}
+use Rattle.std.proofs.Math.Bool.{and-true}
+use Rattle.list_core.proofs.PlaceLemmas.{slice_get-before, slice_get-seam}
 use Rattle.row_core.specs.declared.draft.Draft.{Draft}
 use Rattle.row_core.specs.declared.row.Row.{Row}
 use Rattle.row_core.specs.declared.schema.Column.{Column}
@@ -63,27 +65,15 @@ passes-and vs p q place =
       | None ↦ refl
     ]
 
-slice_get-mapped : (f : Version → Version) (vs : List Version) (place : ℕ)
-    → slice_get (map f vs) place ≡ option_map f (slice_get vs place)
-slice_get-mapped f [] place = refl
-slice_get-mapped f (v ∷ vs) zero = refl
-slice_get-mapped f (v ∷ vs) (suc place) = slice_get-mapped f vs place
-
 passes-mapped : (f : Version → Version) (vs : List Version) (p q : Version → Bool) → ((v : Version) → p (f v) ≡ q v)
     → (place : ℕ) → passes (map f vs) p place ≡ passes vs q place
 passes-mapped f vs p q same place =
-    ap (λ o. unwrap_or (option_map p o) false) (slice_get-mapped f vs place)
+    ap (λ o. unwrap_or (option_map p o) false) (slice_get-map f vs place)
     ∙ (elim (slice_get vs place) as
     (λ o. unwrap_or (option_map p (option_map f o)) false ≡ unwrap_or (option_map q o) false) [
       | Some v ↦ same v
       | None ↦ refl
     ])
-
-slice_get-before : (vs us : List Version) (place : ℕ) → place < length vs
-    → slice_get (vs ++ us) place ≡ slice_get vs place
-slice_get-before [] us place h = absurd (omega arith)
-slice_get-before (v ∷ vs) us zero h = refl
-slice_get-before (v ∷ vs) us (suc place) h = slice_get-before vs us place (omega arith)
 
 passes-before : (vs us : List Version) (p : Version → Bool) (places : List ℕ) → All (λ place. place < length vs) places
     → filter (passes (vs ++ us) p) places ≡ filter (passes vs p) places
@@ -120,12 +110,8 @@ filter-listed vs test p places h =
 
 -- what a change takes
 
-pub and_true : (o : Bool) → (o && true) ≡ o
-and_true true = refl
-and_true false = refl
-
 narrowed : (o t r : Bool) → (r ≡ true → t ≡ true) → ((o && t) && r) ≡ (o && r)
-narrowed o true r h = ap (λ b. b && r) (and_true o)
+narrowed o true r h = ap (λ b. b && r) (and-true o)
 narrowed o false true h = absurd (let e = h refl in cc)
 narrowed true false false h = refl
 narrowed false false false h = refl
@@ -226,7 +212,8 @@ open_closed n goes v = after v.systo (goes v.row)
     after None false = refl
     after (Some t) b = refl
 
-row_closed : (n : ℕ) (goes : Row → Bool) (v : Version) → (closed n goes v).row ≡ v.row
+-- a version that is closed keeps its row
+pub row_closed : (n : ℕ) (goes : Row → Bool) (v : Version) → (closed n goes v).row ≡ v.row
 row_closed n goes v =
     elim (is_open v && goes v.row) as
     (λ b. (cond {A = Version} b (record { row = v.row; sysfrom = v.sysfrom; systo = Some n })
@@ -274,10 +261,6 @@ listed-append vs us test places more h e =
     ∙ ap (λ l. places_from (λ v. is_open v && test v.row) 0 vs ++ l) e
     ∙ sym (places_from-append (λ v. is_open v && test v.row) 0 vs us)
 
-slice_get-next : (vs us : List Version) (v : Version) → slice_get (vs ++ v ∷ us) (length vs) ≡ Some v
-slice_get-next [] us v = refl
-slice_get-next (w ∷ vs) us v = slice_get-next vs us v
-
 -- one that is not listed
 pub ListsOpen-skipped : (vs : List Version) (v : Version) (test : Row → Bool) (places : List ℕ)
     → (is_open v && test v.row) ≡ false → ListsOpen vs test places → ListsOpen (vs ++ v ∷ []) test places
@@ -301,7 +284,7 @@ ListsOpen-pushed vs v test places place at opened tested h =
       few = omega (arith, h.few, grown, length-append places (place ∷ []));
       exact = listed-append vs (v ∷ []) test places (place ∷ []) h
           (ap (λ p. filter (passes (vs ++ v ∷ []) is_open) (p ∷ [])) at
-          ∙ ap (λ o. cond (unwrap_or (option_map is_open o) false) (length vs ∷ []) []) (slice_get-next vs [] v)
+          ∙ ap (λ o. cond (unwrap_or (option_map is_open o) false) (length vs ∷ []) []) (slice_get-seam vs v [])
           ∙ ap (λ b. cond b (length vs ∷ []) []) (opened ∙ sym (ap (λ b. b && test v.row) opened ∙ tested))
           ∙ ap (λ p. cond (is_open v && test v.row) (p ∷ []) []) (omega arith));
     }
@@ -363,7 +346,7 @@ pub parts-listed : (c : Change) (schema : List Column) (vs : List Version) (plac
     → ListsOpen vs any_row places → length (parts_in c schema (current vs)) ≤ 3 * length places
 parts-listed c schema vs places h =
     let same = ap length
-    (h.exact ∙ places_from-agree (λ v. is_open v && true) is_open (λ v. and_true (is_open v)) 0 vs) in
+    (h.exact ∙ places_from-agree (λ v. is_open v && true) is_open (λ v. and-true (is_open v)) 0 vs) in
     omega (arith, same, length-open 0 vs, parts-few c schema (current vs), length-filter-le (passes vs is_open) places)
 
 -- the versions after it, as they are written

@@ -2,22 +2,23 @@
 use Rattle.std.proofs.Common.{◌≡◌, ℕ, ℤ, ◌+◌, ◌*◌, ◌%◌, ◌<◌, ◌==◌, List, [], ◌∷◌, ◌++◌, Bool, true, false, ◌&&◌, ◌||◌, cond, Option, Some, None, ◌⊎◌, length, map, take, get_or, set, refl, ap, sym, ◌∙◌, arith, inl, inr}
 use Rattle.std.specs.Prelude.{slice_get, filter, position, unwrap_or, option_map, option_and_then, fold, unsigned_abs, All, IfSome, is_some}
 use Rattle.std.specs.List.{list_all}
-use Rattle.std.proofs.lemmas.Bool.{and_parts, cases_eq}
-use Rattle.std.proofs.lemmas.Bool.Decides.{Decides-int_eq, eqb_tells}
+use Rattle.std.proofs.lemmas.Bool.{and_parts, cases_eq, and_right, eq-eqb, eqb-true, ne_eqb}
+use Rattle.std.proofs.lemmas.Bool.Decides.{eqb_tells}
 use Rattle.std.proofs.lemmas.List.{get_or_default, get_or-set_other, get_or-set_same, length-set, length-take-le, take_more}
 use Rattle.std.proofs.lemmas.List.Elements.{All-get_or, All-weaker}
 use Rattle.std.proofs.lemmas.List.Quantifiers.{position-Some}
 use Rattle.std.proofs.lemmas.List.Recursion.{and_at}
 use Rattle.std.proofs.lemmas.List.Sums.{fold-append}
-use Rattle.std.proofs.lemmas.Slice.Eq.{bytes_eq-Decides}
 use Rattle.period_core.specs.Period.{meet}
 use Rattle.row_core.specs.Schema.{column_of}
+use Rattle.row_core.specs.ValueOrder.{same_maybe, same_value}
 use Rattle.row_core.specs.declared.draft.Draft.{Draft}
 use Rattle.row_core.specs.declared.row.Row.{Row}
 use Rattle.row_core.specs.declared.schema.Column.{Column}
 use Rattle.row_core.specs.declared.value.Value.{Value}
 use Rattle.row_core.specs.declared.value.Value.TheVariants.{Int, Text}
-use Rattle.key_core.specs.Keys.{same_key, same_maybe, same_value}
+use Rattle.row_core.proofs.ValueLemmas.{same_value_is}
+use Rattle.key_core.specs.Keys.{same_key}
 use Rattle.version_core.specs.Keys.{AreNear, is_column_of}
 use Rattle.version_core.specs.Finding.{AreCandidates, AreFound, IsIndex, IsLookupOf, ListsOpen, any_row, bucket_in, bucket_of, bucket_of_bytes, falls_into, passes}
 use Rattle.version_core.specs.OpenVersions.{closed, is_open}
@@ -38,12 +39,6 @@ record Falls (opened : Bool) (value : Option Value) (bucket : ℕ) : Type 0 wher
   nowhere_else : (k : ℕ) → (k ≡ bucket → ⊥)
       → unwrap_or (option_map (λ (v : Value). bucket_of v == k) value) false ≡ false
 
-equal_here : (a b : ℕ) → a ≡ b → (a == b) ≡ true
-equal_here a b e = elim (eqb_tells a b) [ inl are ↦ are.0 | inr other ↦ absurd (other.1 e) ]
-
-unequal_here : (a b : ℕ) → (a ≡ b → ⊥) → (a == b) ≡ false
-unequal_here a b ne = elim (eqb_tells a b) [ inl are ↦ absurd (ne are.1) | inr other ↦ other.0 ]
-
 falls : (opened : Bool) (value : Option Value) (bucket : ℕ)
     → cond opened (option_map bucket_of value) None ≡ Some bucket → Falls opened value bucket
 falls false value bucket e = absurd (cc)
@@ -52,8 +47,8 @@ falls true (Some v) bucket e =
     let same : bucket_of v ≡ bucket = cc in
     record {
       opened_is = refl;
-      here = equal_here (bucket_of v) bucket same;
-      nowhere_else = λ k ne. unequal_here (bucket_of v) k (λ at. ne (sym at ∙ same));
+      here = eq-eqb (bucket_of v) bucket same;
+      nowhere_else = λ k ne. ne_eqb (bucket_of v) k (λ at. ne (sym at ∙ same));
     }
 
 falls_not : (opened : Bool) (value : Option Value) (k : ℕ) → cond opened (option_map bucket_of value) None ≡ None
@@ -61,10 +56,6 @@ falls_not : (opened : Bool) (value : Option Value) (k : ℕ) → cond opened (op
 falls_not false value k e = refl
 falls_not true None k e = refl
 falls_not true (Some v) k e = absurd (cc)
-
-and_false : (b c : Bool) → c ≡ false → (b && c) ≡ false
-and_false true c e = e
-and_false false c e = refl
 
 -- one version more
 
@@ -95,7 +86,7 @@ pushed vs v column bucket place buckets at inside e k h =
       | inr other ↦
           rw (get_or-set_other buckets bucket k (get_or buckets bucket [] ++ place ∷ []) [] other)
           (ListsOpen-skipped vs v (falls_into column k) (get_or buckets k [])
-          (and_false (is_open v) (falls_into column k v.row) (f.nowhere_else k other)) h)
+          (and_right (is_open v) (falls_into column k v.row) (f.nowhere_else k other)) h)
     ]
 
 pub index-pushed : (vs : List Version) (i : ℕ) (v : Version) (old new : Index) (bucket : ℕ) → i < length vs
@@ -161,16 +152,10 @@ index-closed n goes vs index h = record {
 
 -- what a change looks at
 
-one_value : (x y : Value) → same_value x y ≡ true → x ≡ y
-one_value (Int a) (Int b) e = ap Int ((Decides-int_eq a b).0 e)
-one_value (Text a) (Text b) e = ap Text ((bytes_eq-Decides a b).0 e)
-one_value (Int a) (Text b) e = absurd (cc)
-one_value (Text a) (Int b) e = absurd (cc)
-
 falls_where_equal : (x : Value) (o : Option Value) → unwrap_or (option_map (same_value x) o) false ≡ true
     → unwrap_or (option_map (λ (v : Value). bucket_of v == bucket_of x) o) false ≡ true
 falls_where_equal x None e = absurd (cc)
-falls_where_equal x (Some y) e = equal_here (bucket_of y) (bucket_of x) (ap bucket_of (sym (one_value x y e)))
+falls_where_equal x (Some y) e = eq-eqb (bucket_of y) (bucket_of x) (ap bucket_of (sym (same_value_is x y e)))
 
 -- rows that meet a condition fall into its bucket
 pub lookup-covers : (schema : List Column) (pair : Pair) (column bucket : ℕ) (row : Row)
@@ -218,16 +203,13 @@ candidates-bucket c schema vs places read indexes lookup i index h found e r sma
     let is = h.by_value i index at.0 in
     let whole = is.whole in
     let named : (get_or indexes i index).column ≡ lookup.column =
-    column_is (get_or indexes i index).column lookup.column at.1 in
+    eqb-true (get_or indexes i index).column lookup.column at.1 in
     let here : get_or (get_or indexes i index).buckets.items lookup.bucket [] ≡ read =
     get_or_default (get_or indexes i index).buckets.items lookup.bucket [] read (omega (arith, whole, small))
     ∙ sym r in
     candidates-listed c schema vs (falls_into (get_or indexes i index).column lookup.bucket) read
     (rw here at (is.each lookup.bucket small))
     (λ row goes. ap (λ column. falls_into column lookup.bucket row) named ∙ covers row goes)
-  where
-    column_is : (a b : ℕ) → (a == b) ≡ true → a ≡ b
-    column_is a b e = elim (eqb_tells a b) [ inl are ↦ are.1 | inr other ↦ absurd (let no_more = other.0 in cc) ]
 
 -- an index that is read and written
 
@@ -284,7 +266,7 @@ key-at (first ∷ rest) a b column same in_key =
 falls-where_same : (o : Option Value) (y : Value) → same_maybe o (Some y) ≡ true
     → unwrap_or (option_map (λ (v : Value). bucket_of v == bucket_of y) o) false ≡ true
 falls-where_same None y e = absurd (cc)
-falls-where_same (Some x) y e = equal_here (bucket_of x) (bucket_of y) (ap bucket_of (one_value x y e))
+falls-where_same (Some x) y e = eq-eqb (bucket_of x) (bucket_of y) (ap bucket_of (same_value_is x y e))
 
 pub near-bucket : (vs : List Version) (index : Index) (key : List ℕ) (other : Draft) (value : Value) (places : List ℕ)
     → IsIndex vs index → is_column_of key index.column ≡ true → slice_get other.values index.column ≡ Some value

@@ -5,6 +5,7 @@ use Rattle.std.specs.List.{cons_option, list_any}
 use Rattle.std.proofs.lemmas.List.{map-append}
 use Rattle.std.proofs.lemmas.List.Elements.{filter_map-append}
 use Rattle.std.proofs.lemmas.Option.{slice_get-get_or}
+use Rattle.std.proofs.Math.Bool.{and-true}
 use Rattle.row_core.specs.declared.draft.Draft.{Draft}
 use Rattle.row_core.specs.declared.row.Row.{Row}
 use Rattle.row_core.specs.declared.schema.Column.{Column}
@@ -20,7 +21,7 @@ use Rattle.version_core.specs.OpenVersions.{current, is_open}
 use Rattle.version_core.specs.Rows.{numbered, removes, unnumbered}
 use Rattle.version_core.specs.declared.change.Change.{Change}
 use Rattle.version_core.specs.declared.version.Version.{Version}
-use Rattle.version_core.proofs.FindingLemmas.{and_true, filter-listed, places_from-agree}
+use Rattle.version_core.proofs.FindingLemmas.{filter-listed, places_from-agree}
 use Rattle.version_core.proofs.OpenLemmas.{filter-more, picked, picked-places_from}
 
 pub drafts-made : (n used : ℕ) (ds : List Draft) → map draft_of (made n (numbered used ds)) ≡ ds
@@ -96,7 +97,7 @@ pub left-listed : (c : Change) (schema : List Column) (vs : List Version) (place
 left-listed c schema vs places h =
     ap (drafts_at vs) (filter-listed vs any_row (λ v. not (removes c schema v.row)) places h
     ∙ places_from-agree (λ v. (is_open v && true) && not (removes c schema v.row)) (is_left c schema)
-    (λ v. ap (λ b. b && not (removes c schema v.row)) (and_true (is_open v))) 0 vs)
+    (λ v. ap (λ b. b && not (removes c schema v.row)) (and-true (is_open v))) 0 vs)
     ∙ ap (map draft_of) (picked-places_from (is_left c schema) vs)
     ∙ left-current c schema vs
 

@@ -1,20 +1,12 @@
--- What counts add up to, what an option has, and what is written through a slice of all.
-use Rattle.std.proofs.Common.{◌≡◌, ℕ, ◌+◌, ◌≤◌, List, [], ◌∷◌, ◌++◌, length, Bool, cond, Option, Some, None, refl, ap, ◌∙◌, subst, arith, take, drop}
-use Rattle.std.specs.Prelude.{IfSome, count_by}
+-- What an option has, and what is written through a slice of all.
+use Rattle.std.proofs.Common.{◌≡◌, ℕ, ◌+◌, ◌≤◌, List, [], ◌∷◌, ◌++◌, length, Option, Some, None, refl, ap, ◌∙◌, subst, arith, take, drop}
+use Rattle.std.specs.Prelude.{IfSome}
 use Rattle.std.proofs.lemmas.List.{take_all, append-nil}
-use Rattle.std.proofs.lemmas.List.Sums.{sum_by-append, sum_by-cons}
 use Rattle.version_core.specs.declared.version.Version.{Version}
 
 pub at_some : {X : Type 0} (P : X → Type 0) (o : Option X) (x : X) → o ≡ Some x → IfSome o P → P x
 at_some P None x e h = absurd (cc)
 at_some P (Some y) x e h = let same : y ≡ x = cc in subst P same h
-
-pub count-cons : {X : Type 0} (p : X → Bool) (x : X) (xs : List X)
-    → count_by p (x ∷ xs) ≡ cond (p x) 1 0 + count_by p xs
-count-cons p x xs = sum_by-cons (λ x. cond (p x) 1 0) x xs
-
-pub count-append : {X : Type 0} (p : X → Bool) (xs ys : List X) → count_by p (xs ++ ys) ≡ count_by p xs + count_by p ys
-count-append p xs ys = sum_by-append (λ x. cond (p x) 1 0) xs ys
 
 drop_whole : (vs : List Version) → drop (length vs) vs ≡ []
 drop_whole [] = refl

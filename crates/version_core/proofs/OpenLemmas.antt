@@ -2,13 +2,15 @@
 use Rattle.std.proofs.Common.{◌≡◌, ℕ, ◌+◌, ◌*◌, ◌<◌, ◌≤◌, List, [], ◌∷◌, ◌++◌, Bool, true, false, ◌&&◌, cond, Option, Some, None, length, map, take, get_or, set, zero, suc, add-one, refl, ap, sym, ◌∙◌, arith, append_assoc, length-append}
 use Rattle.std.specs.Prelude.{slice_get, slice_set, filter, fold, count_by, unwrap_or, option_map, is_some, flat_map, All}
 use Rattle.std.specs.List.{filter_map, cons_option, AllByRecursion, range_with_len}
-use Rattle.std.proofs.lemmas.List.{append-nil, length-map, take_more}
+use Rattle.std.proofs.lemmas.List.{append-nil, length-map, take_more, length_push}
 use Rattle.std.proofs.lemmas.List.Elements.{filter_map-append, filter-append, All-from_recursion}
 use Rattle.std.proofs.lemmas.Grind.{flat_map-append}
 use Rattle.std.proofs.lemmas.List.Concat.{flat_map-cons}
 use Rattle.std.proofs.lemmas.List.Sums.{fold-append}
 use Rattle.std.proofs.lemmas.Option.{slice_get-get_or}
 use Rattle.std.proofs.Math.Seq.{set-append_seam}
+use Rattle.list_core.proofs.PlaceLemmas.{slice_get-seam}
+use Rattle.list_core.proofs.MadeLemmas.{count-cons}
 use Rattle.period_core.specs.Period.{before, meet, after as later}
 use Rattle.period_core.specs.declared.period.Period.{Period}
 use Rattle.row_core.specs.declared.value.Value.{Value}
@@ -22,7 +24,6 @@ use Rattle.version_core.specs.Made.{made, AddsDrafts, Making, made_of}
 use Rattle.version_core.specs.declared.change.Change.{Change}
 use Rattle.version_core.specs.declared.change.Change.TheVariants.{Make, Load, Update, Delete}
 use Rattle.version_core.specs.declared.version.Version.{Version}
-use Rattle.version_core.proofs.ListLemmas.{count-cons}
 use Rattle.version_core.proofs.MakingLemmas.{length-numbered}
 
 -- places lie inside
@@ -44,17 +45,6 @@ places_from-bounded test vs =
     All-from_recursion (λ place. place < length vs) (places_from test 0 vs)
     (bounded test 0 (length vs) vs (omega arith))
 
--- a version between others
-
-slice_get-seam : (done : List Version) (v : Version) (vs : List Version)
-    → slice_get (done ++ v ∷ vs) (length done) ≡ Some v
-slice_get-seam [] v vs = refl
-slice_get-seam (d ∷ ds) v vs = slice_get-seam ds v vs
-
-length-push : (done : List Version) (v : Version) → length (done ++ v ∷ []) ≡ length done + 1
-length-push [] v = omega arith
-length-push (d ∷ ds) v = omega (arith, length-push ds v)
-
 -- the versions at places
 abbrev pub picked : List Version → List ℕ → List Version
 picked vs places = filter_map (slice_get vs) places
@@ -66,7 +56,7 @@ module _ (X : Type 0) (of : List Version → List ℕ → X) where
       → of (done ++ v ∷ rest) (places_from test (length done + 1) vs) ≡ x
   moved test done v vs rest x h =
       ap (λ l. of l (places_from test (length done + 1) vs)) (sym (append_assoc done (v ∷ []) rest))
-      ∙ ap (λ n. of ((done ++ v ∷ []) ++ rest) (places_from test n vs)) (sym (length-push done v)) ∙ h
+      ∙ ap (λ n. of ((done ++ v ∷ []) ++ rest) (places_from test n vs)) (sym (length_push done v)) ∙ h
 
 picked-behind : (test : Version → Bool) (done vs : List Version)
     → picked (done ++ vs) (places_from test (length done) vs) ≡ filter test vs
@@ -96,7 +86,7 @@ filter-behind test p done (v ∷ vs) =
     let later = places_from (λ v. test v && p v) (length done + 1) vs in
     let rest = moved (List ℕ) (λ l places. filter (passes l p) places) test done v vs vs later
     (filter-behind test p (done ++ v ∷ []) vs
-    ∙ ap (λ n. places_from (λ v. test v && p v) n vs) (length-push done v)) in
+    ∙ ap (λ n. places_from (λ v. test v && p v) n vs) (length_push done v)) in
     elim (test v) as
     (λ b. filter (passes (done ++ v ∷ vs) p)
     (cond b (length done ∷ places_from test (length done + 1) vs) (places_from test (length done + 1) vs)) ≡ cond

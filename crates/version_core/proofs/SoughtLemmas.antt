@@ -6,9 +6,9 @@ use Rattle.std.proofs.lemmas.Bool.{cases_lt}
 use Rattle.std.proofs.lemmas.List.{drop_more}
 use Rattle.std.proofs.lemmas.Option.{slice_get-get_or}
 use Rattle.row_core.specs.Schema.{column_of}
+use Rattle.row_core.specs.ValueOrder.{same_value}
 use Rattle.row_core.specs.declared.schema.Column.{Column}
 use Rattle.row_core.specs.declared.value.Value.{Value}
-use Rattle.key_core.specs.Keys.{same_value}
 use Rattle.version_core.specs.Rows.{Pair, is_equal_at}
 
 -- the place of a column, once more

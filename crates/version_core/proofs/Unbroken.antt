@@ -1,21 +1,21 @@
 -- Changes after which no two rows of one key share an instant, where none did before: what they leave of
 -- a row holds where the row did, and has its values in the key's columns.
-use Rattle.std.proofs.Common.{◌≡◌, ℕ, ℤ, ◌<ℤ◌, ◌≤ℤ◌, ◌==◌, List, [], ◌∷◌, ◌++◌, map, set, suc, zero, Bool, true, false, ◌&&◌, ◌||◌, Option, Some, None, refl, sym, ap, ◌∙◌, append-nil, arith, inl, inr}
-use Rattle.std.proofs.lemmas.Bool.{and_parts, or_parts}
+use Rattle.std.proofs.Common.{◌≡◌, ℕ, ℤ, ◌<ℤ◌, ◌≤ℤ◌, ◌==◌, List, [], ◌∷◌, ◌++◌, map, set, suc, zero, Bool, true, false, ◌&&◌, ◌||◌, Option, Some, None, refl, sym, ap, ◌∙◌, append-nil, arith}
+use Rattle.std.proofs.lemmas.Bool.{and_parts, or_parts, eq-eqb, or_right}
 use Rattle.std.specs.Prelude.{fold, is_some, option_map, slice_get, unwrap_or}
 use Rattle.std.specs.List.{AllByRecursion, list_any}
 use Rattle.std.specs.Option.{option_map_or}
-use Rattle.std.proofs.lemmas.Bool.Decides.{eqb_tells}
 use Rattle.std.proofs.lemmas.Int.{ints}
 use Rattle.period_core.specs.Period.{Holds, HoldsIn, before, meet, after as later}
 use Rattle.period_core.specs.declared.period.Period.{Period}
 use Rattle.period_core.proofs.PeriodLemmas.{before-holds, meet-holds, after-holds}
 use Rattle.row_core.specs.Schema.{column_of, key_of}
+use Rattle.row_core.specs.ValueOrder.{same_maybe}
 use Rattle.row_core.specs.declared.draft.Draft.{Draft}
 use Rattle.row_core.specs.declared.row.Row.{Row}
 use Rattle.row_core.specs.declared.schema.Column.{Column}
 use Rattle.row_core.specs.declared.value.Value.{Value}
-use Rattle.key_core.specs.Keys.{collide, have_collision, same_key, same_maybe}
+use Rattle.key_core.specs.Keys.{collide, have_collision, same_key}
 use Rattle.key_core.proofs.Collisions.{collide-flips, shared, shares}
 use Rattle.key_core.proofs.Replaced.{AreApart, IsPartOf, Misses, append-all, apart-from_none, apart-replaced, none-from_apart}
 use Rattle.version_core.specs.Keys.{is_column_of, rows_left, sets_key, break_key}
@@ -132,13 +132,6 @@ all-set_beside schema key (pair ∷ pairs) values column none in_key =
     all-set_beside schema key pairs (set_at schema values pair) column both.1 in_key
     ∙ set-beside key (column_of schema pair.0) pair.1 values column both.0 in_key
 
-same_number : (a : ℕ) → (a == a) ≡ true
-same_number a = elim (eqb_tells a a) [ inl are ↦ are.0 | inr other ↦ absurd (other.1 refl) ]
-
-or-right : (a b : Bool) → b ≡ true → (a || b) ≡ true
-or-right true b e = refl
-or-right false b e = e
-
 -- the values are equal in the columns
 same-in : (columns : List ℕ) (u v e : List Value)
     → ((column : ℕ) → is_column_of columns column ≡ true → slice_get u column ≡ slice_get v column)
@@ -146,10 +139,10 @@ same-in : (columns : List ℕ) (u v e : List Value)
 same-in [] u v e same = refl
 same-in (column ∷ columns) u v e same =
     ap (λ o. same_maybe o (slice_get e column) && same_key columns u e)
-    (same column (ap (λ t. t || is_column_of columns column) (same_number column)))
+    (same column (ap (λ t. t || is_column_of columns column) (eq-eqb column column refl)))
     ∙ ap (λ t. same_maybe (slice_get v column) (slice_get e column) && t)
     (same-in columns u v e
-    (λ other in_rest. same other (or-right (column == other) (is_column_of columns other) in_rest)))
+    (λ other in_rest. same other (or_right (column == other) (is_column_of columns other) in_rest)))
 
 -- ---- changes
 

@@ -4,11 +4,11 @@ use Rattle.std.specs.List.{list_all}
 use Rattle.period_core.specs.Period.{before, meet, after as later}
 use Rattle.period_core.specs.declared.period.Period.{Period}
 use Rattle.row_core.specs.Schema.{column_of}
+use Rattle.row_core.specs.ValueOrder.{same_value}
 use Rattle.row_core.specs.declared.draft.Draft.{Draft}
 use Rattle.row_core.specs.declared.row.Row.{Row}
 use Rattle.row_core.specs.declared.schema.Column.{Column}
 use Rattle.row_core.specs.declared.value.Value.{Value}
-use Rattle.key_core.specs.Keys.{same_value}
 use Rattle.version_core.specs.declared.change.Change.{Change}
 use Rattle.version_core.specs.declared.change.Change.TheVariants.{Make, Load, Update, Delete}
 

@@ -3,8 +3,8 @@
 ghost use Rattle.std.specs.Prelude.{◌≡◌, ◌+◌, ◌≤◌, ◌<◌, ◌++◌, ◌&&◌, List, false, length, fold, flat_map, is_some, option_map, option_and_then, slice_get, slice_set, unwrap_or, if◌then◌else◌, IfOk, IfSome, OnOk, bytes_eq};
 ghost use Rattle.std.specs.List.{list_all};
 ghost use Rattle.period_core.specs.Period.{before, meet, after as later};
-ghost use Rattle.key_core.specs.Keys.{same_value};
 ghost use Rattle.row_core.specs.Schema.{column_of};
+ghost use Rattle.row_core.specs.ValueOrder.{same_value};
 ghost use Rattle.row_core.specs.declared.schema.Column.{Column};
 ghost use Rattle.version_core.specs.Finding.{AreSought, reaches};
 ghost use Rattle.version_core.specs.Made.{AddsDrafts};

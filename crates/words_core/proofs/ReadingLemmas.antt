@@ -1,10 +1,11 @@
 -- What a parse of the program's words gives.
-use Rattle.std.proofs.Common.{Bool, drop, cond, ◌≡◌, ◌<◌, ◌==◌, ◌^◌, ℕ, [], ◌∷◌, true, false, refl, arith, rules, ap, ◌∙◌, subst, List, Result, Ok, Err, Some, None, IfOk, ◌⊎◌, codes, inl, inr, sym}
+use Rattle.std.proofs.Common.{Bool, drop, cond, ◌≡◌, ◌<◌, ◌==◌, ◌^◌, ℕ, [], ◌∷◌, true, false, refl, arith, rules, ap, ◌∙◌, subst, List, Result, Ok, Err, Some, IfOk, ◌⊎◌, codes, inl, inr, sym}
 use Rattle.std.specs.Fmt.{decimal}
 use Rattle.std.specs.Str.Parse.{AllDigits, IsNumeral, digits_value, without_leading_plus}
 use Rattle.std.specs.Char.{digit_value}
 use Rattle.std.proofs.lemmas.Bool.{ne_eqb}
 use Rattle.std.proofs.lemmas.Fmt.{decimal_is_IsNumeral}
+use Rattle.std.proofs.lemmas.Option.{same_Some}
 use Rattle.clap.specs.Words.{App, FailsBy, HasMatchesOf, IsAmong, Kinds, Text, fault_of, first_of, first_value, found_of, is_simple, is_simple_and_free, kind_of, takes}
 use Rattle.clap.specs.declared.error.Error.{Error}
 use Rattle.clap.specs.declared.error.kind.ErrorKind.{ErrorKind}
@@ -160,12 +161,6 @@ run-AsksFor (Ok (Run n)) words text none value told = (none, text, value, told)
 run-AsksFor (Ok Help) words text none value told = absurd told
 run-AsksFor (Err e) words text none value told = search rules
 
-pub same_text : (x y : Text) → Some x ≡ Some y → x ≡ y
-same_text x y is = cc
-
-pub no_text : (x : Text) → None ≡ Some x → ⊥
-no_text x is = cc
-
 none_among : (words : List Text) → fault_of program_app words ≡ []
     → IsAmong kind.DisplayHelp (fault_of program_app words) → ⊥
 none_among words none help = subst (λ (ks : Kinds). IsAmong kind.DisplayHelp ks) none help
@@ -173,7 +168,7 @@ none_among words none help = subst (λ (ks : Kinds). IsAmong kind.DisplayHelp ks
 -- words ask for one thing at most
 pub AsksFor-unique : (words : List Text) (one other : Words) → AsksFor words one → AsksFor words other → one ≡ other
 AsksFor-unique words (Run n) (Run m) (none, text, value, tells) (none_too, other, value_too, tells_too) =
-    let same : text ≡ other = same_text text other (sym value ∙ value_too) in
+    let same : text ≡ other = same_Some text other (sym value ∙ value_too) in
     let number : digits_value 10 (without_leading_plus other) ≡ n =
     ap (λ (t : Text). digits_value 10 (without_leading_plus t)) (sym same) ∙ tells.1 in
     ap (λ (k : ℕ). Run k) (sym number ∙ tells_too.1)

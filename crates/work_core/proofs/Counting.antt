@@ -16,6 +16,3 @@ times_below-next x n = grind (arith, nat_tests)
 
 pub times_below-inside : (x n : ℕ) → x < n → times_below x n ≡ 1
 times_below-inside x n h = grind (arith, nat_tests)
-
-pub times_below-zero : (x : ℕ) → times_below x 0 ≡ 0
-times_below-zero x = grind (arith, nat_tests)

@@ -1,11 +1,12 @@
 -- What workers keep, and what they hand back.
-use Rattle.std.proofs.Common.{◌≡◌, ◌⊎◌, ℕ, zero, suc, ◌+◌, ◌<◌, ◌≤◌, max, List, [], ◌∷◌, ◌++◌, length, Some, Option, slice_set, ap, ◌∙◌, sym, subst, inl, inr, ⊎_elim, arith, length-set}
+use Rattle.std.proofs.Common.{◌≡◌, ◌⊎◌, ℕ, zero, suc, ◌+◌, ◌<◌, ◌≤◌, max, List, [], ◌∷◌, ◌++◌, length, Some, Option, slice_set, ap, ◌∙◌, sym, subst, ⊎_elim, arith, length-set}
+use Rattle.std.proofs.lemmas.Bool.{cases_lt}
 use Rattle.std.proofs.lemmas.List.{map-append}
 use Rattle.std.proofs.lemmas.List.Elements.{All-push, All-same}
 use Rattle.atomic_table.specs.Table.{Me}
 use Rattle.work_core.specs.declared.claim_view.ClaimView.{ClaimView}
 use Rattle.work_core.specs.declared.job.PairWork as PairWork
-use Rattle.work_core.specs.declared.kept.Kept.{Kept}
+use Rattle.work_core.specs.declared.kept.KeptValues.{KeptValues}
 use Rattle.work_core.specs.declared.numbered.Numbered.{Numbered}
 use Rattle.work_core.specs.Claims.{joined_view}
 use Rattle.work_core.specs.Collected.{AreAtTheirPlaces}
@@ -20,19 +21,13 @@ pub times-numbers-append : {T : Type 0} (x : ℕ) (us vs : List (Numbered T))
 times-numbers-append x us vs =
     ap (times x) (map-append (λ v. v.number) us vs) ∙ times-append x (numbers_of us) (numbers_of vs)
 
--- a number is below another or not
-below_or_not : (n m : ℕ) → (n < m) ⊎ (m ≤ n)
-below_or_not n zero = inr (omega arith)
-below_or_not zero (suc m) = inl (omega arith)
-below_or_not (suc n) (suc m) = ⊎_elim (λ h. inl (omega (arith, h))) (λ h. inr (omega (arith, h))) (below_or_not n m)
-
 -- a value more at the places or in the list, and the rest as before
 put_more : (l a b after listed : ℕ) → after ≡ b → listed ≡ l → (0 < a → 0 < b) → 0 < a + l → 0 < after + listed
 put_more (suc l) a b after listed e f h some = omega (arith, f)
 put_more zero a b after listed e f h some = let p : 0 < b = h (omega (arith, some)) in omega (arith, p, e)
 
 -- what was kept, and what is kept now
-kept_more : {T : Type 0} (n x : ℕ) (o : T) (before after : Kept T) → KeepsValue n o before after
+kept_more : {T : Type 0} (n x : ℕ) (o : T) (before after : KeptValues T) → KeepsValue n o before after
     → 0 < count_kept before x + times x (n ∷ []) → 0 < count_kept after x
 kept_more {T} n x o before after keeps was =
     let old = before.places.items in
@@ -51,10 +46,10 @@ kept_more {T} n x o before after keeps was =
     let listed = ap (λ (l : List (Numbered T)). times x (numbers_of l)) new.1 in
     let both = times-numbers-append x before.values.items (record { number = n; value = o } ∷ []) in
     omega (arith, at, listed, both, was))
-    (below_or_not n (length old))
+    (cases_lt n (length old))
 
 -- the places stay as many
-pub length-places-kept : {T : Type 0} (n : ℕ) (o : T) (before after : Kept T) → KeepsValue n o before after
+pub length-places-kept : {T : Type 0} (n : ℕ) (o : T) (before after : KeptValues T) → KeepsValue n o before after
     → length after.places.items ≡ length before.places.items
 length-places-kept {T} n o before after keeps =
     let old = before.places.items in
@@ -62,7 +57,7 @@ length-places-kept {T} n o before after keeps =
     (λ (inside : n < length old).
     ap (λ (l : List (Option T)). length l) (keeps.placed inside).0 ∙ length-set old n (Some o))
     (λ (past : length old ≤ n). ap (λ (l : List (Option T)). length l) (keeps.listed past).0)
-    (below_or_not n (length old))
+    (cases_lt n (length old))
 
 -- one more is drawn, and what was to be run is kept
 one_more : (drawn kept more after next : ℕ) → (0 < drawn → 0 < kept + more) → (0 < kept + more → 0 < after)
@@ -73,7 +68,7 @@ one_more (suc drawn) kept more after next was keeps some =
 
 module _ {W Out : Type 0} (g : PairWork.Ghosts W Out) (w : W) where
   -- the number drawn last was run, and one more was drawn
-  pub drawn_next : (drawn : List ℕ) (n next : ℕ) (before after : Kept Out) → n < g.pairs w
+  pub drawn_next : (drawn : List ℕ) (n next : ℕ) (before after : KeptValues Out) → n < g.pairs w
       → IsRun g w n before after → AreOfDrawn g w drawn (n ∷ []) before
       → AreOfDrawn g w (drawn ++ next ∷ []) (next ∷ []) after
   drawn_next drawn n next before after below run was =
@@ -104,7 +99,7 @@ module _ {W Out : Type 0} (g : PairWork.Ghosts W Out) (w : W) where
         whole = λ all. absurd (let e = ap length new.0 in omega (arith, e, all, below, past));
         each = each;
       })
-      (below_or_not n (length old))
+      (cases_lt n (length old))
 
 -- what a seat knows after a join
 pub joined_me : {S : Type 0} (a b m : Me S ClaimView) → m ≡ (joined_view a.0 b.0, a.1)

@@ -1,14 +1,14 @@
 -- Teams of workers, and their answers: the last worker has the places.
-use Rattle.std.proofs.Common.{◌≡◌, ◌⊎◌, ℕ, zero, suc, ◌+◌, ◌<◌, All, List, [], ◌∷◌, ◌++◌, length, None, Option, Result, Ok, IfOk, IsSome, replicate, slice_index_or, ap, ◌∙◌, sym, refl, subst, inl, inr, ⊎_elim, arith}
+use Rattle.std.proofs.Common.{◌≡◌, ◌⊎◌, ℕ, zero, suc, ◌+◌, ◌<◌, All, List, [], ◌∷◌, ◌++◌, length, None, Option, IsSome, replicate, slice_index_or, ap, ◌∙◌, sym, refl, subst, inl, inr, ⊎_elim, arith}
 use Rattle.std.proofs.lemmas.Bool.Decides.{nat_tests}
-use Rattle.std.proofs.lemmas.List.{length-append, get_or_append_left}
+use Rattle.std.proofs.lemmas.List.{get_or_append_left, length_push}
 use Rattle.std.proofs.lemmas.List.Elements.{All-from_get_or}
 use Rattle.std.proofs.Math.Seq.{get_or-append_seam}
 use Rattle.atomic_table.specs.Seated.{TableId}
 use Rattle.work_core.specs.declared.job.PairWork as PairWork
 use Rattle.work_core.specs.declared.worker.Worker.{Worker}
 use Rattle.work_core.specs.declared.worker.WorkerAnswer.{WorkerAnswer}
-use Rattle.work_core.specs.declared.kept.Kept.{Kept}
+use Rattle.work_core.specs.declared.kept.KeptValues.{KeptValues}
 use Rattle.work_core.specs.declared.numbered.Numbered.{Numbered}
 use Rattle.work_core.specs.Claims.{worker_view}
 use Rattle.work_core.specs.Collected.{ArePlaces}
@@ -25,10 +25,6 @@ places_of-other m n k h = grind (arith, nat_tests)
 places_of-last : (m n k : ℕ) → k + 1 ≡ m → places_of m n k ≡ n
 places_of-last m n k h = grind (arith, nat_tests)
 
--- a list with one more item
-length-more : {X : Type 0} (xs : List X) (x : X) → length (xs ++ x ∷ []) ≡ length xs + 1
-length-more xs x = length-append xs (x ∷ [])
-
 -- a number below the next is below, or the same
 split : (k n : ℕ) → k < n + 1 → (k < n) ⊎ (k ≡ n)
 split k zero h = inr (omega (arith, h))
@@ -39,7 +35,7 @@ split (suc k) (suc n) h =
 -- a place in such a list is one of the list, or the last
 place_cases : {X : Type 0} (xs : List X) (x : X) (k : ℕ) → k < length (xs ++ x ∷ [])
     → (k < length xs) ⊎ (k ≡ length xs)
-place_cases xs x k h = split k (length xs) (let e = length-more xs x in omega (arith, e, h))
+place_cases xs x k h = split k (length xs) (let e = length_push xs x in omega (arith, e, h))
 
 -- a new worker with these places, all empty
 pub fresh_worker : {T : Type 0} (table : TableId) (worker : Worker T) (places : List (Option T))
@@ -57,7 +53,7 @@ has_places : {T : Type 0} (n : ℕ) (others : List (Worker T)) (last : Worker T)
     → HasPlaces n (others ++ last ∷ [])
 has_places {T} n others last none places k d inside =
     let team = others ++ last ∷ [] in
-    let size = length-more others last in
+    let size = length_push others last in
     ⊎_elim
     (λ (before : k < length others).
     let same = get_or_append_left others (last ∷ []) d k before in
@@ -81,10 +77,6 @@ count_at-short : {T : Type 0} (places : List (Option T)) (x : ℕ) → length pl
 count_at-short [] x e = refl
 count_at-short (p ∷ places) x e = absurd (omega (arith, e))
 
--- what holds of the value in a result that has one
-pub if_ok : {T E : Type 0} (P : T → Type 0) (answer : Result T E) (x : T) → answer ≡ Ok x → IfOk answer P → P x
-if_ok {T} {E} P answer x e h = subst (λ (r : Result T E). IfOk r P) e h
-
 -- what follows of one of two numbers follows of their sum
 either_way : (d d' a b c : ℕ) → (0 < d → 0 < a) → (0 < d' → 0 < b) → (0 < a + b → 0 < c) → 0 < d + d' → 0 < c
 either_way (suc d) d' a b c f h then some = let p : 0 < a = f (omega arith) in then (omega (arith, p))
@@ -96,7 +88,7 @@ module _ {W Out : Type 0} (g : PairWork.Ghosts W Out) (w : W) where
       → answers ≡ others ++ last ∷ [] → AreAnswers g w table answers → IsWorkerAnswer g w table (g.pairs w) last
   last_answer table answers others last e are =
       let size : length answers ≡ length others + 1 =
-      ap (λ (l : List (WorkerAnswer Out)). length l) e ∙ length-more others last in
+      ap (λ (l : List (WorkerAnswer Out)). length l) e ∙ length_push others last in
       let k = length others in
       let n = places_of-last (length answers) (g.pairs w) k (sym size) in
       let at = ap (λ (l : List (WorkerAnswer Out)). slice_index_or l k last) e
@@ -110,7 +102,7 @@ module _ {W Out : Type 0} (g : PairWork.Ghosts W Out) (w : W) where
       → answers ≡ others ++ last ∷ [] → AreAnswers g w table answers → All (IsWorkerAnswer g w table 0) others
   other_answers table answers others last e are k d before =
       let size : length answers ≡ length others + 1 =
-      ap (λ (l : List (WorkerAnswer Out)). length l) e ∙ length-more others last in
+      ap (λ (l : List (WorkerAnswer Out)). length l) e ∙ length_push others last in
       let n = places_of-other (length answers) (g.pairs w) k (omega (arith, size, before)) in
       let at = ap (λ (l : List (WorkerAnswer Out)). slice_index_or l k d) e
       ∙ get_or_append_left others (last ∷ []) d k before in
@@ -132,12 +124,12 @@ module _ {W Out : Type 0} (g : PairWork.Ghosts W Out) (w : W) where
       (subst (λ (i : ℕ). IsWorkerAnswer g w table i answer) b is)
 
   -- what a worker with a place for each pair kept
-  pub kept_places : (drawn : List ℕ) (kept : Kept Out) → AreOfDrawn g w drawn [] kept
+  pub kept_places : (drawn : List ℕ) (kept : KeptValues Out) → AreOfDrawn g w drawn [] kept
       → length kept.places.items ≡ g.pairs w → ArePlaces g w kept.places.items
   kept_places drawn kept are len = record { len = len; each = are.placed }
 
   -- it has a value at the place of each number that it drew
-  pub kept_there : (drawn : List ℕ) (kept : Kept Out) → AreOfDrawn g w drawn [] kept
+  pub kept_there : (drawn : List ℕ) (kept : KeptValues Out) → AreOfDrawn g w drawn [] kept
       → length kept.places.items ≡ g.pairs w → (x : ℕ) → x < g.pairs w → 0 < times x drawn
       → 0 < count_at kept.places.items x
   kept_there drawn kept are len x below some =
@@ -146,7 +138,7 @@ module _ {W Out : Type 0} (g : PairWork.Ghosts W Out) (w : W) where
       omega (arith, none, h)
 
   -- a worker without places has a value in its list
-  pub kept_listed : (drawn : List ℕ) (kept : Kept Out) → AreOfDrawn g w drawn [] kept
+  pub kept_listed : (drawn : List ℕ) (kept : KeptValues Out) → AreOfDrawn g w drawn [] kept
       → length kept.places.items ≡ 0 → (x : ℕ) → x < g.pairs w → 0 < times x drawn
       → 0 < times x (numbers_of kept.values.items)
   kept_listed drawn kept are len x below some =

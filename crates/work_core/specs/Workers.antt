@@ -3,7 +3,7 @@ use Rattle.std.specs.Prelude.{◌≡◌, ℕ, ◌+◌, ◌<◌, ◌≤◌, ◌==
 use Rattle.atomic_table.specs.Seated.{TableId}
 use Rattle.atomic_table.specs.declared.shared.Seat.{Seat}
 use Rattle.work_core.specs.declared.job.PairWork as PairWork
-use Rattle.work_core.specs.declared.kept.Kept.{Kept}
+use Rattle.work_core.specs.declared.kept.KeptValues.{KeptValues}
 use Rattle.work_core.specs.declared.numbered.Numbered.{Numbered}
 use Rattle.work_core.specs.declared.worker.Worker.{Worker}
 use Rattle.work_core.specs.declared.worker.WorkerAnswer.{WorkerAnswer}
@@ -40,11 +40,11 @@ abbrev pub count_at : {T : Type 0} → List (Option T) → ℕ → ℕ
 count_at places x = if is_some (slice_index_or places x None) then 1 else 0
 
 -- how many values of the pair with this number are kept
-abbrev pub count_kept : {T : Type 0} → Kept T → ℕ → ℕ
+abbrev pub count_kept : {T : Type 0} → KeptValues T → ℕ → ℕ
 count_kept kept x = count_at kept.places.items x + times x (numbers_of kept.values.items)
 
 -- one more value is kept, with its number: at its place, or where it has none in the list
-pub record KeepsValue {T : Type 0} (n : ℕ) (o : T) (old new : Kept T) : Type 0 where
+pub record KeepsValue {T : Type 0} (n : ℕ) (o : T) (old new : KeptValues T) : Type 0 where
   pub placed : n < length old.places.items
       → (new.places.items ≡ slice_set old.places.items n (Some o)) × (new.values.items ≡ old.values.items)
   pub listed : length old.places.items ≤ n → (new.places.items ≡ old.places.items)
@@ -57,14 +57,14 @@ module _ {W Out : Type 0} (g : PairWork.Ghosts W Out) (w : W) where
     pub gives : Gives g w (g.name_of w v.number) v.value
 
   -- the pair of number n was run, and its value is kept
-  pub record IsRun (n : ℕ) (old new : Kept Out) : Type 0 where
+  pub record IsRun (n : ℕ) (old new : KeptValues Out) : Type 0 where
     pub value : Out
     pub gives : Gives g w (g.name_of w n) value
     pub keeps : KeepsValue n value old new
 
   -- what is kept are values of their pairs, and one of each pair whose number was drawn; the numbers in `more` are
   -- drawn and still to be run
-  pub record AreOfDrawn (drawn more : List ℕ) (kept : Kept Out) : Type 0 where
+  pub record AreOfDrawn (drawn more : List ℕ) (kept : KeptValues Out) : Type 0 where
     pub placed : AreAtTheirPlaces g w kept.places.items
     pub listed : All IsOfItsPair kept.values.items
     pub whole : g.pairs w ≤ length kept.places.items → kept.values.items ≡ []

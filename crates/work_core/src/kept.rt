@@ -8,23 +8,23 @@ use std::alloc::{AllocError, Global};
 
 /// The values of a worker: at the places of their pairs, where it has these, else in a list, by number.
 #[derive(Drop)]
-pub(crate) struct Kept<T> {
+pub(crate) struct KeptValues<T> {
     pub places: Vec<Option<T>>,
     pub values: Vec<Numbered<T>>,
 }
 
-impl<T: Drop> Kept<T> {
+impl<T: Drop> KeptValues<T> {
     /// Nothing yet, with these places, which may be none.
-    pub(crate) fn with_places(alloc: Global, places: Vec<Option<T>>) -> Kept<T>
+    pub(crate) fn with_places(alloc: Global, places: Vec<Option<T>>) -> KeptValues<T>
         ensures { (result.places.items ≡ places.items) × (result.values.items ≡ []) }
     {
-        Kept {
+        KeptValues {
             places,
             values: Vec::new(alloc),
         }
     }
 
-    /// KeepsValue one more value, at its place if there is one.
+    /// Keeps one more value, at its place if there is one.
     pub(crate) fn put(&mut self, number: u64, value: T) -> Result<(), AllocError>
         ensures { OnOk result (KeepsValue number value self.old self.new) }
     {

@@ -12,7 +12,7 @@ use crate::claims::{ClaimSeat, Claims};
 use crate::collector::empty_places;
 use crate::gate::Gate;
 use crate::job::PairWork;
-use crate::kept::Kept;
+use crate::kept::KeptValues;
 use crate::numbered::Numbered;
 use crate::outs::Outs;
 use crate::worker::{Worker, WorkerAnswer, work};
@@ -44,13 +44,13 @@ fn deal<T: Drop>(
 {
     let mut team = Vec::new(alloc);
     for _ in 1..workers {
-        let kept = Kept::with_places(alloc, Vec::new(alloc));
+        let kept = KeptValues::with_places(alloc, Vec::new(alloc));
         team.push(Worker {
             seat: claims.split(seat),
             kept,
         })?;
     }
-    let kept = Kept::with_places(alloc, places);
+    let kept = KeptValues::with_places(alloc, places);
     team.push(Worker {
         seat: claims.split(seat),
         kept,

@@ -6,21 +6,21 @@ ghost use Rattle.work_core.specs.Workers.{IsFreshWorker, IsRun, IsWorkerAnswer};
 use crate::claims::{ClaimSeat, Claims};
 use crate::gate::Gate;
 use crate::job::PairWork;
-use crate::kept::Kept;
+use crate::kept::KeptValues;
 use std::alloc::{AllocError, Global};
 
 /// A worker: its right to draw, and the values that it keeps.
 #[derive(Drop)]
 pub(crate) struct Worker<T> {
     pub seat: ClaimSeat,
-    pub kept: Kept<T>,
+    pub kept: KeptValues<T>,
 }
 
 /// What a worker hands back: what it knows of the draws, and its values, if no run was refused memory.
 #[derive(Drop)]
 pub(crate) struct WorkerAnswer<T> {
     pub seat: ClaimSeat,
-    pub kept: Result<Kept<T>, AllocError>,
+    pub kept: Result<KeptValues<T>, AllocError>,
 }
 
 // Runs the pair of that number, between the calls of its gate, and keeps its value.
@@ -29,7 +29,7 @@ fn run_pair<W: PairWork, G: Gate>(
     job: &W,
     gate: &G,
     number: u64,
-    kept: &mut Kept<W::Out>,
+    kept: &mut KeptValues<W::Out>,
 ) -> Result<(), AllocError>
     requires { number < W.pairs job.now }
     ensures { OnOk result (IsRun W.PairWork job.now number kept.old kept.new) }
@@ -47,7 +47,7 @@ fn run_next<W: PairWork, G: Gate>(
     job: &W,
     gate: &G,
     number: u64,
-    kept: &mut Kept<W::Out>,
+    kept: &mut KeptValues<W::Out>,
     refused: bool,
 ) -> bool
     requires { number < W.pairs job.now }

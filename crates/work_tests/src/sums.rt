@@ -2,7 +2,9 @@
 
 ghost use Rattle.std.specs.Prelude.{◌≡◌, ℕ, ◌+◌, ◌*◌, ◌≤◌, ◌^◌, length, slice_index};
 ghost use Rattle.work_core.specs.Limits.{pair_limit};
-ghost use Rattle.work_tests.specs.Grid.{grid_place, grid_name, grid_placed, grid_named, equal_prop};
+ghost use Rattle.grid_core.specs.Grid.{grid_name, grid_place};
+ghost use Rattle.grid_core.specs.GridLaws.{grid_placed, grid_named};
+ghost use Rattle.work_tests.specs.Values.{equal_prop};
 
 use std::alloc::{AllocError, Global};
 use std::process::Abort;

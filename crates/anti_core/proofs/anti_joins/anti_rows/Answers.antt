@@ -1,12 +1,14 @@
 use Rattle.std.proofs.Common.{◌≡◌, ◌+◌, ◌≤◌, List, length, take, drop, refl, subst, arith}
 use Rattle.std.proofs.lemmas.Result.{IfOk-weaker}
 use Rattle.dip_core.specs.declared.item.Item.{Item}
+use Rattle.dip_core.specs.Item.{item_limit}
 use Rattle.match_core.specs.Items.{items_with}
 use Rattle.match_core.specs.Columns.{MatchesOn}
 use Rattle.match_core.proofs.Sided.{IsSide, left_side, right_side, side_len}
 use Rattle.match_core.proofs.Tell.{classes_tell}
+use Rattle.match_core.proofs.SideIds.{side-distinct}
 use Rattle.anti_core.specs.ItemAnti.{IsItemsAnti}
-use Rattle.anti_core.proofs.RowLemmas.{IsAnti-of_items, side-distinct}
+use Rattle.anti_core.proofs.RowLemmas.{IsAnti-of_items}
 use Rattle.anti_core.proofs.anti_joins.anti_rows.Goals as goal
 use Rattle.anti_core.proofs.anti_joins.anti_rows.Goals.{In_ok-rights}
 use Rattle.anti_core.proofs.anti_joins.anti_rows.Given.{Over}
@@ -37,13 +39,13 @@ right_items g c =
 
 pub anti_items-requires-clause-left_few : goal.anti_items-requires-clause-left_few
 anti_items-requires-clause-left_few g c =
-    let few : length c.args.left.rows.now ≤ 1_000_000 = c.args.left.few in
+    let few : length c.args.left.rows.now ≤ item_limit = c.args.left.few in
     let same = side_len c.args.left.rows.now _ c.in_ok-lefts.lefts.items (left_items g c) in
     omega (arith, same, few)
 
 pub anti_items-requires-clause-right_few : goal.anti_items-requires-clause-right_few
 anti_items-requires-clause-right_few g c =
-    let few : length c.args.right.rows.now ≤ 1_000_000 = c.args.right.few in
+    let few : length c.args.right.rows.now ≤ item_limit = c.args.right.few in
     let same = side_len c.args.right.rows.now _ c.in_ok-rights.rights.items (right_items g c) in
     omega (arith, same, few)
 

@@ -1,6 +1,7 @@
 use Rattle.std.proofs.Common.{◌≤◌, length, arith, sym, subst}
 use Rattle.std.specs.Prelude.{IsPermutation}
 use Rattle.std.proofs.lemmas.List.Sorted.{IsPermutation-refl, length_permutation}
+use Rattle.dip_core.specs.Item.{item_limit}
 use Rattle.dip_core.proofs.DivisionLemmas.{HasDistinctIds-permutation}
 use Rattle.anti_core.specs.Anti.{AntiRowBefore}
 use Rattle.anti_core.specs.ItemAnti.{IsItemsAnti}
@@ -17,7 +18,7 @@ moved g c = rw c.deref.ensures.value c.order_by_class.ensures.permutation
 
 pub rows_of_bundles-requires-clause-left_few : goal.rows_of_bundles-requires-clause-left_few
 rows_of_bundles-requires-clause-left_few g c = λ κs outlives.
-    (let few : length c.args.left.items ≤ 1_000_000 = c.requires.left_few in
+    (let few : length c.args.left.items ≤ item_limit = c.requires.left_few in
     let same = length_permutation c.args.left.items c.deref.result.now (moved g c) in
     omega (arith, same, few))
 

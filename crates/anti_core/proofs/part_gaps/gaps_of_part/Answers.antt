@@ -1,9 +1,10 @@
 use Rattle.std.proofs.Common.{◌≡◌, ℕ, ◌+◌, ◌-◌, ◌*◌, ◌<◌, ◌≤◌, List, length, min, take, drop, arith, sym, subst, ap, ◌∙◌}
+use Rattle.std.proofs.Math.Arith.{digits_lt}
 use Rattle.dip_core.specs.declared.item.Item.{Item}
 use Rattle.dip_core.specs.Division.{all_of, part_at}
 use Rattle.merge_core.specs.Gaps.{ListsGaps}
 use Rattle.anti_core.specs.PairGaps.{AreGapsAgainst}
-use Rattle.anti_core.proofs.SupplyLemmas.{AreGapsAgainst-from_pairs, more-met, number-within, supply-held}
+use Rattle.anti_core.proofs.SupplyLemmas.{AreGapsAgainst-from_pairs, more-met, supply-held}
 use Rattle.anti_core.proofs.part_gaps.gaps_of_part.Goals as goal
 
 pub supply_at-requires-clause-supply : goal.supply_at-requires-clause-supply
@@ -17,7 +18,8 @@ supply_at-requires-clause-inside g c =
     let first : c.args.number * c.parts-rights.result ≡ c.args.number * length qs =
     ap (λ n. c.args.number * n) rights in
     let within : c.args.number * length qs + c.loop-done.done < length ps * length qs =
-    number-within (length ps) (length qs) c.args.number c.loop-done.done (omega arith) (omega (arith, rights)) in
+    digits_lt {q = c.args.number} {m = length ps} {r = c.loop-done.done} {c = length qs} (omega arith)
+    (omega (arith, rights)) in
     omega (arith, within, first)
 
 pub loop-done-preserved : goal.loop-done-preserved

@@ -1,5 +1,5 @@
 use Rattle.std.proofs.Common.{arith}
-use Rattle.anti_core.proofs.PartLemmas.{length-part_at}
+use Rattle.dip_core.proofs.PartedLemmas.{length-part_at}
 use Rattle.anti_core.proofs.supply.items_of_part.Goals as goal
 
 pub returns : goal.returns

@@ -6,9 +6,11 @@ use Rattle.match_core.specs.Columns.{MatchesOn}
 use Rattle.join_core.specs.ItemJoin.{IsItemsJoin}
 use Rattle.join_core.specs.Join.{IsWithin}
 use Rattle.std.proofs.lemmas.Result.{IfOk-weaker}
-use Rattle.join_core.proofs.RowLemmas.{IsJoin-of_items, side-distinct, side-unclassed}
+use Rattle.dip_core.specs.Item.{item_limit}
+use Rattle.join_core.proofs.RowLemmas.{IsJoin-of_items, side-unclassed}
 use Rattle.match_core.proofs.Sided.{left_side, right_side, side_len}
 use Rattle.match_core.proofs.Tell.{classes_tell}
+use Rattle.match_core.proofs.SideIds.{side-distinct}
 use Rattle.join_core.proofs.joins.join_rows.Goals as goal
 
 pub join_items-requires-clause-left_few : goal.join_items-requires-clause-left_few
@@ -20,7 +22,7 @@ join_items-requires-clause-left_few g c =
     let one = left_side lefts c.as_slice.result.now classes c.deref.result.now c.split_at.result.0.now c.len.result
     c.in_ok-lefts.lefts.items c.in_ok-lefts.lefts.items refl c.in_ok-lefts.ensures c.as_slice.ensures
     c.split_at.ensures.front c.deref.ensures.value c.len.ensures (omega (arith, count)) in
-    let few : length lefts ≤ 1_000_000 = c.args.left.few in
+    let few : length lefts ≤ item_limit = c.args.left.few in
     omega (arith, side_len lefts (take (length lefts) classes) c.in_ok-lefts.lefts.items one, few)
 
 pub join_items-requires-clause-right_few : goal.join_items-requires-clause-right_few
@@ -32,7 +34,7 @@ join_items-requires-clause-right_few g c =
     let other = right_side (length lefts) rights c.as_slice-2.result.now classes c.deref.result.now
     c.split_at.result.1.now c.len.result c.in_ok-rights.rights.items c.in_ok-rights.rights.items refl
     c.in_ok-rights.ensures c.as_slice-2.ensures c.split_at.ensures.back c.deref.ensures.value c.len.ensures count in
-    let few : length rights ≤ 1_000_000 = c.args.right.few in
+    let few : length rights ≤ item_limit = c.args.right.few in
     omega (arith, side_len rights (drop (length lefts) classes) c.in_ok-rights.rights.items other, few)
 
 pub join_items-requires-clause-left_ids : goal.join_items-requires-clause-left_ids

@@ -1,8 +1,9 @@
 use Rattle.std.proofs.Common.{Bor, ◌≡◌, ◌+◌, ◌-◌, ◌++◌, ◌∷◌, ◌<◌, ◌∙◌, [], List, ℕ, Some, ap, sym, arith, drop, take}
 use Rattle.std.specs.List.{slice_get}
 use Rattle.std.proofs.lemmas.List.{map-append}
+use Rattle.list_core.proofs.PlaceLemmas.{slice_get-drop}
 use Rattle.command_core.specs.Lines.{fields_in}
-use Rattle.command_core.proofs.Cutting.{slice_get-drop, slice_get-there, take-slice_get}
+use Rattle.command_core.proofs.Cutting.{slice_get-there, take-slice_get}
 use Rattle.script_core.proofs.rows.take_fields.Goals as goal
 use Rattle.script_core.proofs.rows.take_fields.Goals.{in-Some+in_ok-push, in_default}
 

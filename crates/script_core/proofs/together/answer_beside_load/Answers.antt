@@ -7,11 +7,12 @@ use Rattle.answer_core.specs.Unwritten.{Unwritten}
 use Rattle.answer_core.specs.declared.answer.Answer.{Answer}
 use Rattle.book_core.specs.History.{History}
 use Rattle.store_core.specs.Snapshots.{history}
+use Rattle.command_core.proofs.Cutting.{rest-from}
 use Rattle.script_core.specs.Answer.{IsAnswerTo}
 use Rattle.script_core.specs.Ledgers.{held}
 use Rattle.script_core.specs.Performing.{AsksLoad, PrintsQueries, PrintsStretch}
 use Rattle.script_core.specs.declared.outcome.Outcome.{Outcome}
-use Rattle.script_core.proofs.Blocks.{block-printed, load-cut, load-members, printed-fields, rest-is}
+use Rattle.script_core.proofs.Blocks.{block-printed, load-cut, load-members, printed-fields}
 use Rattle.script_core.proofs.together.answer_beside_load.Goals as goal
 
 pub next_inside-command-requires-clause-whole : goal.next_inside-command-requires-clause-whole
@@ -19,7 +20,7 @@ next_inside-command-requires-clause-whole g c =
     let number = c.args.block.first in
     let lines = lines_in c.args.block.lines in
     let place = c.args.place in
-    let rest = rest-is lines (lines_in c.range-rest.result) c.len.result place c.len.ensures c.range-rest.ensures in
+    let rest = rest-from lines (lines_in c.range-rest.result) c.len.result place c.len.ensures c.range-rest.ensures in
     let whole = c.requires.whole in
     let some = load-members number lines place whole.0 c.requires.within (c.requires.split whole.0 whole.1) in
     (some.0, subst (λ l. AreMembers (number + place) l some.0) (sym rest) some.1)
@@ -29,13 +30,13 @@ answer_both-queries-requires-clause-behind g c κs within =
     let number = c.args.block.first in
     let lines = lines_in c.args.block.lines in
     let place = c.args.place in
-    let rest = rest-is lines (lines_in c.range-rest.result) c.len.result place c.len.ensures c.range-rest.ensures in
+    let rest = rest-from lines (lines_in c.range-rest.result) c.len.result place c.len.ensures c.range-rest.ensures in
     let taken = c.next_inside-command.result.taken in
     let next = rw rest at c.next_inside-command.ensures in
     let whole = c.requires.whole in
     let cut = load-cut number lines place taken whole.0 (meaning_of c.next_inside-command.result.command)
     c.requires.within next.within (c.requires.split whole.0 whole.1) next.next in
-    let back = rest-is (lines_in c.range-rest.result) (lines_in c.range-2.result) c.len-2.result taken
+    let back = rest-from (lines_in c.range-rest.result) (lines_in c.range-2.result) c.len-2.result taken
     c.len-2.ensures c.range-2.ensures in
     let last = back ∙ ap (drop taken) rest in
     (cut.back, subst (λ l. AreMembers (number + place + taken) l cut.back) (sym last) cut.behind)
@@ -45,7 +46,7 @@ answer_both-queries-requires-clause-load g c κs within =
     let number = c.args.block.first in
     let lines = lines_in c.args.block.lines in
     let place = c.args.place in
-    let rest = rest-is lines (lines_in c.range-rest.result) c.len.result place c.len.ensures c.range-rest.ensures in
+    let rest = rest-from lines (lines_in c.range-rest.result) c.len.result place c.len.ensures c.range-rest.ensures in
     let taken = c.next_inside-command.result.taken in
     let next = rw rest at c.next_inside-command.ensures in
     let whole = c.requires.whole in
@@ -58,13 +59,13 @@ append-requires-clause-there g c =
     let number = c.args.block.first in
     let lines = lines_in c.args.block.lines in
     let place = c.args.place in
-    let rest = rest-is lines (lines_in c.range-rest.result) c.len.result place c.len.ensures c.range-rest.ensures in
+    let rest = rest-from lines (lines_in c.range-rest.result) c.len.result place c.len.ensures c.range-rest.ensures in
     let taken = c.next_inside-command.result.taken in
     let next = rw rest at c.next_inside-command.ensures in
     let whole = c.requires.whole in
     let cut = load-cut number lines place taken whole.0 (meaning_of c.next_inside-command.result.command)
     c.requires.within next.within (c.requires.split whole.0 whole.1) next.next in
-    let back = rest-is (lines_in c.range-rest.result) (lines_in c.range-2.result) c.len-2.result taken
+    let back = rest-from (lines_in c.range-rest.result) (lines_in c.range-2.result) c.len-2.result taken
     c.len-2.ensures c.range-2.ensures in
     let last = back ∙ ap (drop taken) rest in
     let behind : PrintsStretch (history c.args.context.now.newest.now) (number + place + taken)
@@ -85,7 +86,7 @@ returns-clause-printed g c = λ members are.
     let lines = lines_in c.args.block.lines in
     let place = c.args.place in
     let newest = history c.args.context.now.newest.now in
-    let rest = rest-is lines (lines_in c.range-rest.result) c.len.result place c.len.ensures c.range-rest.ensures in
+    let rest = rest-from lines (lines_in c.range-rest.result) c.len.result place c.len.ensures c.range-rest.ensures in
     let taken = c.next_inside-command.result.taken in
     let meant = meaning_of c.next_inside-command.result.command in
     let next = rw rest at c.next_inside-command.ensures in
@@ -93,7 +94,7 @@ returns-clause-printed g c = λ members are.
     c.requires.within next.within (c.requires.split members are) next.next in
     let whole_place : place - 0 ≡ place = omega arith in
     let front : lines_in c.range.result ≡ take place lines = c.range.ensures ∙ ap (λ n. take n lines) whole_place in
-    let back = rest-is (lines_in c.range-rest.result) (lines_in c.range-2.result) c.len-2.result taken
+    let back = rest-from (lines_in c.range-rest.result) (lines_in c.range-2.result) c.len-2.result taken
     c.len-2.ensures c.range-2.ensures in
     let last = back ∙ ap (drop taken) rest in
     let queries = c.answer_both-queries.ensures in

@@ -3,7 +3,8 @@ use Rattle.command_core.specs.Command.{meaning_of}
 use Rattle.command_core.specs.Lines.{lines_in}
 use Rattle.answer_core.specs.Unwritten.{Unwritten}
 use Rattle.store_core.specs.Snapshots.{history}
-use Rattle.script_core.proofs.Blocks.{queries-all, queries-more, rest-is}
+use Rattle.command_core.proofs.Cutting.{rest-from}
+use Rattle.script_core.proofs.Blocks.{queries-all, queries-more}
 use Rattle.script_core.proofs.together.answer_queries.Goals as goal
 
 pub loop-at-preserved : goal.loop-at-preserved
@@ -11,7 +12,7 @@ loop-at-preserved g c =
     let lines = lines_in c.args.stretch.lines in
     let at = c.loop-at.at in
     let taken = c.next_inside-command.result.taken in
-    let rest = rest-is lines (lines_in c.range.result) c.len-in-loop-at.result at c.len-in-loop-at.ensures
+    let rest = rest-from lines (lines_in c.range.result) c.len-in-loop-at.result at c.len-in-loop-at.ensures
     c.range.ensures in
     let next = rw rest at c.next_inside-command.ensures in
     let one = c.in_ok-errors.ensures.printed in

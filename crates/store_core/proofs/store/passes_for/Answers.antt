@@ -1,9 +1,10 @@
 use Rattle.std.proofs.Common.{rules, ◌≡◌, ◌∷◌, ◌++◌, ◌<◌, ◌≤◌, ◌∙◌, [], All, sym, ap, subst, map, refl, append_assoc}
 use Rattle.std.specs.Vec.Iter.{into_iter_items}
+use Rattle.std.proofs.lemmas.List.{map_push}
 use Rattle.std.proofs.lemmas.List.Elements.{All-push}
+use Rattle.list_core.proofs.PlaceLemmas.{All-seam}
 use Rattle.book_core.specs.History.{IsLegal}
 use Rattle.store_core.specs.declared.pass.Pass.{Pass}
-use Rattle.store_core.proofs.Opened.{all-at, map-push}
 use Rattle.store_core.proofs.store.passes_for.Goals as goal
 
 pub invariant_of-push_reserved : goal.invariant_of-push_reserved
@@ -15,7 +16,7 @@ invariant_of-push_reserved c =
     sym c.into_iter-seat-iterator.ensures.into_iter_gives.0
     ∙ (sym c.loop-seat.invariant.2 ∙ ap (λ l. yielded ++ l) step) in
     let new =
-    all-at (λ s. (0 < s.seat.me.0.number) × (c.args.calls_each ≤ s.seat.me.0.left) × (s.seat.me.0.seen ≡ []))
+    All-seam (λ s. (0 < s.seat.me.0.number) × (c.args.calls_each ≤ s.seat.me.0.left) × (s.seat.me.0.seen ≡ []))
     yielded c.in-Some.seat left
     (subst (All (λ s. (0 < s.seat.me.0.number) × (c.args.calls_each ≤ s.seat.me.0.left) × (s.seat.me.0.seen ≡ [])))
     all c.requires.new) in
@@ -32,7 +33,7 @@ loop-seat-preserved c =
       append_assoc yielded (c.in-Some.seat ∷ []) (into_iter_items c.next.new.self)
           ∙ (ap (λ l. yielded ++ l) (sym step) ∙ inv.2),
       ap (map (λ (p : Pass). p.seat)) items
-          ∙ (map-push (λ (p : Pass). p.seat) c.loop-seat.list.items _ ∙ ap (λ l. l ++ c.in-Some.seat ∷ []) inv.3),
+          ∙ (map_push (λ (p : Pass). p.seat) c.loop-seat.list.items _ ∙ ap (λ l. l ++ c.in-Some.seat ∷ []) inv.3),
       subst (All (λ (p : Pass). p.left ≡ c.args.calls_each)) (sym items)
           (All-push (λ (p : Pass). p.left ≡ c.args.calls_each) c.loop-seat.list.items _ inv.4 refl),
       c.push_reserved.ensures.capacity ∙ inv.5,

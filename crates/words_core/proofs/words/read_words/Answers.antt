@@ -1,11 +1,12 @@
 use Rattle.std.proofs.Common.{arith, ◌≡◌, ◌⊎◌, ◌∙◌, ap₂, sym, subst, inl, inr, map, ℕ, List, Some, codes}
 use Rattle.std.specs.Fmt.{decimal}
 use Rattle.std.proofs.lemmas.Fmt.{decimal_digit}
+use Rattle.std.proofs.lemmas.Option.{none-some, same_Some}
 use Rattle.clap.specs.Words.{IsAmong, app_of, fault_of, first_value, found_of, takes}
 use Rattle.clap.specs.declared.error.kind.ErrorKind.{ErrorKind}
 use Rattle.clap.specs.declared.error.kind.ErrorKind.TheVariants as kind
 use Rattle.words_core.specs.Words.{TellsWorkers, program_app}
-use Rattle.words_core.proofs.ReadingLemmas.{decimal-TellsWorkers, no_faults-error, alone-value, alone-taken, decimal-IsPlainWord, help-asked, plain-unknown, plain-met, error-kind, error-kinds, faults, help-AsksFor, known_faults, known_value, no_faults, no_parse, no_text, run-AsksFor, same_text, value-matches}
+use Rattle.words_core.proofs.ReadingLemmas.{decimal-TellsWorkers, no_faults-error, alone-value, alone-taken, decimal-IsPlainWord, help-asked, plain-unknown, plain-met, error-kind, error-kinds, faults, help-AsksFor, known_faults, known_value, no_faults, no_parse, run-AsksFor, value-matches}
 use Rattle.words_core.proofs.words.read_words.Goals as goal
 
 pub returns-in-Err-clause-asked : goal.returns-in-Err-clause-asked
@@ -45,7 +46,7 @@ returns-in-Some-clause-granted c = λ n asked.
     let words = map (λ word. word.now) c.args.words.now in
     let matched = value-matches c.in-Ok.matches (app_of c.in_ok-command.command) words
     c.in_ok-command.ensures c.in-Ok.ensures.matches in
-    let same : c.in-Some.text.now ≡ text = same_text c.in-Some.text.now text (c.in-Some.ensures ∙ matched ∙ value) in
+    let same : c.in-Some.text.now ≡ text = same_Some c.in-Some.text.now text (c.in-Some.ensures ∙ matched ∙ value) in
     inl (c.run_with.ensures.told n (subst (λ (t : List ℕ). TellsWorkers t n) (sym same) tells))
 
 pub returns-clause-granted : goal.returns-clause-granted
@@ -54,7 +55,7 @@ returns-clause-granted c = λ n asked.
     let words = map (λ word. word.now) c.args.words.now in
     let matched = value-matches c.in-Ok.matches (app_of c.in_ok-command.command) words
     c.in_ok-command.ensures c.in-Ok.ensures.matches in
-    absurd (no_text text (c.in-None.ensures ∙ matched ∙ value))
+    absurd (none-some text (c.in-None.ensures ∙ matched ∙ value))
 
 pub returns-in-Err-clause-alone : goal.returns-in-Err-clause-alone
 returns-in-Err-clause-alone c = λ name is.
@@ -97,7 +98,7 @@ returns-in-Some-clause-alone c = λ name is.
     c.in_ok-command.ensures is c.in-Ok.ensures.matches (alone-value name) in
     let digit : decimal 4 ≡ codes "4" = decimal_digit 4 (omega arith) in
     let same : c.in-Some.text.now ≡ decimal 4 =
-    same_text c.in-Some.text.now (codes "4") (c.in-Some.ensures ∙ value) ∙ sym digit in
+    same_Some c.in-Some.text.now (codes "4") (c.in-Some.ensures ∙ value) ∙ sym digit in
     inl (c.run_with.ensures.told 4 (subst (λ (t : List ℕ). TellsWorkers t 4) (sym same)
     (decimal-TellsWorkers 4 (omega arith, omega arith))))
 
@@ -108,7 +109,7 @@ returns-in-Some-clause-workers c = λ name n workers is.
     c.in_ok-command.ensures is c.in-Ok.ensures.matches
     (plain-met name (decimal n) (decimal-IsPlainWord n (omega arith))).0 in
     let same : c.in-Some.text.now ≡ decimal n =
-    same_text c.in-Some.text.now (decimal n) (c.in-Some.ensures ∙ value) in
+    same_Some c.in-Some.text.now (decimal n) (c.in-Some.ensures ∙ value) in
     inl (c.run_with.ensures.told n (subst (λ (t : List ℕ). TellsWorkers t n) (sym same)
     (decimal-TellsWorkers n workers)))
 
@@ -117,7 +118,7 @@ returns-in-Some-clause-wrong_number c = λ name text plain untold is.
     let value : first_value (found_of c.in-Ok.matches) (codes "workers") ≡ Some text =
     known_value c.in-Ok.matches (app_of c.in_ok-command.command) _ _ text
     c.in_ok-command.ensures is c.in-Ok.ensures.matches (plain-met name text plain).0 in
-    let same : c.in-Some.text.now ≡ text = same_text c.in-Some.text.now text (c.in-Some.ensures ∙ value) in
+    let same : c.in-Some.text.now ≡ text = same_Some c.in-Some.text.now text (c.in-Some.ensures ∙ value) in
     inl (c.run_with.ensures.untold (λ n tells. untold n (subst (λ (t : List ℕ). TellsWorkers t n) same tells)))
 
 pub returns-in-Some-clause-stray : goal.returns-in-Some-clause-stray
@@ -137,7 +138,7 @@ returns-clause-alone c = λ name is.
     let value : first_value (found_of c.in-Ok.matches) (codes "workers") ≡ Some (codes "4") =
     known_value c.in-Ok.matches (app_of c.in_ok-command.command) _ _ (codes "4")
     c.in_ok-command.ensures is c.in-Ok.ensures.matches (alone-value name) in
-    absurd (no_text (codes "4") (c.in-None.ensures ∙ value))
+    absurd (none-some (codes "4") (c.in-None.ensures ∙ value))
 
 pub returns-clause-workers : goal.returns-clause-workers
 returns-clause-workers c = λ name n workers is.
@@ -145,7 +146,7 @@ returns-clause-workers c = λ name n workers is.
     known_value c.in-Ok.matches (app_of c.in_ok-command.command) _ _ (decimal n)
     c.in_ok-command.ensures is c.in-Ok.ensures.matches
     (plain-met name (decimal n) (decimal-IsPlainWord n (omega arith))).0 in
-    absurd (no_text (decimal n) (c.in-None.ensures ∙ value))
+    absurd (none-some (decimal n) (c.in-None.ensures ∙ value))
 
 pub returns-clause-help : goal.returns-clause-help
 returns-clause-help c = λ name is.

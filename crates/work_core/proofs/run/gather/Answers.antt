@@ -1,14 +1,15 @@
 use Rattle.std.proofs.Common.{arith, ◌≡◌, ◌∙◌, ap, length, []}
 use Rattle.std.proofs.lemmas.List.Elements.{All-rest, All-same}
+use Rattle.std.proofs.lemmas.Result.{IfOk-at_ok}
 use Rattle.std.specs.Vec.Iter.{into_iter_items}
-use Rattle.work_core.specs.declared.kept.Kept.{Kept}
+use Rattle.work_core.specs.declared.kept.KeptValues.{KeptValues}
 use Rattle.work_core.specs.declared.worker.WorkerAnswer.{WorkerAnswer}
 use Rattle.work_core.specs.Counting.{times}
 use Rattle.work_core.specs.Workers.{IsWorkerAnswer, AreOfDrawn}
 use Rattle.work_core.proofs.Counting.{times-append}
 use Rattle.work_core.proofs.Handed.{joined_me}
 use Rattle.work_core.proofs.Places.{All-first}
-use Rattle.work_core.proofs.Team.{last_answer, other_answers, if_ok, kept_places, kept_there, kept_listed, there_both, all_there}
+use Rattle.work_core.proofs.Team.{last_answer, other_answers, kept_places, kept_there, kept_listed, there_both, all_there}
 use Rattle.work_core.proofs.run.gather.Goals as goal
 
 pub loop-answer-init : goal.loop-answer-init
@@ -23,9 +24,9 @@ loop-answer-init g c =
     let m = joined_me c.args.seat.me last.seat.me c.join.new.seat.me c.join.ensures.both in
     let drawn = last.seat.me.0.drawn in
     let are : AreOfDrawn g.W.PairWork job drawn [] kept =
-    if_ok (AreOfDrawn g.W.PairWork job drawn []) last.kept kept c.in_ok-places.was is.values in
+    IfOk-at_ok (AreOfDrawn g.W.PairWork job drawn []) c.in_ok-places.was is.values in
     let len : length kept.places.items ≡ g.W.PairWork.pairs job =
-    if_ok (λ (k : Kept g.row.W-Out.Denot). length k.places.items ≡ g.W.PairWork.pairs job) last.kept kept
+    IfOk-at_ok (λ (k : KeptValues g.row.W-Out.Denot). length k.places.items ≡ g.W.PairWork.pairs job)
     c.in_ok-places.was is.places in
     let size = c.in-Some.ensures.len in
     let iter = c.into_iter-answer-iterator.ensures.into_iter_gives in
@@ -74,8 +75,7 @@ place_all-requires-clause-values g c κs within =
     let step = c.in-Some-answer.ensures.steps.0 in
     let is : P next = All-first P next (into_iter_items c.next.new.self) _ step c.loop-answer.invariant.rest in
     let drawn = next.seat.me.0.drawn in
-    let kept = c.in_ok-answer.field-0 in
-    (if_ok (AreOfDrawn g.W.PairWork c.args.job.now drawn []) next.kept kept c.in_ok-answer.was is.values).listed
+    (IfOk-at_ok (AreOfDrawn g.W.PairWork c.args.job.now drawn []) c.in_ok-answer.was is.values).listed
 
 pub loop-answer-preserved : goal.loop-answer-preserved
 loop-answer-preserved g c =
@@ -89,9 +89,9 @@ loop-answer-preserved g c =
     let kept = c.in_ok-answer.field-0 in
     let drawn = next.seat.me.0.drawn in
     let are : AreOfDrawn g.W.PairWork job drawn [] kept =
-    if_ok (AreOfDrawn g.W.PairWork job drawn []) next.kept kept c.in_ok-answer.was is.values in
+    IfOk-at_ok (AreOfDrawn g.W.PairWork job drawn []) c.in_ok-answer.was is.values in
     let len : length kept.places.items ≡ 0 =
-    if_ok (λ (k : Kept g.row.W-Out.Denot). length k.places.items ≡ 0) next.kept kept c.in_ok-answer.was is.places in
+    IfOk-at_ok (λ (k : KeptValues g.row.W-Out.Denot). length k.places.items ≡ 0) c.in_ok-answer.was is.places in
     let seat = c.join-in-loop-answer.new.seat in
     let m = joined_me c.loop-answer.seat.me next.seat.me seat.me c.join-in-loop-answer.ensures.both in
     record {

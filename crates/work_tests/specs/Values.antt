@@ -1,0 +1,7 @@
+-- Values of a job of sums.
+use Rattle.std.specs.Prelude.{◌≡◌, ℕ}
+use Rattle.std.proofs.Math.Nat.{ℕ_set}
+
+-- that two numbers are equal holds in one way
+pub equal_prop : (a b : ℕ) → IsProp (a ≡ b)
+equal_prop a b = ℕ_set a b
