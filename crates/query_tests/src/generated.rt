@@ -1,9 +1,9 @@
-//! Generated rows and their tables, and the runs of days of one value.
-
-ghost use Rattle.std.specs.Prelude.{◌<◌};
+//! Random rows and their tables, and the runs of days of one value.
 
 use crate::tables::Table;
 use period_core::{Period, Point};
+use rand::RngExt;
+use rand_pcg::Pcg32;
 use row_core::{Kind, Name, Row, RowList, Schema, Text, Value, Values};
 use std::alloc::{AllocError, Global};
 use std::test::Fail;
@@ -88,48 +88,28 @@ impl PlainRow {
     }
 }
 
-/// A linear congruential generator.
-#[derive(Drop)]
-pub struct Dice {
-    pub state: u64,
+// A row of one to eight days, with few values in each column.
+fn random_row(rng: &mut Pcg32, id: u64) -> PlainRow {
+    let len = rng.random_range(1..=8);
+    let from = rng.random_range(0..=DAYS - len);
+    PlainRow {
+        id,
+        from,
+        to: from + len,
+        code: rng.random_range(-1..=0),
+        word: &b"xy"[..rng.random_range(0..=2)],
+        size: 3 * rng.random_range(0..=1) - 1,
+    }
 }
 
-impl Dice {
-    // A number below the bound.
-    fn roll(&mut self, bound: u64) -> u64
-        requires { 0 < bound }
-        ensures { result < bound }
-    {
-        self.state = self
-            .state
-            .wrapping_mul(6_364_136_223_846_793_005)
-            .wrapping_add(1_442_695_040_888_963_407);
-        (self.state >> 33) % bound
+/// Up to twelve rows, by rising ids.
+pub fn random_rows(alloc: Global, rng: &mut Pcg32) -> Result<Vec<PlainRow>, AllocError> {
+    let mut rows = Vec::new(alloc);
+    for i in 0..rng.random_range(0..=12) {
+        let id = 3 * i + rng.random_range(1..=3);
+        rows.push(random_row(rng, id))?;
     }
-
-    // A row of one to eight days, with few values in each column.
-    fn roll_row(&mut self, id: u64) -> PlainRow {
-        let len = 1 + self.roll(8);
-        let from = self.roll(DAYS + 1 - len);
-        PlainRow {
-            id,
-            from,
-            to: from + len,
-            code: self.roll(2) as i64 - 1,
-            word: &b"xy"[..self.roll(3) as usize],
-            size: 3 * self.roll(2) as i64 - 1,
-        }
-    }
-
-    /// Up to twelve rows, by rising ids.
-    pub fn roll_rows(&mut self, alloc: Global) -> Result<Vec<PlainRow>, AllocError> {
-        let mut rows = Vec::new(alloc);
-        for i in 0..self.roll(13) {
-            let id = 3 * i + 1 + self.roll(3);
-            rows.push(self.roll_row(id))?;
-        }
-        Ok(rows)
-    }
+    Ok(rows)
 }
 
 /// All that rows can have in the column by which they are grouped, in its order; None where they aren't.
@@ -209,15 +189,15 @@ pub struct Pair {
 }
 
 impl Pair {
-    /// Two generated tables, to be compared by so many columns from one of them on.
-    pub fn roll(
+    /// Two tables of random rows, to be compared by so many columns from one of them on.
+    pub fn random(
         alloc: Global,
-        dice: &mut Dice,
+        rng: &mut Pcg32,
         first: usize,
         count: usize,
         days: &[Point],
     ) -> Result<Pair, Fail> {
-        let (lefts, rights) = (dice.roll_rows(alloc)?, dice.roll_rows(alloc)?);
+        let (lefts, rights) = (random_rows(alloc, rng)?, random_rows(alloc, rng)?);
         let left = table(alloc, &LEFT, &lefts, days)?;
         let right = table(alloc, &RIGHT, &rights, days)?;
         let mut on = Vec::new(alloc);

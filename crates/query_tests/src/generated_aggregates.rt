@@ -1,11 +1,13 @@
-//! Aggregates of generated tables, against what each day shows of each group; and the greatest and the least sums.
+//! Aggregates of tables of random rows, against what each day shows of each group; and the greatest and the least sums.
 
 use crate::generated::{
-    Cell, DAYS, Dice, Field, LEFT, PlainRow, groups, name, period, runs, table,
+    Cell, DAYS, Field, LEFT, PlainRow, groups, name, period, random_rows, runs, table,
 };
 use crate::tables::{days, january, numbers, side};
 use agg_core::{AggRow, Func, agg};
 use period_core::Point;
+use rand_core::SeedableRng;
+use rand_pcg::Pcg32;
 use row_core::{Name, Value};
 use std::alloc::{AllocError, Global};
 use std::process::Abort;
@@ -104,11 +106,11 @@ fn value(alloc: Global, group: Option<Cell>) -> Result<Option<Value>, Fail> {
 // Asks the question of a generated table by 1, 2 and 7 workers. Tells how many rows come out.
 fn check_agg(
     rt: &(impl Abort + Alloc<A = Global> + Threads + Sync),
-    dice: &mut Dice,
+    rng: &mut Pcg32,
     question: &Question,
     days: &[Point],
 ) -> Result<usize, Fail> {
-    let rows = dice.roll_rows(rt.alloc())?;
+    let rows = random_rows(rt.alloc(), rng)?;
     let want = wanted(rt.alloc(), &rows, question, days)?;
     let table = table(rt.alloc(), &LEFT, &rows, days)?;
     let group = match question.by {
@@ -134,13 +136,13 @@ fn check_agg(
 // Asks what ten generated tables come to.
 fn check_ten(
     rt: &(impl Abort + Alloc<A = Global> + Threads + Sync),
-    dice: &mut Dice,
+    rng: &mut Pcg32,
     question: &Question,
     days: &[Point],
 ) -> Result<(), Fail> {
     let mut rows = 0usize;
     for _ in 0..10 {
-        rows = rows.saturating_add(check_agg(rt, dice, question, days)?);
+        rows = rows.saturating_add(check_agg(rt, rng, question, days)?);
     }
     assert!(rt; rows >= 10, "{:?} has only {rows} rows", question.func);
     Ok(())
@@ -149,13 +151,13 @@ fn check_ten(
 // Asks a function of twenty tables as one group, of ten by a number and of ten by a text.
 fn check_func(
     rt: &(impl Abort + Alloc<A = Global> + Threads + Sync),
-    dice: &mut Dice,
+    rng: &mut Pcg32,
     func: &Func,
     days: &[Point],
 ) -> Result<(), Fail> {
     for by in [None, Some(Field::Code), None, Some(Field::Word)] {
         let question = Question { func: *func, by };
-        check_ten(rt, dice, &question, days)?;
+        check_ten(rt, rng, &question, days)?;
     }
     Ok(())
 }
@@ -164,11 +166,11 @@ fn check_func(
 fn comes_to_what_each_day_shows(rt: HostRuntime) -> Result<(), Fail> {
     let days = days(rt.alloc())?;
     let size = name(&LEFT, Field::Size)?;
-    let mut dice = Dice { state: 3 };
-    check_func(&rt, &mut dice, &Func::Count, &days)?;
-    check_func(&rt, &mut dice, &Func::Sum(size), &days)?;
-    check_func(&rt, &mut dice, &Func::Min(size), &days)?;
-    check_func(&rt, &mut dice, &Func::Max(size), &days)
+    let mut rng = Pcg32::seed_from_u64(3);
+    check_func(&rt, &mut rng, &Func::Count, &days)?;
+    check_func(&rt, &mut rng, &Func::Sum(size), &days)?;
+    check_func(&rt, &mut rng, &Func::Min(size), &days)?;
+    check_func(&rt, &mut rng, &Func::Max(size), &days)
 }
 
 // Each is past the numbers of 64 bits, with a sign and without.

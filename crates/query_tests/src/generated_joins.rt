@@ -1,9 +1,11 @@
-//! Joins of generated tables, against what each day shows of each two rows.
+//! Joins of tables of random rows, against what each day shows of each two rows.
 
-use crate::generated::{DAYS, Dice, Pair, PlainRow, period};
+use crate::generated::{DAYS, Pair, PlainRow, period};
 use crate::tables::{days, side};
 use join_core::{JoinRow, join};
 use period_core::Point;
+use rand_core::SeedableRng;
+use rand_pcg::Pcg32;
 use std::alloc::Global;
 use std::process::Abort;
 use std::test::Fail;
@@ -74,11 +76,11 @@ fn check_join(
 #[test]
 fn joins_what_each_day_shows(rt: HostRuntime) -> Result<(), Fail> {
     let days = days(rt.alloc())?;
-    let mut dice = Dice { state: 3 };
+    let mut rng = Pcg32::seed_from_u64(3);
     for count in 0..4 {
         let mut rows = 0usize;
         for first in 0..10 {
-            let pair = Pair::roll(rt.alloc(), &mut dice, first, count, &days)?;
+            let pair = Pair::random(rt.alloc(), &mut rng, first, count, &days)?;
             rows = rows.saturating_add(check_join(&rt, &pair, &days)?);
         }
         assert!(rt;

@@ -1,8 +1,8 @@
-//! Tables of a small generator: what `dip` answers of one is certified, and each damage to that
-//! claim gets its verdict.
+//! Tables of random rows: what `dip` answers of one is certified, and each damage to that claim gets its verdict.
 
-ghost use Rattle.std.specs.Prelude.{◌<◌};
-
+use rand::RngExt;
+use rand_core::SeedableRng;
+use rand_pcg::Pcg32;
 use script_core::{Counted, run};
 use std::alloc::Global;
 use std::fmt::Write;
@@ -22,26 +22,6 @@ fn answers_of(
     Ok(writer.into_inner())
 }
 
-// A linear congruential generator.
-#[derive(Drop)]
-struct Dice {
-    state: u64,
-}
-
-impl Dice {
-    // A number below the bound.
-    fn roll(&mut self, bound: u64) -> u64
-        requires { 0 < bound }
-        ensures { result < bound }
-    {
-        self.state = self
-            .state
-            .wrapping_mul(6_364_136_223_846_793_005)
-            .wrapping_add(1_442_695_040_888_963_407);
-        (self.state >> 33) % bound
-    }
-}
-
 // A row of January 2024, by the days of its ends, ordered as rows are taken.
 #[derive(Clone, Copy, PartialEq, Eq, PartialOrd, Ord)]
 struct Row {
@@ -51,12 +31,12 @@ struct Row {
 }
 
 // So many rows, of up to eight days.
-fn make_rows(alloc: Global, dice: &mut Dice, count: u64) -> Result<Vec<Row>, Fail> {
-    let longest = 1 + dice.roll(8);
+fn make_rows(alloc: Global, rng: &mut Pcg32, count: u64) -> Result<Vec<Row>, Fail> {
+    let longest = rng.random_range(1..=8);
     let mut rows = Vec::new(alloc);
     for id in 1..=count {
-        let from = 1 + dice.roll(20);
-        let to = from + 1 + dice.roll(longest);
+        let from = rng.random_range(1..=20);
+        let to = from + rng.random_range(1..=longest);
         rows.push(Row { from, to, id })?;
     }
     Ok(rows)
@@ -301,9 +281,9 @@ impl Trial {
 
 #[test]
 fn what_dip_answers_is_certified(rt: HostRuntime) -> Result<(), Fail> {
-    let mut dice = Dice { state: 1 };
+    let mut rng = Pcg32::seed_from_u64(1);
     for count in 0..=60 {
-        let rows = make_rows(rt.alloc(), &mut dice, count)?;
+        let rows = make_rows(rt.alloc(), &mut rng, count)?;
         let claimed = Claimed::by_dip(&rt, &rows)?;
         assert_eq!(rt; claimed.parts.len() as u64, claimed.count);
         let mut trial = Trial::new(rt.alloc(), &rows)?;
@@ -315,10 +295,10 @@ fn what_dip_answers_is_certified(rt: HostRuntime) -> Result<(), Fail> {
 
 #[test]
 fn each_damage_gets_its_verdict(rt: HostRuntime) -> Result<(), Fail> {
-    let mut dice = Dice { state: 2 };
+    let mut rng = Pcg32::seed_from_u64(2);
     let mut verdicts = String::new(rt.alloc());
     for count in 0..=60 {
-        let rows = make_rows(rt.alloc(), &mut dice, count)?;
+        let rows = make_rows(rt.alloc(), &mut rng, count)?;
         let claimed = Claimed::by_dip(&rt, &rows)?;
         let mut trial = Trial::new(rt.alloc(), &rows)?;
         trial.add_wrong_ids(rt.alloc(), &rows, &claimed)?;
