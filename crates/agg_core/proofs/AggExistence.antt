@@ -24,7 +24,7 @@ use Rattle.round_core.specs.declared.plateau.Plateau.{Plateau}
 use Rattle.round_core.specs.Plateaus.{HasValue, IsPlateau, PlateauBefore, of_class}
 use Rattle.round_core.proofs.PlateauExistence.{some_plateaus}
 use Rattle.agg_core.specs.declared.rows.AggRow.{AggRow}
-use Rattle.agg_core.specs.Agg.{AggHasSomeList, AreAggRows, IsAggRow, amount_in, item_of, items_of_group, measure_of, value_in}
+use Rattle.agg_core.specs.Agg.{AggHasSomeList, AreAggRows, IsAggRow, amount_in, amount_item, items_of_group, measure_of, value_in}
 use Rattle.agg_core.specs.Groups.{AggRowBefore, agg_row_cmp, rows_of_group}
 use Rattle.agg_core.proofs.OrderLemmas.{agg_row_total}
 use Rattle.agg_core.proofs.PlateauLemmas.{filtered_in, filtered_passes, period_held, row_of_group}
@@ -83,9 +83,10 @@ module _ (measure : Measure) (amount_of : Row → ℤ) (group_of : Row → Optio
   plateau_of row = record { class = 0; period = row.period; value = row.value }
 
   -- all of a group's items are of one class
-  of_one_class : (some : List Row) → of_class 0 (map (item_of amount_of 0) some) ≡ map (item_of amount_of 0) some
+  of_one_class : (some : List Row)
+      → of_class 0 (map (amount_item amount_of 0) some) ≡ map (amount_item amount_of 0) some
   of_one_class [] = refl
-  of_one_class (r ∷ some) = ap (λ l. item_of amount_of 0 r ∷ l) (of_one_class some)
+  of_one_class (r ∷ some) = ap (λ l. amount_item amount_of 0 r ∷ l) (of_one_class some)
 
   -- so is each of their plateaus
   plateau_class : (group : Option Value) (p : Plateau) → IsPlateau measure (items_of group) p → p.class ≡ 0
@@ -94,7 +95,7 @@ module _ (measure : Measure) (amount_of : Row → ℤ) (group_of : Row → Optio
       let test : (x.class == p.class) ≡ true =
       filtered_passes (λ (y : Item). y.class == p.class) (items_of group) x there in
       let (r, within, made) =
-      Contains-map_source (item_of amount_of 0) (rows_of_group group_of group rows) x
+      Contains-map_source (amount_item amount_of 0) (rows_of_group group_of group rows) x
       (filtered_in (λ (y : Item). y.class == p.class) (items_of group) x there) in
       sym ((Decides-eqb x.class p.class).0 test) ∙ sym (ap (λ (y : Item). y.class) made)
 

@@ -16,7 +16,7 @@ use Rattle.row_core.specs.declared.value.Value.{Value}
 use Rattle.row_core.proofs.ValueLemmas.{maybe_decides, value_total}
 use Rattle.agg_core.specs.declared.entries.Entry.{Entry}
 use Rattle.agg_core.specs.Groups.{rows_of_group}
-use Rattle.agg_core.specs.Entries.{AreEntries, AreSortedEntries, row_in, sort_value, value_at}
+use Rattle.agg_core.specs.Entries.{AreEntries, AreSortedEntries, entry_row, sort_value, value_at_place}
 use Rattle.agg_core.proofs.OrderLemmas.{not_after, not_after-from, value_lt}
 
 -- ---- lists side by side
@@ -47,12 +47,12 @@ entries_kept place (r ∷ rows) (e ∷ es) all =
     (entries_kept place rows es all.1)
 
 -- the rows of the entries are the rows
-rows_in_entries : (place : ℕ) (rows : List Row) (es : List Entry) → AreEntries place rows es → map row_in es ≡ rows
+rows_in_entries : (place : ℕ) (rows : List Row) (es : List Entry) → AreEntries place rows es → map entry_row es ≡ rows
 rows_in_entries place [] [] all = refl
 rows_in_entries place [] (e ∷ es) all = absurd all
 rows_in_entries place (r ∷ rows) [] all = absurd all
 rows_in_entries place (r ∷ rows) (e ∷ es) all =
-    ap (λ (x : Row). x ∷ map row_in es) all.0.row_is ∙ ap (λ l. r ∷ l) (rows_in_entries place rows es all.1)
+    ap (λ (x : Row). x ∷ map entry_row es) all.0.row_is ∙ ap (λ l. r ∷ l) (rows_in_entries place rows es all.1)
 
 -- ---- filters
 
@@ -139,11 +139,11 @@ group_stable old new stable group = elim (filter_first (in_group group) new) [
 
 -- a group's rows are those of its entries
 group_rows : (place : ℕ) (group : Option Value) (es : List Entry) → All (IsKept place) es
-    → rows_of_group (value_at (Some place)) group (map row_in es) ≡ map row_in (filter (in_group group) es)
+    → rows_of_group (value_at_place (Some place)) group (map entry_row es) ≡ map entry_row (filter (in_group group) es)
 group_rows place group es kept =
-    filter-map row_in (λ (r : Row). same_maybe (value_at (Some place) r) group) es
-    ∙ ap (map row_in)
-    (filter_alike (λ (e : Entry). same_maybe (value_at (Some place) (row_in e)) group) (in_group group) es
+    filter-map entry_row (λ (r : Row). same_maybe (value_at_place (Some place) r) group) es
+    ∙ ap (map entry_row)
+    (filter_alike (λ (e : Entry). same_maybe (value_at_place (Some place) (entry_row e)) group) (in_group group) es
     (λ k d h. let at : IsKept place (get_or es k d) = kept k d h in
     ap (λ (v : Option Value). same_maybe v group) (at.0 ∙ ap Some (sym at.1))))
 
@@ -156,15 +156,16 @@ pub sorted_are : (place : ℕ) (rows : List Row) (old new : List Entry) → AreE
 sorted_are place rows old new entries moved sorted stable =
     let was : All (IsKept place) old = entries_kept place rows old entries in
     let is : All (IsKept place) new = All-permutation (IsKept place) old new moved was in
-    let all : map row_in old ≡ rows = rows_in_entries place rows old entries in
+    let all : map entry_row old ≡ rows = rows_in_entries place rows old entries in
     record {
       each = λ e h. (All-contains (IsKept place) new e is h).0;
       rise = λ i j d below inside.
           ap (λ (v : Value). is_lt (value_cmp v (get_or new i d).value.now)) (sym (is j d inside).1)
           ∙ ap (λ (v : Value). is_lt (value_cmp (sort_value (get_or new j d)) v)) (sym (is i d (omega arith)).1)
           ∙ sorted_far value_lt (ranks_by value_total sort_value) new sorted i j d (omega arith) inside;
-      moved = subst (λ (l : List Row). IsPermutation l (map row_in new)) all (IsPermutation-map row_in old new moved);
+      moved = subst (λ (l : List Row). IsPermutation l (map entry_row new)) all
+          (IsPermutation-map entry_row old new moved);
       kept = λ group.
-          group_rows place group new is ∙ ap (map row_in) (group_stable old new stable group)
-          ∙ sym (group_rows place group old was) ∙ ap (rows_of_group (value_at (Some place)) group) all;
+          group_rows place group new is ∙ ap (map entry_row) (group_stable old new stable group)
+          ∙ sym (group_rows place group old was) ∙ ap (rows_of_group (value_at_place (Some place)) group) all;
     }

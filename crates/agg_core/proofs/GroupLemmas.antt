@@ -23,17 +23,17 @@ use Rattle.list_core.proofs.OrderedLemmas.{before-asym}
 use Rattle.list_core.proofs.PlaceLemmas.{slice_get-append_left, slice_get-seam}
 use Rattle.round_core.specs.Plateaus.{of_class}
 use Rattle.agg_core.specs.declared.entries.Entry.{Entry}
-use Rattle.agg_core.specs.Agg.{item_of}
+use Rattle.agg_core.specs.Agg.{amount_item}
 use Rattle.agg_core.specs.Groups.{rows_of_group}
-use Rattle.agg_core.specs.Entries.{AreRising, AreSortedEntries, row_in, value_at}
-use Rattle.agg_core.specs.Grouping.{AreNotAfter, GroupBefore, IsClassOf, IsGrouping, IsLast, IsNumbered, IsNumberedItem, RisesByGroup, values_in}
+use Rattle.agg_core.specs.Entries.{AreRising, AreSortedEntries, entry_row, value_at_place}
+use Rattle.agg_core.specs.Grouping.{AreNotAfter, GroupBefore, IsClassOf, IsGrouping, IsLast, AreItemsByGroup, IsNumberedItem, RisesByGroup, copied_groups}
 use Rattle.agg_core.proofs.OrderLemmas.{not_after}
 use Rattle.agg_core.proofs.EntryLemmas.{AllZip-more}
 
 -- ---- the number of a value's group
 
 -- two places of one group are one
-pub place_once : (groups : List (Option Value)) (c d : ℕ) (g : Option Value) → RisesByGroup groups
+place_once : (groups : List (Option Value)) (c d : ℕ) (g : Option Value) → RisesByGroup groups
     → slice_get groups c ≡ Some g → slice_get groups d ≡ Some g → c ≡ d
 place_once groups c d g rise at there = elim (by_order c d) [
   | inl less ↦ absurd (never c d at there less)
@@ -91,7 +91,7 @@ AllPairs-one : {X : Type 0} (R : X → X → Type 0) (x : X) → AllPairs R (x �
 AllPairs-one R x i j d less inside = absurd (omega arith)
 
 -- the value's group is added behind the others
-pub class_of_added : (value : Value) (old new : List (Option Value)) (class : ℕ) → RisesByGroup old
+class_of_added : (value : Value) (old new : List (Option Value)) (class : ℕ) → RisesByGroup old
     → AreNotAfter old (Some value) → (IsLast old (Some value) → ⊥) → new ≡ old ++ Some value ∷ [] → class ≡ length old
     → IsClassOf value old new class
 class_of_added value old new class rise upto not_last put e =
@@ -115,20 +115,20 @@ class_of_added value old new class rise upto not_last put e =
 
 -- one group more, behind references
 values-push : (groups new : List (Option (Bor Value))) (o : Option (Bor Value)) → new ≡ groups ++ o ∷ []
-    → values_in new ≡ values_in groups ++ option_copied o ∷ []
-values-push groups new o put = ap values_in put ∙ map_push groups where
-  map_push : (gs : List (Option (Bor Value))) → values_in (gs ++ o ∷ []) ≡ values_in gs ++ option_copied o ∷ []
+    → copied_groups new ≡ copied_groups groups ++ option_copied o ∷ []
+values-push groups new o put = ap copied_groups put ∙ map_push groups where
+  map_push : (gs : List (Option (Bor Value))) → copied_groups (gs ++ o ∷ []) ≡ copied_groups gs ++ option_copied o ∷ []
   map_push [] = refl
   map_push (g ∷ gs) = ap (λ l. option_copied g ∷ l) (map_push gs)
 
 -- the group that is added stands behind a reference
 pub class_pushed : (value : Value) (old new : List (Option (Bor Value))) (o : Option (Bor Value)) (class : ℕ)
-    → option_copied o ≡ Some value → RisesByGroup (values_in old) → AreNotAfter (values_in old) (Some value)
-    → (IsLast (values_in old) (Some value) → ⊥) → new ≡ old ++ o ∷ [] → class ≡ length old
-    → IsClassOf value (values_in old) (values_in new) class
+    → option_copied o ≡ Some value → RisesByGroup (copied_groups old) → AreNotAfter (copied_groups old) (Some value)
+    → (IsLast (copied_groups old) (Some value) → ⊥) → new ≡ old ++ o ∷ [] → class ≡ length old
+    → IsClassOf value (copied_groups old) (copied_groups new) class
 class_pushed value old new o class is rise upto not_last put e =
-    class_of_added value (values_in old) (values_in new) class rise upto not_last
-    (values-push old new o put ∙ ap (λ (g : Option Value). values_in old ++ g ∷ []) is)
+    class_of_added value (copied_groups old) (copied_groups new) class rise upto not_last
+    (values-push old new o put ∙ ap (λ (g : Option Value). copied_groups old ++ g ∷ []) is)
     (e ∙ sym (length-map old option_copied))
 
 -- ---- numbered rows
@@ -136,7 +136,7 @@ class_pushed value old new o class is rise upto not_last put e =
 -- no group so far comes after the value of the next entry
 pub upto_next : (amount_of : Row → ℤ) (entries : List Entry) (i : ℕ) (e : Entry) (items : List Item)
     (groups : List (Option Value)) → AreRising entries → i < length entries → e ≡ get_or entries i e
-    → IsNumbered amount_of (take i entries) items groups → AreNotAfter groups (Some e.value.now)
+    → AreItemsByGroup amount_of (take i entries) items groups → AreNotAfter groups (Some e.value.now)
 upto_next amount_of entries i e items groups rising inside at numbered k d h =
     let (before, (j, near, is), same) = numbered.listed (get_or groups k d) (Contains-get_or groups k d h) in
     subst (λ (g : Option Value). is_lt (maybe_cmp (Some e.value.now) g) ≡ false) same (earlier before j near is)
@@ -177,8 +177,9 @@ classes_within amount_of groups (e ∷ es) (x ∷ items) all =
 -- one entry more
 pub numbered_more : (amount_of : Row → ℤ) (entries : List Entry) (i : ℕ) (e : Entry) (items new : List Item) (x : Item)
     (groups groups' : List (Option Value)) (class : ℕ) → i < length entries → e ≡ get_or entries i e
-    → IsClassOf e.value.now groups groups' class → x ≡ item_of amount_of class e.row.now → new ≡ items ++ x ∷ []
-    → IsNumbered amount_of (take i entries) items groups → IsNumbered amount_of (take (i + 1) entries) new groups'
+    → IsClassOf e.value.now groups groups' class → x ≡ amount_item amount_of class e.row.now → new ≡ items ++ x ∷ []
+    → AreItemsByGroup amount_of (take i entries) items groups
+    → AreItemsByGroup amount_of (take (i + 1) entries) new groups'
 numbered_more amount_of entries i e items new x groups groups' class inside at is made put was = record {
   classes = subst (AllPairs (λ (a b : Item). a.class ≤ b.class)) (sym put)
       (AllPairs-append (λ (a b : Item). a.class ≤ b.class) items (x ∷ []) was.classes
@@ -186,7 +187,7 @@ numbered_more amount_of entries i e items new x groups groups' class inside at i
   rise = is.rise;
   each = AllZip-more (IsNumberedItem amount_of groups') entries i e items new x inside at put
       (record {
-        is = made ∙ ap (λ c. item_of amount_of c e.row.now) (sym classed);
+        is = made ∙ ap (λ c. amount_item amount_of c e.row.now) (sym classed);
         at = ap (slice_get groups') classed ∙ is.at;
       })
       (each_kept amount_of groups groups' (take i entries) items is.kept was.each);
@@ -229,18 +230,20 @@ cond-item f x r b true items rows same is all =
 cond-item f x r b false items rows same is all = ap (λ t. cond t (x ∷ items) items) same ∙ all
 
 -- the items of a group's number are the rows of that group
-pub of_class-rows : (amount_of : Row → ℤ) (group_of : Row → Option Value) (groups : List (Option Value))
+of_class-rows : (amount_of : Row → ℤ) (group_of : Row → Option Value) (groups : List (Option Value))
     (es : List Entry) (items : List Item) (c : ℕ) (g : Option Value) → RisesByGroup groups → slice_get groups c ≡ Some g
     → ((e : Entry) → Contains es e → group_of e.row.now ≡ Some e.value.now)
     → AllZip (IsNumberedItem amount_of groups) es items
-    → of_class c items ≡ map (item_of amount_of c) (rows_of_group group_of g (map row_in es))
+    → of_class c items ≡ map (amount_item amount_of c) (rows_of_group group_of g (map entry_row es))
 of_class-rows amount_of group_of groups [] [] c g rise at grouped all = refl
 of_class-rows amount_of group_of groups [] (x ∷ items) c g rise at grouped all = absurd all
 of_class-rows amount_of group_of groups (e ∷ es) [] c g rise at grouped all = absurd all
 of_class-rows amount_of group_of groups (e ∷ es) (x ∷ items) c g rise at grouped all =
-    cond-item (item_of amount_of c) x e.row.now (x.class == c) (same_maybe (group_of e.row.now) g) (of_class c items)
-    (rows_of_group group_of g (map row_in es)) alike
-    (λ t. all.0.is ∙ ap (λ n. item_of amount_of n e.row.now) (to_class ((maybe_decides (group_of e.row.now) g).0 t)))
+    cond-item (amount_item amount_of c) x e.row.now (x.class == c) (same_maybe (group_of e.row.now) g)
+    (of_class c items)
+    (rows_of_group group_of g (map entry_row es)) alike
+    (λ t. all.0.is ∙ ap (λ n. amount_item amount_of n e.row.now)
+    (to_class ((maybe_decides (group_of e.row.now) g).0 t)))
     (of_class-rows amount_of group_of groups es items c g rise at
     (λ b h. grouped b (Contains-cons e es b h)) all.1)
   where
@@ -279,54 +282,57 @@ entry_listed amount_of groups (b ∷ es) (x ∷ items) all e h = elim (Contains-
 
 -- rows that were sorted and numbered
 pub grouping_of : (amount_of : Row → ℤ) (place : ℕ) (rows : List Row) (es : List Entry) (items : List Item)
-    (groups : List (Option Value)) → AreSortedEntries place rows es → IsNumbered amount_of es items groups
-    → IsGrouping amount_of (value_at (Some place)) rows items groups
+    (groups : List (Option Value)) → AreSortedEntries place rows es → AreItemsByGroup amount_of es items groups
+    → IsGrouping amount_of (value_at_place (Some place)) rows items groups
 grouping_of amount_of place rows es items groups sorted numbered = record {
   classes = numbered.classes;
   count =
-      AllZip-long (IsNumberedItem amount_of groups) es items numbered.each ∙ sym (length-map es row_in)
-      ∙ length_permutation rows (map row_in es) sorted.moved;
+      AllZip-long (IsNumberedItem amount_of groups) es items numbered.each ∙ sym (length-map es entry_row)
+      ∙ length_permutation rows (map entry_row es) sorted.moved;
   within = classes_within amount_of groups es items numbered.each;
   rise = numbered.rise;
   listed = λ row h.
       let (e, there, is) =
-      Contains-map_source row_in es row (Contains-permutation rows (map row_in es) row sorted.moved h) in
-      subst (Contains groups) (sym (sorted.each e there) ∙ ap (value_at (Some place)) is)
+      Contains-map_source entry_row es row (Contains-permutation rows (map entry_row es) row sorted.moved h) in
+      subst (Contains groups) (sym (sorted.each e there) ∙ ap (value_at_place (Some place)) is)
       (entry_listed amount_of groups es items numbered.each e there);
   of_classes = λ c g at.
-      of_class-rows amount_of (value_at (Some place)) groups es items c g numbered.rise at sorted.each numbered.each
-      ∙ ap (map (item_of amount_of c)) (sorted.kept g);
+      of_class-rows amount_of (value_at_place (Some place)) groups es items c g numbered.rise at sorted.each
+      numbered.each
+      ∙ ap (map (amount_item amount_of c)) (sorted.kept g);
 }
 
 -- ---- one group of all rows
 
 -- where no row has a group of its own, all are of one
 all_of_one : (amount_of : Row → ℤ) (rows : List Row)
-    → of_class 0 (map (item_of amount_of 0) rows) ≡ map (item_of amount_of 0) (rows_of_group (value_at None) None rows)
+    → of_class 0 (map (amount_item amount_of 0) rows)
+    ≡ map (amount_item amount_of 0) (rows_of_group (value_at_place None) None rows)
 all_of_one amount_of [] = refl
-all_of_one amount_of (r ∷ rows) = ap (λ l. item_of amount_of 0 r ∷ l) (all_of_one amount_of rows)
+all_of_one amount_of (r ∷ rows) = ap (λ l. amount_item amount_of 0 r ∷ l) (all_of_one amount_of rows)
 
 -- all rows as one group
 pub grouping_of_one : (amount_of : Row → ℤ) (rows : List Row) (items : List Item)
-    → items ≡ map (item_of amount_of 0) rows → IsGrouping amount_of (value_at None) rows items (None ∷ [])
+    → items ≡ map (amount_item amount_of 0) rows → IsGrouping amount_of (value_at_place None) rows items (None ∷ [])
 grouping_of_one amount_of rows items e =
-    subst (λ (l : List Item). IsGrouping amount_of (value_at None) rows l (None ∷ [])) (sym e) (record {
+    subst (λ (l : List Item). IsGrouping amount_of (value_at_place None) rows l (None ∷ [])) (sym e) (record {
       classes = λ i j d less inside.
           let one = zeros i d (omega arith) in let other = zeros j d inside in omega (arith, one, other);
-      count = length-map rows (item_of amount_of 0);
+      count = length-map rows (amount_item amount_of 0);
       within = λ i d inside. let one = zeros i d inside in omega (arith, one);
       rise = AllPairs-one GroupBefore None;
       listed = λ row h. Contains-head None [];
       of_classes = only;
     })
   where
-    zeros : All (λ (x : Item). x.class ≡ 0) (map (item_of amount_of 0) rows)
-    zeros = All-map (λ (x : Item). x.class ≡ 0) (item_of amount_of 0) rows (λ k d h. refl)
+    zeros : All (λ (x : Item). x.class ≡ 0) (map (amount_item amount_of 0) rows)
+    zeros = All-map (λ (x : Item). x.class ≡ 0) (amount_item amount_of 0) rows (λ k d h. refl)
 
     only : (c : ℕ) (g : Option Value) → slice_get (None ∷ []) c ≡ Some g
-        → of_class c (map (item_of amount_of 0) rows) ≡ map (item_of amount_of c) (rows_of_group (value_at None) g rows)
+        → of_class c (map (amount_item amount_of 0) rows)
+        ≡ map (amount_item amount_of c) (rows_of_group (value_at_place None) g rows)
     only zero g at =
         all_of_one amount_of rows
-        ∙ ap (λ (v : Option Value). map (item_of amount_of 0) (rows_of_group (value_at None) v rows))
+        ∙ ap (λ (v : Option Value). map (amount_item amount_of 0) (rows_of_group (value_at_place None) v rows))
         (ap (λ (o : Option (Option Value)). unwrap_or o g) at)
     only (suc c) g at = cc

@@ -23,7 +23,7 @@ use Rattle.agg_core.specs.Grouping.{GroupBefore}
 -- ---- groups
 
 -- a group comes before another, or is it, or comes after it
-pub group_cases : (a b : Option Value) → GroupBefore a b ⊎ ((a ≡ b) ⊎ GroupBefore b a)
+group_cases : (a b : Option Value) → GroupBefore a b ⊎ ((a ≡ b) ⊎ GroupBefore b a)
 group_cases a b = by_cmp (maybe_cmp a b) refl where
   by_cmp : (o : Ordering) → maybe_cmp a b ≡ o → GroupBefore a b ⊎ ((a ≡ b) ⊎ GroupBefore b a)
   by_cmp Less e = inl e

@@ -21,7 +21,7 @@ use Rattle.dip_core.specs.declared.item.Item.{Item}
 use Rattle.list_core.proofs.MadeLemmas.{AllPairs-map, Contains-map, Contains-map_source}
 use Rattle.merge_core.specs.declared.tally.Tally.{Tally}
 use Rattle.merge_core.specs.Gaps.{IsMaximal}
-use Rattle.merge_core.specs.Tallies.{IsTally, amounts, held, total}
+use Rattle.merge_core.specs.Tallies.{IsTally, amounts, holding, total}
 use Rattle.merge_core.proofs.SharedLemmas.{first_held}
 use Rattle.merge_core.proofs.SweepLemmas.{IsMaximal-same}
 use Rattle.round_core.specs.declared.measure.Measure.{Measure}
@@ -29,8 +29,8 @@ use Rattle.round_core.specs.declared.plateau.Plateau.{Plateau}
 use Rattle.round_core.specs.Plateaus.{ArePlateaus, HasValue, IsPlateau, PlateauBefore, of_class}
 use Rattle.agg_core.specs.declared.rows.AggRow.{AggRow}
 use Rattle.agg_core.specs.declared.func.Func.{Func}
-use Rattle.agg_core.specs.Agg.{AreAggRows, IsAgg, IsAggRow, amount_in, item_of, measure_of, number_column, amount_of_value, value_in}
-use Rattle.agg_core.specs.Entries.{amount_at, place_in, value_at}
+use Rattle.agg_core.specs.Agg.{AreAggRows, IsAgg, IsAggRow, amount_in, amount_item, measure_of, number_column, amount_of_value, value_in}
+use Rattle.agg_core.specs.Entries.{amount_at, place_in, value_at_place}
 use Rattle.agg_core.specs.Groups.{AggRowBefore, rows_of_group}
 use Rattle.agg_core.specs.Grouping.{IsGrouping, agg_row_of}
 use Rattle.agg_core.proofs.EntryLemmas.{filter-map}
@@ -52,7 +52,7 @@ filtered_passes p xs x h = All-contains (λ y. p y ≡ true) (filter p xs) x (fi
 value_held : (measure : Measure) (items : List Item) (value t : ℤ) → HasValue measure items value t
     → (x : Item) × Contains items x
 value_held measure items value t has =
-    let (x, there, is) = Contains-map_source (λ (y : Item). y.amount) (held items t) has.tally.min has.is.min_in in
+    let (x, there, is) = Contains-map_source (λ (y : Item). y.amount) (holding items t) has.tally.min has.is.min_in in
     (x, filtered_in (λ (y : Item). holds_at t y.period) items x there)
 
 -- in a period of one value there is an item
@@ -62,19 +62,19 @@ period_held measure items value p maximal =
     value_held measure items value p.from (maximal.inside p.from (first_held p))
 
 -- the amounts of items are those of their rows
-amounts-item_of : (amount_of : Row → ℤ) (class : ℕ) (rows : List Row)
-    → amounts (map (item_of amount_of class) rows) ≡ map amount_of rows
-amounts-item_of amount_of class [] = refl
-amounts-item_of amount_of class (r ∷ rows) = ap (λ l. amount_of r ∷ l) (amounts-item_of amount_of class rows)
+amounts-amount_item : (amount_of : Row → ℤ) (class : ℕ) (rows : List Row)
+    → amounts (map (amount_item amount_of class) rows) ≡ map amount_of rows
+amounts-amount_item amount_of class [] = refl
+amounts-amount_item amount_of class (r ∷ rows) = ap (λ l. amount_of r ∷ l) (amounts-amount_item amount_of class rows)
 
 -- what items come to doesn't depend on their class
 tally_classed : (amount_of : Row → ℤ) (c d : ℕ) (rows : List Row) (tally : Tally)
-    → IsTally (map (item_of amount_of c) rows) tally → IsTally (map (item_of amount_of d) rows) tally
+    → IsTally (map (amount_item amount_of c) rows) tally → IsTally (map (amount_item amount_of d) rows) tally
 tally_classed amount_of c d rows tally is =
-    let same : amounts (map (item_of amount_of c) rows) ≡ amounts (map (item_of amount_of d) rows) =
-    amounts-item_of amount_of c rows ∙ sym (amounts-item_of amount_of d rows) in
+    let same : amounts (map (amount_item amount_of c) rows) ≡ amounts (map (amount_item amount_of d) rows) =
+    amounts-amount_item amount_of c rows ∙ sym (amounts-amount_item amount_of d rows) in
     record {
-      count = is.count ∙ length-map rows (item_of amount_of c) ∙ sym (length-map rows (item_of amount_of d));
+      count = is.count ∙ length-map rows (amount_item amount_of c) ∙ sym (length-map rows (amount_item amount_of d));
       sum = is.sum ∙ ap total same;
       min_in = subst (λ l. Contains l tally.min) same is.min_in;
       min_least = λ a h. is.min_least a (subst (λ l. Contains l a) (sym same) h);
@@ -83,30 +83,30 @@ tally_classed amount_of c d rows tally is =
     }
 
 -- the items that hold an instant are those of the rows that do
-held-item_of : (amount_of : Row → ℤ) (c : ℕ) (rows : List Row) (t : ℤ)
-    → held (map (item_of amount_of c) rows) t
-    ≡ map (item_of amount_of c) (filter (λ (r : Row). holds_at t r.period) rows)
-held-item_of amount_of c rows t = filter-map (item_of amount_of c) (λ (x : Item). holds_at t x.period) rows
+holding-amount_item : (amount_of : Row → ℤ) (c : ℕ) (rows : List Row) (t : ℤ)
+    → holding (map (amount_item amount_of c) rows) t
+    ≡ map (amount_item amount_of c) (filter (λ (r : Row). holds_at t r.period) rows)
+holding-amount_item amount_of c rows t = filter-map (amount_item amount_of c) (λ (x : Item). holds_at t x.period) rows
 
 -- nor does their value at an instant
 value_classed : (measure : Measure) (amount_of : Row → ℤ) (c d : ℕ) (rows : List Row) (value t : ℤ)
-    → HasValue measure (map (item_of amount_of c) rows) value t
-    → HasValue measure (map (item_of amount_of d) rows) value t
+    → HasValue measure (map (amount_item amount_of c) rows) value t
+    → HasValue measure (map (amount_item amount_of d) rows) value t
 value_classed measure amount_of c d rows value t has = record {
   tally = has.tally;
-  is = subst (λ l. IsTally l has.tally) (sym (held-item_of amount_of d rows t))
+  is = subst (λ l. IsTally l has.tally) (sym (holding-amount_item amount_of d rows t))
       (tally_classed amount_of c d (filter (λ (r : Row). holds_at t r.period) rows) has.tally
-      (subst (λ l. IsTally l has.tally) (held-item_of amount_of c rows t) has.is));
+      (subst (λ l. IsTally l has.tally) (holding-amount_item amount_of c rows t) has.is));
   gives = has.gives;
 }
 
 -- nor do its maximal periods
 maximal_classed : (measure : Measure) (amount_of : Row → ℤ) (c d : ℕ) (rows : List Row) (value : ℤ) (p : Period)
-    → IsMaximal (HasValue measure (map (item_of amount_of c) rows) value) p
-    → IsMaximal (HasValue measure (map (item_of amount_of d) rows) value) p
+    → IsMaximal (HasValue measure (map (amount_item amount_of c) rows) value) p
+    → IsMaximal (HasValue measure (map (amount_item amount_of d) rows) value) p
 maximal_classed measure amount_of c d rows value p =
-    IsMaximal-same (HasValue measure (map (item_of amount_of c) rows) value)
-    (HasValue measure (map (item_of amount_of d) rows) value) p (value_classed measure amount_of c d rows value)
+    IsMaximal-same (HasValue measure (map (amount_item amount_of c) rows) value)
+    (HasValue measure (map (amount_item amount_of d) rows) value) p (value_classed measure amount_of c d rows value)
     (value_classed measure amount_of d c rows value)
 
 -- ---- rows of plateaus
@@ -120,9 +120,11 @@ pub row_of_group : (measure : Measure) (amount_of : Row → ℤ) (group_of : Row
     (row : AggRow) → IsAggRow measure amount_of group_of rows row
     → (r : Row) × Contains rows r × (group_of r ≡ row.group)
 row_of_group measure amount_of group_of rows row is =
-    let (x, there) = period_held measure (map (item_of amount_of 0) (rows_of_group group_of row.group rows)) row.value
+    let (x, there) = period_held measure (map (amount_item amount_of 0) (rows_of_group group_of row.group rows))
+    row.value
     row.period is.maximal in
-    let (r, within, made) = Contains-map_source (item_of amount_of 0) (rows_of_group group_of row.group rows) x there in
+    let (r, within, made) = Contains-map_source (amount_item amount_of 0) (rows_of_group group_of row.group rows) x
+    there in
     let test = filtered_passes (λ (z : Row). same_maybe (group_of z) row.group) rows r within in (
       r,
       filtered_in (λ (z : Row). same_maybe (group_of z) row.group) rows r within,
@@ -149,14 +151,14 @@ module _ (measure : Measure) (amount_of : Row → ℤ) (group_of : Row → Optio
   -- the plateaus of a group's number are maximal periods of its rows
   row_maximal : (c : ℕ) (g : Option Value) (value : ℤ) (p : Period) → slice_get groups c ≡ Some g
       → IsMaximal (HasValue measure (of_class c items) value) p
-      → IsMaximal (HasValue measure (map (item_of amount_of 0) (rows_of_group group_of g rows)) value) p
+      → IsMaximal (HasValue measure (map (amount_item amount_of 0) (rows_of_group group_of g rows)) value) p
   row_maximal c g value p at maximal =
       maximal_classed measure amount_of c 0 (rows_of_group group_of g rows) value p
       (subst (λ l. IsMaximal (HasValue measure l value) p) (grouping.of_classes c g at) maximal)
 
   -- the maximal periods of a group's rows are plateaus of its number
   class_maximal : (c : ℕ) (g : Option Value) (value : ℤ) (p : Period) → slice_get groups c ≡ Some g
-      → IsMaximal (HasValue measure (map (item_of amount_of 0) (rows_of_group group_of g rows)) value) p
+      → IsMaximal (HasValue measure (map (amount_item amount_of 0) (rows_of_group group_of g rows)) value) p
       → IsMaximal (HasValue measure (of_class c items) value) p
   class_maximal c g value p at maximal =
       subst (λ l. IsMaximal (HasValue measure l value) p) (sym (grouping.of_classes c g at))
@@ -220,21 +222,22 @@ module _ (measure : Measure) (amount_of : Row → ℤ) (group_of : Row → Optio
 -- ---- places of columns
 
 -- the value at a column's place is that under its name
-value_at-place : (columns : List Column) (name : Option (List ℕ))
-    → value_at (place_in columns name) ≡ value_in columns name
-value_at-place columns None = refl
-value_at-place columns (Some n) = refl
+value_at_place-place_in : (columns : List Column) (name : Option (List ℕ))
+    → value_at_place (place_in columns name) ≡ value_in columns name
+value_at_place-place_in columns None = refl
+value_at_place-place_in columns (Some n) = refl
 
 -- an aggregate by places is one by names
 pub agg_by_names : (columns : List Column) (func : Func) (group : Option (List ℕ)) (rows : List Row) (measure : Measure)
     (amount by : Option ℕ) (answer : List AggRow) → measure ≡ measure_of func
     → amount ≡ place_in columns (number_column func) → by ≡ place_in columns group
-    → AreAggRows measure (amount_at amount) (value_at by) rows answer → IsAgg columns func group rows answer
+    → AreAggRows measure (amount_at amount) (value_at_place by) rows answer → IsAgg columns func group rows answer
 agg_by_names columns func group rows measure amount by answer m a b all =
     let numbers : (Row → Option Value) → Row → ℤ = λ v r. amount_of_value (v r) in
     let amounts_are : amount_at amount ≡ amount_in columns func =
-    ap numbers (ap value_at a ∙ value_at-place columns (number_column func)) in
-    let groups_are : value_at by ≡ value_in columns group = ap value_at b ∙ value_at-place columns group in
+    ap numbers (ap value_at_place a ∙ value_at_place-place_in columns (number_column func)) in
+    let groups_are : value_at_place by ≡ value_in columns group =
+    ap value_at_place b ∙ value_at_place-place_in columns group in
     subst (λ (n : Measure). AreAggRows n (amount_in columns func) (value_in columns group) rows answer) m
     (subst (λ (f : Row → ℤ). AreAggRows measure f (value_in columns group) rows answer) amounts_are
     (subst (λ (f : Row → Option Value). AreAggRows measure (amount_at amount) f rows answer) groups_are all))

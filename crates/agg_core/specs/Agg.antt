@@ -67,12 +67,12 @@ abbrev pub amount_in : List Column → Func → Row → ℤ
 amount_in columns func row = amount_of_value (value_in columns (number_column func) row)
 
 -- a row with its amount, as an item of a class
-abbrev pub item_of : (Row → ℤ) → ℕ → Row → Item
-item_of amount_of class row = record { period = row.period; id = row.id; class = class; amount = amount_of row }
+abbrev pub amount_item : (Row → ℤ) → ℕ → Row → Item
+amount_item amount_of class row = record { period = row.period; id = row.id; class = class; amount = amount_of row }
 
 -- the rows of a group with their amounts, as items
 abbrev pub items_of_group : (Row → ℤ) → (Row → Option Value) → Option Value → List Row → List Item
-items_of_group amount_of group_of group rows = map (item_of amount_of 0) (rows_of_group group_of group rows)
+items_of_group amount_of group_of group rows = map (amount_item amount_of 0) (rows_of_group group_of group rows)
 
 -- a group, and a maximal period at each instant of which some of its rows hold and come to one value, and that value
 pub record IsAggRow (measure : Measure) (amount_of : Row → ℤ) (group_of : Row → Option Value) (rows : List Row)

@@ -19,12 +19,12 @@ abbrev pub place_in : List Column → Option (List ℕ) → Option ℕ
 place_in columns name = option_and_then (column_of columns) name
 
 -- the row's value at a place, where a place is given
-abbrev pub value_at : Option ℕ → Row → Option Value
-value_at place row = option_and_then (slice_get row.values) place
+abbrev pub value_at_place : Option ℕ → Row → Option Value
+value_at_place place row = option_and_then (slice_get row.values) place
 
 -- the row's number at that place
 abbrev pub amount_at : Option ℕ → Row → ℤ
-amount_at place row = amount_of_value (value_at place row)
+amount_at place row = amount_of_value (value_at_place place row)
 
 -- the value of a key
 abbrev pub value_of_key : Key → Value
@@ -36,8 +36,8 @@ abbrev pub sort_value : Entry → Value
 sort_value entry = value_of_key entry.key
 
 -- an entry's row
-abbrev pub row_in : Entry → Row
-row_in entry = entry.row.now
+abbrev pub entry_row : Entry → Row
+entry_row entry = entry.row.now
 
 -- the entry of a row, by its value at the place
 pub record IsEntry (place : ℕ) (row : Row) (entry : Entry) : Type 0 where
@@ -57,6 +57,6 @@ AreRising entries = AllPairs (λ (a b : Entry). is_lt (value_cmp b.value.now a.v
 pub record AreSortedEntries (place : ℕ) (rows : List Row) (entries : List Entry) : Type 0 where
   pub each : (entry : Entry) → Contains entries entry → slice_get entry.row.now.values place ≡ Some entry.value.now
   pub rise : AreRising entries
-  pub moved : IsPermutation rows (map row_in entries)
-  pub kept : (group : Option Value) → rows_of_group (value_at (Some place)) group (map row_in entries)
-      ≡ rows_of_group (value_at (Some place)) group rows
+  pub moved : IsPermutation rows (map entry_row entries)
+  pub kept : (group : Option Value) → rows_of_group (value_at_place (Some place)) group (map entry_row entries)
+      ≡ rows_of_group (value_at_place (Some place)) group rows

@@ -11,7 +11,7 @@ use Rattle.row_core.specs.declared.value.Value.{Value}
 use Rattle.dip_core.specs.declared.item.Item.{Item}
 use Rattle.round_core.specs.declared.plateau.Plateau.{Plateau}
 use Rattle.round_core.specs.Plateaus.{of_class}
-use Rattle.agg_core.specs.Agg.{item_of}
+use Rattle.agg_core.specs.Agg.{amount_item}
 use Rattle.agg_core.specs.Groups.{rows_of_group}
 use Rattle.agg_core.specs.declared.entries.Entry.{Entry}
 use Rattle.agg_core.specs.declared.rows.AggRow.{AggRow}
@@ -46,11 +46,12 @@ pub record IsClassOf (value : Value) (old new : List (Option Value)) (class : �
 
 -- an entry's row as an item, whose class is the number of the group of the entry's value
 pub record IsNumberedItem (amount_of : Row → ℤ) (groups : List (Option Value)) (entry : Entry) (x : Item) : Type 0 where
-  pub is : x ≡ item_of amount_of x.class entry.row.now
+  pub is : x ≡ amount_item amount_of x.class entry.row.now
   pub at : slice_get groups x.class ≡ Some (Some entry.value.now)
 
 -- the rows of entries as items, by rising class, and the groups of their values
-pub record IsNumbered (amount_of : Row → ℤ) (entries : List Entry) (items : List Item) (groups : List (Option Value))
+pub record AreItemsByGroup (amount_of : Row → ℤ) (entries : List Entry) (items : List Item)
+    (groups : List (Option Value))
     : Type 0 where
   pub classes : AllPairs (λ (a b : Item). a.class ≤ b.class) items
   pub rise : RisesByGroup groups
@@ -67,11 +68,11 @@ pub record IsGrouping (amount_of : Row → ℤ) (group_of : Row → Option Value
   pub rise : RisesByGroup groups
   pub listed : (row : Row) → Contains rows row → Contains groups (group_of row)
   pub of_classes : (c : ℕ) (g : Option Value) → slice_get groups c ≡ Some g
-      → of_class c items ≡ map (item_of amount_of c) (rows_of_group group_of g rows)
+      → of_class c items ≡ map (amount_item amount_of c) (rows_of_group group_of g rows)
 
 -- the groups behind references
-abbrev pub values_in : List (Option (Bor Value)) → List (Option Value)
-values_in groups = map option_copied groups
+abbrev pub copied_groups : List (Option (Bor Value)) → List (Option Value)
+copied_groups groups = map option_copied groups
 
 -- the row of a plateau: its class is the number of its group
 abbrev pub agg_row_of : List (Option Value) → Plateau → AggRow

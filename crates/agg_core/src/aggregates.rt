@@ -5,7 +5,7 @@ ghost use Rattle.dip_core.specs.Item.{item_limit};
 ghost use Rattle.row_core.specs.Refusals.{AnswersOr};
 ghost use Rattle.work_core.specs.Limits.{worker_limit};
 ghost use Rattle.agg_core.specs.Agg.{AreAggRows, IsAgg, agg_refusal};
-ghost use Rattle.agg_core.specs.Entries.{amount_at, place_in, value_at};
+ghost use Rattle.agg_core.specs.Entries.{amount_at, place_in, value_at_place};
 ghost use Rattle.agg_core.specs.Grouping.{HaveValues};
 
 use crate::func::{Func, agg_refusal, measure_of, number_column};
@@ -78,7 +78,7 @@ fn agg_rows<R: Threads + Sync, G: Gate>(
     requires workers { (0 < workers) × (workers ≤ worker_limit) }
     requires few { length rows.now ≤ item_limit }
     requires values { HaveValues by rows.now }
-    ensures { IfOk result (λ answer. AreAggRows measure (amount_at amount) (value_at by) rows.now answer.items) }
+    ensures { IfOk result (λ answer. AreAggRows measure (amount_at amount) (value_at_place by) rows.now answer.items) }
 {
     let grouped = group_rows(alloc, rows, amount, by)?;
     let plateaus = plateaus_of(rt, alloc, measure, &grouped.items, workers, gate)?;

@@ -3,7 +3,7 @@
 ghost use Rattle.std.specs.Prelude.{◌≡◌, ◌<◌, All, IfOk, IsPermutation, IsSortedByKey, OnOk, Some, length};
 ghost use Rattle.std.specs.List.Sorted.{IsStableByKey};
 ghost use Rattle.row_core.specs.ValueOrder.{value_cmp};
-ghost use Rattle.agg_core.specs.Entries.{AreEntries, AreSortedEntries, sort_value, value_at, value_of_key};
+ghost use Rattle.agg_core.specs.Entries.{AreEntries, AreSortedEntries, sort_value, value_at_place, value_of_key};
 
 use period_core::NoMemory;
 use row_core::{Row, Value};
@@ -45,7 +45,7 @@ fn entries_of<'a>(alloc: Global, rows: &'a [Row], place: u32) -> Result<Vec<Entr
 {
     let mut entries = Vec::with_capacity(alloc, rows.len())?;
     for row in rows {
-        let value = value_at(row, place);
+        let value = value_at_place(row, place);
         let key = key_of(value);
         if let Err(_) = entries.push(Entry { key, value, row }) {
             return Err(AllocError);
@@ -55,9 +55,9 @@ fn entries_of<'a>(alloc: Global, rows: &'a [Row], place: u32) -> Result<Vec<Entr
 }
 
 // The row's value at that place.
-fn value_at(row: &Row, place: u32) -> &Value
+fn value_at_place(row: &Row, place: u32) -> &Value
     requires { place < length row.now.values }
-    ensures { value_at (Some place) row.now ≡ Some result.now }
+    ensures { value_at_place (Some place) row.now ≡ Some result.now }
 {
     &row.values.as_slice()[place as usize]
 }

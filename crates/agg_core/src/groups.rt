@@ -1,17 +1,17 @@
 //! Rows by group: each is an item whose class is the number of its group.
 
 ghost use Rattle.std.specs.Prelude.{◌≡◌, ◌≢◌, IfOk, MatchBool, None, Some};
-ghost use Rattle.agg_core.specs.Agg.{item_of};
-ghost use Rattle.agg_core.specs.Entries.{AreRising, amount_at, value_at};
+ghost use Rattle.agg_core.specs.Agg.{amount_item};
+ghost use Rattle.agg_core.specs.Entries.{AreRising, amount_at, value_at_place};
 ghost use Rattle.agg_core.specs.Grouping.{
+  AreItemsByGroup,
   AreNotAfter,
   HaveValues,
   IsClassOf,
   IsGrouping,
   IsLast,
-  IsNumbered,
   RisesByGroup,
-  values_in,
+  copied_groups,
 };
 
 use crate::entries::{Entry, sorted_entries};
@@ -39,8 +39,8 @@ pub(crate) fn group_rows<'a>(
     by: Option<u32>,
 ) -> Result<GroupedRows<'a>, NoMemory>
     requires { HaveValues by rows.now }
-    ensures { IfOk result (λ grouped. IsGrouping (amount_at amount) (value_at by) rows.entry.now
-        grouped.items.items (values_in grouped.groups.items)) }
+    ensures { IfOk result (λ grouped. IsGrouping (amount_at amount) (value_at_place by) rows.entry.now
+        grouped.items.items (copied_groups grouped.groups.items)) }
 {
     match by {
         None => one_group(alloc, rows, amount),
@@ -57,12 +57,12 @@ fn one_group<'a>(
     rows: &'a [Row],
     amount: Option<u32>,
 ) -> Result<GroupedRows<'a>, NoMemory>
-    ensures { IfOk result (λ grouped. IsGrouping (amount_at amount) (value_at None) rows.entry.now
-        grouped.items.items (values_in grouped.groups.items)) }
+    ensures { IfOk result (λ grouped. IsGrouping (amount_at amount) (value_at_place None) rows.entry.now
+        grouped.items.items (copied_groups grouped.groups.items)) }
 {
     let mut items = Vec::with_capacity(alloc, rows.len())?;
     for row in rows {
-        items.push(item_of(row, amount, 0))?;
+        items.push(amount_item(row, amount, 0))?;
     }
     let mut groups = Vec::new(alloc);
     groups.push(None)?;
@@ -76,24 +76,24 @@ fn group_entries<'a>(
     amount: Option<u32>,
 ) -> Result<GroupedRows<'a>, NoMemory>
     requires { AreRising entries.now }
-    ensures { IfOk result (λ grouped. IsNumbered (amount_at amount) entries.entry.now
-        grouped.items.items (values_in grouped.groups.items)) }
+    ensures { IfOk result (λ grouped. AreItemsByGroup (amount_at amount) entries.entry.now
+        grouped.items.items (copied_groups grouped.groups.items)) }
 {
     let mut items = Vec::with_capacity(alloc, entries.len())?;
     let mut groups = Vec::new(alloc);
     for entry in entries {
         let class = enter_group(&mut groups, entry.value)?;
-        items.push(item_of(entry.row, amount, class))?;
+        items.push(amount_item(entry.row, amount, class))?;
     }
     Ok(GroupedRows { items, groups })
 }
 
 // The number of the value's group, which is the last one, or is added behind it.
 fn enter_group<'a>(groups: &mut Vec<Option<&'a Value>>, value: &'a Value) -> Result<u64, NoMemory>
-    requires rise { RisesByGroup (values_in groups.old.items) }
-    requires upto { AreNotAfter (values_in groups.old.items) (Some value.now) }
+    requires rise { RisesByGroup (copied_groups groups.old.items) }
+    requires upto { AreNotAfter (copied_groups groups.old.items) (Some value.now) }
     ensures { IfOk result (λ class.
-        IsClassOf value.entry.now (values_in groups.old.items) (values_in groups.new.items) class) }
+        IsClassOf value.entry.now (copied_groups groups.old.items) (copied_groups groups.new.items) class) }
 {
     if is_last(groups, value) {
         return Ok(groups.len() as u64 - 1);
@@ -107,8 +107,8 @@ fn enter_group<'a>(groups: &mut Vec<Option<&'a Value>>, value: &'a Value) -> Res
 
 // Whether the value is that of the last group.
 fn is_last(groups: &[Option<&Value>], value: &Value) -> bool
-    ensures { MatchBool result (IsLast (values_in groups.now) (Some value.now))
-        (IsLast (values_in groups.now) (Some value.now) → ⊥) }
+    ensures { MatchBool result (IsLast (copied_groups groups.now) (Some value.now))
+        (IsLast (copied_groups groups.now) (Some value.now) → ⊥) }
 {
     match groups.last() {
         Some(Some(last)) => is_same(last, value),
@@ -125,8 +125,8 @@ fn is_same(a: &Value, b: &Value) -> bool
 }
 
 // The row as an item of that class, with the number that it has at the place.
-fn item_of(row: &Row, amount: Option<u32>, class: u64) -> Item
-    ensures { result ≡ item_of (amount_at amount) class row.now }
+fn amount_item(row: &Row, amount: Option<u32>, class: u64) -> Item
+    ensures { result ≡ amount_item (amount_at amount) class row.now }
 {
     Item {
         period: row.period,

@@ -2,7 +2,7 @@
 
 ghost use Rattle.std.specs.Prelude.{◌≡◌, ◌<◌, All, IfOk, length, map};
 ghost use Rattle.std.specs.Option.{option_copied};
-ghost use Rattle.agg_core.specs.Grouping.{agg_row_of, values_in};
+ghost use Rattle.agg_core.specs.Grouping.{agg_row_of, copied_groups};
 
 use list_core::{DeepCopy, List};
 use period_core::{NoMemory, Period};
@@ -31,7 +31,7 @@ pub(crate) fn rows_of_plateaus(
     plateaus: &[Plateau],
 ) -> Result<Vec<AggRow>, NoMemory>
     requires { All (λ plateau. plateau.class < length groups.now) plateaus.now }
-    ensures { IfOk result (λ rows. rows.items ≡ map (agg_row_of (values_in groups.now)) plateaus.now) }
+    ensures { IfOk result (λ rows. rows.items ≡ map (agg_row_of (copied_groups groups.now)) plateaus.now) }
 {
     let mut rows = Vec::with_capacity(alloc, plateaus.len())?;
     for plateau in plateaus {

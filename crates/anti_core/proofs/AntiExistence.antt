@@ -8,7 +8,8 @@ use Rattle.row_core.specs.declared.schema.Column.{Column}
 use Rattle.list_core.proofs.RisingLemmas.{Contains-head, Contains-cons, Contains-cons_cases, Contains-none, IsListOf-unique}
 use Rattle.list_core.proofs.WantedLemmas.{IsListOf-same}
 use Rattle.list_core.proofs.WantedExistence.{IsUnorderedListOf, WantedForSome, some_unordered, some_wanted}
-use Rattle.match_core.specs.Columns.{MatchesOn, Names}
+use Rattle.row_core.specs.Name.{NamePair}
+use Rattle.match_core.specs.Columns.{MatchesOn}
 use Rattle.match_core.proofs.Matching.{match_or_not}
 use Rattle.merge_core.specs.Gaps.{IsMaximal}
 use Rattle.merge_core.proofs.SharedLemmas.{first_held}
@@ -131,13 +132,13 @@ module _ (Matches : Row → Row → Type 0) (decided : (x y : Row) → Matches x
       )
 
 -- any rows have an anti-join, whatever the pairs of columns behind on
-pub some_anti : (left_columns right_columns : List Column) (on : List Names) (left right : List Row)
+pub some_anti : (left_columns right_columns : List Column) (on : List NamePair) (left right : List Row)
     → (rows : List AntiRow) × IsAnti (MatchesOn left_columns right_columns on) left right rows
 some_anti left_columns right_columns on left right =
     some_anti_of (MatchesOn left_columns right_columns on) (match_or_not left_columns right_columns on) left right
 
 -- they have no other
-pub one_anti : (left_columns right_columns : List Column) (on : List Names) (left right : List Row)
+pub one_anti : (left_columns right_columns : List Column) (on : List NamePair) (left right : List Row)
     (one other : List AntiRow) → IsAnti (MatchesOn left_columns right_columns on) left right one
     → IsAnti (MatchesOn left_columns right_columns on) left right other → one ≡ other
 one_anti left_columns right_columns on left right one other is is' =

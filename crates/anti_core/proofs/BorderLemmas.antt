@@ -7,7 +7,8 @@ use Rattle.period_core.specs.Period.{Holds}
 use Rattle.row_core.specs.declared.row.Row.{Row}
 use Rattle.row_core.specs.declared.schema.Column.{Column}
 use Rattle.list_core.proofs.RisingLemmas.{Contains-head, Contains-none}
-use Rattle.match_core.specs.Columns.{MatchesOn, Names}
+use Rattle.row_core.specs.Name.{NamePair}
+use Rattle.match_core.specs.Columns.{MatchesOn}
 use Rattle.match_core.proofs.Matching.{match_or_not}
 use Rattle.merge_core.specs.Gaps.{IsMaximal}
 use Rattle.merge_core.proofs.SharedLemmas.{by_order, first_held}
@@ -92,7 +93,7 @@ module _ (Matches : Row → Row → Type 0) (decided : (x y : Row) → Matches x
   }
 
 -- whatever the pairs of columns behind on
-pub maximal-bordered : (left_columns right_columns : List Column) (on : List Names) (right : List Row) (x : Row)
+pub maximal-bordered : (left_columns right_columns : List Column) (on : List NamePair) (right : List Row) (x : Row)
     (p : Period) → IsMaximal (IsUnmet (MatchesOn left_columns right_columns on) right x) p
     ↔ IsBordered (MatchesOn left_columns right_columns on) right x p
 maximal-bordered left_columns right_columns on right x p =

@@ -15,7 +15,7 @@ use Rattle.merge_core.specs.Gaps.{IsCovered, IsUncovered}
 use Rattle.merge_core.proofs.SweepLemmas.{IsMaximal-same}
 use Rattle.anti_core.specs.declared.rows.AntiRow.{AntiRow}
 use Rattle.anti_core.specs.Bundles.{ArePartedBehind, ClassesRise}
-use Rattle.anti_core.specs.ItemAnti.{IsItemsRow, AreItemsRows}
+use Rattle.anti_core.specs.ItemAnti.{IsItemsAntiRow, AreItemsRows}
 use Rattle.anti_core.specs.United.{StandsBefore}
 use Rattle.anti_core.proofs.ItemLemmas.{AreItemsRows-none, covered-there}
 
@@ -73,9 +73,9 @@ module _ (class : ℕ) (items low high : List Item) (parted : ArePartedBehind cl
 -- ---- the rows of a bundle, and of the items behind it
 
 -- a row of one left item is one of the same item in another list, where right items cover it alike
-row-moved : (xs ys right other : List Item) (row : AntiRow) (is : IsItemsRow xs right row) → Contains ys is.x
+row-moved : (xs ys right other : List Item) (row : AntiRow) (is : IsItemsAntiRow xs right row) → Contains ys is.x
     → ((t : ℤ) → IsCovered right is.x t → IsCovered other is.x t)
-    → ((t : ℤ) → IsCovered other is.x t → IsCovered right is.x t) → IsItemsRow ys other row
+    → ((t : ℤ) → IsCovered other is.x t → IsCovered right is.x t) → IsItemsAntiRow ys other row
 row-moved xs ys right other row is there to back = record {
   x = is.x;
   x_in = there;
@@ -129,8 +129,9 @@ module _ (class : ℕ) (left low_left high_left right low_right high_right : Lis
       → AreItemsRows low_left low_right rows → AreItemsRows high_left high_right more
       → AreItemsRows (low_left ++ high_left) (low_right ++ high_right) (rows ++ more)
   rows-together rows more distinct one other =
-      IsListOf-append (λ (a b : AntiRow). a ≢ b) (IsItemsRow low_left low_right) (IsItemsRow high_left high_right)
-      (IsItemsRow (low_left ++ high_left) (low_right ++ high_right)) rows more one other
+      IsListOf-append (λ (a b : AntiRow). a ≢ b) (IsItemsAntiRow low_left low_right)
+      (IsItemsAntiRow high_left high_right)
+      (IsItemsAntiRow (low_left ++ high_left) (low_right ++ high_right)) rows more one other
       (λ a b i j same.
       ids-apart low_left high_left i.x j.x distinct i.x_in j.x_in (sym i.id ∙ ap (λ (v : AntiRow). v.id) same ∙ j.id))
       (λ row is.

@@ -15,7 +15,7 @@ use Rattle.merge_core.specs.Gaps.{IsCovered, IsUncovered, IsGap, GapStartsBefore
 use Rattle.merge_core.proofs.SweepLemmas.{IsMaximal-same}
 use Rattle.anti_core.specs.declared.rows.AntiRow.{AntiRow}
 use Rattle.anti_core.specs.Anti.{anti_cmp}
-use Rattle.anti_core.specs.ItemAnti.{row_of_gap, IsItemsRow, AreItemsRows, IsItemsAnti}
+use Rattle.anti_core.specs.ItemAnti.{row_of_gap, IsItemsAntiRow, AreItemsRows, IsItemsAnti}
 use Rattle.list_core.proofs.MadeLemmas.{Contains-map, Contains-map_source, AllPairs-map}
 use Rattle.dip_core.proofs.PartedLemmas.{all_of-more}
 use Rattle.anti_core.proofs.OrderLemmas.{AntiRow-same_fields, sorted_rows}
@@ -27,15 +27,15 @@ use Rattle.anti_core.proofs.PartLemmas.{parts-apart}
 pub AreItemsRows-none : (right : List Item) (rows : List AntiRow) → rows ≡ [] → AreItemsRows [] right rows
 AreItemsRows-none right rows e =
     subst (AreItemsRows [] right) (sym e)
-    (IsListOf-none (λ (a b : AntiRow). a ≢ b) (IsItemsRow [] right) (λ row is. Contains-none is.x is.x_in))
+    (IsListOf-none (λ (a b : AntiRow). a ≢ b) (IsItemsAntiRow [] right) (λ row is. Contains-none is.x is.x_in))
 
 -- the row of a gap
-row-of_gap : (p right : List Item) (gap : Gap) → IsGap p right gap → IsItemsRow p right (row_of_gap gap)
+row-of_gap : (p right : List Item) (gap : Gap) → IsGap p right gap → IsItemsAntiRow p right (row_of_gap gap)
 row-of_gap p right gap is = record { x = gap.left; x_in = is.left_in; id = refl; maximal = is.maximal }
 
 -- a row is that of a gap
 row-from_gaps : (p right : List Item) (gaps : List Gap) → ListsGaps p right gaps → (row : AntiRow)
-    → IsItemsRow p right row → Contains (map row_of_gap gaps) row
+    → IsItemsAntiRow p right row → Contains (map row_of_gap gaps) row
 row-from_gaps p right gaps lists row is =
     let gap : Gap = record { left = is.x; period = row.period } in
     let there : Contains gaps gap =
@@ -55,14 +55,14 @@ AreItemsRows-from_gaps p right gaps lists = record {
       lists.ordered;
   exactly = λ row. (
     λ h. (let at = Contains-map_source row_of_gap gaps row h in
-        subst (IsItemsRow p right) at.2 (row-of_gap p right at.0 ((lists.exactly at.0).0 at.1))),
+        subst (IsItemsAntiRow p right) at.2 (row-of_gap p right at.0 ((lists.exactly at.0).0 at.1))),
     λ is. row-from_gaps p right gaps lists row is,
   );
 }
 
 -- a row of some items is one of more
 row-of_more : (xs ys right : List Item) → ((x : Item) → Contains xs x → Contains ys x) → (row : AntiRow)
-    → IsItemsRow xs right row → IsItemsRow ys right row
+    → IsItemsAntiRow xs right row → IsItemsAntiRow ys right row
 row-of_more xs ys right more row is = record { x = is.x; x_in = more is.x is.x_in; id = is.id; maximal = is.maximal }
 
 -- the rows of some items, and behind them those of the items of a part
@@ -70,7 +70,8 @@ AreItemsRows-append : (xs p right : List Item) (rows : List AntiRow) (gaps : Lis
     → ((x y : Item) → Contains xs x → Contains p y → x.id ≡ y.id → ⊥) → AreItemsRows xs right rows
     → ListsGaps p right gaps → AreItemsRows (xs ++ p) right (rows ++ map row_of_gap gaps)
 AreItemsRows-append xs p right rows gaps apart before lists =
-    IsListOf-append (λ (a b : AntiRow). a ≢ b) (IsItemsRow xs right) (IsItemsRow p right) (IsItemsRow (xs ++ p) right)
+    IsListOf-append (λ (a b : AntiRow). a ≢ b) (IsItemsAntiRow xs right) (IsItemsAntiRow p right)
+    (IsItemsAntiRow (xs ++ p) right)
     rows (map row_of_gap gaps) before (AreItemsRows-from_gaps p right gaps lists)
     (λ a b i j same. apart i.x j.x i.x_in j.x_in (sym i.id ∙ ap (λ (v : AntiRow). v.id) same ∙ j.id))
     (row-of_more xs (xs ++ p) right (Contains-append_left xs p))
@@ -130,7 +131,7 @@ module _ (left other_left right other_right : List Item) (lefts : IsPermutation 
         (covered-there right other_right (λ y h. Contains-permutation right other_right y rights h) x t c);
   }
 
-  row-there : (row : AntiRow) → IsItemsRow left right row → IsItemsRow other_left other_right row
+  row-there : (row : AntiRow) → IsItemsAntiRow left right row → IsItemsAntiRow other_left other_right row
   row-there row is = record {
     x = is.x;
     x_in = Contains-permutation left other_left is.x lefts is.x_in;
@@ -139,7 +140,7 @@ module _ (left other_left right other_right : List Item) (lefts : IsPermutation 
         (uncovered-back is.x) is.maximal;
   }
 
-  row-back : (row : AntiRow) → IsItemsRow other_left other_right row → IsItemsRow left right row
+  row-back : (row : AntiRow) → IsItemsAntiRow other_left other_right row → IsItemsAntiRow left right row
   row-back row is = record {
     x = is.x;
     x_in = Contains-permutation other_left left is.x (IsPermutation-sym left other_left lefts) is.x_in;
@@ -149,6 +150,7 @@ module _ (left other_left right other_right : List Item) (lefts : IsPermutation 
   }
 
   pub rows-permutation : (Before : AntiRow → AntiRow → Type 0) (rows : List AntiRow)
-      → IsListOf Before (IsItemsRow other_left other_right) rows → IsListOf Before (IsItemsRow left right) rows
+      → IsListOf Before (IsItemsAntiRow other_left other_right) rows → IsListOf Before (IsItemsAntiRow left right) rows
   rows-permutation Before rows lists =
-      IsListOf-same Before (IsItemsRow other_left other_right) (IsItemsRow left right) rows row-back row-there lists
+      IsListOf-same Before (IsItemsAntiRow other_left other_right) (IsItemsAntiRow left right) rows row-back
+      row-there lists

@@ -9,7 +9,7 @@ use Rattle.merge_core.specs.Meets.{IdsTell}
 use Rattle.dip_core.proofs.PartedLemmas.{distinct-earlier, ids-apart, one_item, all_of-more, all_of-split}
 
 -- where ids are distinct they tell items apart
-pub IdsTell-from_distinct : (items : List Item) → HasDistinctIds items → IdsTell items
+IdsTell-from_distinct : (items : List Item) → HasDistinctIds items → IdsTell items
 IdsTell-from_distinct items distinct x y h k e = one_item items x y distinct h k e
 
 -- so it is in each part

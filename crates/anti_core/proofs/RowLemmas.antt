@@ -12,7 +12,7 @@ use Rattle.match_core.proofs.Tell.{ClassesTell}
 use Rattle.match_core.proofs.RowItems.{IsItemAt, row_of_item, item_of_row}
 use Rattle.anti_core.specs.declared.rows.AntiRow.{AntiRow}
 use Rattle.anti_core.specs.Anti.{AntiRowBefore, IsMet, IsUnmet, IsAntiRow, IsAnti}
-use Rattle.anti_core.specs.ItemAnti.{IsItemsRow, IsItemsAnti}
+use Rattle.anti_core.specs.ItemAnti.{IsItemsAntiRow, IsItemsAnti}
 
 module _ (Matches : Row → Row → Type 0) (left right : List Row) (lefts rights : List ℕ)
     (left_enough : length left ≤ length lefts) (right_enough : length right ≤ length rights)
@@ -60,7 +60,7 @@ module _ (Matches : Row → Row → Type 0) (left right : List Row) (lefts right
   }
 
   -- a row of the items' anti-join is one of the rows'
-  row-of_items : (row : AntiRow) → IsItemsRow (items_with left lefts) (items_with right rights) row
+  row-of_items : (row : AntiRow) → IsItemsAntiRow (items_with left lefts) (items_with right rights) row
       → IsAntiRow Matches left right row
   row-of_items row is =
       let a = row_of_item left lefts is.x is.x_in in
@@ -74,7 +74,7 @@ module _ (Matches : Row → Row → Type 0) (left right : List Row) (lefts right
 
   -- a row of the rows' anti-join is one of the items'
   row-of_rows : (row : AntiRow) → IsAntiRow Matches left right row
-      → IsItemsRow (items_with left lefts) (items_with right rights) row
+      → IsItemsAntiRow (items_with left lefts) (items_with right rights) row
   row-of_rows row is =
       let a = item_of_row left lefts is.x left_enough is.x_in in
       record {
@@ -89,5 +89,5 @@ module _ (Matches : Row → Row → Type 0) (left right : List Row) (lefts right
   pub IsAnti-of_items : (rows : List AntiRow) → IsItemsAnti (items_with left lefts) (items_with right rights) rows
       → IsAnti Matches left right rows
   IsAnti-of_items rows lists =
-      IsListOf-same AntiRowBefore (IsItemsRow (items_with left lefts) (items_with right rights))
+      IsListOf-same AntiRowBefore (IsItemsAntiRow (items_with left lefts) (items_with right rights))
       (IsAntiRow Matches left right) rows row-of_items row-of_rows lists

@@ -22,7 +22,7 @@ use Rattle.merge_core.proofs.SweepLemmas.{IsMaximal-same}
 use Rattle.merge_core.proofs.MaximalAround.{maximal-once}
 use Rattle.anti_core.specs.declared.rows.AntiRow.{AntiRow}
 use Rattle.anti_core.specs.Anti.{AntiRowBefore}
-use Rattle.anti_core.specs.ItemAnti.{IsItemsRow, IsItemsAnti}
+use Rattle.anti_core.specs.ItemAnti.{IsItemsAntiRow, IsItemsAnti}
 use Rattle.anti_core.specs.United.{IsUnited, IsUnion, StandsBefore, CoverAlike, StandByClass, RunsInto, IsPlain, IsMerged}
 
 -- ---- what some items cover
@@ -473,8 +473,8 @@ turned : (items others : List Item) → CoverAlike items others → CoverAlike o
 turned items others same x t = ((same x t).1, (same x t).0)
 
 -- a row against the one list is one against the other
-row_alike : (left items others : List Item) → CoverAlike items others → (row : AntiRow) → IsItemsRow left items row
-    → IsItemsRow left others row
+row_alike : (left items others : List Item) → CoverAlike items others → (row : AntiRow) → IsItemsAntiRow left items row
+    → IsItemsAntiRow left others row
 row_alike left items others same row is = record {
   x = is.x;
   x_in = is.x_in;
@@ -488,5 +488,5 @@ row_alike left items others same row is = record {
 pub IsItemsAnti-alike : (left items others : List Item) (rows : List AntiRow) → CoverAlike items others
     → IsItemsAnti left others rows → IsItemsAnti left items rows
 IsItemsAnti-alike left items others rows same lists =
-    IsListOf-same AntiRowBefore (IsItemsRow left others) (IsItemsRow left items) rows
+    IsListOf-same AntiRowBefore (IsItemsAntiRow left others) (IsItemsAntiRow left items) rows
     (row_alike left others items (turned items others same)) (row_alike left items others same) lists

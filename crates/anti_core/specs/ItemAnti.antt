@@ -12,7 +12,7 @@ abbrev pub row_of_gap : Gap → AntiRow
 row_of_gap gap = record { id = gap.left.id; period = gap.period }
 
 -- the id of a left item, and a maximal period of it that is uncovered
-pub record IsItemsRow (left right : List Item) (row : AntiRow) : Type 0 where
+pub record IsItemsAntiRow (left right : List Item) (row : AntiRow) : Type 0 where
   pub x : Item
   pub x_in : Contains left x
   pub id : row.id ≡ x.id
@@ -20,8 +20,8 @@ pub record IsItemsRow (left right : List Item) (row : AntiRow) : Type 0 where
 
 -- all of them, each once, by id, start and end
 abbrev pub IsItemsAnti : List Item → List Item → List AntiRow → Type 0
-IsItemsAnti left right rows = IsListOf AntiRowBefore (IsItemsRow left right) rows
+IsItemsAnti left right rows = IsListOf AntiRowBefore (IsItemsAntiRow left right) rows
 
 -- all of them, each once, in any order
 abbrev pub AreItemsRows : List Item → List Item → List AntiRow → Type 0
-AreItemsRows left right rows = IsListOf (λ a b. a ≢ b) (IsItemsRow left right) rows
+AreItemsRows left right rows = IsListOf (λ a b. a ≢ b) (IsItemsAntiRow left right) rows

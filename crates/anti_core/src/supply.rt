@@ -4,7 +4,6 @@ ghost use Rattle.std.specs.Prelude.{◌<◌, ◌≤◌, ◌+◌, ◌*◌, length
 ghost use Rattle.std.specs.Option.{ForSome};
 ghost use Rattle.dip_core.specs.Item.{item_limit};
 ghost use Rattle.work_core.specs.Limits.{worker_limit};
-ghost use Rattle.work_core.specs.Stretches.{AreValuesFrom};
 ghost use Rattle.anti_core.specs.PairGaps.{AreGapsFrom};
 
 use crate::pairs::GapPairs;
@@ -13,13 +12,10 @@ use merge_core::Gaps;
 use period_core::NoMemory;
 use std::alloc::Global;
 use std::thread::Threads;
-use work_core::{Gate, Outs, PairWork, Stretch, run_pairs};
+use work_core::{Gate, Outs, PairWork, STRETCH_PAIRS, run_stretch};
 
-/// How many pairs are run at once, at most.
-const STRETCH_PAIRS: u64 = 65_536;
-
-/// How many items the parts of these pairs have, at most and but for the last pair. A pair has no more gaps than its
-/// parts have items, so no more gaps are held at once.
+/// How many items the parts of a stretch's pairs have, at most and but for the last pair. A pair has no more gaps than
+/// its parts have items, so no more gaps are held at once.
 const STRETCH_ITEMS: u64 = 1_000_000;
 
 /// The gaps of pairs that follow one another by number.
@@ -76,26 +72,6 @@ fn run_from<R: Threads + Sync, G: Gate>(
     let count = stretch_len(pairs, first);
     let values = run_stretch(rt, alloc, pairs, first, count, workers, gate)?;
     Ok(Supply { first, values })
-}
-
-/// The gaps of the `count` pairs from number `first` on.
-fn run_stretch<'a, R: Threads + Sync, G: Gate>(
-    rt: &R,
-    alloc: Global,
-    pairs: &GapPairs<'a>,
-    first: u64,
-    count: u64,
-    workers: u32,
-    gate: &G,
-) -> Result<Outs<Gaps>, NoMemory>
-    requires inside { first + count ≤ length pairs.now.left.now * length pairs.now.right.now }
-    requires workers { (0 < workers) × (workers ≤ worker_limit) }
-    ensures { IfOk result (AreValuesFrom ⟦<GapPairs<'a> as PairWork>⟧ pairs.now first count) }
-{
-    let stretch = Stretch::new(pairs, first, count);
-    let outs = run_pairs(rt, alloc, &stretch, workers, gate)?;
-    stretch.has_values_of_job(&outs);
-    Ok(outs)
 }
 
 /// How many pairs a stretch from number `first` on has: at least one.

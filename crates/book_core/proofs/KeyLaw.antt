@@ -16,7 +16,7 @@ use Rattle.version_core.specs.declared.change.Change.{Change}
 use Rattle.version_core.specs.declared.change.Change.TheVariants.{Make, Load, Update, Delete}
 use Rattle.version_core.proofs.Unbroken.{delete-unbroken}
 use Rattle.book_core.specs.History.{History, IsLegal, state_after}
-use Rattle.book_core.specs.State.{State, Table, after, at_table, KeyHolds, breaks_key, changed, leaves_overlap, refusal_of, table_of}
+use Rattle.book_core.specs.State.{State, Table, applied, at_table, KeyHolds, breaks_key, changed, leaves_overlap, refusal_of, table_of}
 use Rattle.book_core.proofs.Accepted.{overlap-none}
 use Rattle.book_core.proofs.Sound.{LegalFrom, legal_from}
 
@@ -25,7 +25,7 @@ unnumbered-numbered : (used : ℕ) (ds : List Draft) → map unnumbered (numbere
 unnumbered-numbered used [] = refl
 unnumbered-numbered used (d ∷ ds) = ap (λ l. d ∷ l) (unnumbered-numbered (used + 1) ds)
 
--- a table breaks its key after a change exactly where the rows do that are left and made
+-- a table breaks its key applied a change exactly where the rows do that are left and made
 pub breaks-changed : (c : Change) (t : Table)
     → breaks_key (changed c t) ≡ break_key (key_of t.schema)
     (rows_left c t.schema t.rows ++ drafts_of c t.schema t.rows)
@@ -84,7 +84,7 @@ no-rows (column ∷ columns) = refl
 
 unbroken-after : (n : ℕ) (s : State) (c : Change) → refusal_of n s c ≡ None
     → AllByRecursion (λ (t : Table). breaks_key t ≡ false) s
-    → AllByRecursion (λ (t : Table). breaks_key t ≡ false) (after s c)
+    → AllByRecursion (λ (t : Table). breaks_key t ≡ false) (applied s c)
 unbroken-after n s (Make name schema) r h =
     append-all (λ (t : Table). breaks_key t ≡ false) s _ h (no-rows (key_of schema), tt)
 unbroken-after n s (Load name rows) r h =
@@ -99,17 +99,17 @@ unbroken-after n s (Delete name portion conds) r h =
 
 unbroken-from : (n : ℕ) (s : State) (cs : History) → LegalFrom n s cs
     → AllByRecursion (λ (t : Table). breaks_key t ≡ false) s
-    → AllByRecursion (λ (t : Table). breaks_key t ≡ false) (fold (λ s c. after s c.change) s cs)
+    → AllByRecursion (λ (t : Table). breaks_key t ≡ false) (fold (λ s c. applied s c.change) s cs)
 unfolding LegalFrom
 unbroken-from n s [] l h = h
-unbroken-from n s (c ∷ cs) l h = unbroken-from (n + 1) (after s c.change) cs l.1 (unbroken-after n s c.change l.0 h)
+unbroken-from n s (c ∷ cs) l h = unbroken-from (n + 1) (applied s c.change) cs l.1 (unbroken-after n s c.change l.0 h)
 
 legal-take : (k n : ℕ) (s : State) (cs : History) → LegalFrom n s cs → LegalFrom n s (take k cs)
 unfolding LegalFrom
 legal-take zero n s [] l = tt
 legal-take zero n s (c ∷ cs) l = tt
 legal-take (suc k) n s [] l = tt
-legal-take (suc k) n s (c ∷ cs) l = (l.0, legal-take k (n + 1) (after s c.change) cs l.1)
+legal-take (suc k) n s (c ∷ cs) l = (l.0, legal-take k (n + 1) (applied s c.change) cs l.1)
 
 pub unbroken : (h : History) (n : ℕ) → IsLegal h
     → AllByRecursion (λ (t : Table). breaks_key t ≡ false) (state_after (take n h))

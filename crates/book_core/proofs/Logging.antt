@@ -9,7 +9,7 @@ use Rattle.version_core.specs.Rows.{removes, drafts_of}
 use Rattle.version_core.specs.Shown.{shown}
 use Rattle.version_core.specs.declared.change.Change.{Change}
 use Rattle.version_core.specs.declared.change.Change.TheVariants.{Make, Load, Update, Delete}
-use Rattle.book_core.specs.State.{State, Table, table_named, table_of, rows_of, at_table, after, changed, first_refusal, refusal_of}
+use Rattle.book_core.specs.State.{State, Table, table_named, table_of, rows_of, at_table, applied, changed, first_refusal, refusal_of}
 use Rattle.book_core.specs.History.{History, state_after, rows_at}
 use Rattle.book_core.specs.Versions.{new_ids, change_kind, entry_at, entries_from, log_of}
 use Rattle.book_core.specs.StoredTables.{kept_table, StoredTable, IsBook, table_at, kept_tables_from, IsWellKept, added_in, closed_in}
@@ -124,7 +124,7 @@ portion_closed n c name s ts e w =
     (unwrap_or (option_map (λ t. (changed c t).rows) o) [])) there
     ∙ closed_of n c (kept_table name ts) w
 
--- a table that was not there has no rows before and after it is made
+-- a table that was not there has no rows before and applied it is made
 
 table_absent : (n : ℕ) (s : State) (name : List ℕ) (schema : List Column) → first_refusal n s (Make name schema) ≡ None
     → is_none (table_of s name) ≡ true
@@ -171,9 +171,9 @@ nothing_found n c (Some t) asked h e =
 
 entry_added : (n : ℕ) (s : State) (ts : List StoredTable) (c : Change) → s ≡ map (table_at n) ts
     → first_refusal n s c ≡ None → IfSome (kept_table (table_named c) ts) (IsWellKept n)
-    → (new_ids (rows_of (after s c) (table_named c)) (rows_of s (table_named c)) ≡ added_in n c
+    → (new_ids (rows_of (applied s c) (table_named c)) (rows_of s (table_named c)) ≡ added_in n c
     (kept_table (table_named c) ts))
-    × (new_ids (rows_of s (table_named c)) (rows_of (after s c) (table_named c)) ≡ closed_in n c
+    × (new_ids (rows_of s (table_named c)) (rows_of (applied s c) (table_named c)) ≡ closed_in n c
     (kept_table (table_named c) ts))
 entry_added n s ts (Make name schema) e r w =
     let gone = table_absent n s name schema r in
@@ -182,7 +182,7 @@ entry_added n s ts (Make name schema) e r w =
     let none_there = nothing_found n (Make name schema) (kept_table name ts) (table_of s name) gone
     (ap (λ s. table_of s name) e ∙ table_of-map n ts name) in (
       ap (λ xs. new_ids xs (rows_of s name)) later ∙ sym none_there.0,
-      ap (λ xs. new_ids xs (rows_of (after s (Make name schema)) name)) before ∙ sym none_there.1,
+      ap (λ xs. new_ids xs (rows_of (applied s (Make name schema)) name)) before ∙ sym none_there.1,
     )
 entry_added n s ts (Load name rows) e r w =
     (portion_added n (Load name rows) name s ts e w, portion_closed n (Load name rows) name s ts e w)
@@ -197,14 +197,14 @@ entry_added n s ts (Delete name portion conds) e r w = (
       (Delete name portion conds) name s ts e w,
 )
 
--- the state after one more commit
+-- the state applied one more commit
 
 rows_at-new : (h : History) (c : Commit) (name : List ℕ)
-    → rows_at (h ++ c ∷ []) (length h + 1) name ≡ rows_of (after (state_after h) c.change) name
+    → rows_at (h ++ c ∷ []) (length h + 1) name ≡ rows_of (applied (state_after h) c.change) name
 rows_at-new h c name =
     let enough : length (h ++ c ∷ []) ≤ length h + 1 = omega (arith, length-append h (c ∷ [])) in
     ap (λ l. rows_of (state_after l) name) (take_all (length h + 1) (h ++ c ∷ []) enough)
-    ∙ ap (λ s. rows_of s name) (fold-append (λ s c. after s c.change) [] h (c ∷ []))
+    ∙ ap (λ s. rows_of s name) (fold-append (λ s c. applied s c.change) [] h (c ∷ []))
 
 rows_at-old : (h : History) (c : Commit) (name : List ℕ)
     → rows_at (h ++ c ∷ []) (length h) name ≡ rows_of (state_after h) name
@@ -260,7 +260,7 @@ log-push h now new ts log logged c k v r n l =
     let there : IfSome (kept_table name ts) (IsWellKept (length h)) = rw k.kept.tables well in
     let both = entry_added (length h) (state_after h) ts c.change s accepted there in
     let was = ap (λ xs. new_ids xs (rows_at (h ++ c ∷ []) (length h) name)) (rows_at-new h c name)
-    ∙ ap (λ xs. new_ids (rows_of (after (state_after h) c.change) name) xs) (rows_at-old h c name) ∙ both.0 in
+    ∙ ap (λ xs. new_ids (rows_of (applied (state_after h) c.change) name) xs) (rows_at-old h c name) ∙ both.0 in
     let went = ap (λ xs. new_ids xs (rows_at (h ++ c ∷ []) (length h + 1) name)) (rows_at-old h c name)
     ∙ ap (λ xs. new_ids (rows_of (state_after h) name) xs) (rows_at-new h c name) ∙ both.1 in
     l

@@ -8,7 +8,7 @@ use Rattle.version_core.specs.Rows.{drafts_of, numbered, removes}
 use Rattle.version_core.specs.declared.change.Change.{Change}
 use Rattle.version_core.specs.declared.change.Change.TheVariants.{Make, Load, Update, Delete}
 use Rattle.book_core.specs.History.{History, rows_at, state_after}
-use Rattle.book_core.specs.State.{State, Table, after, at_table, changed, rows_of, table_of}
+use Rattle.book_core.specs.State.{State, Table, applied, at_table, changed, rows_of, table_of}
 use Rattle.book_core.proofs.Ids.{RiseIn, RiseIn-filter, RiseIn-lower, numbered_rise}
 use Rattle.book_core.proofs.Sound.{rising-rows}
 
@@ -45,7 +45,7 @@ Rises-push : (s : State) (t : Table) → AllByRecursion Rises s → Rises t → 
 Rises-push [] t all rises = (rises, tt)
 Rises-push (u ∷ us) t all rises = (all.0, Rises-push us t all.1 rises)
 
-Rises-after : (c : Change) (s : State) → AllByRecursion Rises s → AllByRecursion Rises (after s c)
+Rises-after : (c : Change) (s : State) → AllByRecursion Rises s → AllByRecursion Rises (applied s c)
 Rises-after (Make table schema) s all =
     Rises-push s (record { name = table; schema = schema; used = 0; rows = [] }) all tt
 Rises-after (Load table rows) s all = Rises-at_table table (Load table rows) s all
@@ -53,9 +53,9 @@ Rises-after (Update table portion sets conds) s all = Rises-at_table table (Upda
 Rises-after (Delete table portion conds) s all = Rises-at_table table (Delete table portion conds) s all
 
 Rises-from : (s : State) (h : History) → AllByRecursion Rises s
-    → AllByRecursion Rises (fold (λ s c. after s c.change) s h)
+    → AllByRecursion Rises (fold (λ s c. applied s c.change) s h)
 Rises-from s [] all = all
-Rises-from s (c ∷ cs) all = Rises-from (after s c.change) cs (Rises-after c.change s all)
+Rises-from s (c ∷ cs) all = Rises-from (applied s c.change) cs (Rises-after c.change s all)
 
 none_rises : RowsRise []
 none_rises k d h = absurd (omega arith)

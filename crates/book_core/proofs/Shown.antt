@@ -17,7 +17,7 @@ use Rattle.version_core.specs.declared.change.Change.TheVariants.{Make, Load, Up
 use Rattle.version_core.specs.declared.version.Version.{Version}
 use Rattle.version_core.proofs.MakingLemmas.{length-numbered}
 use Rattle.book_core.specs.StoredTables.{IsTimely, StoredTable, table_at, kept_table_after, at_kept, kept_tables_after, kept_tables_from}
-use Rattle.book_core.specs.State.{State, Table, after, at_table, changed, rows_of, table_of}
+use Rattle.book_core.specs.State.{State, Table, applied, at_table, changed, rows_of, table_of}
 use Rattle.book_core.specs.History.{History, state_after}
 
 -- lists
@@ -42,7 +42,7 @@ filter-cons_option p (Some x) xs =
 -- versions
 
 -- the version's times are not past n
-pub InTime : ℕ → Version → Type 0
+InTime : ℕ → Version → Type 0
 InTime n v = (v.sysfrom ≤ n) × IfSome v.systo (λ to. to ≤ n)
 
 -- closing at a later commit does not change what commit n shows
@@ -101,7 +101,7 @@ kept_none : (b : Bool) → cond {A = Option Row} b None None ≡ None
 kept_none true = refl
 kept_none false = refl
 
--- the commit after n shows the row that n shows, unless it goes
+-- the commit applied n shows the row that n shows, unless it goes
 goes_on : (n from : ℕ) (row : Row) (to : Option ℕ) (b : Bool) → from ≤ n → IfSome to (λ t. t ≤ n) →
     row_shown (n + 1)
     (cond (is_none to && b) (record { row = row; sysfrom = from; systo = Some (n + 1) })
@@ -229,7 +229,7 @@ tables_at-at_kept n c name (t ∷ ts) h =
 
 -- one more commit: the newest state
 tables_at-kept_tables_after : (n : ℕ) (c : Change) (ts : List StoredTable) → AllInTime n ts
-    → map (table_at (n + 1)) (kept_tables_after n ts c) ≡ after (map (table_at n) ts) c
+    → map (table_at (n + 1)) (kept_tables_after n ts c) ≡ applied (map (table_at n) ts) c
 tables_at-kept_tables_after n (Make table schema) ts h =
     map-append (table_at (n + 1)) ts _
     ∙ ap (λ l. l ++ record { name = table; schema = schema; used = 0; rows = [] } ∷ []) (tables_at-next n ts h)
@@ -376,17 +376,17 @@ rows_at-kept_tables_from_later n m asked ts (c ∷ cs) h =
 
 -- whole histories
 
--- the tables after n commits show that state
+-- the tables applied n commits show that state
 pub record Ties (n : ℕ) (s : State) (ts : List StoredTable) : Type 0 where
   pub newest : map (table_at n) ts ≡ s
   pub in_time : AllInTime n ts
 
 pub Ties-after : (n : ℕ) (s : State) (ts : List StoredTable) (c : Change) → Ties n s ts
-    → Ties (n + 1) (after s c) (kept_tables_after n ts c)
+    → Ties (n + 1) (applied s c) (kept_tables_after n ts c)
 Ties-after n s ts c t =
     record {
       newest = tables_at-kept_tables_after n c ts t.in_time
-          ∙ ap (λ s. after s c) t.newest;
+          ∙ ap (λ s. applied s c) t.newest;
       in_time = kept_tables_after_in_time n c ts t.in_time;
     }
 
@@ -397,16 +397,16 @@ Ties-none = record { newest = refl; in_time = tt }
 
 past-from : (n k : ℕ) (s : State) (ts : List StoredTable) (cs : History) (asked : List ℕ) → Ties n s ts → k ≤ length cs
     → rows_of (map (table_at (n + k)) (kept_tables_from n ts cs)) asked ≡ rows_of
-    (fold (λ s c. after s c.change) s (take k cs)) asked
+    (fold (λ s c. applied s c.change) s (take k cs)) asked
 past-from n zero s ts cs asked t h =
     rw (add-zero n) (rows_at-kept_tables_from_later n n asked ts cs (omega arith) ∙ ap (λ s. rows_of s asked) t.newest)
 past-from n (suc k) s ts [] asked t h = absurd (omega arith)
 past-from n (suc k) s ts (c ∷ cs) asked t h =
     let e : n + suc k ≡ n + 1 + k = omega arith in
-    rw e (past-from (n + 1) k (after s c.change) (kept_tables_after n ts c.change) cs asked
+    rw e (past-from (n + 1) k (applied s c.change) (kept_tables_after n ts c.change) cs asked
     (Ties-after n s ts c.change t) (omega arith))
 
--- what commit n shows of a book's tables is what the state after n changes has
+-- what commit n shows of a book's tables is what the state applied n changes has
 pub rows_at-kept : (h : History) (n : ℕ) (asked : List ℕ) → n ≤ length h
     → rows_of (map (table_at n) (kept_tables_from 0 [] h)) asked ≡ rows_of (state_after (take n h)) asked
 unfolding AllInTime
@@ -414,11 +414,11 @@ rows_at-kept h n asked k =
     let e : 0 + n ≡ n = omega arith in rw e at (past-from 0 n [] [] h asked (record { newest = refl; in_time = tt }) k)
 
 newest-from : (n : ℕ) (s : State) (ts : List StoredTable) (cs : History) → Ties n s ts
-    → map (table_at (n + length cs)) (kept_tables_from n ts cs) ≡ fold (λ s c. after s c.change) s cs
+    → map (table_at (n + length cs)) (kept_tables_from n ts cs) ≡ fold (λ s c. applied s c.change) s cs
 newest-from n s ts [] t = rw (add-zero n) t.newest
 newest-from n s ts (c ∷ cs) t =
     let e : n + suc (length cs) ≡ n + 1 + length cs = omega arith in
-    rw e (newest-from (n + 1) (after s c.change) (kept_tables_after n ts c.change) cs (Ties-after n s ts c.change t))
+    rw e (newest-from (n + 1) (applied s c.change) (kept_tables_after n ts c.change) cs (Ties-after n s ts c.change t))
 
 -- what the newest commit shows of a book's tables is the newest state
 pub newest-kept : (h : History) → map (table_at (length h)) (kept_tables_from 0 [] h) ≡ state_after h

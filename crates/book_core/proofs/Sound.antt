@@ -26,7 +26,7 @@ use Rattle.version_core.specs.Shown.{shown, shows}
 use Rattle.version_core.specs.declared.change.Change.{Change}
 use Rattle.version_core.specs.declared.change.Change.TheVariants.{Make, Load, Update, Delete}
 use Rattle.version_core.specs.declared.version.Version.{Version}
-use Rattle.book_core.specs.State.{State, Table, after, changed, full_tests, is_of_kind, pair_tests, first_refusal, refusal_of, table_of, tests_of, with_table}
+use Rattle.book_core.specs.State.{State, Table, applied, changed, full_tests, is_of_kind, pair_tests, first_refusal, refusal_of, table_of, tests_of, with_table}
 use Rattle.book_core.specs.History.{History, IsLegal, schema_in, state_after}
 use Rattle.book_core.specs.StoredTables.{kept_table, IsSound, IsTableOf, StoredTable, at_kept, kept_tables_after, kept_table_after, kept_tables_from, table_at}
 use Rattle.book_core.specs.declared.refusal.BookRefused.{BookRefused}
@@ -167,7 +167,7 @@ drafts-fit n (Delete name portion conds) t h k =
     (later row.period portion) row.values row.values fit fit)
     k
 
--- a table after a change
+-- a table applied a change
 
 made-fits : (n used : ℕ) (columns : List Column) (ds : List Draft) → FitDrafts columns ds
     → FitVersions columns (made n (numbered used ds))
@@ -240,18 +240,19 @@ sound_after n (Delete name portion conds) ts h s = sound_at_kept n (Delete name 
 -- each change that follows is accepted
 unfoldable pub LegalFrom : ℕ → State → History → Type 0
 LegalFrom n s [] = Unit {0}
-LegalFrom n s (c ∷ cs) = (refusal_of n s c.change ≡ None) × LegalFrom (n + 1) (after s c.change) cs
+LegalFrom n s (c ∷ cs) = (refusal_of n s c.change ≡ None) × LegalFrom (n + 1) (applied s c.change) cs
 
 pub legal_from : (n : ℕ) (s : State) (cs : History)
     → ((k : ℕ) (c : Commit) → slice_get cs k ≡ Some c
-    → refusal_of (n + k) (fold (λ s c. after s c.change) s (take k cs)) c.change ≡ None) → LegalFrom n s cs
+    → refusal_of (n + k) (fold (λ s c. applied s c.change) s (take k cs)) c.change ≡ None) → LegalFrom n s cs
 unfolding LegalFrom
 legal_from n s [] h = tt
 legal_from n s (c ∷ cs) h = (
   (let e : n ≡ n + 0 = omega arith in ap (λ m. refusal_of m s c.change) e ∙ h 0 c refl),
-  legal_from (n + 1) (after s c.change) cs
+  legal_from (n + 1) (applied s c.change) cs
       (λ k d e. let m : n + 1 + k ≡ n + suc k = omega arith in ap
-      (λ m. refusal_of m (fold (λ s c. after s c.change) (after s c.change) (take k cs)) d.change) m ∙ h (suc k) d e),
+      (λ m. refusal_of m (fold (λ s c. applied s c.change) (applied s c.change) (take k cs)) d.change) m ∙ h (suc k)
+      d e),
 )
 
 sound_from : (n : ℕ) (s : State) (ts : List StoredTable) (cs : History) → Ties n s ts → LegalFrom n s cs
@@ -259,7 +260,7 @@ sound_from : (n : ℕ) (s : State) (ts : List StoredTable) (cs : History) → Ti
 unfolding LegalFrom
 sound_from n s ts [] t l h = h
 sound_from n s ts (c ∷ cs) t l h =
-    sound_from (n + 1) (after s c.change) (kept_tables_after n ts c.change) cs (Ties-after n s ts c.change t) l.1
+    sound_from (n + 1) (applied s c.change) (kept_tables_after n ts c.change) cs (Ties-after n s ts c.change t) l.1
     (sound_after n c.change ts (ap (λ x. first_refusal n x c.change) t.newest ∙ first-none n s c.change l.0) h)
 
 -- the tables of a legal history

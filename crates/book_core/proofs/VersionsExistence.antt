@@ -4,7 +4,7 @@ use Rattle.std.specs.Prelude.{IfSome, is_none, nat_le, nat_lt}
 use Rattle.std.proofs.lemmas.Bool.{both_ways, leb-false, ltb-false}
 use Rattle.version_core.specs.Shown.{versions_as_of}
 use Rattle.version_core.specs.declared.version.Version.{Version}
-use Rattle.book_core.specs.History.{History, IsLegal, state_after, versions_refusal}
+use Rattle.book_core.specs.History.{History, IsLegal, state_after, between_refusal}
 use Rattle.book_core.specs.StoredTables.{StoredTable, IsSound, IsTableOf, IsWellKept, kept_tables_from, kept_table}
 use Rattle.book_core.specs.State.{table_of}
 use Rattle.book_core.specs.Versions.{AreBetween, AreFromTo, IsAfter}
@@ -43,7 +43,7 @@ record MayRead (h : History) (at : ℕ) (is_bad : Bool) (name : List ℕ) : Type
   is_table : IsTableOf h name table
 
 may_read : (h : History) (at : ℕ) (is_bad : Bool) (name : List ℕ) → IsLegal h
-    → versions_refusal h at is_bad name ≡ None → MayRead h at is_bad name
+    → between_refusal h at is_bad name ≡ None → MayRead h at is_bad name
 may_read h at is_bad name legal none =
     let none_applies =
     first_of-none
@@ -53,7 +53,7 @@ may_read h at is_bad name legal none =
     record { within = ltb-false (length h) at none_applies.0; right = none_applies.1.0; table = t; is_table = is }
 
 pub some_between : (h : History) (at m n : ℕ) (name : List ℕ) → IsLegal h
-    → versions_refusal h at (nat_lt n m) name ≡ None → (versions : List Version) × AreBetween h at m n name versions
+    → between_refusal h at (nat_lt n m) name ≡ None → (versions : List Version) × AreBetween h at m n name versions
 some_between h at m n name legal none =
     let may = may_read h at (nat_lt n m) name legal none in (
       versions_as_of at m n may.table.versions,
@@ -62,7 +62,7 @@ some_between h at m n name legal none =
     )
 
 pub some_from_to : (h : History) (at m n : ℕ) (name : List ℕ) → IsLegal h
-    → versions_refusal h at (nat_le n m) name ≡ None → (versions : List Version) × AreFromTo h at m n name versions
+    → between_refusal h at (nat_le n m) name ≡ None → (versions : List Version) × AreFromTo h at m n name versions
 some_from_to h at m n name legal none =
     let may = may_read h at (nat_le n m) name legal none in
     let some : m < n = leb-false n m may.right in (

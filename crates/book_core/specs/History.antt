@@ -3,7 +3,7 @@ use Rattle.std.specs.Prelude.{◌≡◌, ℕ, List, [], ◌∷◌, length, fold,
 use Rattle.row_core.specs.Refusals.{first_of, refused_or}
 use Rattle.row_core.specs.declared.row.Row.{Row}
 use Rattle.row_core.specs.declared.schema.Column.{Column}
-use Rattle.book_core.specs.State.{State, after, table_of, rows_of, refusal_of}
+use Rattle.book_core.specs.State.{State, applied, table_of, rows_of, refusal_of}
 use Rattle.book_core.specs.declared.commit.Commit.{Commit}
 use Rattle.book_core.specs.declared.refusal.RowsRefused.{RowsRefused}
 use Rattle.book_core.specs.declared.refusal.RowsRefused.TheVariants.{Future, NoTable}
@@ -14,15 +14,15 @@ use Rattle.book_core.specs.declared.refusal.VersionsRefused.TheVariants as no_ve
 abbrev pub History : Type 0
 History = List Commit
 
--- the state after all changes of a history
+-- the state applied all changes of a history
 abbrev pub state_after : History → State
-state_after h = fold (λ s c. after s c.change) [] h
+state_after h = fold (λ s c. applied s c.change) [] h
 
 -- each change was accepted in its place
 abbrev pub IsLegal : History → Type 0
 IsLegal h = (n : ℕ) (c : Commit) → slice_get h n ≡ Some c → refusal_of n (state_after (take n h)) c.change ≡ None
 
--- the rows of a table in the state after the first n changes
+-- the rows of a table in the state applied the first n changes
 abbrev pub rows_at : History → ℕ → List ℕ → List Row
 rows_at h n name = rows_of (state_after (take n h)) name
 
@@ -37,7 +37,7 @@ rows_given h n name =
     (rows_at h n name)
 
 -- why versions are not given, if they are not
-abbrev pub versions_refusal : History → ℕ → Bool → List ℕ → Option VersionsRefused
-versions_refusal h at is_bad name =
+abbrev pub between_refusal : History → ℕ → Bool → List ℕ → Option VersionsRefused
+between_refusal h at is_bad name =
     first_of ((nat_lt (length h) at, no_versions.Future) ∷ (is_bad, no_versions.BadPeriod) ∷
     (is_none (table_of (state_after h) name), no_versions.NoTable) ∷ [])

@@ -44,7 +44,7 @@ abbrev pub at_table : List ℕ → (Table → Table) → State → State
 at_table name f [] = []
 at_table name f (t ∷ ts) = if bytes_eq t.name name then f t ∷ ts else t ∷ at_table name f ts
 
--- a table after a change of its rows
+-- a table applied a change of its rows
 abbrev pub changed : Change → Table → Table
 changed c t = let drafts = drafts_of c t.schema t.rows in record {
   name = t.name;
@@ -60,10 +60,10 @@ table_named (Load table rows) = table
 table_named (Update table portion sets conds) = table
 table_named (Delete table portion conds) = table
 
--- the state after a change
-abbrev pub after : State → Change → State
-after s (Make table schema) = s ++ record { name = table; schema = schema; used = 0; rows = [] } ∷ []
-after s c = at_table (table_named c) (changed c) s
+-- the state applied a change
+abbrev pub applied : State → Change → State
+applied s (Make table schema) = s ++ record { name = table; schema = schema; used = 0; rows = [] } ∷ []
+applied s c = at_table (table_named c) (changed c) s
 
 -- the value is of the kind of the column of that name
 abbrev pub is_of_kind : List Column → Pair → Bool
@@ -112,7 +112,7 @@ leaves_overlap (Load table rows) (Some t) = breaks_key (changed (Load table rows
 leaves_overlap (Update table portion sets conds) (Some t) = breaks_key (changed (Update table portion sets conds) t)
 leaves_overlap (Delete table portion conds) (Some t) = false
 
--- the first refusal that applies to a change in the state after n commits, but for that of its rows' keys
+-- the first refusal that applies to a change in the state applied n commits, but for that of its rows' keys
 abbrev pub first_refusal : ℕ → State → Change → Option BookRefused
 first_refusal n s (Make table schema) =
     first_of ((not (is_none (table_of s table)), TableExists) ∷ (nat_le table_limit (length s), TooMany) ∷
@@ -124,7 +124,7 @@ abbrev pub or_overlap : Option BookRefused → Bool → Option BookRefused
 or_overlap (Some refused) overlap = Some refused
 or_overlap None overlap = if overlap then Some KeyOverlap else None
 
--- the first refusal that applies to a change in the state after n commits; none where it is accepted
+-- the first refusal that applies to a change in the state applied n commits; none where it is accepted
 abbrev pub refusal_of : ℕ → State → Change → Option BookRefused
 refusal_of n s c = or_overlap (first_refusal n s c) (leaves_overlap c (table_of s (table_named c)))
 

@@ -6,7 +6,7 @@ ghost use Rattle.row_core.specs.Refusals.{first_of};
 ghost use Rattle.row_core.specs.Schema.{fits};
 ghost use Rattle.row_core.specs.declared.failure.Failure.TheVariants.{NoMemory};
 ghost use Rattle.version_core.specs.Limits.{version_limit};
-ghost use Rattle.version_core.specs.Rows.{parts_in};
+ghost use Rattle.version_core.specs.Rows.{parts_of_all};
 ghost use Rattle.version_core.specs.Shown.{shown};
 ghost use Rattle.book_core.specs.Limits.{commit_limit};
 ghost use Rattle.book_core.specs.State.{changed, tests_of, pair_tests, full_tests, table_named};
@@ -74,7 +74,7 @@ fn portion_refusal(
     requires { AllByRecursion (IsTimely commits) versions.now }
     ensures { result ≡ first_of (flat_map (pair_tests schema.now) conds.now
         ++ full_tests commits (length versions.now
-        + length (parts_in change.now schema.now (shown commits versions.now)))) }
+        + length (parts_of_all change.now schema.now (shown commits versions.now)))) }
 {
     if let Some(refused) = pairs_refusal(schema, conds) {
         return Some(refused);
@@ -91,7 +91,7 @@ fn portion_refusal(
 fn is_full_by_parts(schema: &Schema, versions: &Versions, commits: usize, change: &Change) -> bool
     requires { AllByRecursion (IsTimely commits) versions.now }
     ensures { result ≡ (nat_le commit_limit commits || nat_lt version_limit (length versions.now
-        + length (parts_in change.now schema.now (shown commits versions.now)))) }
+        + length (parts_of_all change.now schema.now (shown commits versions.now)))) }
 {
     let used = versions.len();
     if commits >= COMMIT_LIMIT || used > VERSION_LIMIT {

@@ -9,7 +9,7 @@ ghost use Rattle.row_core.specs.declared.failure.Failure.TheVariants.{NoMemory, 
 ghost use Rattle.row_core.specs.declared.row.Row.{Row};
 ghost use Rattle.version_core.specs.Limits.{version_limit};
 ghost use Rattle.version_core.specs.Shown.{shown};
-ghost use Rattle.book_core.specs.History.{History, IsLegal, state_after, rows_at, rows_given, versions_refusal, schema_in};
+ghost use Rattle.book_core.specs.History.{History, IsLegal, state_after, rows_at, rows_given, between_refusal, schema_in};
 ghost use Rattle.book_core.specs.Limits.{commit_limit};
 ghost use Rattle.book_core.specs.State.{KeyHolds, first_refusal, refusal_of, table_of, IsRefusedAs};
 ghost use Rattle.book_core.specs.StoredTables.{IsTableOf};
@@ -253,9 +253,9 @@ impl Book {
         n: u64,
         name: Name,
     ) -> Result<VersionList, Failure<VersionsRefused>>
-        ensures refused { IfSome (versions_refusal self.now at (nat_lt n m) name)
+        ensures refused { IfSome (between_refusal self.now at (nat_lt n m) name)
             (λ refused. result ≡ Err (Refused refused)) }
-        ensures given { IfNone (versions_refusal self.now at (nat_lt n m) name)
+        ensures given { IfNone (between_refusal self.now at (nat_lt n m) name)
             (IsOkUnless result NoMemory) }
         ensures versions { IfOk result (λ versions. AreBetween self.now at m n name versions) }
 
@@ -289,9 +289,9 @@ impl Book {
         n: u64,
         name: Name,
     ) -> Result<VersionList, Failure<VersionsRefused>>
-        ensures refused { IfSome (versions_refusal self.now at (nat_le n m) name)
+        ensures refused { IfSome (between_refusal self.now at (nat_le n m) name)
             (λ refused. result ≡ Err (Refused refused)) }
-        ensures given { IfNone (versions_refusal self.now at (nat_le n m) name)
+        ensures given { IfNone (between_refusal self.now at (nat_le n m) name)
             (IsOkUnless result NoMemory) }
         ensures versions { IfOk result (λ versions. AreFromTo self.now at m n name versions) }
     {

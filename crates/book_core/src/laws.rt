@@ -4,19 +4,19 @@ ghost use Rattle.std.specs.Prelude.{◌≡◌, ◌≤◌, ℕ, List, None, Conta
 ghost use Rattle.row_core.specs.Rows.{RowsRise};
 ghost use Rattle.row_core.specs.declared.row.Row.{Row};
 ghost use Rattle.version_core.specs.declared.version.Version.{Version};
-ghost use Rattle.book_core.specs.History.{History, IsLegal, rows_at, versions_refusal};
+ghost use Rattle.book_core.specs.History.{History, IsLegal, between_refusal, rows_at};
 ghost use Rattle.book_core.specs.Versions.{AreBetween, AreFromTo};
 
 /// What is asked of a table's versions is one list at most, and where they may be read, in a legal history,
 /// exactly one.
 pub fn history_has_one_list_of_versions()
     ensures between_exists { (h : History) (at m n : ℕ) (name : List ℕ)
-        → IsLegal h → versions_refusal h at (nat_lt n m) name ≡ None
+        → IsLegal h → between_refusal h at (nat_lt n m) name ≡ None
         → (versions : List Version) × AreBetween h at m n name versions }
     ensures between_one { (h : History) (at m n : ℕ) (name : List ℕ) (one other : List Version)
         → AreBetween h at m n name one → AreBetween h at m n name other → one ≡ other }
     ensures from_to_exists { (h : History) (at m n : ℕ) (name : List ℕ)
-        → IsLegal h → versions_refusal h at (nat_le n m) name ≡ None
+        → IsLegal h → between_refusal h at (nat_le n m) name ≡ None
         → (versions : List Version) × AreFromTo h at m n name versions }
     ensures from_to_one { (h : History) (at m n : ℕ) (name : List ℕ) (one other : List Version)
         → AreFromTo h at m n name one → AreFromTo h at m n name other → one ≡ other }

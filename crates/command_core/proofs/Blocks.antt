@@ -30,7 +30,7 @@ pub take-own : (xs rest : List Record) (at n : ℕ) → rest ≡ drop at xs → 
 take-own xs rest at n r = take-add at n xs ∙ ap (λ l. take at xs ++ take n l) (sym r)
 
 -- the records from a place on begin with those of the command there
-pub first-own : (xs rest : List Record) (x : Record) (at n : ℕ) → rest ≡ drop at xs → slice_get xs at ≡ Some x
+first-own : (xs rest : List Record) (x : Record) (at n : ℕ) → rest ≡ drop at xs → slice_get xs at ≡ Some x
     → x ∷ drop (at + 1) xs ≡ take n rest ++ drop n rest
 first-own xs rest x at n r e = sym (drop-slice_get xs at x e) ∙ (sym r ∙ sym (take-append-drop n rest))
 

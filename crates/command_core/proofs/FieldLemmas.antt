@@ -4,7 +4,7 @@ use Rattle.std.specs.Prelude.{codes}
 use Rattle.std.specs.List.{slice_get}
 use Rattle.std.specs.Option.{ok_or}
 use Rattle.row_core.specs.Refusals.{and_then, map_ok}
-use Rattle.command_core.specs.Fields.{both, claimed, compared, dated, field_before, instant_in, name_in, named, natural_in, point_in, spanned, split_asof}
+use Rattle.command_core.specs.Fields.{both_ok, claimed, compared, dated, field_before, instant_in, name_in, named, natural_in, point_in, spanned, split_asof}
 use Rattle.command_core.specs.Pairs.{compared_by, name_pairs, paired_behind}
 use Rattle.command_core.specs.Records.{Record}
 use Rattle.command_core.specs.Words.{begins}
@@ -19,7 +19,7 @@ named-two (word ∷ n ∷ third ∷ rest) name one two = absurd (cc two)
 
 pub dated-three : (line : Record) (name point : List ℕ) → slice_get line 1 ≡ Some name → slice_get line 2 ≡ Some point
     → slice_get line 3 ≡ None
-    → dated line ≡ both (name_in name) (point_in point)
+    → dated line ≡ both_ok (name_in name) (point_in point)
 dated-three [] name point one two three = absurd (cc one)
 dated-three (word ∷ []) name point one two three = absurd (cc one)
 dated-three (word ∷ n ∷ []) name point one two three = absurd (cc two)
@@ -46,24 +46,24 @@ three_behind P (word ∷ n ∷ s ∷ t ∷ fifth ∷ rest) name second third one
 
 pub spanned-four : (line : Record) (name first last : List ℕ) → slice_get line 1 ≡ Some name
     → slice_get line 2 ≡ Some first → slice_get line 3 ≡ Some last → slice_get line 4 ≡ None
-    → spanned line ≡ both (name_in name) (both (natural_in first) (natural_in last))
+    → spanned line ≡ both_ok (name_in name) (both_ok (natural_in first) (natural_in last))
 spanned-four line name first last one two three four =
     three_behind
-    (λ l. spanned l ≡ both (name_in name)
-    (both (natural_in first) (natural_in last))) line name first last one two three four (λ word. refl)
+    (λ l. spanned l ≡ both_ok (name_in name)
+    (both_ok (natural_in first) (natural_in last))) line name first last one two three four (λ word. refl)
 
 pub claimed-four : (line : Record) (name parts instant : List ℕ) → slice_get line 1 ≡ Some name
     → slice_get line 2 ≡ Some parts → slice_get line 3 ≡ Some instant → slice_get line 4 ≡ None
-    → claimed line ≡ both (name_in name) (both (natural_in parts) (instant_in instant))
+    → claimed line ≡ both_ok (name_in name) (both_ok (natural_in parts) (instant_in instant))
 claimed-four line name parts instant one two three four =
     three_behind
-    (λ l. claimed l ≡ both (name_in name)
-    (both (natural_in parts) (instant_in instant))) line name parts instant one two three four (λ word. refl)
+    (λ l. claimed l ≡ both_ok (name_in name)
+    (both_ok (natural_in parts) (instant_in instant))) line name parts instant one two three four (λ word. refl)
 
 -- the two names of a record, and the fields behind them
 pub compared-two : (line : Record) (left right : List ℕ) → slice_get line 1 ≡ Some left → slice_get line 2 ≡ Some right
     → compared line ≡ and_then (ok_or (paired_behind (codes "on") (drop 3 line)) BadCommand)
-    (λ names. map_ok compared_by (both (both (name_in left) (name_in right)) (name_pairs names)))
+    (λ names. map_ok compared_by (both_ok (both_ok (name_in left) (name_in right)) (name_pairs names)))
 compared-two [] left right one two = absurd (cc one)
 compared-two (word ∷ []) left right one two = absurd (cc one)
 compared-two (word ∷ l ∷ []) left right one two = absurd (cc two)

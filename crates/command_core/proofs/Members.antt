@@ -59,7 +59,7 @@ member-same one other number opening alone =
     make n o m = record { number = n; opening = o; alone = m }
 
 -- the first member of records takes these of them
-pub same_member : (number : ℕ) (own later taken left : List Record) (one other : Member)
+same_member : (number : ℕ) (own later taken left : List Record) (one other : Member)
     → own ++ later ≡ taken ++ left → one.number ≡ number → other.number ≡ number
     → IsMember own one → IsMember taken other → (own ≡ taken) × (later ≡ left) × (one ≡ other)
 same_member number own later taken left one other e first second is was =
@@ -150,7 +150,7 @@ same_members number body rest taken left (one ∷ ones) (other ∷ others) e (ow
 -- ---- members of more records
 
 -- members, and those of the records behind theirs
-pub AreMembers-append : (number : ℕ) (body rest : List Record) (front back : List Member)
+AreMembers-append : (number : ℕ) (body rest : List Record) (front back : List Member)
     → AreMembers number body front → AreMembers (number + length body) rest back
     → AreMembers number (body ++ rest) (front ++ back)
 AreMembers-append number body rest [] back are behind =
@@ -170,7 +170,7 @@ AreMembers-append number body rest (member ∷ more) back (own, later, split, fi
     )
 
 -- one member
-pub AreMembers-one : (number : ℕ) (own : List Record) (member : Member) → member.number ≡ number → IsMember own member
+AreMembers-one : (number : ℕ) (own : List Record) (member : Member) → member.number ≡ number → IsMember own member
     → AreMembers number own (member ∷ [])
 AreMembers-one number own member first is = (own, [], sym (append-nil own), first, is, refl)
 

@@ -2,7 +2,7 @@
 use Rattle.std.specs.Prelude.{ℕ, List, [], ◌∷◌, Option, Some, None, Result, Ok, bytes_eq, codes, option_map, if◌then◌else◌}
 use Rattle.std.specs.Option.{ok_or, option_and_then}
 use Rattle.row_core.specs.Refusals.{and_then, map_ok}
-use Rattle.command_core.specs.Fields.{both, name_in}
+use Rattle.command_core.specs.Fields.{both_ok, name_in}
 use Rattle.command_core.specs.Records.{Record}
 use Rattle.command_core.specs.declared.aggregate.Aggregate.{Aggregate}
 use Rattle.command_core.specs.declared.aggregate.Func.{Func}
@@ -60,7 +60,7 @@ named_group (Some column) = map_ok Some (name_in column)
 abbrev pub named_aggregate : Aggregate → Result Aggregate Refusal
 named_aggregate aggregate =
     map_ok (λ told. aggregate_by told.0 told.1.0 told.1.1)
-    (both (name_in aggregate.table) (both (named_func aggregate.func) (named_group aggregate.by)))
+    (both_ok (name_in aggregate.table) (both_ok (named_func aggregate.func) (named_group aggregate.by)))
 
 -- the aggregate that a record tells, or why there is none: its form comes before its names
 abbrev pub aggregated : Record → Result Aggregate Refusal

@@ -37,11 +37,11 @@ natural_in text = ok_or (natural_of text) BadNumber
 abbrev pub instant_in : List ℕ → Result (Option ℤ) Refusal
 instant_in text = if bytes_eq text (codes "-") then Ok None else map_ok Some (point_in text)
 
--- both, or the first that is refused
-abbrev pub both : {S T E : Type 0} → Result S E → Result T E → Result (S × T) E
-both (Err e) second = Err e
-both (Ok x) (Err e) = Err e
-both (Ok x) (Ok y) = Ok (x, y)
+-- both_ok, or the first that is refused
+abbrev pub both_ok : {S T E : Type 0} → Result S E → Result T E → Result (S × T) E
+both_ok (Err e) second = Err e
+both_ok (Ok x) (Err e) = Err e
+both_ok (Ok x) (Ok y) = Ok (x, y)
 
 -- the period from one text's point on and before another's
 abbrev pub period_in : List ℕ → List ℕ → Result Period Refusal
@@ -54,24 +54,24 @@ named line = Err BadCommand
 
 -- the name and the point that a record of two fields behind its word is on, or why there is none
 abbrev pub dated : Record → Result (List ℕ × ℤ) Refusal
-dated (word ∷ name ∷ point ∷ []) = both (name_in name) (point_in point)
+dated (word ∷ name ∷ point ∷ []) = both_ok (name_in name) (point_in point)
 dated line = Err BadCommand
 
 -- the name and the two numbers that a record of three fields behind its word is on
 abbrev pub spanned : Record → Result (List ℕ × (ℕ × ℕ)) Refusal
-spanned (word ∷ name ∷ first ∷ last ∷ []) = both (name_in name) (both (natural_in first) (natural_in last))
+spanned (word ∷ name ∷ first ∷ last ∷ []) = both_ok (name_in name) (both_ok (natural_in first) (natural_in last))
 spanned line = Err BadCommand
 
 -- the name, the number and the instant that a record of three fields behind its word is on
 abbrev pub claimed : Record → Result (List ℕ × (ℕ × Option ℤ)) Refusal
-claimed (word ∷ name ∷ parts ∷ instant ∷ []) = both (name_in name) (both (natural_in parts) (instant_in instant))
+claimed (word ∷ name ∷ parts ∷ instant ∷ []) = both_ok (name_in name) (both_ok (natural_in parts) (instant_in instant))
 claimed line = Err BadCommand
 
 -- two tables, and the pairs of their columns that are told behind `on`, if there are any
 abbrev pub compared : Record → Result Compared Refusal
 compared (word ∷ left ∷ right ∷ fields) =
     and_then (ok_or (paired_behind (codes "on") fields) BadCommand)
-    (λ names. map_ok compared_by (both (both (name_in left) (name_in right)) (name_pairs names)))
+    (λ names. map_ok compared_by (both_ok (both_ok (name_in left) (name_in right)) (name_pairs names)))
 compared line = Err BadCommand
 
 -- a field before the others of a record, and the text of its suffix
@@ -95,4 +95,4 @@ commit_told (Some text) = map_ok Some (natural_in text)
 -- what the record tells without its suffix, and the commit that the suffix tells; without one none, which
 -- is the newest
 abbrev pub with_asof : {T : Type 0} → (Record → Result T Refusal) → Record → Result (T × Option ℕ) Refusal
-with_asof read line = both (read (split_asof line).0) (commit_told (split_asof line).1)
+with_asof read line = both_ok (read (split_asof line).0) (commit_told (split_asof line).1)

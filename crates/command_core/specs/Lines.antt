@@ -2,7 +2,7 @@
 use Rattle.std.specs.Prelude.{List, ◌-◌, take, drop}
 use Rattle.csv.specs.Records.{fields_of}
 use Rattle.command_core.specs.Records.{Record}
-use Rattle.command_core.specs.declared.lines.Line.{Line}
+use Rattle.command_core.specs.declared.line.Line.{Line}
 use Rattle.command_core.specs.declared.lines.Lines.{Lines}
 
 -- the fields of a record

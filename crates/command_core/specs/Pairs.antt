@@ -1,7 +1,7 @@
 -- Fields two by two: a column's name and the text of a value, or the names of two columns.
 use Rattle.std.specs.Prelude.{ℕ, List, [], ◌∷◌, ◌&&◌, Bool, true, false, Option, Some, None, Result, Ok, Err, bytes_eq, if◌then◌else◌}
 use Rattle.std.specs.List.{list_all}
-use Rattle.row_core.specs.Name.{is_name}
+use Rattle.row_core.specs.Name.{NamePair, is_name}
 use Rattle.command_core.specs.Records.{Record}
 use Rattle.command_core.specs.declared.refusal.Refusal.{Refusal}
 use Rattle.command_core.specs.declared.refusal.Refusal.TheVariants.{BadName}
@@ -35,10 +35,6 @@ all_columns pairs = list_all (λ pair. is_name pair.0) pairs
 -- the pairs, where they do
 abbrev pub named_pairs : List TextPair → Result (List TextPair) Refusal
 named_pairs pairs = if all_columns pairs then Ok pairs else Err BadName
-
--- the names of two columns, of which one is of a left table and one of a right
-abbrev pub NamePair : Type 0
-NamePair = List ℕ × List ℕ
 
 -- the pairs of names that fields are, where all of them are names
 abbrev pub name_pairs : Record → Result (List NamePair) Refusal

@@ -1,7 +1,8 @@
 -- What pairs of fields in memory stand for.
 use Rattle.std.specs.Prelude.{List}
 use Rattle.command_core.specs.Lines.{fields_in}
-use Rattle.command_core.specs.Pairs.{Compared, NamePair, TextPair, pairs_of}
+use Rattle.row_core.specs.Name.{NamePair}
+use Rattle.command_core.specs.Pairs.{Compared, TextPair, pairs_of}
 use Rattle.command_core.specs.declared.pairs.NamePairs.{NamePairs}
 use Rattle.command_core.specs.declared.pairs.TextPairs.{TextPairs}
 use Rattle.command_core.specs.declared.pairs.TwoTables.{TwoTables}

@@ -15,7 +15,7 @@ ghost use Rattle.command_core.specs.Lines.{fields_in};
 ghost use Rattle.command_core.specs.RawAggregates.{aggregate_of, func_of};
 
 use crate::fields::name_in;
-use crate::lines::Line;
+use crate::line::Line;
 use crate::refusal::Refusal;
 use crate::words::begins;
 use row_core::Name;

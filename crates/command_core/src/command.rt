@@ -1,55 +1,14 @@
-//! Commands, and the records that they take.
-ghost use Rattle.std.specs.Prelude.{
-  ◌≡◌,
-  ◌+◌,
-  ◌<◌,
-  ◌≤◌,
-  Some,
-  IfErr,
-  IfOk,
-  IfSome,
-  IfNone,
-  OnErr,
-  codes,
-  false,
-  true,
-  length,
-  take,
-  drop,
-  slice_get,
-};
-ghost use Rattle.row_core.specs.Refusals.{Reads};
-ghost use Rattle.row_core.specs.declared.failure.Failure.TheVariants as failure;
-ghost use Rattle.command_core.specs.Command.{meaning_of, meant_by};
-ghost use Rattle.command_core.specs.Lines.{fields_in, lines_in};
-ghost use Rattle.command_core.specs.Meaning.{
-  IsBody,
-  Means,
-  behind_length,
-  block_meaning,
-  check_meaning,
-  load_meaning,
-  record_meaning,
-  refuse,
-  told,
-};
-ghost use Rattle.command_core.specs.Words.{begins, is_end, opens_block};
+//! Commands: what the records of a script ask for.
+ghost use Rattle.std.specs.Prelude.{◌≡◌};
+ghost use Rattle.command_core.specs.Command.{meaning_of};
+ghost use Rattle.command_core.specs.Meaning.{refuse};
 
 use crate::aggregate::Aggregate;
-use crate::fields::{claimed, commit_told, named, split_asof};
-use crate::lines::{Line, Lines};
+use crate::lines::Lines;
 use crate::pairs::{TextPairs, TwoTables};
-use crate::portions::{read_delete, read_update};
-use crate::queries::{
-    read_agg, read_anti, read_at, read_between, read_dip, read_from_to, read_join, read_log,
-    read_rows,
-};
 use crate::refusal::{Fault, Refusal};
-use crate::table_command::read_table;
-use crate::words::{Verb, begins, is_end, opens_block, verb_of};
-use period_core::{NoMemory, Period, Point};
-use row_core::{Failure, Name, Schema};
-use std::alloc::{AllocError, Global};
+use period_core::{Period, Point};
+use row_core::{Name, Schema};
 
 /// A command that may be done where the tables allow it, or the fault that it has whatever they are.
 /// A query's `asof` is the commit that it reads, and without one it reads the newest.
@@ -136,161 +95,9 @@ pub enum Command<'a> {
     Log,
 }
 
-/// A command, and how many records it takes.
-#[derive(Drop)]
-pub struct Cut<'a> {
-    /// The command.
-    pub command: Command<'a>,
-    /// How many records it takes: one, a block up to its `end`, or all where there is none.
-    pub taken: usize,
-}
-
+/// The command that is refused so, at the record of that number.
 pub(crate) fn refused<'a>(number: u64, refusal: Refusal) -> Command<'a>
     ensures { meaning_of result ≡ refuse number refusal }
 {
     Command::Refused(Fault { number, refusal })
-}
-
-/// What a record means that opens no block.
-fn read_record<'a>(alloc: Global, line: Line<'a>) -> Result<Command<'a>, Failure<Refusal>>
-    ensures reads { Reads meaning_of (record_meaning (fields_in line.entry)) result }
-    ensures memory { IfErr result
-        (λ why. why ≡ failure.NoMemory → begins (codes "table") (fields_in line.entry) ≡ true) }
-{
-    if begins(line, b"table") {
-        read_table(alloc, line)
-    } else {
-        Ok(read_tableless(line)?)
-    }
-}
-
-/// What a record means that opens no block and makes no table.
-pub(crate) fn read_tableless<'a>(line: Line<'a>) -> Result<Command<'a>, Refusal>
-    requires { begins (codes "table") (fields_in line) ≡ false }
-    ensures { meant_by result ≡ record_meaning (fields_in line.entry) }
-{
-    match verb_of(line) {
-        Some(Verb::Update) => read_update(line),
-        Some(Verb::Delete) => read_delete(line),
-        Some(Verb::Rows) => read_rows(line),
-        Some(Verb::At) => read_at(line),
-        Some(Verb::Between) => read_between(line),
-        Some(Verb::FromTo) => read_from_to(line),
-        Some(Verb::Dip) => read_dip(line),
-        Some(Verb::Join) => read_join(line),
-        Some(Verb::Anti) => read_anti(line),
-        Some(Verb::Agg) => read_agg(line),
-        Some(Verb::Log) => read_log(line),
-        Some(Verb::Table) => unreachable!(),
-        None => Err(Refusal::BadCommand),
-    }
-}
-
-/// What a block means that `load` opens.
-fn read_load<'a>(opening: Line<'a>, body: Lines<'a>) -> Result<Command<'a>, Refusal>
-    ensures { meant_by result ≡ load_meaning (fields_in opening.entry) (lines_in body.entry) }
-{
-    let table = named(opening)?;
-    Ok(Command::Load { table, body })
-}
-
-/// What a block means that `check` opens.
-fn read_check<'a>(opening: Line<'a>, body: Lines<'a>) -> Result<Command<'a>, Refusal>
-    ensures { meant_by result ≡ check_meaning (fields_in opening.entry) (lines_in body.entry) }
-{
-    let (front, asof) = split_asof(opening);
-    let (table, (parts, instant)) = claimed(front)?;
-    let asof = commit_told(asof)?;
-    Ok(Command::Check {
-        table,
-        parts,
-        instant,
-        asof,
-        body,
-    })
-}
-
-/// What a block means, whose first record has this number.
-fn read_block<'a>(opening: Line<'a>, body: Lines<'a>, number: u64) -> Command<'a>
-    ensures { meaning_of result ≡ told number (block_meaning (fields_in opening.entry) (lines_in body.entry)) }
-{
-    let read = if begins(opening, b"load") {
-        read_load(opening, body)
-    } else {
-        read_check(opening, body)
-    };
-    match read {
-        Ok(command) => command,
-        Err(refusal) => refused(number, refusal),
-    }
-}
-
-/// How many records come before the first one that ends a block.
-pub(crate) fn body_len(lines: Lines<'_>) -> Option<usize>
-    ensures within { IfSome result (λ n. n < length (lines_in lines.entry)) }
-    ensures before { IfSome result (λ n. IsBody (take n (lines_in lines.entry))) }
-    ensures last { IfSome result (λ n. IfSome (slice_get (lines_in lines.entry) n) (λ line. is_end line ≡ true)) }
-    ensures none { IfNone result (IsBody (lines_in lines.entry)) }
-{
-    for place in 0..lines.len() {
-        if is_end(lines.get(place)) {
-            return Some(place);
-        }
-    }
-    None
-}
-
-/// The next command of some records, of which there is one at least, the first of them of this
-/// number.
-///
-/// # Errors
-///
-/// `NoMemory` where a growth is refused, which only a `table` asks for.
-pub(crate) fn next_command<'a>(
-    alloc: Global,
-    lines: Lines<'a>,
-    number: u64,
-) -> Result<Cut<'a>, NoMemory>
-    requires { 0 < length (lines_in lines) }
-    ensures some { IfOk result (λ cut. 0 < cut.taken) }
-    ensures within { IfOk result (λ cut. cut.taken ≤ length (lines_in lines.entry)) }
-    ensures means { IfOk result
-        (λ cut. Means number (take cut.taken (lines_in lines.entry)) (drop cut.taken (lines_in lines.entry))
-        (meaning_of cut.command)) }
-    ensures behind { IfOk result (λ cut. behind_length (meaning_of cut.command) < length (lines_in lines.entry)) }
-    ensures memory { OnErr result
-        (IfSome (slice_get (lines_in lines.entry) 0) (λ line. begins (codes "table") line ≡ true)) }
-{
-    let opening = lines.get(0);
-    if opens_block(opening) {
-        return Ok(next_block(opening, lines, number));
-    }
-    let command = match read_record(alloc, opening) {
-        Ok(command) => command,
-        Err(Failure::Refused(refusal)) => refused(number, refusal),
-        Err(Failure::NoMemory) => return Err(AllocError),
-    };
-    Ok(Cut { command, taken: 1 })
-}
-
-/// The block that some records begin with, the first of them of this number.
-pub(crate) fn next_block<'a>(opening: Line<'a>, lines: Lines<'a>, number: u64) -> Cut<'a>
-    requires first { slice_get (lines_in lines) 0 ≡ Some (fields_in opening) }
-    requires opens { opens_block (fields_in opening) ≡ true }
-    ensures some { 0 < result.taken }
-    ensures within { result.taken ≤ length (lines_in lines.entry) }
-    ensures means { Means number (take result.taken (lines_in lines.entry)) (drop result.taken (lines_in lines.entry))
-        (meaning_of result.command) }
-    ensures behind { behind_length (meaning_of result.command) < length (lines_in lines.entry) }
-{
-    match body_len(lines.range(1, lines.len())) {
-        Some(len) => Cut {
-            command: read_block(opening, lines.range(1, len + 1), number),
-            taken: len + 2,
-        },
-        None => Cut {
-            command: refused(number, Refusal::Unended),
-            taken: lines.len(),
-        },
-    }
 }

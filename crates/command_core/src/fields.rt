@@ -1,7 +1,7 @@
 //! What the fields of a record give.
 ghost use Rattle.std.specs.Prelude.{◌≡◌, option_map};
 ghost use Rattle.command_core.specs.Fields.{
-  both,
+  both_ok,
   claimed,
   commit_told,
   compared,
@@ -20,7 +20,7 @@ ghost use Rattle.command_core.specs.Pairs.{compared_by, name_pairs};
 ghost use Rattle.command_core.specs.PairsIn.{compared_in};
 ghost use Rattle.row_core.specs.Refusals.{map_ok};
 
-use crate::lines::Line;
+use crate::line::Line;
 use crate::pairs::{TwoTables, name_pairs, paired_behind};
 use crate::refusal::Refusal;
 use crate::words::begins;
@@ -90,7 +90,7 @@ pub(crate) fn named(line: Line<'_>) -> Result<Name, Refusal>
 
 /// The name and the point that two texts are.
 fn name_and_point(name: &[u8], point: &[u8]) -> Result<(Name, Point), Refusal>
-    ensures { result ≡ both (name_in name.now) (point_in point.now) }
+    ensures { result ≡ both_ok (name_in name.now) (point_in point.now) }
 {
     Ok((name_in(name)?, point_in(point)?))
 }
@@ -107,7 +107,7 @@ pub(crate) fn dated(line: Line<'_>) -> Result<(Name, Point), Refusal>
 
 /// The name and the two numbers that texts are.
 fn name_and_span(name: &[u8], first: &[u8], last: &[u8]) -> Result<(Name, (u64, u64)), Refusal>
-    ensures { result ≡ both (name_in name.now) (both (natural_in first.now) (natural_in last.now)) }
+    ensures { result ≡ both_ok (name_in name.now) (both_ok (natural_in first.now) (natural_in last.now)) }
 {
     Ok((name_in(name)?, (natural_in(first)?, natural_in(last)?)))
 }
@@ -128,7 +128,7 @@ fn name_and_claim(
     parts: &[u8],
     instant: &[u8],
 ) -> Result<(Name, (u64, Option<Point>)), Refusal>
-    ensures { result ≡ both (name_in name.now) (both (natural_in parts.now) (instant_in instant.now)) }
+    ensures { result ≡ both_ok (name_in name.now) (both_ok (natural_in parts.now) (instant_in instant.now)) }
 {
     Ok((name_in(name)?, (natural_in(parts)?, instant_in(instant)?)))
 }
@@ -150,7 +150,7 @@ fn names_and_pairs<'a>(
     fields: Line<'a>,
 ) -> Result<TwoTables<'a>, Refusal>
     ensures { map_ok compared_in result ≡ map_ok compared_by
-        (both (both (name_in left.now) (name_in right.now)) (name_pairs (fields_in fields.entry))) }
+        (both_ok (both_ok (name_in left.now) (name_in right.now)) (name_pairs (fields_in fields.entry))) }
 {
     let left = name_in(left)?;
     let right = name_in(right)?;

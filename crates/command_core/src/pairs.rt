@@ -6,7 +6,7 @@ ghost use Rattle.row_core.specs.Refusals.{map_ok};
 ghost use Rattle.command_core.specs.Lines.{fields_in};
 ghost use Rattle.command_core.specs.Pairs.{all_columns, are_pairs, name_pairs, named_pairs, paired_behind, pairs_of};
 
-use crate::lines::Line;
+use crate::line::Line;
 use crate::refusal::Refusal;
 use crate::words::begins;
 use row_core::Name;

@@ -8,7 +8,7 @@ ghost use Rattle.command_core.specs.Portions.{conditions_in, parts_in, settings_
 
 use crate::command::Command;
 use crate::fields::{name_in, period_in};
-use crate::lines::Line;
+use crate::line::Line;
 use crate::pairs::{named_pairs, paired_behind};
 use crate::refusal::Refusal;
 use crate::words::begins;

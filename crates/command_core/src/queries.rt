@@ -17,7 +17,7 @@ ghost use Rattle.command_core.specs.Meaning.{
 use crate::aggregate::aggregated;
 use crate::command::Command;
 use crate::fields::{commit_told, compared, dated, named, spanned, split_asof};
-use crate::lines::Line;
+use crate::line::Line;
 use crate::refusal::Refusal;
 
 /// What a record means whose word is `rows`.

@@ -25,7 +25,7 @@ ghost use Rattle.list_core.specs.Cut.{cut, EndsAt};
 ghost use Rattle.command_core.specs.Lines.{fields_in};
 ghost use Rattle.command_core.specs.Records.{AreScriptRecords};
 
-use crate::lines::Line;
+use crate::line::Line;
 use csv::{ByteRecord, Error, ErrorKind, ReaderBuilder};
 use list_core::start_at;
 use period_core::NoMemory;

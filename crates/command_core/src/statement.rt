@@ -41,8 +41,10 @@ ghost use Rattle.command_core.specs.Statement.{
   is_barred,
 };
 
-use crate::command::{Command, Cut, body_len, next_block, next_command, read_tableless, refused};
-use crate::lines::{Line, Lines};
+use crate::command::{Command, refused};
+use crate::line::Line;
+use crate::lines::Lines;
+use crate::reading::{CommandCut, body_len, next_block, next_command, read_tableless};
 use crate::refusal::Refusal;
 use crate::words::{begins, is_end, opens_block};
 use period_core::NoMemory;
@@ -153,7 +155,7 @@ pub fn next_statement<'a>(
     if begins(opening, b"together") {
         return Ok(next_together(opening, lines, number));
     }
-    let Cut { command, taken } = next_command(alloc, lines, number)?;
+    let CommandCut { command, taken } = next_command(alloc, lines, number)?;
     Ok(StatementCut {
         statement: Statement::One(command),
         taken,
@@ -174,7 +176,7 @@ fn is_barred(has_load: bool, opening: Line<'_>) -> bool
 }
 
 /// The command that some records begin with, which a block of commands allows.
-fn next_allowed<'a>(opening: Line<'a>, lines: Lines<'a>, number: u64) -> Cut<'a>
+fn next_allowed<'a>(opening: Line<'a>, lines: Lines<'a>, number: u64) -> CommandCut<'a>
     requires first { slice_get (lines_in lines) 0 ≡ Some (fields_in opening) }
     requires allowed { is_barred false (fields_in opening) ≡ false }
     ensures some { 0 < result.taken }
@@ -190,12 +192,12 @@ fn next_allowed<'a>(opening: Line<'a>, lines: Lines<'a>, number: u64) -> Cut<'a>
         Ok(command) => command,
         Err(refusal) => refused(number, refusal),
     };
-    Cut { command, taken: 1 }
+    CommandCut { command, taken: 1 }
 }
 
 /// The next command of a block of commands, of which there is one at least, its first record being of this number;
 /// a load stands before it or none.
-pub fn next_inside<'a>(lines: Lines<'a>, number: u64, has_load: bool) -> Cut<'a>
+pub fn next_inside<'a>(lines: Lines<'a>, number: u64, has_load: bool) -> CommandCut<'a>
     requires some { 0 < length (lines_in lines) }
     requires whole { (members : List Member) × AreMembers number (lines_in lines) members }
     ensures some { 0 < result.taken }
@@ -211,7 +213,7 @@ pub fn next_inside<'a>(lines: Lines<'a>, number: u64, has_load: bool) -> Cut<'a>
         return next_allowed(opening, lines, number);
     }
     match command_len(lines) {
-        Some(taken) => Cut {
+        Some(taken) => CommandCut {
             command: refused(number, Refusal::NotInBlock),
             taken,
         },

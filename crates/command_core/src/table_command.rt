@@ -9,7 +9,7 @@ ghost use Rattle.command_core.specs.Meaning.{kind_named, name_table, table_colum
 ghost use Rattle.command_core.specs.TableCommand.{first_column, form_of, raw_column, raw_of};
 
 use crate::command::Command;
-use crate::lines::Line;
+use crate::line::Line;
 use crate::refusal::{Refusal, key_failure, schema_failure};
 use crate::words::begins;
 use period_core::NoMemory;

@@ -3,7 +3,7 @@ ghost use Rattle.std.specs.Prelude.{◌≡◌};
 ghost use Rattle.command_core.specs.Lines.{fields_in};
 ghost use Rattle.command_core.specs.Words.{begins, is_end, opens_block, verb_of};
 
-use crate::lines::Line;
+use crate::line::Line;
 
 /// The word that a command of one record begins with.
 #[derive(Clone, Copy, Debug, PartialEq, Eq)]

@@ -63,7 +63,7 @@ HoldLastEnds-permutation parts xs ys same was = record {
 }
 
 -- where the part of the first one has one more item
-pub HoldLastEnds-joined : (parts : List (List Item)) (first : Ending) (rest : List Ending) (x : Item) (new : Ending)
+HoldLastEnds-joined : (parts : List (List Item)) (first : Ending) (rest : List Ending) (x : Item) (new : Ending)
     → new.end ≡ x.period.to → new.number ≡ first.number
     → HoldLastEnds parts (first ∷ rest) → HoldLastEnds (added parts first.number x) (new ∷ rest)
 HoldLastEnds-joined parts first rest x new end number was =
@@ -214,7 +214,7 @@ none-over parts ends start none hold = λ j f ends_j.
     subst (λ z. start <ℤ z) e_end (All-contains (λ (y : Ending). start <ℤ y.end) ends e none member)
 
 -- where the first one goes on, all do
-pub none-first : (ends : List Ending) (start : ℤ) → HoldsAt (λ e. start <ℤ e.end) ends 0 → IsHeap ends
+none-first : (ends : List Ending) (start : ℤ) → HoldsAt (λ e. start <ℤ e.end) ends 0 → IsHeap ends
     → All (λ e. start <ℤ e.end) ends
 none-first ends start first heap = λ k d within.
     let later : start <ℤ (get_or ends 0 d).end = first d in

@@ -7,7 +7,8 @@ use Rattle.row_core.specs.declared.row.Row.{Row}
 use Rattle.row_core.specs.declared.schema.Column.{Column}
 use Rattle.list_core.proofs.WantedLemmas.{IsListOf-same}
 use Rattle.list_core.proofs.WantedExistence.{IsUnorderedListOf, IsUnorderedListOf-none, IsUnorderedListOf-one, WantedForSome, some_unordered, some_wanted}
-use Rattle.match_core.specs.Columns.{MatchesOn, Names}
+use Rattle.row_core.specs.Name.{NamePair}
+use Rattle.match_core.specs.Columns.{MatchesOn}
 use Rattle.match_core.proofs.Matching.{match_or_not}
 use Rattle.merge_core.specs.Hits.{IsShared}
 use Rattle.merge_core.proofs.SharedLemmas.{first_held, shared_once}
@@ -90,13 +91,13 @@ module _ (Matches : Row → Row → Type 0) (decided : (x y : Row) → Matches x
       )
 
 -- any rows have a join, whatever the pairs of columns behind on
-pub some_join : (left_columns right_columns : List Column) (on : List Names) (left right : List Row)
+pub some_join : (left_columns right_columns : List Column) (on : List NamePair) (left right : List Row)
     → (rows : List JoinRow) × IsJoin (MatchesOn left_columns right_columns on) left right rows
 some_join left_columns right_columns on left right =
     some_join_of (MatchesOn left_columns right_columns on) (match_or_not left_columns right_columns on) left right
 
 -- they have no other
-pub one_join : (left_columns right_columns : List Column) (on : List Names) (left right : List Row)
+pub one_join : (left_columns right_columns : List Column) (on : List NamePair) (left right : List Row)
     (one other : List JoinRow) → IsJoin (MatchesOn left_columns right_columns on) left right one
     → IsJoin (MatchesOn left_columns right_columns on) left right other → one ≡ other
 one_join left_columns right_columns on left right one other is is' =

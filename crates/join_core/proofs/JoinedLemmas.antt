@@ -15,7 +15,7 @@ use Rattle.merge_core.proofs.HitLemmas.{Hit-same}
 use Rattle.join_core.specs.declared.pairs.JoinOut.{JoinOut}
 use Rattle.join_core.specs.declared.rows.JoinRow.{JoinRow}
 use Rattle.join_core.specs.Join.{join_cmp}
-use Rattle.join_core.specs.ItemJoin.{IsItemsRow, IsItemsJoin}
+use Rattle.join_core.specs.ItemJoin.{IsItemsJoinRow, IsItemsJoin}
 use Rattle.join_core.specs.PairValues.{AreFirstValues, hits_in, rows_in, row_of_hit}
 use Rattle.join_core.proofs.ListLemmas.{differ-map}
 use Rattle.join_core.proofs.OrderLemmas.{JoinRow-same_fields, sorted_rows}
@@ -63,7 +63,7 @@ module _ (A B : List Item) (ps qs : List (List Item)) (outs : List JoinOut) (len
       (HasDistinctIds-permutation B (all_of qs) pb db))
 
   -- the row of a hit is one of the join
-  row-of_items : (h : Hit) → IsHit A B h → IsItemsRow A B (row_of_hit h)
+  row-of_items : (h : Hit) → IsHit A B h → IsItemsJoinRow A B (row_of_hit h)
   row-of_items h is = record {
     x = h.left;
     y = h.right;
@@ -76,7 +76,7 @@ module _ (A B : List Item) (ps qs : List (List Item)) (outs : List JoinOut) (len
   }
 
   -- a row of the join is one of a hit of some pair
-  row-of_pairs : (r : JoinRow) → IsItemsRow A B r → Contains (rows_in outs) r
+  row-of_pairs : (r : JoinRow) → IsItemsJoinRow A B r → Contains (rows_in outs) r
   row-of_pairs r w =
       let hit : Hit = record { left = w.x; right = w.y; period = r.period } in
       let is : Contains (hits_in outs) hit =
@@ -92,7 +92,7 @@ module _ (A B : List Item) (ps qs : List (List Item)) (outs : List JoinOut) (len
     exactly = λ r. (
       λ h. (let back = Contains-permutation rows (rows_in outs) r (IsPermutation-sym (rows_in outs) rows moved) h in
           let m = Contains-map_source row_of_hit (hits_in outs) r back in
-          subst (IsItemsRow A B) m.2 (row-of_items m.0 (hit-of_items m.0 m.1))),
+          subst (IsItemsJoinRow A B) m.2 (row-of_items m.0 (hit-of_items m.0 m.1))),
       λ w. Contains-permutation (rows_in outs) rows r moved (row-of_pairs r w),
     );
   }

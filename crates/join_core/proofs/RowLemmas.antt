@@ -10,7 +10,7 @@ use Rattle.match_core.proofs.Tell.{ClassesTell}
 use Rattle.match_core.proofs.RowItems.{row_of_item, item_of_row}
 use Rattle.match_core.proofs.Sided.{IsSide}
 use Rattle.join_core.specs.declared.rows.JoinRow.{JoinRow}
-use Rattle.join_core.specs.ItemJoin.{IsItemsRow, IsItemsJoin}
+use Rattle.join_core.specs.ItemJoin.{IsItemsJoinRow, IsItemsJoin}
 use Rattle.join_core.specs.Join.{RowBefore, IsJoinRow, IsJoin}
 
 -- items without their classes are those of the rows
@@ -31,7 +31,7 @@ module _ (Matches : Row → Row → Type 0) (left right : List Row) (lefts right
     (left_enough : length left ≤ length lefts) (right_enough : length right ≤ length rights)
     (tell : ClassesTell Matches left lefts right rights) where
   -- a row of the items' join is one of the rows'
-  row-of_items : (j : JoinRow) → IsItemsRow (items_with left lefts) (items_with right rights) j
+  row-of_items : (j : JoinRow) → IsItemsJoinRow (items_with left lefts) (items_with right rights) j
       → IsJoinRow Matches left right j
   row-of_items j i =
       let a = row_of_item left lefts i.x i.x_in in
@@ -51,7 +51,7 @@ module _ (Matches : Row → Row → Type 0) (left right : List Row) (lefts right
 
   -- a row of the rows' join is one of the items'
   row-of_rows : (j : JoinRow) → IsJoinRow Matches left right j
-      → IsItemsRow (items_with left lefts) (items_with right rights) j
+      → IsItemsJoinRow (items_with left lefts) (items_with right rights) j
   row-of_rows j i =
       let a = item_of_row left lefts i.x left_enough i.x_in in
       let b = item_of_row right rights i.y right_enough i.y_in in
@@ -72,5 +72,5 @@ module _ (Matches : Row → Row → Type 0) (left right : List Row) (lefts right
   pub IsJoin-of_items : (rows : List JoinRow) → IsItemsJoin (items_with left lefts) (items_with right rights) rows
       → IsJoin Matches left right rows
   IsJoin-of_items rows lists =
-      IsListOf-same RowBefore (IsItemsRow (items_with left lefts) (items_with right rights))
+      IsListOf-same RowBefore (IsItemsJoinRow (items_with left lefts) (items_with right rights))
       (IsJoinRow Matches left right) rows row-of_items row-of_rows lists

@@ -7,7 +7,7 @@ use Rattle.join_core.specs.declared.rows.JoinRow.{JoinRow}
 use Rattle.join_core.specs.Join.{RowBefore}
 
 -- the ids of a left and a right item of one class that share an instant, with all the instants that they share
-pub record IsItemsRow (left right : List Item) (row : JoinRow) : Type 0 where
+pub record IsItemsJoinRow (left right : List Item) (row : JoinRow) : Type 0 where
   pub x : Item
   pub y : Item
   pub x_in : Contains left x
@@ -19,4 +19,4 @@ pub record IsItemsRow (left right : List Item) (row : JoinRow) : Type 0 where
 
 -- all of them, each once, by start, end, left id and right id
 abbrev pub IsItemsJoin : List Item → List Item → List JoinRow → Type 0
-IsItemsJoin left right rows = IsListOf RowBefore (IsItemsRow left right) rows
+IsItemsJoin left right rows = IsListOf RowBefore (IsItemsJoinRow left right) rows

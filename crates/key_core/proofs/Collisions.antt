@@ -13,7 +13,7 @@ use Rattle.period_core.proofs.PeriodLemmas.{meet-holds}
 use Rattle.row_core.specs.declared.draft.Draft.{Draft}
 use Rattle.key_core.specs.declared.keys.KeyedRow.{KeyedRow}
 use Rattle.key_core.specs.Keys.{collide, have_collision, same_key}
-use Rattle.key_core.specs.Order.{key_cmp, row_cmp, row_in, have_neighbours}
+use Rattle.key_core.specs.Order.{key_cmp, row_cmp, tested_row, have_neighbours}
 use Rattle.key_core.proofs.Orders.{key_total, row_total, key-same, key-tie, key-between, same_key-flips}
 use Rattle.key_core.proofs.Pairs.{have_pair-permutation, have_pair-map, neighbours-pairs_sorted}
 
@@ -73,7 +73,7 @@ then-tied : (o p : Ordering) → o ≡ Equal → is_lt (ordering_then o p) ≡ f
 then-tied o p e h = sym (ap (λ q. is_lt (ordering_then q p)) e) ∙ h
 
 collide-between : (key : List ℕ) (x y z : KeyedRow) → is_lt (row_cmp key y x) ≡ false → is_lt (row_cmp key z y) ≡ false
-    → collide key (row_in x) (row_in z) ≡ true → collide key (row_in x) (row_in y) ≡ true
+    → collide key (tested_row x) (tested_row z) ≡ true → collide key (tested_row x) (tested_row y) ≡ true
 collide-between key x y z low high e =
     let xs = x.values.now in
     let ys = y.values.now in
@@ -95,10 +95,11 @@ collide-between key x y z low high e =
 -- sorted rows: two of them collide exactly where two neighbours do
 pub collision-from_neighbours : (key : List ℕ) (rows sorted : List KeyedRow) → IsPermutation rows sorted
     → IsSortedBy (λ a b. is_lt (row_cmp key a b)) sorted
-    → have_neighbours (λ a b. collide key (row_in a) (row_in b)) sorted ≡ have_collision key (map row_in rows)
+    → have_neighbours (λ a b. collide key (tested_row a) (tested_row b)) sorted
+    ≡ have_collision key (map tested_row rows)
 collision-from_neighbours key rows sorted moved up =
-    neighbours-pairs_sorted (λ a b. collide key (row_in a) (row_in b)) (λ a b. is_lt (row_cmp key a b))
+    neighbours-pairs_sorted (λ a b. collide key (tested_row a) (tested_row b)) (λ a b. is_lt (row_cmp key a b))
     (collide-between key) (ranks_by (row_total key) (λ a. a)) sorted up
-    ∙ sym (have_pair-permutation (λ a b. collide key (row_in a) (row_in b))
-    (λ a b. collide-flips key (row_in a) (row_in b)) rows sorted moved)
-    ∙ sym (have_pair-map (collide key) row_in rows)
+    ∙ sym (have_pair-permutation (λ a b. collide key (tested_row a) (tested_row b))
+    (λ a b. collide-flips key (tested_row a) (tested_row b)) rows sorted moved)
+    ∙ sym (have_pair-map (collide key) tested_row rows)

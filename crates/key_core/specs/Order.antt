@@ -19,8 +19,8 @@ abbrev pub row_cmp : List ℕ → KeyedRow → KeyedRow → Ordering
 row_cmp key a b = ordering_then (key_cmp key a.values.now b.values.now) (int_cmp a.period.from b.period.from)
 
 -- the row that is tested
-abbrev pub row_in : KeyedRow → Draft
-row_in row = record { period = row.period; values = row.values.now }
+abbrev pub tested_row : KeyedRow → Draft
+tested_row row = record { period = row.period; values = row.values.now }
 
 -- the test holds of an element and the next one
 abbrev pub have_neighbours : {X : Type 0} → (X → X → Bool) → List X → Bool

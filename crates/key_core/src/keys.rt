@@ -4,7 +4,7 @@ ghost use Rattle.std.specs.Prelude.{◌≡◌, map, slice_get, IsPermutation, Is
 ghost use Rattle.std.specs.Ordering.{is_lt};
 ghost use Rattle.row_core.specs.ValueOrder.{maybe_cmp, value_cmp};
 ghost use Rattle.key_core.specs.Keys.{collide, have_collision};
-ghost use Rattle.key_core.specs.Order.{key_cmp, row_cmp, row_in, have_neighbours};
+ghost use Rattle.key_core.specs.Order.{key_cmp, row_cmp, tested_row, have_neighbours};
 
 use period_core::Period;
 use row_core::Value;
@@ -20,7 +20,7 @@ pub struct KeyedRow<'a> {
 /// Whether two rows at different places are equal in each of the key's columns and share an instant.
 /// The rows are left in the order of their keys.
 pub fn have_collision(key: &[u32], rows: &mut Vec<KeyedRow<'_>>) -> bool
-    ensures { result ≡ have_collision key.now (map row_in rows.old.items) }
+    ensures { result ≡ have_collision key.now (map tested_row rows.old.items) }
 {
     sort_rows(key, rows);
     neighbours_collide(key, rows)
@@ -79,14 +79,14 @@ fn value_order(a: &Value, b: &Value) -> Ordering
 
 /// Whether two rows are equal in each of the key's columns and share an instant.
 pub fn collide(key: &[u32], a: &KeyedRow<'_>, b: &KeyedRow<'_>) -> bool
-    ensures { result ≡ collide key.now (row_in a.now) (row_in b.now) }
+    ensures { result ≡ collide key.now (tested_row a.now) (tested_row b.now) }
 {
     key_order(key, a.values, b.values).is_eq() && a.period.meet(&b.period).is_some()
 }
 
 /// Whether some row and the next one collide.
 fn neighbours_collide(key: &[u32], rows: &[KeyedRow<'_>]) -> bool
-    ensures { result ≡ have_neighbours (λ a b. collide key.now (row_in a) (row_in b)) rows.now }
+    ensures { result ≡ have_neighbours (λ a b. collide key.now (tested_row a) (tested_row b)) rows.now }
 {
     for i in 1..rows.len() {
         if collide(key, &rows[i - 1], &rows[i]) {

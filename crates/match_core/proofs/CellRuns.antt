@@ -19,17 +19,17 @@ abbrev pub SameCell : Cell → Cell → Type 0
 SameCell a b = (a.class ≡ b.class) × ((a.number ≡ b.number) × (a.text.now ≡ b.text.now))
 
 -- the test of cells that are the same decides it
-pub same_cell-decides : (a b : Cell) → Decides (same_cell a b) (SameCell a b)
+same_cell-decides : (a b : Cell) → Decides (same_cell a b) (SameCell a b)
 same_cell-decides a b =
     Decides-and _ _ (Decides-eqb a.class b.class)
     (Decides-and _ _ (Decides-int_eq a.number b.number) (bytes_decides a.text.now b.text.now))
 
 -- it holds the other way round
-pub SameCell-sym : (a b : Cell) → SameCell a b → SameCell b a
+SameCell-sym : (a b : Cell) → SameCell a b → SameCell b a
 SameCell-sym a b s = (sym s.0, (sym s.1.0, sym s.1.1))
 
 -- it goes on from one cell to the next
-pub SameCell-trans : (a b c : Cell) → SameCell a b → SameCell b c → SameCell a c
+SameCell-trans : (a b c : Cell) → SameCell a b → SameCell b c → SameCell a c
 SameCell-trans a b c s t = (s.0 ∙ t.0, (s.1.0 ∙ t.1.0, s.1.1 ∙ t.1.1))
 
 -- the order of cells: by class, number and text
@@ -38,7 +38,7 @@ cell_cmp a b = ordering_then (nat_cmp a.class b.class)
     (ordering_then (int_cmp a.number b.number) (slice_cmp nat_cmp a.text.now b.text.now))
 
 -- it is a total order
-pub cell_total : IsTotalOrder cell_cmp
+cell_total : IsTotalOrder cell_cmp
 cell_total =
     then_total (on_total (λ (x : Cell). x.class) nat_cmp_total)
     (then_total (on_total (λ (x : Cell). x.number) int_cmp_total)
@@ -95,7 +95,7 @@ between a b c low high s =
 -- ---- runs of sorted cells
 
 -- what the runs before two places tell of the cells there
-pub record Along (d : Cell) (cells : List Cell) (i j : ℕ) : Type 0 where
+record Along (d : Cell) (cells : List Cell) (i j : ℕ) : Type 0 where
   pub more : runs_before d cells i ≤ runs_before d cells j
   pub same : runs_before d cells i ≡ runs_before d cells j → SameCell (get_or cells i d) (get_or cells j d)
   pub equal : SameCell (get_or cells i d) (get_or cells j d) → runs_before d cells i ≡ runs_before d cells j

@@ -10,7 +10,8 @@ use Rattle.row_core.specs.declared.row.Row.{Row}
 use Rattle.row_core.specs.declared.schema.Column.{Column}
 use Rattle.row_core.specs.declared.value.Value.{Value}
 use Rattle.row_core.specs.declared.value.Value.TheVariants.{Int, Text}
-use Rattle.match_core.specs.Columns.{MatchesOn, Names, value_under}
+use Rattle.row_core.specs.Name.{NamePair}
+use Rattle.match_core.specs.Columns.{MatchesOn, value_under}
 
 -- what a test decides holds or not
 holds_or_not : (P : Type 0) (test : Bool) → Decides test P → P ⊎ (P → ⊥)
@@ -52,8 +53,8 @@ all_or_not P each (x ∷ xs) = elim (each x) [
 ]
 
 -- two rows match or not
-pub match_or_not : (left_columns right_columns : List Column) (on : List Names) (x y : Row)
+pub match_or_not : (left_columns right_columns : List Column) (on : List NamePair) (x y : Row)
     → MatchesOn left_columns right_columns on x y ⊎ (MatchesOn left_columns right_columns on x y → ⊥)
 match_or_not left_columns right_columns on x y =
-    all_or_not (λ (names : Names). value_under left_columns names.0 x ≡ value_under right_columns names.1 y)
+    all_or_not (λ (names : NamePair). value_under left_columns names.0 x ≡ value_under right_columns names.1 y)
     (λ names. maybe_value_or_not (value_under left_columns names.0 x) (value_under right_columns names.1 y)) on

@@ -74,7 +74,7 @@ agree_on_places classes column sorted up own i j d hi hj e =
     (one_value column x.place a.value c.value a.there c.there))
 
 -- where the place's cell stands among the sorted ones
-pub record StandsAt (classes : List ℕ) (column : List (Option Value)) (sorted : List Cell) (i : ℕ)
+record StandsAt (classes : List ℕ) (column : List (Option Value)) (sorted : List Cell) (i : ℕ)
     (d : Cell) : Type 0 where
   pub at : ℕ
   pub within : at < length sorted

@@ -12,7 +12,8 @@ use Rattle.row_core.specs.declared.schema.Column.{Column}
 use Rattle.row_core.specs.declared.value.Kind.{Kind}
 use Rattle.row_core.specs.declared.value.Kind.TheVariants as kind
 use Rattle.row_core.specs.declared.value.Value.{Value}
-use Rattle.match_core.specs.Columns.{Names, value_under, kinds_differ, tests_of_names}
+use Rattle.row_core.specs.Name.{NamePair}
+use Rattle.match_core.specs.Columns.{value_under, kinds_differ, tests_of_names}
 use Rattle.match_core.specs.Classes.{AreClasses, values_under}
 use Rattle.match_core.specs.Cells.{AreOneKind, IsOfKind, Refines, values_at}
 
@@ -33,7 +34,8 @@ no_columns left right lefts rights n e = record {
 }
 
 -- one more pair of columns splits the classes
-pub one_more : (left right : List Column) (lefts rights : List Row) (on : List Names) (pair : Names) (old new : List ℕ)
+pub one_more : (left right : List Column) (lefts rights : List Row) (on : List NamePair) (pair : NamePair)
+    (old new : List ℕ)
     → AreClasses left right lefts rights on old → length new ≡ length old
     → Refines old (values_under left right lefts rights pair) new
     → AreClasses left right lefts rights (on ++ pair ∷ []) new
@@ -44,7 +46,7 @@ one_more left right lefts rights on pair old new are len refines = record {
       let b : j < length old = omega (arith, len) in
       let step = refines i j a b in
       let was = are.tell i j a b in
-      let P : Names → Type 0 =
+      let P : NamePair → Type 0 =
       λ p. slice_get (values_under left right lefts rights p) i ≡ slice_get
       (values_under left right lefts rights p) j in (
         λ e. (let s = step.0 e in All-push P on pair (was.0 s.0) s.1),
@@ -89,13 +91,13 @@ kind_is kind.Text kind.Int h = absurd (cc)
 kind_is kind.Text kind.Text h = refl
 
 -- the kind of both columns of an allowed pair
-pub record IsAllowed (left right : List Column) (pair : Names) : Type 0 where
+pub record IsAllowed (left right : List Column) (pair : NamePair) : Type 0 where
   pub kind : Kind
   pub one : kind_in left pair.0 ≡ Some kind
   pub other : kind_in right pair.1 ≡ Some kind
 
 -- the columns of a pair that no test refuses have one kind
-pub allowed : (left right : List Column) (pair : Names) → first_of (tests_of_names left right pair) ≡ None
+pub allowed : (left right : List Column) (pair : NamePair) → first_of (tests_of_names left right pair) ≡ None
     → IsAllowed left right pair
 allowed left right pair h =
     let pass = three_pass (is_none (kind_in left pair.0)) (is_none (kind_in right pair.1))
@@ -155,7 +157,8 @@ named_kind columns rows name k h fit =
     subst (λ o. IsOfKind k (option_and_then (slice_get row.values) o)) (sym there.2) w))
 
 -- the values of both columns of an allowed pair are of one kind
-pub columns_one_kind : (left right : List Column) (lefts rights : List Row) (pair : Names) → IsAllowed left right pair
+pub columns_one_kind : (left right : List Column) (lefts rights : List Row) (pair : NamePair)
+    → IsAllowed left right pair
     → All (λ (row : Row). IsTrue (fits left row.values)) lefts
     → All (λ (row : Row). IsTrue (fits right row.values)) rights
     → AreOneKind (values_under left right lefts rights pair)
@@ -166,7 +169,7 @@ columns_one_kind left right lefts rights pair a fl fr = (
 )
 
 -- the columns by their places
-pub values_under-places : (left right : List Column) (lefts rights : List Row) (pair : Names) (l r : ℕ)
+pub values_under-places : (left right : List Column) (lefts rights : List Row) (pair : NamePair) (l r : ℕ)
     → column_of left pair.0 ≡ Some l → column_of right pair.1 ≡ Some r
     → values_under left right lefts rights pair ≡ values_at l r lefts rights
 values_under-places left right lefts rights pair l r e f =

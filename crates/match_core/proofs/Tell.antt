@@ -6,7 +6,8 @@ use Rattle.std.specs.Prelude.{slice_get}
 use Rattle.list_core.proofs.PlaceLemmas.{slice_get-append_left, slice_get-append_right}
 use Rattle.row_core.specs.declared.row.Row.{Row}
 use Rattle.row_core.specs.declared.schema.Column.{Column}
-use Rattle.match_core.specs.Columns.{Names, value_under, MatchesOn}
+use Rattle.row_core.specs.Name.{NamePair}
+use Rattle.match_core.specs.Columns.{value_under, MatchesOn}
 use Rattle.match_core.specs.Classes.{AreClasses, AreSameOn, values_under}
 
 -- what is mapped stands at its old place
@@ -17,7 +18,7 @@ slice_get-map f (y ∷ xs) zero x h = let e : y ≡ x = cc in ap (λ z. Some (f 
 slice_get-map f (y ∷ xs) (suc i) x h = slice_get-map f xs i x h
 
 -- the value of a left row
-pub values_under-left : (left right : List Column) (lefts rights : List Row) (pair : Names) (i : ℕ) (x : Row)
+values_under-left : (left right : List Column) (lefts rights : List Row) (pair : NamePair) (i : ℕ) (x : Row)
     → slice_get lefts i ≡ Some x
     → slice_get (values_under left right lefts rights pair) i ≡ Some (value_under left pair.0 x)
 values_under-left left right lefts rights pair i x h =
@@ -26,7 +27,7 @@ values_under-left left right lefts rights pair i x h =
     (slice_get-map (value_under left pair.0) lefts i x h)
 
 -- the value of a right row, behind those of the left ones
-pub values_under-right : (left right : List Column) (lefts rights : List Row) (pair : Names) (j : ℕ) (y : Row)
+values_under-right : (left right : List Column) (lefts rights : List Row) (pair : NamePair) (j : ℕ) (y : Row)
     → slice_get rights j ≡ Some y
     → slice_get (values_under left right lefts rights pair) (length lefts + j) ≡ Some (value_under right pair.1 y)
 values_under-right left right lefts rights pair j y h =
@@ -37,7 +38,7 @@ values_under-right left right lefts rights pair j y h =
     ∙ slice_get-map (value_under right pair.1) rights j y h
 
 -- a left row and a right one are the same where they match
-pub same_matches : (left right : List Column) (lefts rights : List Row) (on : List Names) (i j : ℕ) (x y : Row)
+same_matches : (left right : List Column) (lefts rights : List Row) (on : List NamePair) (i j : ℕ) (x y : Row)
     → slice_get lefts i ≡ Some x → slice_get rights j ≡ Some y
     → AreSameOn left right lefts rights on i (length lefts + j) ↔ MatchesOn left right on x y
 same_matches left right lefts rights on i j x y h k = (
@@ -56,7 +57,7 @@ ClassesTell Matches left lefts right rights =
     → Matches x y ↔ (get_or lefts i 0 ≡ get_or rights j 0)
 
 -- classes, split between the sides, tell which rows match
-pub classes_tell : (left right : List Column) (lefts rights : List Row) (on : List Names) (classes : List ℕ)
+pub classes_tell : (left right : List Column) (lefts rights : List Row) (on : List NamePair) (classes : List ℕ)
     → AreClasses left right lefts rights on classes
     → ClassesTell (MatchesOn left right on) lefts (take (length lefts) classes) rights (drop (length lefts) classes)
 classes_tell left right lefts rights on classes are i j x y h k =

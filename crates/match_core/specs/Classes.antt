@@ -3,16 +3,17 @@ use Rattle.std.specs.Prelude.{◌≡◌, ◌↔◌, ℕ, ◌+◌, ◌<◌, List,
 use Rattle.row_core.specs.declared.row.Row.{Row}
 use Rattle.row_core.specs.declared.schema.Column.{Column}
 use Rattle.row_core.specs.declared.value.Value.{Value}
-use Rattle.match_core.specs.Columns.{Names, value_under}
+use Rattle.row_core.specs.Name.{NamePair}
+use Rattle.match_core.specs.Columns.{value_under}
 
 -- the values of the left rows in the one column, and then those of the right rows in the other
-abbrev pub values_under : List Column → List Column → List Row → List Row → Names → List (Option Value)
+abbrev pub values_under : List Column → List Column → List Row → List Row → NamePair → List (Option Value)
 values_under left right lefts rights names =
     map (value_under left names.0) lefts ++ map (value_under right names.1) rights
 
 -- the rows at two places of the list of the left rows and then the right ones, so of whichever sides, are equal in
 -- each named pair of columns
-abbrev pub AreSameOn : List Column → List Column → List Row → List Row → List Names → ℕ → ℕ → Type 0
+abbrev pub AreSameOn : List Column → List Column → List Row → List Row → List NamePair → ℕ → ℕ → Type 0
 AreSameOn left right lefts rights on i j =
     All (λ names. slice_get (values_under left right lefts rights names) i
     ≡ slice_get (values_under left right lefts rights names) j) on
@@ -20,7 +21,7 @@ AreSameOn left right lefts rights on i j =
 -- a class for each left row, and then for each right one: two rows, of whichever sides, have one class exactly where
 -- they are equal in each named pair of columns
 pub record AreClasses
-    (left right : List Column) (lefts rights : List Row) (on : List Names) (classes : List ℕ) : Type 0 where
+    (left right : List Column) (lefts rights : List Row) (on : List NamePair) (classes : List ℕ) : Type 0 where
   pub count : length classes ≡ length lefts + length rights
   pub tell : (i j : ℕ) → i < length classes → j < length classes
       → (slice_index classes i ≡ slice_index classes j) ↔ AreSameOn left right lefts rights on i j

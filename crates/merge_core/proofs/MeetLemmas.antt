@@ -20,7 +20,7 @@ use Rattle.merge_core.proofs.WholeLemmas.{whole_gaps, gaps_whole}
 use Rattle.merge_core.proofs.MergeLemmas.{Contains-only, IsMade, IsMerging, merging_start, merging_left, merging_right, merging_end}
 
 -- all gaps of the left items lie apart
-pub AreGapsApart-from_lists : (p q : List Item) (gaps : List Gap) → IsChain p → ListsGaps p q gaps → AreGapsApart gaps
+AreGapsApart-from_lists : (p q : List Item) (gaps : List Gap) → IsChain p → ListsGaps p q gaps → AreGapsApart gaps
 AreGapsApart-from_lists p q gaps part lists =
     AllPairs-other GapStartsBefore (λ (a b : Gap). a.period.to ≤ℤ b.period.from) gaps lists.ordered apart
   where

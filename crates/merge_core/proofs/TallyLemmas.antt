@@ -7,8 +7,8 @@ use Rattle.std.proofs.lemmas.List.Elements.{filter-append, Contains-append_left,
 use Rattle.period_core.specs.Period.{holds_at}
 use Rattle.dip_core.specs.declared.item.Item.{Item}
 use Rattle.merge_core.specs.declared.tally.Tally.{Tally}
-use Rattle.merge_core.specs.Tallies.{held, amounts, total, IsTally, IsTallyAt, both}
-use Rattle.merge_core.specs.Steps.{StepList, StandsFor, IsBoth, tally_at}
+use Rattle.merge_core.specs.Tallies.{holding, amounts, total, IsTally, IsTallyAt, both}
+use Rattle.merge_core.specs.Steps.{StepList, IsStepListOf, IsBoth, tally_at}
 use Rattle.merge_core.proofs.SharedLemmas.{by_order}
 
 amounts-append : (xs ys : List Item) → amounts (xs ++ ys) ≡ amounts xs ++ amounts ys
@@ -70,24 +70,27 @@ module _ (xs ys : List Item) where
         ];
       }
 
-held-append : (xs ys : List Item) (t : ℤ) → held (xs ++ ys) t ≡ held xs t ++ held ys t
-held-append xs ys t = filter-append (λ (x : Item). holds_at t x.period) xs ys
+holding-append : (xs ys : List Item) (t : ℤ) → holding (xs ++ ys) t ≡ holding xs t ++ holding ys t
+holding-append xs ys t = filter-append (λ (x : Item). holds_at t x.period) xs ys
 
 -- what the items of two lists that hold t come to is both tallies together
 pub IsTallyAt-append : (xs ys : List Item) (t : ℤ) (a b : Option Tally) → IsTallyAt xs t a → IsTallyAt ys t b
     → IsTallyAt (xs ++ ys) t (both a b)
-IsTallyAt-append xs ys t None None i j = held-append xs ys t ∙ ap (λ z. z ++ held ys t) i ∙ j
+IsTallyAt-append xs ys t None None i j = holding-append xs ys t ∙ ap (λ z. z ++ holding ys t) i ∙ j
 IsTallyAt-append xs ys t None (Some b) i j =
-    subst (λ z. IsTally z b) (sym (held-append xs ys t ∙ ap (λ z. z ++ held ys t) i)) j
+    subst (λ z. IsTally z b) (sym (holding-append xs ys t ∙ ap (λ z. z ++ holding ys t) i)) j
 IsTallyAt-append xs ys t (Some a) None i j =
-    subst (λ z. IsTally z a) (sym (held-append xs ys t ∙ ap (λ z. held xs t ++ z) j ∙ append-nil (held xs t))) i
+    subst (λ z. IsTally z a)
+    (sym (holding-append xs ys t ∙ ap (λ z. holding xs t ++ z) j ∙ append-nil (holding xs t))) i
 IsTallyAt-append xs ys t (Some a) (Some b) i j =
-    subst (λ z. IsTally z (tally_both a b)) (sym (held-append xs ys t)) (IsTally-append (held xs t) (held ys t) a b i j)
+    subst (λ z. IsTally z (tally_both a b)) (sym (holding-append xs ys t))
+    (IsTally-append (holding xs t) (holding ys t) a b i j)
 
 -- what is both of two lists of steps stands for the items of both
-pub StandsFor-append : (one other list : StepList) → IsBoth one other list → (xs ys : List Item) → StandsFor xs one
-    → StandsFor ys other → StandsFor (xs ++ ys) list
-StandsFor-append one other list is xs ys a b =
+pub IsStepListOf-append : (one other list : StepList) → IsBoth one other list
+    → (xs ys : List Item) → IsStepListOf xs one
+    → IsStepListOf ys other → IsStepListOf (xs ++ ys) list
+IsStepListOf-append one other list is xs ys a b =
     record {
       tallies = λ t. subst (IsTallyAt (xs ++ ys) t) (sym (is.tallies t))
           (IsTallyAt-append xs ys t (tally_at one.steps t) (tally_at other.steps t) (a.tallies t) (b.tallies t));

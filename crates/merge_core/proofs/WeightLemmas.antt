@@ -10,8 +10,8 @@ use Rattle.dip_core.specs.Item.{IsChain, item_limit}
 use Rattle.list_core.proofs.RisingLemmas.{Contains-head, Contains-cons, Contains-cons_cases, Contains-none}
 use Rattle.merge_core.specs.declared.tally.Tally.{Tally}
 use Rattle.merge_core.specs.declared.step.Step.{Step}
-use Rattle.merge_core.specs.Tallies.{held, IsTally, IsTallyAt, both}
-use Rattle.merge_core.specs.Steps.{tally_at, AreStepsApart, StepList, StandsFor, IsWeighed, AreWeighed, IsStepList}
+use Rattle.merge_core.specs.Tallies.{holding, IsTally, IsTallyAt, both}
+use Rattle.merge_core.specs.Steps.{tally_at, AreStepsApart, StepList, IsStepListOf, IsWeighed, AreWeighed, IsStepList}
 use Rattle.merge_core.specs.Combining.{IsLoneStep, AreLoneSteps, CanAddTallies, CanAdd, IsBothSteps}
 use Rattle.merge_core.proofs.SharedLemmas.{by_order}
 use Rattle.merge_core.proofs.PartLemmas.{chain_head, IsChain-tail}
@@ -173,15 +173,15 @@ lone_kept w xs ss e r a = record { apart = lone_apart xs ss r a; weighed = lone_
 
 -- ---- and what they give
 
-none_held : (xs : List Item) (t : ℤ) → ((x : Item) → Contains xs x → t <ℤ x.period.from) → held xs t ≡ []
+none_held : (xs : List Item) (t : ℤ) → ((x : Item) → Contains xs x → t <ℤ x.period.from) → holding xs t ≡ []
 none_held [] t h = refl
 none_held (x ∷ xs) t h =
-    ap (λ b. cond b (x ∷ held xs t) (held xs t)) (holds_early x.period t (h x (Contains-head x xs)))
+    ap (λ b. cond b (x ∷ holding xs t) (holding xs t)) (holds_early x.period t (h x (Contains-head x xs)))
     ∙ none_held xs t (λ y k. h y (Contains-cons x xs y k))
 
 -- an item that doesn't hold t changes nothing
 module _ (x : Item) (xs : List Item) (s : Step) (ss : List Step) (t : ℤ) where
-  same_held : (o : Option Tally) → held (x ∷ xs) t ≡ held xs t → IsTallyAt xs t o → IsTallyAt (x ∷ xs) t o
+  same_held : (o : Option Tally) → holding (x ∷ xs) t ≡ holding xs t → IsTallyAt xs t o → IsTallyAt (x ∷ xs) t o
   same_held None e i = e ∙ i
   same_held (Some b) e i = subst (λ z. IsTally z b) (sym e) i
 
@@ -189,18 +189,18 @@ module _ (x : Item) (xs : List Item) (s : Step) (ss : List Step) (t : ℤ) where
       → IsTallyAt (x ∷ xs) t (cond (holds_at t x.period) (Some s.tally) (tally_at ss t))
   skipped e rest =
       subst (IsTallyAt (x ∷ xs) t) (sym (ap (λ b. cond b (Some s.tally) (tally_at ss t)) e))
-      (same_held (tally_at ss t) (ap (λ b. cond b (x ∷ held xs t) (held xs t)) e) rest)
+      (same_held (tally_at ss t) (ap (λ b. cond b (x ∷ holding xs t) (holding xs t)) e) rest)
 
   -- and of a part, one that does is the only one
   only_one : IsChain (x ∷ xs) → IsTally (x ∷ []) s.tally → x.period.from ≤ℤ t → t <ℤ x.period.to
       → IsTallyAt (x ∷ xs) t (cond (holds_at t x.period) (Some s.tally) (tally_at ss t))
   only_one r tally on in_time =
       let e : holds_at t x.period ≡ true = holds_yes x.period t on in_time in
-      let others : held xs t ≡ [] =
+      let others : holding xs t ≡ [] =
       none_held xs t
       (λ y k. let after : x.period.to ≤ℤ y.period.from = chain_head x xs r y k in omega (arith, ints)) in
-      let now : held (x ∷ xs) t ≡ x ∷ [] =
-      ap (λ b. cond b (x ∷ held xs t) (held xs t)) e ∙ ap (λ z. x ∷ z) others in
+      let now : holding (x ∷ xs) t ≡ x ∷ [] =
+      ap (λ b. cond b (x ∷ holding xs t) (holding xs t)) e ∙ ap (λ z. x ∷ z) others in
       subst (IsTallyAt (x ∷ xs) t) (sym (ap (λ b. cond b (Some s.tally) (tally_at ss t)) e))
       (subst (λ z. IsTally z s.tally) (sym now) tally)
 
@@ -224,5 +224,5 @@ lone_tally_at (x ∷ xs) (s ∷ ss) t r a =
     ])
 
 pub lone_stand_for : (xs : List Item) (list : StepList) → list.weight ≡ length xs → IsChain xs
-    → AreLoneSteps xs list.steps → StandsFor xs list
+    → AreLoneSteps xs list.steps → IsStepListOf xs list
 lone_stand_for xs list e r a = record { tallies = λ t. lone_tally_at xs list.steps t r a; weight = e }

@@ -21,7 +21,7 @@ pub record StepList : Type 0 where
   pub weight : ℕ
 
 -- the steps give at each instant what the items that hold it come to, and the weight is their number
-pub record StandsFor (items : List Item) (list : StepList) : Type 0 where
+pub record IsStepListOf (items : List Item) (list : StepList) : Type 0 where
   pub tallies : (t : ℤ) → IsTallyAt items t (tally_at list.steps t)
   pub weight : list.weight ≡ length items
 

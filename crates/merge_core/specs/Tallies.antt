@@ -7,8 +7,8 @@ use Rattle.dip_core.specs.declared.item.Item.{Item}
 use Rattle.merge_core.specs.declared.tally.Tally.{Tally}
 
 -- the items that hold t
-abbrev pub held : List Item → ℤ → List Item
-held items t = filter (λ (x : Item). holds_at t x.period) items
+abbrev pub holding : List Item → ℤ → List Item
+holding items t = filter (λ (x : Item). holds_at t x.period) items
 
 -- their amounts, in their order
 abbrev pub amounts : List Item → List ℤ
@@ -30,8 +30,8 @@ pub record IsTally (items : List Item) (tally : Tally) : Type 0 where
 
 -- what the items that hold t come to; None where none does
 abbrev pub IsTallyAt : List Item → ℤ → Option Tally → Type 0
-IsTallyAt items t None = held items t ≡ []
-IsTallyAt items t (Some tally) = IsTally (held items t) tally
+IsTallyAt items t None = holding items t ≡ []
+IsTallyAt items t (Some tally) = IsTally (holding items t) tally
 
 -- what the items of two tallies come to together
 abbrev pub both : Option Tally → Option Tally → Option Tally

@@ -162,10 +162,11 @@ pub(crate) fn combine_steps(
     requires can_add { CanAdd one.now other.now }
     ensures { IfOk result (λ v. IsBothSteps one.now other.now v.items) }
 {
-    let mut steps = Vec::new(alloc);
     let Some(start) = start_of(one, other) else {
-        return Ok(steps);
+        return Ok(Vec::new(alloc));
     };
+    // Where steps of one list touch, each begins at most one of the result.
+    let mut steps = Vec::with_capacity(alloc, one.len() + other.len())?;
     let mut at = start;
     let mut lefts = one;
     let mut rights = other;

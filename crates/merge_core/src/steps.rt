@@ -3,7 +3,7 @@
 ghost use Rattle.std.specs.Prelude.{◌≡◌, ◌+◌, ◌++◌, ◌≤◌, List, IfOk};
 ghost use Rattle.dip_core.specs.declared.item.Item.{Item};
 ghost use Rattle.dip_core.specs.Item.{item_limit};
-ghost use Rattle.merge_core.specs.Steps.{tally_at, StandsFor, IsBoth, IsStepList};
+ghost use Rattle.merge_core.specs.Steps.{tally_at, IsStepListOf, IsBoth, IsStepList};
 ghost use Rattle.merge_core.specs.Combining.{IsLoneStep, AreLoneSteps};
 
 use crate::combining::combine_steps;
@@ -51,7 +51,7 @@ fn step_of(item: &Item) -> Step
 fn steps_of(alloc: Global, items: &[Item]) -> Result<Vec<Step>, NoMemory>
     ensures { IfOk result (λ v. AreLoneSteps items.now v.items) }
 {
-    let mut steps = Vec::new(alloc);
+    let mut steps = Vec::with_capacity(alloc, items.len())?;
     for item in items {
         steps.push(step_of(item))?;
     }
@@ -73,7 +73,7 @@ fn find_tally(steps: &[Step], at: Point) -> Option<Tally>
 impl Steps {
     /// The steps of a part: at each instant the tally of the item that holds it.
     pub fn of_part(alloc: Global, part: Part<'_>) -> Result<Steps, NoMemory>
-        ensures { IfOk result (StandsFor part.entry.items.now) }
+        ensures { IfOk result (IsStepListOf part.entry.items.now) }
     {
         let items = part.items();
         let steps = steps_of(alloc, items)?;
@@ -110,7 +110,7 @@ pub fn combine(alloc: Global, one: &Steps, other: &Steps) -> Result<Steps, NoMem
     requires { one.now.weight + other.now.weight ≤ item_limit }
     ensures both { IfOk result (IsBoth one.now other.now) }
     ensures items { IfOk result (λ steps. (xs ys : List Item)
-        → StandsFor xs one.now → StandsFor ys other.now → StandsFor (xs ++ ys) steps) }
+        → IsStepListOf xs one.now → IsStepListOf ys other.now → IsStepListOf (xs ++ ys) steps) }
 {
     let weight = one.weight + other.weight;
     let steps = combine_steps(alloc, &one.steps, &other.steps)?;

@@ -4,7 +4,7 @@ ghost use Rattle.std.specs.Prelude.{Some, ◌+◌, ◌%◌, vec_len, ◌≡◌, 
 ghost use Rattle.std.specs.Result.{result_ok};
 ghost use Rattle.std.specs.Vec.{vec_capacity};
 ghost use Rattle.jiff_core.specs.Date.{epoch_day};
-ghost use Rattle.period_core.specs.Point.{HourMinuteSecond, IsDate, IsPointNumber, IsPointText, IsSomePointText, IsTime, IsTimeText, YearMonthDay, date_text, day_of, digits, midnight, parts_of, point_of, point_text, second_number, second_of, time_of_second, time_text};
+ghost use Rattle.period_core.specs.Point.{HourMinuteSecond, IsDate, IsPointNumber, IsPointText, IsSomePointText, IsTime, IsTimeText, YearMonthDay, date_text, day_of, digits, midnight, point_of, point_text, second_number, second_of, seconds_per_day, time_of_second, time_text, year_month_day};
 
 use crate::NoMemory;
 use jiff::civil::Date;
@@ -122,7 +122,7 @@ impl Point {
 
     // The second of its day.
     fn second(&self) -> u32
-        ensures bound { result < 86_400 }
+        ensures bound { result < seconds_per_day }
         ensures value { result ≡ second_of self.now }
     {
         self.number.rem_euclid(SECONDS_PER_DAY) as u32
@@ -161,7 +161,7 @@ fn date_parts(text: &[u8]) -> Option<(u16, u8, u8)>
 fn date_of(year: u16, month: u8, day: u8) -> Option<civil::Date>
     requires { (year ≤ 9999) × (month < 100) × (day < 100) }
     ensures { MatchOption result (¬ IsDate (record { year = year; month = month; day = day }))
-        (λ date. (pos 1 ≤ℤ date.year) × (parts_of date ≡ record { year = year; month = month; day = day })) }
+        (λ date. (pos 1 ≤ℤ date.year) × (year_month_day date ≡ record { year = year; month = month; day = day })) }
 {
     if year == 0 {
         return None;
@@ -212,7 +212,7 @@ fn second_number(hour: u8, minute: u8, second: u8) -> i64
 // The text of a date.
 fn text_of(date: &civil::Date) -> [u8; 10]
     requires { pos 1 ≤ℤ date.now.year }
-    ensures { result ≡ date_text (parts_of date.now) }
+    ensures { result ≡ date_text (year_month_day date.now) }
 {
     let year = date.year as u16;
     [
@@ -231,7 +231,7 @@ fn text_of(date: &civil::Date) -> [u8; 10]
 
 // The text of a date, with that of the time behind it.
 fn with_time(date: &[u8; 10], second: u32) -> [u8; 19]
-    requires { second < 86_400 }
+    requires { second < seconds_per_day }
     ensures { result ≡ date.now ++ time_text (time_of_second second) }
 {
     let hour = (second / 3600) as u16;

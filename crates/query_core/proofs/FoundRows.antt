@@ -19,7 +19,7 @@ use Rattle.match_core.proofs.RowItems.{ids_rise}
 -- ---- rows by rising id
 
 -- ids that rise are at least as far apart as their rows
-pub ids_apart : (rows : List Row) → RowsRise rows → (i k : ℕ) (d : Row) → i + k < length rows
+ids_apart : (rows : List Row) → RowsRise rows → (i k : ℕ) (d : Row) → i + k < length rows
     → (get_or rows i d).id + k ≤ (get_or rows (i + k) d).id
 ids_apart rows rise i zero d within = let e : i + 0 ≡ i = omega arith in
     subst (λ n. (get_or rows i d).id + 0 ≤ (get_or rows n d).id) (sym e) (omega arith)
@@ -42,7 +42,7 @@ first_low rows k x d rise some here within =
     omega (arith, there, same)
 
 -- rows of one id stand at one place
-pub one_place : (rows : List Row) → RowsRise rows → (i k : ℕ) (d : Row) → i < length rows → k < length rows
+one_place : (rows : List Row) → RowsRise rows → (i k : ℕ) (d : Row) → i < length rows → k < length rows
     → (get_or rows i d).id ≡ (get_or rows k d).id → i ≡ k
 one_place rows rise i k d hi hk same = elim (cases_lt i k) [
   | inl less ↦ (

@@ -17,7 +17,7 @@ use Rattle.merge_core.proofs.StepLemmas.{apart_head, apart_tail, holds_yes, hold
 use Rattle.merge_core.proofs.SweepLemmas.{IsMaximal-same}
 use Rattle.round_core.specs.declared.measure.Measure.{Measure}
 use Rattle.round_core.specs.declared.plateau.Plateau.{Plateau}
-use Rattle.round_core.specs.Plateaus.{value_of, PlateauBefore}
+use Rattle.round_core.specs.Plateaus.{measured, PlateauBefore}
 use Rattle.round_core.specs.Closing.{GivesValue, IsStepPlateau, valued_step, valued, value_at, HasValueAt, IsClosed, ListsClosed, AreApart, Continues, IsJoined}
 
 none_some : (o : Option ℤ) (a : ℤ) → o ≡ None → o ≡ Some a → ⊥
@@ -292,22 +292,22 @@ valued_at measure class [] v t h = absurd (none_some None v refl h)
 valued_at measure class (s ∷ steps) v t h = split (holds_at t s.period) (valued_at measure class steps v t) h
   where
     split : (b : Bool) → (HasValueAt (valued measure class steps) v t → GivesValue measure steps v t)
-        → cond b (Some (value_of measure s.tally)) (value_at (valued measure class steps) t) ≡ Some v
-        → (a : Tally) × (cond b (Some s.tally) (tally_at steps t) ≡ Some a) × (value_of measure a ≡ v)
+        → cond b (Some (measured measure s.tally)) (value_at (valued measure class steps) t) ≡ Some v
+        → (a : Tally) × (cond b (Some s.tally) (tally_at steps t) ≡ Some a) × (measured measure a ≡ v)
     split true later e = (s.tally, refl, same_Some _ _ e)
     split false later e = later e
 
 -- what is asked of a tally, if there is one
 abbrev asked : Measure → Option Tally → Option ℤ
 asked measure None = None
-asked measure (Some a) = Some (value_of measure a)
+asked measure (Some a) = Some (measured measure a)
 
 value_given : (measure : Measure) (class : ℕ) (steps : List Step) (t : ℤ) (o : Option Tally) → tally_at steps t ≡ o
     → value_at (valued measure class steps) t ≡ asked measure o
 value_given measure class steps t o e = all steps ∙ ap (asked measure) e
   where
     mapped : (b : Bool) (s : Step) (o : Option Tally) (p : Option ℤ) → p ≡ asked measure o
-        → cond b (Some (value_of measure s.tally)) p ≡ asked measure (cond b (Some s.tally) o)
+        → cond b (Some (measured measure s.tally)) p ≡ asked measure (cond b (Some s.tally) o)
     mapped true s o p e = refl
     mapped false s o p e = e
 

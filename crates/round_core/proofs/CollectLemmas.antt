@@ -11,7 +11,7 @@ use Rattle.list_core.proofs.WantedLemmas.{IsListOf-append, IsListOf-none, IsList
 use Rattle.merge_core.specs.declared.tally.Tally.{Tally}
 use Rattle.merge_core.specs.declared.step.Step.{Step}
 use Rattle.merge_core.specs.Steps.{tally_at}
-use Rattle.merge_core.specs.Tallies.{held, amounts, IsTally, IsTallyAt, both}
+use Rattle.merge_core.specs.Tallies.{holding, amounts, IsTally, IsTallyAt, both}
 use Rattle.merge_core.proofs.SharedLemmas.{first_held}
 use Rattle.merge_core.proofs.SweepLemmas.{IsMaximal-same}
 use Rattle.merge_core.proofs.CombineLemmas.{both_none}
@@ -19,7 +19,7 @@ use Rattle.round_core.specs.declared.class_steps.ClassSteps.{ClassSteps}
 use Rattle.round_core.specs.declared.measure.Measure.{Measure}
 use Rattle.round_core.specs.declared.measure.Measure.TheVariants.{Count, Sum, Min, Max}
 use Rattle.round_core.specs.declared.plateau.Plateau.{Plateau}
-use Rattle.round_core.specs.Plateaus.{of_class, value_of, HasValue, IsPlateau, PlateauBefore, ArePlateaus}
+use Rattle.round_core.specs.Plateaus.{of_class, measured, HasValue, IsPlateau, PlateauBefore, ArePlateaus}
 use Rattle.round_core.specs.ClassLists.{class_at, RisesFrom, HaveNoNeighbours, StandForAll, IsRound}
 use Rattle.round_core.specs.Closing.{GivesValue, IsStepPlateau, IsPlateauOfSome}
 
@@ -149,7 +149,7 @@ collecting_end measure all left rows e was =
 
 -- some items come to one value at most
 pub IsTally-unique : (measure : Measure) (items : List Item) (a b : Tally) → IsTally items a → IsTally items b
-    → value_of measure a ≡ value_of measure b
+    → measured measure a ≡ measured measure b
 IsTally-unique Count items a b i j = ap (λ n. pos n) (i.count ∙ sym j.count)
 IsTally-unique Sum items a b i j = i.sum ∙ sym j.sum
 IsTally-unique Min items a b i j =
@@ -158,7 +158,7 @@ IsTally-unique Max items a b i j =
     let f = i.max_greatest b.max j.max_in in let g = j.max_greatest a.max i.max_in in omega (arith, ints)
 
 -- without an item that holds an instant there is no tally
-pub no_tally : (items : List Item) (t : ℤ) (a : Tally) → held items t ≡ [] → IsTally (held items t) a → ⊥
+pub no_tally : (items : List Item) (t : ℤ) (a : Tally) → holding items t ≡ [] → IsTally (holding items t) a → ⊥
 no_tally items t a e i = Contains-none a.min (subst (λ z. Contains (amounts z) a.min) e i.min_in)
 
 module _ (measure : Measure) (items : List Item) (steps : List Step)
@@ -167,21 +167,21 @@ module _ (measure : Measure) (items : List Item) (steps : List Step)
   value_of_steps v t (a, e, g) = record { tally = a; is = subst (IsTallyAt items t) e (same t); gives = g }
 
   found : (v t : ℤ) (o : Option Tally) → IsTallyAt items t o → HasValue measure items v t
-      → (a : Tally) × (o ≡ Some a) × (value_of measure a ≡ v)
+      → (a : Tally) × (o ≡ Some a) × (measured measure a ≡ v)
   found v t None i h = absurd (no_tally items t h.tally i h.is)
-  found v t (Some a) i h = (a, refl, IsTally-unique measure (held items t) a h.tally i h.is ∙ h.gives)
+  found v t (Some a) i h = (a, refl, IsTally-unique measure (holding items t) a h.tally i h.is ∙ h.gives)
 
   value_of_items : (v t : ℤ) → HasValue measure items v t → GivesValue measure steps v t
   value_of_items v t h = found v t (tally_at steps t) (same t) h
 
 -- a class of which an item holds an instant has a tally there
 tally_there : (items : List Item) (t : ℤ) (h : Tally) (o : Option Tally) → IsTallyAt items t o
-    → IsTally (held items t) h → (a : Tally) × (o ≡ Some a)
+    → IsTally (holding items t) h → (a : Tally) × (o ≡ Some a)
 tally_there items t h None i is = absurd (no_tally items t h i is)
 tally_there items t h (Some a) i is = (a, refl)
 
 -- the plateaus of the lists are those of the items that they stand for
-pub plateaus_stand : (measure : Measure) (items : List Item) (ls : List ClassSteps) (rows : List Plateau)
+plateaus_stand : (measure : Measure) (items : List Item) (ls : List ClassSteps) (rows : List Plateau)
     → ((class : ℕ) (t : ℤ) → IsTallyAt (of_class class items) t (class_at class ls t)) → ClassesRise ls
     → IsListOf PlateauBefore (IsPlateauOfSome measure ls) rows → ArePlateaus measure items rows
 plateaus_stand measure items ls rows tallies rise lists =

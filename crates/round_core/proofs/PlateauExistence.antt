@@ -21,14 +21,14 @@ use Rattle.period_core.proofs.PeriodLemmas.{Period-same}
 use Rattle.dip_core.proofs.CrowdLemmas.{Holds-from_test}
 use Rattle.merge_core.specs.declared.tally.Tally.{Tally}
 use Rattle.merge_core.specs.Gaps.{IsMaximal}
-use Rattle.merge_core.specs.Tallies.{held, IsTally, IsTallyAt, both}
+use Rattle.merge_core.specs.Tallies.{holding, IsTally, IsTallyAt, both}
 use Rattle.merge_core.proofs.MaximalAround.{maximal_around, maximal-once}
 use Rattle.merge_core.proofs.SharedLemmas.{by_order, first_held}
 use Rattle.merge_core.proofs.TallyLemmas.{IsTallyAt-append}
 use Rattle.merge_core.proofs.WeightLemmas.{lone_tallies}
 use Rattle.round_core.specs.declared.measure.Measure.{Measure}
 use Rattle.round_core.specs.declared.plateau.Plateau.{Plateau}
-use Rattle.round_core.specs.Plateaus.{of_class, value_of, HasValue, IsPlateau, PlateauBefore, ArePlateaus}
+use Rattle.round_core.specs.Plateaus.{of_class, measured, HasValue, IsPlateau, PlateauBefore, ArePlateaus}
 use Rattle.round_core.proofs.ClosingLemmas.{Plateau-same}
 use Rattle.round_core.proofs.CollectLemmas.{IsTally-unique, no_tally}
 use Rattle.round_core.proofs.PermutedLemmas.{has_held, amount_from}
@@ -74,9 +74,9 @@ value_or_not measure items v t = told (some_tally items t)
   where
     told : ((o : Option Tally) × IsTallyAt items t o) → HasValue measure items v t ⊎ (HasValue measure items v t → ⊥)
     told (None, i) = inr (λ h. no_tally items t h.tally i h.is)
-    told (Some a, i) = elim (int_or_not (value_of measure a) v) [
+    told (Some a, i) = elim (int_or_not (measured measure a) v) [
       | inl e ↦ inl (record { tally = a; is = i; gives = e })
-      | inr ne ↦ inr (λ h. ne (IsTally-unique measure (held items t) a h.tally i h.is ∙ h.gives))
+      | inr ne ↦ inr (λ h. ne (IsTally-unique measure (holding items t) a h.tally i h.is ∙ h.gives))
     ]
 
 -- ---- items bound what they come to
@@ -85,7 +85,7 @@ value_or_not measure items v t = told (some_tally items t)
 holder : (measure : Measure) (items : List Item) (v t : ℤ) → HasValue measure items v t
     → (x : Item) × Contains items x × Holds x.period t
 holder measure items v t h =
-    let m = amount_from (held items t) h.tally.min h.is.min_in in
+    let m = amount_from (holding items t) h.tally.min h.is.min_in in
     let k = has_held items t m.0 m.1 in
     (m.0, k.0, Holds-from_test t m.0.period k.1)
 
@@ -184,7 +184,7 @@ module _ (measure : Measure) (items : List Item) where
       let b : HasValue measure (of_class p.class items) q.value t =
       subst (λ c. HasValue measure (of_class c items) q.value t) (sym same) (j.maximal.inside t k) in
       let value : p.value ≡ q.value =
-      sym a.gives ∙ IsTally-unique measure (held (of_class p.class items) t) a.tally b.tally a.is b.is ∙ b.gives in
+      sym a.gives ∙ IsTally-unique measure (holding (of_class p.class items) t) a.tally b.tally a.is b.is ∙ b.gives in
       let j' : IsMaximal (HasValue measure (of_class p.class items) p.value) q.period =
       subst (λ v. IsMaximal (HasValue measure (of_class p.class items) v) q.period) (sym value)
       (subst (λ c. IsMaximal (HasValue measure (of_class c items) q.value) q.period) (sym same) j.maximal) in
@@ -205,7 +205,7 @@ module _ (measure : Measure) (items : List Item) where
       )
       told (Some a, i) =
           let own = of_class class items in
-          let v : ℤ = value_of measure a in
+          let v : ℤ = measured measure a in
           let S : ℤ → Type 0 = HasValue measure own v in
           let lie = bounds own in
           let m = maximal_around S (value_or_not measure own v) lie.0 lie.1
@@ -222,7 +222,7 @@ module _ (measure : Measure) (items : List Item) where
 -- ---- all plateaus
 
 -- the order by class, start, end and value
-pub plateau_cmp : Plateau → Plateau → Ordering
+plateau_cmp : Plateau → Plateau → Ordering
 plateau_cmp a b =
     ordering_then (ordering_then (nat_cmp a.class b.class) (int_cmp a.period.from b.period.from))
     (ordering_then (int_cmp a.period.to b.period.to) (int_cmp a.value b.value))

@@ -38,7 +38,7 @@ AreOf-append class (x ∷ xs) ys a b = (a.0, AreOf-append class xs ys a.1 b)
 -- ---- added steps
 
 -- steps of more items of the class
-pub adds_more : (class : ℕ) (xs ys : List Item) (old mid new : List ClassSteps) → AddsSteps class xs old mid
+adds_more : (class : ℕ) (xs ys : List Item) (old mid new : List ClassSteps) → AddsSteps class xs old mid
     → AddsSteps class ys mid new → AddsSteps class (xs ++ ys) old new
 adds_more class xs ys old mid new a b =
     record {

@@ -9,12 +9,12 @@ use Rattle.merge_core.specs.Steps.{tally_at}
 use Rattle.round_core.specs.declared.class_steps.ClassSteps.{ClassSteps}
 use Rattle.round_core.specs.declared.measure.Measure.{Measure}
 use Rattle.round_core.specs.declared.plateau.Plateau.{Plateau}
-use Rattle.round_core.specs.Plateaus.{value_of, PlateauBefore}
+use Rattle.round_core.specs.Plateaus.{measured, PlateauBefore}
 
 -- the steps give this value at t
 abbrev pub GivesValue : Measure → List Step → ℤ → ℤ → Type 0
 GivesValue measure steps value t =
-    (tally : Tally) × (tally_at steps t ≡ Some tally) × (value_of measure tally ≡ value)
+    (tally : Tally) × (tally_at steps t ≡ Some tally) × (measured measure tally ≡ value)
 
 -- the class, and a period at each instant of which the steps give one value, as long as can be
 pub record IsStepPlateau (measure : Measure) (class : ℕ) (steps : List Step) (plateau : Plateau) : Type 0 where
@@ -29,7 +29,7 @@ pub record IsPlateauOfSome (measure : Measure) (lists : List ClassSteps) (platea
 
 -- what a step says of the value that is asked for
 abbrev pub valued_step : Measure → ℕ → Step → Plateau
-valued_step measure class s = record { class = class; period = s.period; value = value_of measure s.tally }
+valued_step measure class s = record { class = class; period = s.period; value = measured measure s.tally }
 
 -- the same of each step
 abbrev pub valued : Measure → ℕ → List Step → List Plateau

@@ -11,11 +11,11 @@ use Rattle.round_core.specs.declared.measure.Measure.TheVariants.{Count, Sum, Mi
 use Rattle.round_core.specs.declared.plateau.Plateau.{Plateau}
 
 -- what is asked of a tally
-abbrev pub value_of : Measure → Tally → ℤ
-value_of Count tally = pos tally.count
-value_of Sum tally = tally.sum
-value_of Min tally = tally.min
-value_of Max tally = tally.max
+abbrev pub measured : Measure → Tally → ℤ
+measured Count tally = pos tally.count
+measured Sum tally = tally.sum
+measured Min tally = tally.min
+measured Max tally = tally.max
 
 -- the items of that class
 abbrev pub of_class : ℕ → List Item → List Item
@@ -25,7 +25,7 @@ of_class class items = filter (λ (x : Item). x.class == class) items
 pub record HasValue (measure : Measure) (items : List Item) (value t : ℤ) : Type 0 where
   pub tally : Tally
   pub is : IsTallyAt items t (Some tally)
-  pub gives : value_of measure tally ≡ value
+  pub gives : measured measure tally ≡ value
 
 -- a class, and a period at each instant of which its items come to that value, as long as can be
 pub record IsPlateau (measure : Measure) (items : List Item) (plateau : Plateau) : Type 0 where

@@ -5,7 +5,7 @@ ghost use Rattle.list_core.specs.Wanted.{AddsAll, IsListOf};
 ghost use Rattle.merge_core.specs.Steps.{AreStepsApart};
 ghost use Rattle.round_core.specs.ClassLists.{HaveNoNeighbours, RisesFrom};
 ghost use Rattle.round_core.specs.Closing.{Continues, IsJoined, IsPlateauOfSome, IsStepPlateau, valued_step};
-ghost use Rattle.round_core.specs.Plateaus.{PlateauBefore, value_of};
+ghost use Rattle.round_core.specs.Plateaus.{PlateauBefore, measured};
 
 use crate::class_steps::ClassSteps;
 use crate::measure::Measure;
@@ -16,8 +16,8 @@ use std::alloc::Global;
 use std::collections::VecDeque;
 
 /// What is asked of a tally.
-fn value_of(measure: Measure, tally: &Tally) -> i128
-    ensures { result ≡ value_of measure tally.now }
+fn measured(measure: Measure, tally: &Tally) -> i128
+    ensures { result ≡ measured measure tally.now }
 {
     match measure {
         Measure::Count => tally.count as i128,
@@ -34,7 +34,7 @@ fn plateau_of(measure: Measure, class: u64, step: &Step) -> Plateau
     Plateau {
         class,
         period: step.period,
-        value: value_of(measure, &step.tally),
+        value: measured(measure, &step.tally),
     }
 }
 

@@ -49,7 +49,7 @@ value_total = record {
     congr (Text a) (Text b) (Text c) e = nat_list_cmp_total.congr a b c e
 
 -- values that tie are one
-pub value_exact : (x y : Value) → value_cmp x y ≡ Equal → x ≡ y
+value_exact : (x y : Value) → value_cmp x y ≡ Equal → x ≡ y
 value_exact (Int a) (Int b) e = ap Int (exact_signed a b e)
 value_exact (Int a) (Text b) e = cc
 value_exact (Text a) (Int b) e = cc
@@ -63,19 +63,19 @@ same_value_is (Text a) (Int b) e = cc
 same_value_is (Text a) (Text b) e = ap Text ((bytes_decides a b).0 e)
 
 -- a value is one with itself
-pub same_value_self : (a : Value) → same_value a a ≡ true
+same_value_self : (a : Value) → same_value a a ≡ true
 same_value_self (Int a) = (Decides-int_eq a a).1 refl
 same_value_self (Text a) = (bytes_decides a a).1 refl
 
 -- values that tie are told to be one
-pub value-same : (a b : Value) → value_cmp a b ≡ Equal → same_value a b ≡ true
+value-same : (a b : Value) → value_cmp a b ≡ Equal → same_value a b ≡ true
 value-same (Int a) (Int b) e = ap is_eq e
 value-same (Int a) (Text b) e = cc
 value-same (Text a) (Int b) e = cc
 value-same (Text a) (Text b) e = (bytes_decides a b).1 (exact_bytes a b e)
 
 -- values that are one tie
-pub value-tie : (a b : Value) → same_value a b ≡ true → value_cmp a b ≡ Equal
+value-tie : (a b : Value) → same_value a b ≡ true → value_cmp a b ≡ Equal
 value-tie (Int a) (Int b) e =
     ap (λ n. value_cmp (Int a) (Int n)) (sym ((Decides-int_eq a b).0 e)) ∙ tied_itself value_total (Int a)
 value-tie (Int a) (Text b) e = cc
@@ -122,14 +122,14 @@ maybe_exact (Some a) None e = cc
 maybe_exact (Some a) (Some b) e = ap Some (value_exact a b e)
 
 -- those that the test tells to be one are
-pub same_maybe_is : (a b : Option Value) → same_maybe a b ≡ true → a ≡ b
+same_maybe_is : (a b : Option Value) → same_maybe a b ≡ true → a ≡ b
 same_maybe_is None None e = refl
 same_maybe_is None (Some b) e = cc
 same_maybe_is (Some a) None e = cc
 same_maybe_is (Some a) (Some b) e = ap Some (same_value_is a b e)
 
 -- each is one with itself
-pub same_maybe_self : (a : Option Value) → same_maybe a a ≡ true
+same_maybe_self : (a : Option Value) → same_maybe a a ≡ true
 same_maybe_self None = refl
 same_maybe_self (Some a) = same_value_self a
 

@@ -41,3 +41,7 @@ padded text = text ++ replicate (name_limit - length text) 0
 -- what stands before the zeros
 abbrev pub unpadded : List ℕ → List ℕ
 unpadded bytes = take_while (λ byte. not (byte == 0)) bytes
+
+-- the names of two columns, of which one is of a left table and one of a right
+abbrev pub NamePair : Type 0
+NamePair = List ℕ × List ℕ

@@ -24,9 +24,9 @@ use Rattle.match_core.proofs.ItemIds.{IdsRise-items_of}
 use Rattle.join_core.proofs.JoinExistence.{some_join}
 use Rattle.anti_core.proofs.AntiExistence.{some_anti}
 use Rattle.agg_core.proofs.AggExistence.{some_aggregate}
-use Rattle.command_core.specs.Fields.{both}
+use Rattle.command_core.specs.Fields.{both_ok}
 use Rattle.command_core.specs.Meaning.{Meaning, Refuse, Make, Load, Update, Delete, Rows, At, Between, FromTo, Dip, Join, Anti, Agg, Check, Log}
-use Rattle.command_core.specs.Pairs.{NamePair}
+use Rattle.row_core.specs.Name.{NamePair}
 use Rattle.command_core.specs.Records.{Record}
 use Rattle.command_core.specs.Refusal.{fault}
 use Rattle.command_core.specs.declared.aggregate.Aggregate.{Aggregate}
@@ -38,8 +38,8 @@ use Rattle.answer_core.specs.declared.answer.Answer.{Answer}
 use Rattle.answer_core.specs.declared.answer.Answer.TheVariants as answer
 use Rattle.script_core.specs.Answer.{AnswersOne, AnswersChange, AnswersQuery, IsAggOf, IsAnswerTo, IsAntiOf, IsDipOf, IsJoinOf, IsVerdictOn, IsVersions, Refuses}
 use Rattle.script_core.specs.Refusal.{book_refusal}
-use Rattle.script_core.specs.Effects.{TableRows, aggregated_told, change_in, claim_of, columns_told, delete_in, func_of, load_in, load_told, make_in, pairs_told, rows_on, rows_told, sides_told, update_in, versions_told}
-use Rattle.script_core.proofs.AnswerUniqueness.{both-first, not_Ok, rise-told}
+use Rattle.script_core.specs.Effects.{TableRows, aggregated_told, change_in, claim_of, columns_told, delete_in, agg_func, load_in, load_told, make_in, pairs_told, rows_on, rows_told, sides_told, update_in, versions_told}
+use Rattle.script_core.proofs.AnswerUniqueness.{both_ok-first, not_Ok, rise-told}
 
 -- ---- a change that is made keeps the history legal
 
@@ -148,7 +148,7 @@ some_anti_answer left right on =
 
 some_agg_answer : (table : TableRows) (asked : Aggregate) → Told (IsAggOf table asked)
 some_agg_answer table asked =
-    let (rows, aggregated) = some_aggregate table.0 (func_of asked.func) asked.by table.1 in
+    let (rows, aggregated) = some_aggregate table.0 (agg_func asked.func) asked.by table.1 in
     record {
       given = answer.Agg rows;
       is = record { rows = rows; aggregated = aggregated; is = refl };
@@ -206,13 +206,13 @@ some_reply before number (At name point asof) legal =
     (λ rows read. rows_answer (rows_on point rows))
 some_reply before number (Between name first last) legal =
     let Are = AreBetween before (length before) first last name in
-    let refusal = history.versions_refusal before (length before) (nat_lt last first) name in
+    let refusal = history.between_refusal before (length before) (nat_lt last first) name in
     some_query before (versions_told number before (nat_lt last first) name) (λ _. IsVersions Are) legal
     (λ s read. versions_answer Are
     (some_between before (length before) first last name legal (none_mapped _ refusal (not_refused _ tt s read))))
 some_reply before number (FromTo name first end) legal =
     let Are = AreFromTo before (length before) first end name in
-    let refusal = history.versions_refusal before (length before) (nat_le end first) name in
+    let refusal = history.between_refusal before (length before) (nat_le end first) name in
     some_query before (versions_told number before (nat_le end first) name) (λ _. IsVersions Are) legal
     (λ s read. versions_answer Are
     (some_from_to before (length before) first end name legal (none_mapped _ refusal (not_refused _ tt s read))))
@@ -233,9 +233,9 @@ some_reply before number (Check name parts instant asof body) legal =
     let told = rows_told number before asof name in
     let claimed = claim_of (number + 1) body in
     let certificate : Certificate = record { parts = parts; instant = instant } in
-    some_query before (both told claimed) (λ read. IsVerdictOn (items_of read.0) read.1 certificate) legal
+    some_query before (both_ok told claimed) (λ read. IsVerdictOn (items_of read.0) read.1 certificate) legal
     (λ read e. some_verdict_answer (items_of read.0) read.1 certificate
-    (IdsRise-items_of read.0 (rise-told number before asof name read.0 (both-first told claimed read.0 read.1 e))))
+    (IdsRise-items_of read.0 (rise-told number before asof name read.0 (both_ok-first told claimed read.0 read.1 e))))
 some_reply before number Log legal = record {
   after = before;
   told = record {

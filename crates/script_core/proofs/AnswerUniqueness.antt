@@ -22,9 +22,9 @@ use Rattle.join_core.proofs.JoinExistence.{one_join}
 use Rattle.anti_core.specs.declared.rows.AntiRow.{AntiRow}
 use Rattle.anti_core.proofs.AntiExistence.{one_anti}
 use Rattle.agg_core.proofs.OrderLemmas.{one_aggregate}
-use Rattle.command_core.specs.Fields.{both}
+use Rattle.command_core.specs.Fields.{both_ok}
 use Rattle.command_core.specs.Meaning.{Meaning, Refuse, Make, Load, Update, Delete, Rows, At, Between, FromTo, Dip, Join, Anti, Agg, Check, Log}
-use Rattle.command_core.specs.Pairs.{NamePair}
+use Rattle.row_core.specs.Name.{NamePair}
 use Rattle.command_core.specs.Records.{Record}
 use Rattle.command_core.specs.declared.aggregate.Aggregate.{Aggregate}
 use Rattle.command_core.specs.declared.refusal.Fault.{Fault}
@@ -32,7 +32,7 @@ use Rattle.answer_core.specs.PrintedRecords.{IsPrintedAs, division_records}
 use Rattle.answer_core.specs.declared.answer.Answer.{Answer}
 use Rattle.answer_core.specs.declared.answer.Answer.TheVariants as answer
 use Rattle.script_core.specs.Answer.{AnswersOne, AnswersChange, AnswersQuery, IsAggOf, IsAnswerTo, IsAntiOf, IsDipOf, IsJoinOf, IsVerdictOn, IsVersions, Refuses}
-use Rattle.script_core.specs.Effects.{TableRows, aggregated_told, claim_of, delete_in, func_of, load_in, make_in, rows_on, rows_told, sides_told, update_in, versions_told}
+use Rattle.script_core.specs.Effects.{TableRows, aggregated_told, claim_of, delete_in, agg_func, load_in, make_in, rows_on, rows_told, sides_told, update_in, versions_told}
 
 -- ---- what queries are answered
 
@@ -66,7 +66,7 @@ one_agg_of : (table : TableRows) (asked : Aggregate) (one other : Answer) → Is
 one_agg_of table asked one other p q =
     p.is
     ∙ (ap answer.Agg
-    (one_aggregate table.0 (func_of asked.func) asked.by table.1 p.rows q.rows p.aggregated q.aggregated)
+    (one_aggregate table.0 (agg_func asked.func) asked.by table.1 p.rows q.rows p.aggregated q.aggregated)
     ∙ sym q.is)
 
 one_verdict_on : (items : List Item) (claim : List (List ℕ)) (certificate : Certificate) (one other : Answer)
@@ -89,10 +89,11 @@ given-ok : {S E F : Type 0} (rename : E → F) (refusal : Option E) (x y : S)
 given-ok {S} {E} {F} rename None x y e = same_Ok {T = S} {E = F} x y e
 given-ok rename (Some why) x y e = absurd (not_Ok y (rename why) e)
 
-pub both-first : {S T E : Type 0} (r : Result S E) (q : Result T E) (x : S) (y : T) → both r q ≡ Ok (x, y) → r ≡ Ok x
-both-first (Err why) q x y e = absurd (not_Ok (x, y) why e)
-both-first (Ok v) (Err why) x y e = absurd (not_Ok (x, y) why e)
-both-first {S} {T} {E} (Ok v) (Ok w) x y e = ap (λ (p : S × T). Ok p.0) (same_Ok {T = S × T} {E = E} (v, w) (x, y) e)
+pub both_ok-first : {S T E : Type 0} (r : Result S E) (q : Result T E) (x : S) (y : T)
+    → both_ok r q ≡ Ok (x, y) → r ≡ Ok x
+both_ok-first (Err why) q x y e = absurd (not_Ok (x, y) why e)
+both_ok-first (Ok v) (Err why) x y e = absurd (not_Ok (x, y) why e)
+both_ok-first {S} {T} {E} (Ok v) (Ok w) x y e = ap (λ (p : S × T). Ok p.0) (same_Ok {T = S × T} {E = E} (v, w) (x, y) e)
 
 pub rise-told : (number : ℕ) (h : History) (asof : Option ℕ) (name : List ℕ) (rows : List Row)
     → rows_told number h asof name ≡ Ok rows → RowsRise rows
@@ -163,9 +164,9 @@ one_given before number (Check name parts instant asof body) one other f g p q =
     let told = rows_told number before asof name in
     let claimed = claim_of (number + 1) body in
     let certificate : Certificate = record { parts = parts; instant = instant } in
-    one_query before (both told claimed) (λ read. IsVerdictOn (items_of read.0) read.1 certificate)
+    one_query before (both_ok told claimed) (λ read. IsVerdictOn (items_of read.0) read.1 certificate)
     (λ read e one other. one_verdict_on (items_of read.0) read.1 certificate one other
-    (IdsRise-items_of read.0 (rise-told number before asof name read.0 (both-first told claimed read.0 read.1 e))))
+    (IdsRise-items_of read.0 (rise-told number before asof name read.0 (both_ok-first told claimed read.0 read.1 e))))
     one other f g p q
 one_given before number Log one other f g p q = (p.0 ∙ sym q.0, p.1 ∙ sym q.1)
 
@@ -245,7 +246,7 @@ divides before number (Agg asked asof) given after p =
     query-divides before (aggregated_told number before asof asked) (λ table. IsAggOf table asked)
     (λ table given is. plain given (answer.Agg is.rows) tt is.is) given after p
 divides before number (Check name parts instant asof body) given after p =
-    query-divides before (both (rows_told number before asof name) (claim_of (number + 1) body))
+    query-divides before (both_ok (rows_told number before asof name) (claim_of (number + 1) body))
     (λ read. IsVerdictOn (items_of read.0) read.1 (record { parts = parts; instant = instant }))
     (λ read given is. plain given (answer.Verdict is.verdict) tt is.is) given after p
 divides before number Log given after p = plain given (answer.Log _) tt p.0

@@ -11,7 +11,7 @@ use Rattle.script_core.specs.Failure.{Failure, IsFailureOf}
 use Rattle.row_core.specs.declared.failure.Failure.TheVariants.{Refused, NoMemory}
 
 -- a query is answered by what it asks of what it reads, or by its refusal
-pub query-answered : {S : Type 0} (number : ℕ) (meaning : Meaning) (before : History) (meant : Result S Fault)
+query-answered : {S : Type 0} (number : ℕ) (meaning : Meaning) (before : History) (meant : Result S Fault)
     (Is : S → Answer → Type 0) (outcome : Result Answer Failure)
     → ((given : Answer) → AnswersQuery before meant Is given before → IsAnswerTo before number meaning given before)
     → Gives meant Is outcome → Performs before number meaning outcome before

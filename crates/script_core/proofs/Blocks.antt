@@ -143,7 +143,7 @@ rest-none : (member : Member) (more : List Member) → All (λ m. begins_load m 
 rest-none member more none k d l = none (suc k) d (omega arith)
 
 -- where no load stands among them
-pub placed-none : (members : List Member) → All (λ m. begins_load m ≡ false) members
+placed-none : (members : List Member) → All (λ m. begins_load m ≡ false) members
     → placed_in true members ≡ placed_in false members
 placed-none [] none = refl
 placed-none (member ∷ more) none =
@@ -154,7 +154,7 @@ placed-none (member ∷ more) none =
     (placed-none more (rest-none member more none) ∙ sym flag)
 
 -- the first load among them
-pub placed-split : (front back : List Member) (load : Member) → All (λ m. begins_load m ≡ false) front
+placed-split : (front back : List Member) (load : Member) → All (λ m. begins_load m ≡ false) front
     → begins_load load ≡ true → placed_in false (front ++ load ∷ back) ≡ placed_in true front
     ++ record { number = load.number; meaning = meaning_inside false load } ∷ placed_in true back
 placed-split [] back load none loads =

@@ -1,7 +1,7 @@
 -- A table that is read, and two, one after the other.
 use Rattle.std.proofs.Common.{◌≡◌, ◌∙◌, ℕ, List, Option, None, Result, Ok, ap, refl}
 use Rattle.book_core.specs.History.{History}
-use Rattle.command_core.specs.Fields.{both}
+use Rattle.command_core.specs.Fields.{both_ok}
 use Rattle.command_core.specs.Pairs.{Compared}
 use Rattle.command_core.specs.declared.aggregate.Aggregate.{Aggregate}
 use Rattle.command_core.specs.declared.refusal.Fault.{Fault}
@@ -12,7 +12,7 @@ use Rattle.row_core.specs.declared.failure.Failure.TheVariants.{Refused, NoMemor
 use Rattle.row_core.specs.declared.row.Row.{Row}
 use Rattle.row_core.specs.declared.schema.Column.{Column}
 use Rattle.script_core.specs.Failure.{Failure, IsFailureOf}
-use Rattle.script_core.specs.Effects.{TableRows, aggregated_told, columns_told, func_of, rows_told, sides_told, table_told}
+use Rattle.script_core.specs.Effects.{TableRows, aggregated_told, columns_told, agg_func, rows_told, sides_told, table_told}
 
 -- its rows and its columns
 pub table-read : (number : ℕ) (h : History) (asof : Option ℕ) (name : List ℕ) (columns : List Column) (rows : List Row)
@@ -24,7 +24,7 @@ table-read number h asof name columns rows read told =
     (λ (rows : List Row). map_ok (λ (columns : List Column). (columns, rows)) (columns_told number h name))) read
     ∙ ap (map_ok (λ (columns : List Column). (columns, rows))) told
 
--- both, whose columns may be compared
+-- both_ok, whose columns may be compared
 pub sides-read : (number : ℕ) (h : History) (asof : Option ℕ) (tables : Compared) (left right : TableRows)
     → table_told number h asof tables.left ≡ Ok left → table_told number h asof tables.right ≡ Ok right
     → columns_refusal left.0 right.0 tables.on ≡ None → sides_told number h asof tables ≡ Ok (left, right)
@@ -32,11 +32,11 @@ sides-read number h asof tables left right one other allowed = rw (one, other, a
 
 -- one, whose rows come to what is asked
 pub aggregated-read : (number : ℕ) (h : History) (asof : Option ℕ) (asked : Aggregate) (table : TableRows)
-    → table_told number h asof asked.table ≡ Ok table → agg_refusal table.0 (func_of asked.func) asked.by ≡ None
+    → table_told number h asof asked.table ≡ Ok table → agg_refusal table.0 (agg_func asked.func) asked.by ≡ None
     → aggregated_told number h asof asked ≡ Ok table
 aggregated-read number h asof asked table read allowed = rw (read, allowed) refl
 
--- a failure of the left table is one of both
+-- a failure of the left table is one of both_ok
 pub sides-failed : (number : ℕ) (h : History) (asof : Option ℕ) (tables : Compared) (why : Failure)
     → IsFailureOf (rows_told number h asof tables.left) why → IsFailureOf (sides_told number h asof tables) why
 sides-failed number h asof tables (Refused fault) e = rw e refl
@@ -49,7 +49,7 @@ aggregated-failed number h asof asked (Refused fault) e = rw e refl
 aggregated-failed number h asof asked NoMemory e = tt
 
 -- and of the first of two values
-pub both-failed : {S T : Type 0} (one : Result S Fault) (other : Result T Fault) (why : Failure)
-    → IsFailureOf one why → IsFailureOf (both one other) why
-both-failed one other (Refused fault) e = ap (λ r. both r other) e
-both-failed one other NoMemory e = tt
+pub both_ok-failed : {S T : Type 0} (one : Result S Fault) (other : Result T Fault) (why : Failure)
+    → IsFailureOf one why → IsFailureOf (both_ok one other) why
+both_ok-failed one other (Refused fault) e = ap (λ r. both_ok r other) e
+both_ok-failed one other NoMemory e = tt

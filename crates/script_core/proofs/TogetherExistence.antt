@@ -100,7 +100,7 @@ some_query before after number meaning legal allowed =
 -- ---- the commands of a block
 
 -- what a command means in a block is allowed there
-pub is_allowed-inside : (has_load : Bool) (own : List Record) (member : Member) → IsMember own member
+is_allowed-inside : (has_load : Bool) (own : List Record) (member : Member) → IsMember own member
     → is_allowed has_load (meaning_inside has_load member) ≡ true
 is_allowed-inside has_load own member is = by (is_barred has_load member.opening) refl
   where

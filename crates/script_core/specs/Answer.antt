@@ -16,9 +16,9 @@ use Rattle.anti_core.specs.Anti.{IsAnti}
 use Rattle.anti_core.specs.declared.rows.AntiRow.{AntiRow}
 use Rattle.agg_core.specs.Agg.{IsAgg}
 use Rattle.agg_core.specs.declared.rows.AggRow.{AggRow}
-use Rattle.command_core.specs.Fields.{both}
+use Rattle.command_core.specs.Fields.{both_ok}
 use Rattle.command_core.specs.Meaning.{Meaning, Refuse, Make, Load, Update, Delete, Rows, At, Between, FromTo, Dip, Join, Anti, Agg, Check, Log}
-use Rattle.command_core.specs.Pairs.{NamePair}
+use Rattle.row_core.specs.Name.{NamePair}
 use Rattle.command_core.specs.Records.{Record}
 use Rattle.command_core.specs.Statement.{Placed, Statement, One, Together, is_load}
 use Rattle.command_core.specs.declared.aggregate.Aggregate.{Aggregate}
@@ -26,7 +26,7 @@ use Rattle.command_core.specs.declared.refusal.Fault.{Fault}
 use Rattle.answer_core.specs.PrintedRecords.{IsPrintedAs, together_record}
 use Rattle.answer_core.specs.declared.answer.Answer.{Answer}
 use Rattle.answer_core.specs.declared.answer.Answer.TheVariants as answer
-use Rattle.script_core.specs.Effects.{TableRows, aggregated_told, claim_of, delete_in, func_of, load_in, make_in, rows_on, rows_told, sides_told, update_in, versions_told}
+use Rattle.script_core.specs.Effects.{TableRows, aggregated_told, claim_of, delete_in, agg_func, load_in, make_in, rows_on, rows_told, sides_told, update_in, versions_told}
 
 -- the answer is the dip of the items
 pub record IsDipOf (items : List Item) (given : Answer) : Type 0 where
@@ -50,7 +50,7 @@ pub record IsAntiOf (left right : TableRows) (on : List NamePair) (given : Answe
 -- the answer is what the rows of a table come to, group by group
 pub record IsAggOf (table : TableRows) (asked : Aggregate) (given : Answer) : Type 0 where
   pub rows : List AggRow
-  pub aggregated : IsAgg table.0 (func_of asked.func) asked.by table.1 rows
+  pub aggregated : IsAgg table.0 (agg_func asked.func) asked.by table.1 rows
   pub is : given ≡ answer.Agg rows
 
 -- the answer is the versions that are asked for
@@ -107,7 +107,7 @@ IsAnswerTo before number (Anti tables asof) =
 IsAnswerTo before number (Agg asked asof) =
     AnswersQuery before (aggregated_told number before asof asked) (λ table. IsAggOf table asked)
 IsAnswerTo before number (Check name parts instant asof body) =
-    AnswersQuery before (both (rows_told number before asof name) (claim_of (number + 1) body))
+    AnswersQuery before (both_ok (rows_told number before asof name) (claim_of (number + 1) body))
     (λ read. IsVerdictOn (items_of read.0) read.1 (record { parts = parts; instant = instant }))
 IsAnswerTo before number Log = λ given after. (given ≡ answer.Log (log_of before)) × (after ≡ before)
 

@@ -57,19 +57,19 @@ abbrev pub told_by : {T : Type 0} → (Record → Result T Refusal) → ℕ → 
 told_by read number lines = read_each (λ line. map_err (fault line.0) (read line.1)) (enumerate_from number lines)
 
 -- the row that a record of a load gives
-abbrev pub row_of : List Column → Record → Result Draft Refusal
-row_of columns line =
+abbrev pub loaded_row : List Column → Record → Result Draft Refusal
+loaded_row columns line =
     if begins (codes "row") line then map_err row_refusal (reading.row_of columns (drop 1 line))
     else Err BadCommand
 
 -- the rows of a load's records, the first of them of this number, or the first fault
-abbrev pub rows_of : List Column → ℕ → List Record → Result (List Draft) Fault
-rows_of columns number lines = told_by (row_of columns) number lines
+abbrev pub loaded_rows : List Column → ℕ → List Record → Result (List Draft) Fault
+loaded_rows columns number lines = told_by (loaded_row columns) number lines
 
 -- the rows of a load's records, or the fault of its command or of one of them
 abbrev pub load_told : ℕ → History → List ℕ → List Record → Result (List Draft) Fault
 load_told number h name body =
-    and_then (columns_told number h name) (λ columns. rows_of columns (number + 1) body)
+    and_then (columns_told number h name) (λ columns. loaded_rows columns (number + 1) body)
 
 -- the history with the rows of a load's records in a table
 abbrev pub load_in : ℕ → History → List ℕ → List Record → Result History Fault
@@ -77,13 +77,13 @@ load_in number h name body =
     and_then (load_told number h name body) (λ rows. change_in number h (change.Load name rows))
 
 -- the value that a text is in a column of that kind, under its name
-abbrev pub value_in : List ℕ → List ℕ → Option Kind → Result Pair Refusal
-value_in name text None = Err NoColumn
-value_in name text (Some kind) = map_ok (λ value. (name, value)) (map_err value_refusal (value_of kind text))
+abbrev pub named_value : List ℕ → List ℕ → Option Kind → Result Pair Refusal
+named_value name text None = Err NoColumn
+named_value name text (Some kind) = map_ok (λ value. (name, value)) (map_err value_refusal (value_of kind text))
 
 -- a pair's value, in the table's columns
 abbrev pub pair_read : List Column → TextPair → Result Pair Refusal
-pair_read columns pair = value_in pair.0 pair.1 (kind_in columns pair.0)
+pair_read columns pair = named_value pair.0 pair.1 (kind_in columns pair.0)
 
 -- the values of pairs in a table's columns, or the first refusal from the left
 abbrev pub pairs_read : List Column → List TextPair → Result (List Pair) Refusal
@@ -137,11 +137,11 @@ sides_told number h asof tables =
     (left, right)))
 
 -- what is asked of the rows that hold, as a command tells it
-abbrev pub func_of : Func → agg.Func
-func_of Count = func.Count
-func_of (Sum column) = func.Sum column
-func_of (Min column) = func.Min column
-func_of (Max column) = func.Max column
+abbrev pub agg_func : Func → agg.Func
+agg_func Count = func.Count
+agg_func (Sum column) = func.Sum column
+agg_func (Min column) = func.Min column
+agg_func (Max column) = func.Max column
 
 -- a table whose rows come to what is asked, or the fault of the command of this number: of the table, or of the
 -- columns
@@ -149,7 +149,7 @@ abbrev pub aggregated_told : ℕ → History → Option ℕ → Aggregate → Re
 aggregated_told number h asof asked =
     and_then (table_told number h asof asked.table) (λ table.
     refused_or
-    (option_map (λ refused. fault number (query_refusal refused)) (agg_refusal table.0 (func_of asked.func) asked.by))
+    (option_map (λ refused. fault number (query_refusal refused)) (agg_refusal table.0 (agg_func asked.func) asked.by))
     table)
 
 -- the rows that hold at a point
@@ -162,7 +162,7 @@ abbrev pub versions_told : ℕ → History → Bool → List ℕ → Result (Uni
 versions_told number h is_bad name =
     refused_or
     (option_map (λ refused. fault number (versions_refusal refused))
-    (history.versions_refusal h (length h) is_bad name)) tt
+    (history.between_refusal h (length h) is_bad name)) tt
 
 -- the numbers of fields
 abbrev pub naturals_in : Record → Result (List ℕ) Refusal

@@ -7,8 +7,8 @@ use Rattle.store_core.specs.declared.snapshot.Snapshot.{Snapshot}
 use Rattle.script_core.specs.declared.ledger.Ledger.{Ledger}
 
 -- its history, which its one pass has seen
-abbrev pub held : Ledger → History
-held ledger = seen ledger.pass
+abbrev pub ledger_history : Ledger → History
+ledger_history ledger = seen ledger.pass
 
 -- how many calls it has left
 abbrev pub left_in : Ledger → ℕ

@@ -49,8 +49,8 @@ pub record PrintsQueries (before : History) (placed : List Placed) (old new : Un
   pub commands : told.commands ≡ length placed
   pub errors : told.errors ≡ errors_in answers
 
--- the same of the commands that a stretch of a block's records holds, the first of them of this number
-pub record PrintsStretch (before : History) (number : ℕ) (records : List Record) (old new : Unwritten)
+-- the same of the commands that a section of a block's records holds, the first of them of this number
+pub record PrintsSection (before : History) (number : ℕ) (records : List Record) (old new : Unwritten)
     (told : Outcome) : Type 0 where
   pub printed : (members : List Member) → AreMembers number records members
       → PrintsQueries before (placed_in true members) old new told

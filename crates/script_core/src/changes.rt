@@ -1,7 +1,7 @@
 //! The changes that commands ask for.
 ghost use Rattle.std.specs.Prelude.{◌≡◌, ◌+◌, ◌<◌, ◌≤◌, ◌^◌, length};
 ghost use Rattle.store_core.specs.Snapshots.{history};
-ghost use Rattle.script_core.specs.Ledgers.{held, left_in};
+ghost use Rattle.script_core.specs.Ledgers.{ledger_history, left_in};
 ghost use Rattle.script_core.specs.Performing.{Changes, Gives};
 ghost use Rattle.command_core.specs.Lines.{lines_in};
 ghost use Rattle.command_core.specs.PairsIn.{pairs_in};
@@ -10,7 +10,7 @@ ghost use Rattle.script_core.specs.Effects.{change_in, delete_in, load_in, load_
 use crate::failure::{Failure, failure_at, refused};
 use crate::ledger::Ledger;
 use crate::pairs::read_pairs;
-use crate::rows::rows_of;
+use crate::rows::loaded_rows;
 use answer_core::Answer;
 use book_core::Change;
 use command_core::{Lines, Refusal, TextPairs};
@@ -28,7 +28,8 @@ fn apply<R: Wait>(
     change: Change,
 ) -> Result<Answer, Failure>
     requires { 0 < left_in ledger.old }
-    ensures changes { Changes (change_in number (held ledger.old) change) (held ledger.old) (held ledger.new) result }
+    ensures changes { Changes (change_in number (ledger_history ledger.old) change) (ledger_history ledger.old)
+        (ledger_history ledger.new) result }
     ensures left { left_in ledger.new + 1 ≡ left_in ledger.old }
 {
     match ledger.commit(rt, change) {
@@ -46,8 +47,8 @@ pub(crate) fn make<R: Wait>(
     schema: Schema,
 ) -> Result<Answer, Failure>
     requires { 0 < left_in ledger.old }
-    ensures changes { Changes (make_in number (held ledger.old) table schema)
-        (held ledger.old) (held ledger.new) result }
+    ensures changes { Changes (make_in number (ledger_history ledger.old) table schema)
+        (ledger_history ledger.old) (ledger_history ledger.new) result }
     ensures left { left_in ledger.new + 1 ≡ left_in ledger.old }
 {
     apply(rt, ledger, number, Change::Make { table, schema })
@@ -66,7 +67,7 @@ fn read_load(
         (λ meant rows. rows ≡ meant) result }
 {
     match newest.schema(table) {
-        Ok(schema) => rows_of(alloc, schema, body, number + 1),
+        Ok(schema) => loaded_rows(alloc, schema, body, number + 1),
         Err(_) => Err(refused(number, Refusal::NoTable)),
     }
 }
@@ -82,11 +83,11 @@ pub(crate) fn load_by<R: Wait>(
     table: Name,
     body: Lines<'_>,
 ) -> Result<Answer, Failure>
-    requires newest { history newest.now ≡ held ledger.old }
+    requires newest { history newest.now ≡ ledger_history ledger.old }
     requires numbers { number + 1 + length (lines_in body) < 2 ^ 64 }
     requires left { 0 < left_in ledger.old }
-    ensures changes { Changes (load_in number (held ledger.old) table (lines_in body.entry))
-        (held ledger.old) (held ledger.new) result }
+    ensures changes { Changes (load_in number (ledger_history ledger.old) table (lines_in body.entry))
+        (ledger_history ledger.old) (ledger_history ledger.new) result }
     ensures left { left_in ledger.old ≤ left_in ledger.new + 1 }
 {
     let rows = read_load(alloc, newest, number, table, body)?;
@@ -104,8 +105,8 @@ pub(crate) fn load<R: Wait>(
 ) -> Result<Answer, Failure>
     requires numbers { number + 1 + length (lines_in body) < 2 ^ 64 }
     requires left { 2 ≤ left_in ledger.old }
-    ensures changes { Changes (load_in number (held ledger.old) table (lines_in body.entry))
-        (held ledger.old) (held ledger.new) result }
+    ensures changes { Changes (load_in number (ledger_history ledger.old) table (lines_in body.entry))
+        (ledger_history ledger.old) (ledger_history ledger.new) result }
     ensures left { left_in ledger.old ≤ left_in ledger.new + 2 }
 {
     // The snapshot is given back before the commit, so that nothing is copied.
@@ -129,8 +130,8 @@ pub(crate) fn update<R: Wait>(
 ) -> Result<Answer, Failure>
     requires { 2 ≤ left_in ledger.old }
     ensures changes { Changes
-        (update_in number (held ledger.old) table portion (pairs_in sets.entry) (pairs_in conds.entry))
-        (held ledger.old) (held ledger.new) result }
+        (update_in number (ledger_history ledger.old) table portion (pairs_in sets.entry) (pairs_in conds.entry))
+        (ledger_history ledger.old) (ledger_history ledger.new) result }
     ensures left { left_in ledger.old ≤ left_in ledger.new + 2 }
 {
     let (sets, conds) = {
@@ -161,8 +162,8 @@ pub(crate) fn delete<R: Wait>(
     conds: TextPairs<'_>,
 ) -> Result<Answer, Failure>
     requires { 2 ≤ left_in ledger.old }
-    ensures changes { Changes (delete_in number (held ledger.old) table portion (pairs_in conds.entry))
-        (held ledger.old) (held ledger.new) result }
+    ensures changes { Changes (delete_in number (ledger_history ledger.old) table portion (pairs_in conds.entry))
+        (ledger_history ledger.old) (ledger_history ledger.new) result }
     ensures left { left_in ledger.old ≤ left_in ledger.new + 2 }
 {
     let conds = {

@@ -25,11 +25,11 @@ pub(crate) struct Ledger {
 }
 
 impl Ledger {
-    ghost use Rattle.script_core.specs.Ledgers.{held, left_in, ShowsAll};
+    ghost use Rattle.script_core.specs.Ledgers.{ledger_history, left_in, ShowsAll};
 
     /// A store without a table.
     pub(crate) fn new(alloc: Global) -> Result<Ledger, NoMemory>
-        ensures { IfOk result (λ ledger. (held ledger ≡ []) × (left_in ledger ≡ call_limit)) }
+        ensures { IfOk result (λ ledger. (ledger_history ledger ≡ []) × (left_in ledger ≡ call_limit)) }
     {
         match Store::new(alloc, 1, CALL_LIMIT) {
             Ok((store, mut passes)) => match passes.pop() {
@@ -49,7 +49,7 @@ impl Ledger {
         change: Change,
     ) -> Result<u64, Failure<BookRefused>>
         requires { 0 < left_in self.old }
-        ensures made { CommitsTo (held self.old) 1 change result (held self.new) }
+        ensures made { CommitsTo (ledger_history self.old) 1 change result (ledger_history self.new) }
         ensures left { left_in self.new + 1 ≡ left_in self.old }
     {
         match self.store.commit(rt, &mut self.pass, change) {
@@ -63,8 +63,8 @@ impl Ledger {
     /// What all commits show.
     pub(crate) fn newest<R: Wait>(&mut self, rt: &R) -> Result<Snapshot, NoMemory>
         requires { 0 < left_in self.old }
-        ensures same { held self.new ≡ held self.old }
-        ensures shows { IfOk result (λ snapshot. (history snapshot ≡ held self.old) × ShowsAll snapshot) }
+        ensures same { ledger_history self.new ≡ ledger_history self.old }
+        ensures shows { IfOk result (λ snapshot. (history snapshot ≡ ledger_history self.old) × ShowsAll snapshot) }
         ensures left { left_in self.new + 1 ≡ left_in self.old }
     {
         match self.store.snapshot(rt, &mut self.pass, None) {
@@ -78,8 +78,8 @@ impl Ledger {
     /// What each commit did.
     pub(crate) fn log<R: Wait>(&mut self, rt: &R) -> Result<Log, NoMemory>
         requires { 0 < left_in self.old }
-        ensures same { held self.new ≡ held self.old }
-        ensures told { IfOk result (λ log. log ≡ log_of (held self.old)) }
+        ensures same { ledger_history self.new ≡ ledger_history self.old }
+        ensures told { IfOk result (λ log. log ≡ log_of (ledger_history self.old)) }
         ensures left { left_in self.new + 1 ≡ left_in self.old }
     {
         match self.store.log(rt, &mut self.pass) {

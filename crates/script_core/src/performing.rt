@@ -8,7 +8,7 @@ ghost use Rattle.store_core.specs.Snapshots.{asked, history, number_shown};
 ghost use Rattle.script_core.specs.Answer.{IsAnswerTo};
 ghost use Rattle.script_core.specs.Effects.{rows_told};
 ghost use Rattle.script_core.specs.Failure.{IsFailureOf};
-ghost use Rattle.script_core.specs.Ledgers.{held, left_in, ShowsAll};
+ghost use Rattle.script_core.specs.Ledgers.{ledger_history, left_in, ShowsAll};
 ghost use Rattle.script_core.specs.Performing.{IsAnswerOf, Performs, PrintsOne};
 
 use crate::changes::{delete, load, make, update};
@@ -127,7 +127,8 @@ pub(crate) fn perform<T: Threads + Wait + Sync>(
     requires numbers { number + behind_length (meaning_of command) < 2 ^ 64 }
     requires workers { (0 < workers) × (workers ≤ worker_limit) }
     requires left { 2 ≤ left_in ledger.old }
-    ensures performs { Performs (held ledger.old) number (meaning_of command.entry) result (held ledger.new) }
+    ensures performs { Performs (ledger_history ledger.old) number (meaning_of command.entry) result
+        (ledger_history ledger.new) }
     ensures left { left_in ledger.old ≤ left_in ledger.new + 2 }
 {
     match command {
@@ -205,7 +206,8 @@ pub(crate) fn answer_command<T: Threads + Wait + Sync>(
     requires workers { (0 < workers) × (workers ≤ worker_limit) }
     requires begins { printer.old.fields ≡ [] }
     requires left { 2 ≤ left_in ledger.old }
-    ensures printed { IfOk result (PrintsOne (held ledger.old) number (meaning_of command.entry) (held ledger.new)
+    ensures printed { IfOk result (PrintsOne (ledger_history ledger.old) number (meaning_of command.entry)
+        (ledger_history ledger.new)
         printer.old printer.new) }
     ensures few { IfOk result (λ errors. errors ≤ 1) }
     ensures left { left_in ledger.old ≤ left_in ledger.new + 2 }

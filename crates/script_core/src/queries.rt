@@ -1,7 +1,7 @@
 //! What queries read of a snapshot.
 ghost use Rattle.std.specs.Prelude.{◌≡◌, ◌+◌, ◌<◌, ◌≤◌, ◌^◌, All, IfOk, IsTrue, Ok, length, nat_le, nat_lt};
 ghost use Rattle.book_core.specs.Versions.{AreBetween, AreFromTo};
-ghost use Rattle.command_core.specs.Fields.{both};
+ghost use Rattle.command_core.specs.Fields.{both_ok};
 ghost use Rattle.command_core.specs.Lines.{lines_in};
 ghost use Rattle.command_core.specs.PairsIn.{compared_in, name_pairs_in};
 ghost use Rattle.version_core.specs.Limits.{version_limit};
@@ -13,7 +13,7 @@ ghost use Rattle.script_core.specs.Answer.{IsAggOf, IsAntiOf, IsDipOf, IsJoinOf,
 ghost use Rattle.script_core.specs.Ledgers.{commit_shown, ShowsAll};
 ghost use Rattle.script_core.specs.Performing.{Gives};
 ghost use Rattle.store_core.specs.Snapshots.{history};
-ghost use Rattle.script_core.specs.Effects.{aggregated_told, claim_of, columns_told, func_of, rows_on, rows_told, sides_told, versions_told};
+ghost use Rattle.script_core.specs.Effects.{agg_func, aggregated_told, claim_of, columns_told, rows_on, rows_told, sides_told, versions_told};
 ghost use Rattle.answer_core.specs.declared.answer.Answer.TheVariants.{Rows};
 
 use crate::claims::read_claim;
@@ -179,7 +179,7 @@ pub(crate) fn agg_table<T: Threads + Sync>(
     ensures { Gives (aggregated_told number (history snapshot.now) (commit_shown snapshot.now) aggregate)
         (λ table. IsAggOf table aggregate) result }
 {
-    let func = func_of(&aggregate.func);
+    let func = agg_func(&aggregate.func);
     let (schema, rows) = shown_table(snapshot, number, aggregate.table)?;
     let side = Side {
         schema,
@@ -192,8 +192,8 @@ pub(crate) fn agg_table<T: Threads + Sync>(
 }
 
 /// What is asked of the rows that hold, as a command tells it.
-fn func_of(func: &Func) -> agg_core::Func
-    ensures { result ≡ func_of func.now }
+fn agg_func(func: &Func) -> agg_core::Func
+    ensures { result ≡ agg_func func.now }
 {
     match func {
         Func::Count => agg_core::Func::Count,
@@ -214,7 +214,7 @@ pub(crate) fn check(
     body: Lines<'_>,
 ) -> Result<Answer, Failure>
     requires { number + 1 + length (lines_in body) < 2 ^ 64 }
-    ensures { Gives (both (rows_told number (history snapshot.now) (commit_shown snapshot.now) table)
+    ensures { Gives (both_ok (rows_told number (history snapshot.now) (commit_shown snapshot.now) table)
         (claim_of (number + 1) (lines_in body.entry)))
         (λ read answer. IsVerdictOn (items_of read.0) read.1 certificate answer) result }
 {

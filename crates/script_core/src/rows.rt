@@ -2,7 +2,7 @@
 ghost use Rattle.std.specs.Prelude.{◌≡◌, ◌+◌, ◌<◌, ◌^◌, OnOk, Ok, MatchResult, drop, length, map};
 ghost use Rattle.script_core.specs.Failure.{IsFailureOf, IsRecordFailure};
 ghost use Rattle.command_core.specs.Lines.{fields_in, lines_in};
-ghost use Rattle.script_core.specs.Effects.{row_of, rows_of};
+ghost use Rattle.script_core.specs.Effects.{loaded_row, loaded_rows};
 
 use crate::failure::{Failure, failure_at, refused};
 use command_core::{Line, Lines, Refusal, begins};
@@ -24,7 +24,7 @@ fn take_fields<'a>(fields: &mut Vec<&'a [u8]>, line: Line<'a>) -> Result<(), All
 
 /// The row that a record of a load gives, whose number is this one. The record's fields are kept in `fields`, whose
 /// room serves one record after another.
-fn row_of<'a>(
+fn loaded_row<'a>(
     alloc: Global,
     schema: &Schema,
     fields: &mut Vec<&'a [u8]>,
@@ -32,8 +32,8 @@ fn row_of<'a>(
     number: u64,
 ) -> Result<Draft, Failure>
     ensures { MatchResult result
-        (λ row. row_of schema.now (fields_in line.entry) ≡ Ok row)
-        (IsRecordFailure number (row_of schema.now (fields_in line.entry))) }
+        (λ row. loaded_row schema.now (fields_in line.entry) ≡ Ok row)
+        (IsRecordFailure number (loaded_row schema.now (fields_in line.entry))) }
 {
     if !begins(line, b"row") {
         return Err(refused(number, Refusal::BadCommand));
@@ -45,7 +45,7 @@ fn row_of<'a>(
 }
 
 /// The rows of a load's records, the first of them of this number.
-pub(crate) fn rows_of(
+pub(crate) fn loaded_rows(
     alloc: Global,
     schema: &Schema,
     lines: Lines<'_>,
@@ -53,14 +53,14 @@ pub(crate) fn rows_of(
 ) -> Result<Drafts, Failure>
     requires { number + length (lines_in lines) < 2 ^ 64 }
     ensures { MatchResult result
-        (λ rows. rows_of schema.now number (lines_in lines.entry) ≡ Ok rows)
-        (IsFailureOf (rows_of schema.now number (lines_in lines.entry))) }
+        (λ rows. loaded_rows schema.now number (lines_in lines.entry) ≡ Ok rows)
+        (IsFailureOf (loaded_rows schema.now number (lines_in lines.entry))) }
 {
     let mut rows = Drafts::new(alloc);
     let mut fields = Vec::new(alloc);
     for place in 0..lines.len() {
         let line = lines.get(place);
-        let row = row_of(alloc, schema, &mut fields, line, number + place as u64)?;
+        let row = loaded_row(alloc, schema, &mut fields, line, number + place as u64)?;
         rows.push(row)?;
     }
     Ok(rows)

@@ -7,7 +7,7 @@ ghost use Rattle.stream_core.specs.Counted.{failures_of, inner_of, sink_of};
 ghost use Rattle.stream_core.specs.FailureCount.{greatest_count};
 ghost use Rattle.stream_core.specs.Faults.{last_failures, retry_limit};
 ghost use Rattle.work_core.specs.Limits.{worker_limit};
-ghost use Rattle.script_core.specs.Ledgers.{held, left_in};
+ghost use Rattle.script_core.specs.Ledgers.{ledger_history, left_in};
 ghost use Rattle.script_core.specs.Performing.{PrintsStatement};
 ghost use Rattle.script_core.specs.Script.{AppendsFront, ExplainsRun, IsOutput, RunsAll, streams_of};
 ghost use Rattle.script_core.specs.Writing.{AnswersAll, ExplainsAnswering};
@@ -42,7 +42,8 @@ fn answer_statement<T: Threads + Wait + Sync>(
     requires begins { printer.old.fields ≡ [] }
     requires left { 2 ≤ left_in ledger.old }
     ensures printed { IfOk result (λ told. (meant : said.Statement) → StandsFor number statement.entry meant
-        → PrintsStatement (held ledger.old) number meant (held ledger.new) printer.old printer.new told) }
+        → PrintsStatement (ledger_history ledger.old) number meant (ledger_history ledger.new) printer.old
+        printer.new told) }
     ensures few { IfOk result (λ told. told.errors ≤ told.commands) }
     ensures left { left_in ledger.old ≤ left_in ledger.new + 2 }
 {
@@ -71,7 +72,7 @@ fn answer_all<T: Threads + Wait + Sync, W: Write>(
     patience: &mut Patience,
 ) -> Result<Outcome, RunFault>
     requires workers { (0 < workers) × (workers ≤ worker_limit) }
-    requires begun { held ledger ≡ [] }
+    requires begun { ledger_history ledger ≡ [] }
     requires left { 2 * length records.now ≤ left_in ledger }
     ensures ok { IfOk result (AnswersAll records.now (sink_of W.contents writer.old) (sink_of W.contents writer.new)) }
     ensures fault { IfErr result

@@ -8,15 +8,15 @@ ghost use Rattle.command_core.specs.Statement.{AreMembers, IsSplit, Member, Toge
 ghost use Rattle.work_core.specs.Limits.{worker_limit};
 ghost use Rattle.store_core.specs.Snapshots.{history};
 ghost use Rattle.script_core.specs.Answer.{IsAnswerTo};
-ghost use Rattle.script_core.specs.Ledgers.{held, left_in};
-ghost use Rattle.script_core.specs.Performing.{AsksLoad, PrintsBlock, PrintsStatement, PrintsStretch};
+ghost use Rattle.script_core.specs.Ledgers.{ledger_history, left_in};
+ghost use Rattle.script_core.specs.Performing.{AsksLoad, PrintsBlock, PrintsStatement, PrintsSection};
 
 use crate::changes::load_by;
 use crate::ledger::Ledger;
 use crate::outcome::Outcome;
 use crate::performing::{QueryContext, answer_of, answer_query};
 use answer_core::{Answer, AnswerWriter};
-use command_core::{Command, Cut, Lines, first_load, next_inside};
+use command_core::{Command, CommandCut, Lines, first_load, next_inside};
 use period_core::NoMemory;
 use std::alloc::Global;
 use std::sync::Wait;
@@ -24,26 +24,26 @@ use std::thread::{Threads, join_mut};
 
 /// Some whole commands of a block, one after another: their records, and the number of the first of these.
 #[derive(Clone, Copy)]
-struct Stretch<'a> {
+struct Section<'a> {
     lines: Lines<'a>,
     first: u64,
 }
 
-/// Answers the queries of a stretch of a block, and prints their answers; tells how many commands there are, and how
+/// Answers the queries of a section of a block, and prints their answers; tells how many commands there are, and how
 /// many of them are refused. A load among them is refused, since a block's first load, which may be done, stands in no
-/// stretch.
+/// section.
 fn answer_queries<T: Threads + Sync>(
     context: &QueryContext<'_, T>,
-    stretch: Stretch<'_>,
+    section: Section<'_>,
     printer: &mut AnswerWriter,
 ) -> Result<Outcome, NoMemory>
-    requires whole { (members : List Member) × AreMembers stretch.first (lines_in stretch.lines) members }
-    requires numbers { stretch.first + length (lines_in stretch.lines) < 2 ^ 64 }
+    requires whole { (members : List Member) × AreMembers section.first (lines_in section.lines) members }
+    requires numbers { section.first + length (lines_in section.lines) < 2 ^ 64 }
     requires begins { printer.old.fields ≡ [] }
-    ensures { IfOk result (PrintsStretch (history context.now.newest.now) stretch.entry.first
-        (lines_in stretch.entry.lines) printer.old printer.new) }
+    ensures { IfOk result (PrintsSection (history context.now.newest.now) section.entry.first
+        (lines_in section.entry.lines) printer.old printer.new) }
 {
-    let Stretch { lines, first } = stretch;
+    let Section { lines, first } = section;
     let mut told = Outcome {
         commands: 0,
         errors: 0,
@@ -51,7 +51,7 @@ fn answer_queries<T: Threads + Sync>(
     let mut at = 0;
     while at < lines.len() {
         let number = first + at as u64;
-        let Cut { command, taken } = next_inside(lines.range(at, lines.len()), number, true);
+        let CommandCut { command, taken } = next_inside(lines.range(at, lines.len()), number, true);
         let errors = answer_query(context, number, command, printer)?;
         told.commands += 1;
         told.errors += errors;
@@ -67,12 +67,12 @@ fn answer_load<T: Wait>(
     number: u64,
     command: &Command<'_>,
 ) -> Result<Answer, NoMemory>
-    requires same { history context.now.newest.now ≡ held ledger.old }
+    requires same { history context.now.newest.now ≡ ledger_history ledger.old }
     requires load { AsksLoad (meaning_of command.now) }
     requires numbers { number + behind_length (meaning_of command.now) < 2 ^ 64 }
     requires left { 0 < left_in ledger.old }
     ensures answers { IfOk result (λ answer.
-        IsAnswerTo (held ledger.old) number (meaning_of command.now) answer (held ledger.new)) }
+        IsAnswerTo (ledger_history ledger.old) number (meaning_of command.now) answer (ledger_history ledger.new)) }
     ensures left { left_in ledger.old ≤ left_in ledger.new + 1 }
 {
     match command {
@@ -95,17 +95,17 @@ fn answer_load<T: Wait>(
 fn answer_both<T: Threads + Wait + Sync>(
     context: &QueryContext<'_, T>,
     ledger: &mut Ledger,
-    front: Stretch<'_>,
+    front: Section<'_>,
     number: u64,
     command: &Command<'_>,
-    back: Stretch<'_>,
+    back: Section<'_>,
     printer: &mut AnswerWriter,
     later: &mut AnswerWriter,
 ) -> (
     Result<(Outcome, Outcome), NoMemory>,
     Result<Answer, NoMemory>,
 )
-    requires same { history context.now.newest.now ≡ held ledger.old }
+    requires same { history context.now.newest.now ≡ ledger_history ledger.old }
     requires before { (members : List Member) × AreMembers front.first (lines_in front.lines) members }
     requires behind { (members : List Member) × AreMembers back.first (lines_in back.lines) members }
     requires numbers_before { front.first + length (lines_in front.lines) < 2 ^ 64 }
@@ -113,12 +113,12 @@ fn answer_both<T: Threads + Wait + Sync>(
     requires load { AsksLoad (meaning_of command.now) × (number + behind_length (meaning_of command.now) < 2 ^ 64) }
     requires begins { (printer.old.fields ≡ []) × (later.old.fields ≡ []) }
     requires left { 0 < left_in ledger.old }
-    ensures front { IfOk result.0 (λ told. PrintsStretch (history context.now.newest.now) front.entry.first
+    ensures front { IfOk result.0 (λ told. PrintsSection (history context.now.newest.now) front.entry.first
         (lines_in front.entry.lines) printer.old printer.new told.0) }
-    ensures back { IfOk result.0 (λ told. PrintsStretch (history context.now.newest.now) back.entry.first
+    ensures back { IfOk result.0 (λ told. PrintsSection (history context.now.newest.now) back.entry.first
         (lines_in back.entry.lines) later.old later.new told.1) }
     ensures load { IfOk result.1 (λ answer.
-        IsAnswerTo (held ledger.old) number (meaning_of command.now) answer (held ledger.new)) }
+        IsAnswerTo (ledger_history ledger.old) number (meaning_of command.now) answer (ledger_history ledger.new)) }
     ensures left { left_in ledger.old ≤ left_in ledger.new + 1 }
 {
     let mut queries = || -> Result<(Outcome, Outcome), NoMemory>
@@ -128,9 +128,9 @@ fn answer_both<T: Threads + Wait + Sync>(
             × (front.first + length (lines_in front.lines) < 2 ^ 64)
             × (back.first + length (lines_in back.lines) < 2 ^ 64)
             × ((printer.now.fields ≡ []) × (later.now.fields ≡ [])) }
-        ensures front { IfOk result (λ told. PrintsStretch (history context.entry.now.newest.now) front.entry.first
+        ensures front { IfOk result (λ told. PrintsSection (history context.entry.now.newest.now) front.entry.first
             (lines_in front.entry.lines) printer.entry.now printer.exit.now told.0) }
-        ensures back { IfOk result (λ told. PrintsStretch (history context.entry.now.newest.now) back.entry.first
+        ensures back { IfOk result (λ told. PrintsSection (history context.entry.now.newest.now) back.entry.first
             (lines_in back.entry.lines) later.entry.now later.exit.now told.1) }
     {
         let before = answer_queries(context, front, printer)?;
@@ -138,10 +138,10 @@ fn answer_both<T: Threads + Wait + Sync>(
         Ok((before, behind))
     };
     let mut loading = || -> Result<Answer, NoMemory>
-        requires { (history context.now.newest.now ≡ held ledger.now) × AsksLoad (meaning_of command.now)
+        requires { (history context.now.newest.now ≡ ledger_history ledger.now) × AsksLoad (meaning_of command.now)
             × (number + behind_length (meaning_of command.now) < 2 ^ 64) × (0 < left_in ledger.now) }
-        ensures answers { IfOk result (λ answer. IsAnswerTo (held ledger.entry.now) number
-            (meaning_of command.entry.now) answer (held ledger.exit.now)) }
+        ensures answers { IfOk result (λ answer. IsAnswerTo (ledger_history ledger.entry.now) number
+            (meaning_of command.entry.now) answer (ledger_history ledger.exit.now)) }
         ensures left { left_in ledger.entry.now ≤ left_in ledger.exit.now + 1 }
     { answer_load(context, ledger, number, command) };
     join_mut(context.rt, &mut queries, &mut loading)
@@ -151,11 +151,11 @@ fn answer_both<T: Threads + Wait + Sync>(
 fn answer_beside_load<T: Threads + Wait + Sync>(
     context: &QueryContext<'_, T>,
     ledger: &mut Ledger,
-    block: Stretch<'_>,
+    block: Section<'_>,
     place: usize,
     printer: &mut AnswerWriter,
 ) -> Result<Outcome, NoMemory>
-    requires same { history context.now.newest.now ≡ held ledger.old }
+    requires same { history context.now.newest.now ≡ ledger_history ledger.old }
     requires whole { (members : List Member) × AreMembers block.first (lines_in block.lines) members }
     requires within { place < length (lines_in block.lines) }
     requires split { (members : List Member) → AreMembers block.first (lines_in block.lines) members
@@ -165,21 +165,21 @@ fn answer_beside_load<T: Threads + Wait + Sync>(
     requires left { 0 < left_in ledger.old }
     ensures printed { IfOk result (λ told. (members : List Member)
         → AreMembers block.entry.first (lines_in block.entry.lines) members
-        → PrintsBlock (history context.now.newest.now) (placed_in false members) (held ledger.new)
+        → PrintsBlock (history context.now.newest.now) (placed_in false members) (ledger_history ledger.new)
         printer.old printer.new told) }
     ensures few { IfOk result (λ told. told.errors ≤ told.commands) }
     ensures fewer { IfOk result (λ told. told.commands ≤ length (lines_in block.entry.lines)) }
     ensures left { left_in ledger.old ≤ left_in ledger.new + 1 }
 {
-    let Stretch { lines, first } = block;
+    let Section { lines, first } = block;
     let rest = lines.range(place, lines.len());
     let number = first + place as u64;
-    let Cut { command, taken } = next_inside(rest, number, false);
-    let front = Stretch {
+    let CommandCut { command, taken } = next_inside(rest, number, false);
+    let front = Section {
         lines: lines.range(0, place),
         first,
     };
-    let back = Stretch {
+    let back = Section {
         lines: rest.range(taken, rest.len()),
         first: number + taken as u64,
     };
@@ -201,17 +201,17 @@ fn answer_beside_load<T: Threads + Wait + Sync>(
 fn answer_commands<T: Threads + Wait + Sync>(
     context: &QueryContext<'_, T>,
     ledger: &mut Ledger,
-    block: Stretch<'_>,
+    block: Section<'_>,
     printer: &mut AnswerWriter,
 ) -> Result<Outcome, NoMemory>
-    requires same { history context.now.newest.now ≡ held ledger.old }
+    requires same { history context.now.newest.now ≡ ledger_history ledger.old }
     requires whole { (members : List Member) × AreMembers block.first (lines_in block.lines) members }
     requires numbers { block.first + length (lines_in block.lines) < 2 ^ 64 }
     requires begins { printer.old.fields ≡ [] }
     requires left { 0 < left_in ledger.old }
     ensures printed { IfOk result (λ told. (members : List Member)
         → AreMembers block.entry.first (lines_in block.entry.lines) members
-        → PrintsBlock (history context.now.newest.now) (placed_in false members) (held ledger.new)
+        → PrintsBlock (history context.now.newest.now) (placed_in false members) (ledger_history ledger.new)
         printer.old printer.new told) }
     ensures few { IfOk result (λ told. told.errors ≤ told.commands) }
     ensures fewer { IfOk result (λ told. told.commands ≤ length (lines_in block.entry.lines)) }
@@ -241,14 +241,15 @@ pub(crate) fn answer_together<T: Threads + Wait + Sync>(
     requires left { 2 ≤ left_in ledger.old }
     ensures printed { IfOk result (λ told. (members : List Member)
         → AreMembers (number + 1) (lines_in body.entry) members
-        → PrintsStatement (held ledger.old) number (Together (placed_in false members)) (held ledger.new)
+        → PrintsStatement (ledger_history ledger.old) number (Together (placed_in false members))
+        (ledger_history ledger.new)
         printer.old printer.new told) }
     ensures few { IfOk result (λ told. told.errors ≤ told.commands) }
     ensures left { left_in ledger.old ≤ left_in ledger.new + 2 }
 {
     let newest = ledger.newest(rt)?;
     printer.together(newest.number())?;
-    let block = Stretch {
+    let block = Section {
         lines: body,
         first: number + 1,
     };

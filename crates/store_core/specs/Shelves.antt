@@ -5,8 +5,8 @@ use Rattle.book_core.specs.History.{History}
 use Rattle.store_core.specs.declared.shelf.Shelf.{Shelf}
 
 -- the history of its book
-abbrev pub held : Shelf → History
-held shelf = arc_value shelf.book
+abbrev pub shelf_history : Shelf → History
+shelf_history shelf = arc_value shelf.book
 
 -- how many passes it is for
 abbrev pub passes_in : Shelf → ℕ

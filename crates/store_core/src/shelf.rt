@@ -31,11 +31,11 @@ pub struct Shelf {
 }
 
 impl Kept for Shelf {
-    ghost use Rattle.store_core.specs.Shelves.{held, passes_in};
+    ghost use Rattle.store_core.specs.Shelves.{passes_in, shelf_history};
 
     type Entry = Commit;
 
-    ghost entries = { held };
+    ghost entries = { shelf_history };
 
     ghost by = { by_of };
 
@@ -83,12 +83,12 @@ fn change_book(
 }
 
 impl Shelf {
-    ghost use Rattle.store_core.specs.Shelves.{held, passes_in};
+    ghost use Rattle.store_core.specs.Shelves.{passes_in, shelf_history};
 
     /// The shelf of a book without a table, for so many passes.
     pub fn new(alloc: Global, passes: u32) -> Result<Shelf, NoMemory>
         requires { (1 ≤ passes) × (passes ≤ seat_limit) }
-        ensures { IfOk result (λ shelf. (held shelf ≡ []) × (passes_in shelf ≡ passes)) }
+        ensures { IfOk result (λ shelf. (shelf_history shelf ≡ []) × (passes_in shelf ≡ passes)) }
     {
         let book = Book::new(alloc);
         let _ = book.commits();
@@ -109,9 +109,9 @@ impl Shelf {
     /// the change is dropped.
     pub fn commit(&mut self, by: u32, change: Change) -> Result<u64, Failure<BookRefused>>
         requires { (0 < by) × (by ≤ passes_in self.old) }
-        ensures reply { CommitsTo (held self.old) by change result (held self.new) }
+        ensures reply { CommitsTo (shelf_history self.old) by change result (shelf_history self.new) }
         ensures passes { passes_in self.new ≡ passes_in self.old }
-        ensures legal { IsLegal (held self.new) }
+        ensures legal { IsLegal (shelf_history self.new) }
     {
         let Shelf { alloc, book, .. } = self;
         change_book(*alloc, book, by, change)?;
@@ -125,7 +125,7 @@ impl Shelf {
     /// `Future` where there are fewer than n commits; `NoMemory` where the book can't have more sharers. It asks
     /// for no memory.
     pub fn snapshot(&self, n: Option<u64>) -> Result<Snapshot, Failure<Future>>
-        ensures { Shows (held self.now) n result }
+        ensures { Shows (shelf_history self.now) n result }
     {
         let newest = self.book.commits();
         let number = n.unwrap_or(newest);
@@ -140,7 +140,7 @@ impl Shelf {
 
     /// The commits, oldest first, each with the number of versions that it made and closed.
     pub fn log(&self) -> Result<Log, NoMemory>
-        ensures { IfOk result (λ log. log ≡ log_of (held self.now)) }
+        ensures { IfOk result (λ log. log ≡ log_of (shelf_history self.now)) }
     {
         self.book.log()
     }

@@ -7,7 +7,7 @@ ghost use Rattle.row_core.specs.Refusals.{AnswersOr};
 ghost use Rattle.turn_core.specs.Seats.{view_of};
 ghost use Rattle.store_core.specs.Limits.{bad_count};
 ghost use Rattle.store_core.specs.Histories.{CommitsTo};
-ghost use Rattle.store_core.specs.Shelves.{held, passes_in};
+ghost use Rattle.store_core.specs.Shelves.{passes_in, shelf_history};
 ghost use Rattle.store_core.specs.Snapshots.{Shows};
 
 use crate::pass::{Note, Pass};
@@ -97,8 +97,8 @@ impl Store {
             move |shelf: &mut Shelf| -> Result<u64, Failure<BookRefused>>
                 requires { (0 < by) × (by ≤ passes_in shelf.old) }
                 ensures passes { passes_in shelf.new ≡ passes_in shelf.old }
-                ensures reply { CommitsTo (held shelf.old) by change result (held shelf.new) }
-                ensures legal { IsLegal (held shelf.new) }
+                ensures reply { CommitsTo (shelf_history shelf.old) by change result (shelf_history shelf.new) }
+                ensures legal { IsLegal (shelf_history shelf.new) }
             { shelf.commit(by, change) },
         );
         match reply {
@@ -133,7 +133,7 @@ impl Store {
             &mut pass.seat,
             move |shelf: &mut Shelf| -> Result<Snapshot, Failure<Future>>
                 ensures same { shelf.new ≡ shelf.old }
-                ensures reply { Shows (held shelf.old) n result }
+                ensures reply { Shows (shelf_history shelf.old) n result }
             { shelf.snapshot(n) },
         );
         match reply {
@@ -162,7 +162,7 @@ impl Store {
             &mut pass.seat,
             move |shelf: &mut Shelf| -> Result<Log, NoMemory>
                 ensures same { shelf.new ≡ shelf.old }
-                ensures reply { IfOk result (λ log. log ≡ log_of (held shelf.old)) }
+                ensures reply { IfOk result (λ log. log ≡ log_of (shelf_history shelf.old)) }
             { shelf.log() },
         );
         match reply {

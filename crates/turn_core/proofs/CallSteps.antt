@@ -12,7 +12,7 @@ use Rattle.turn_core.specs.declared.view.Stage.{Stage}
 use Rattle.turn_core.specs.declared.view.Stage.TheVariants.{Resting, Waiting, Serving}
 use Rattle.turn_core.specs.Entries.{own, AreOfCallers, AddsAtMostOne}
 use Rattle.turn_core.specs.Rule.{Round, StageFits, Fits, Serves}
-use Rattle.turn_core.specs.Steps.{Draws, Looks, PassesOn}
+use Rattle.turn_core.specs.Steps.{DrawsTicket, Looks, PassesOn}
 use Rattle.turn_core.proofs.RoundLemmas.{pick, pick-yes, pick-no, each-set}
 use Rattle.turn_core.proofs.ViewSums.{sum-set, one-le-sum}
 use Rattle.turn_core.proofs.EntryLemmas.{prefix-trans, own-added, prefix-added, numbered-added}
@@ -53,7 +53,7 @@ module _ {S E : Type 0} (entries : S → List E) (by : E → ℕ) (mark_of : S �
   not-out false P h n = refl
 
   pub may_draw : (slots id : ℕ) (me : M) → 0 < me.0.left
-      → Allows Rule slots id me 0 (λ n. (n + 1) % 2 ^ 64) (Draws (step slots 0 1 0 none) me)
+      → Allows Rule slots id me 0 (λ n. (n + 1) % 2 ^ 64) (DrawsTicket (step slots 0 1 0 none) me)
   may_draw slots id me some_left s r _ at _ =
       let x = r.x in
       let v : V = me.0 in

@@ -72,8 +72,8 @@ abbrev SeatState : Type 0 → Type 0 → Type 0
 SeatState S E = Me (Option S) (View E)
 
 -- the ticket is the number found, and a call less is left
-abbrev pub Draws : {S E : Type 0} → Step (Option S) → SeatState S E → ℕ → SeatState S E → Type 0
-Draws st m n m' = (m'.1 ≡ m.1) × (m'.0 ≡ record m.0 { left = m.0.left - 1; stage = Waiting n })
+abbrev pub DrawsTicket : {S E : Type 0} → Step (Option S) → SeatState S E → ℕ → SeatState S E → Type 0
+DrawsTicket st m n m' = (m'.1 ≡ m.1) × (m'.0 ≡ record m.0 { left = m.0.left - 1; stage = Waiting n })
 
 module _ {S E : Type 0} (entries : S → List E) (by : E → ℕ) (mark_of : S → ℕ) where
   -- a state that may be lent to a seat: its entries begin with what the seat has seen, and have the seat's own

@@ -1,7 +1,7 @@
 //! The rule of the table, and what each step on it tells. These types are for proofs alone.
 
 ghost use Rattle.turn_core.specs.Rule.{Serves};
-ghost use Rattle.turn_core.specs.Steps.{view_from, sole, following, telling, hearing, spent_view, Draws, Looks, PassesOn, Learns};
+ghost use Rattle.turn_core.specs.Steps.{view_from, sole, following, telling, hearing, spent_view, DrawsTicket, Looks, PassesOn, Learns};
 
 use crate::kept::Kept;
 use crate::view::View;
@@ -32,7 +32,7 @@ impl<E> Split<View<E>> for Deal {
 pub(crate) struct Draw;
 
 impl<S: Kept> Play<Option<S>, View<S::Entry>> for Draw {
-    ghost then = { λ st m n w. Draws st m n w };
+    ghost then = { λ st m n w. DrawsTicket st m n w };
 }
 
 // Looks whether the ticket is served; at its turn the state comes out.

@@ -16,7 +16,7 @@ use Rattle.version_core.specs.Finding.{AreCandidates, ListsOpen, any_row, passes
 use Rattle.version_core.specs.Keys.{AreNear}
 use Rattle.version_core.specs.OpenVersions.{closed, closed_at, current, is_open, is_taken, places_from, versions_after}
 use Rattle.version_core.specs.Made.{made, draft_of}
-use Rattle.version_core.specs.Rows.{drafts_of, numbered, parts_in, removes}
+use Rattle.version_core.specs.Rows.{drafts_of, numbered, parts_of_all, removes}
 use Rattle.version_core.specs.Limits.{version_limit}
 use Rattle.version_core.specs.declared.change.Change.{Change}
 use Rattle.version_core.specs.declared.version.Version.{Version}
@@ -343,7 +343,7 @@ ListsOpen-none test = record { inside = All-from_recursion (λ place. place < 0)
 
 -- at most three parts for each place
 pub parts-listed : (c : Change) (schema : List Column) (vs : List Version) (places : List ℕ)
-    → ListsOpen vs any_row places → length (parts_in c schema (current vs)) ≤ 3 * length places
+    → ListsOpen vs any_row places → length (parts_of_all c schema (current vs)) ≤ 3 * length places
 parts-listed c schema vs places h =
     let same = ap length
     (h.exact ∙ places_from-agree (λ v. is_open v && true) is_open (λ v. and-true (is_open v)) 0 vs) in

@@ -10,7 +10,7 @@ use Rattle.row_core.specs.declared.draft.Draft.{Draft}
 use Rattle.row_core.specs.declared.row.Row.{Row}
 use Rattle.row_core.specs.declared.schema.Column.{Column}
 use Rattle.key_core.specs.Keys.{collide, have_collision}
-use Rattle.key_core.specs.Order.{row_in}
+use Rattle.key_core.specs.Order.{tested_row}
 use Rattle.key_core.specs.declared.keys.KeyedRow.{KeyedRow}
 use Rattle.key_core.proofs.Added.{pairs-filtered}
 use Rattle.key_core.proofs.Pairs.{have_pair-map}
@@ -124,19 +124,19 @@ left-more vs p places i v h inside e =
 
 pub left-yes : (vs : List Version) (p : Version → Bool) (places : List ℕ) (i : ℕ) (v : Version) (rows : List KeyedRow)
     (row : KeyedRow) → i < length places → get_or places i 0 < length vs → v ≡ get_or vs (get_or places i 0) v
-    → p v ≡ true → row_in row ≡ draft_of v
-    → map row_in rows ≡ drafts_at vs (filter (passes vs p) (take i places))
-    → map row_in (rows ++ row ∷ []) ≡ drafts_at vs (filter (passes vs p) (take (i + 1) places))
+    → p v ≡ true → tested_row row ≡ draft_of v
+    → map tested_row rows ≡ drafts_at vs (filter (passes vs p) (take i places))
+    → map tested_row (rows ++ row ∷ []) ≡ drafts_at vs (filter (passes vs p) (take (i + 1) places))
 left-yes vs p places i v rows row h inside e test k was =
-    map-append row_in rows (row ∷ []) ∙ ap (λ l. l ++ row_in row ∷ []) was
+    map-append tested_row rows (row ∷ []) ∙ ap (λ l. l ++ tested_row row ∷ []) was
     ∙ ap (λ d. drafts_at vs (filter (passes vs p) (take i places)) ++ d ∷ []) k
     ∙ sym (left-more vs p places i v h inside e
     ∙ ap (λ b. drafts_at vs (filter (passes vs p) (take i places)) ++ cond b (draft_of v ∷ []) []) test)
 
 pub left-no : (vs : List Version) (p : Version → Bool) (places : List ℕ) (i : ℕ) (v : Version) (rows : List KeyedRow)
     → i < length places → get_or places i 0 < length vs → v ≡ get_or vs (get_or places i 0) v → p v ≡ false
-    → map row_in rows ≡ drafts_at vs (filter (passes vs p) (take i places))
-    → map row_in rows ≡ drafts_at vs (filter (passes vs p) (take (i + 1) places))
+    → map tested_row rows ≡ drafts_at vs (filter (passes vs p) (take i places))
+    → map tested_row rows ≡ drafts_at vs (filter (passes vs p) (take (i + 1) places))
 left-no vs p places i v rows h inside e test was =
     was ∙ sym
     (left-more vs p places i v h inside e

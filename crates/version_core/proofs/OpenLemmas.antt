@@ -17,7 +17,7 @@ use Rattle.row_core.specs.declared.value.Value.{Value}
 use Rattle.row_core.specs.declared.row.Row.{Row}
 use Rattle.row_core.specs.declared.draft.Draft.{Draft}
 use Rattle.row_core.specs.declared.schema.Column.{Column}
-use Rattle.version_core.specs.Rows.{drafts_of, numbered, part, parts_in, parts_of, removes, set_at}
+use Rattle.version_core.specs.Rows.{drafts_of, numbered, part, parts_of_all, parts_of, removes, set_at}
 use Rattle.version_core.specs.Finding.{passes}
 use Rattle.version_core.specs.OpenVersions.{closed, closed_at, current, is_open, is_taken, places_from, versions_after}
 use Rattle.version_core.specs.Made.{made, AddsDrafts, Making, made_of}
@@ -276,7 +276,7 @@ parts_of-few (Delete name portion conds) schema row =
     )
 
 pub parts-few : (c : Change) (schema : List Column) (rows : List Row)
-    → length (parts_in c schema rows) ≤ 3 * length rows
+    → length (parts_of_all c schema rows) ≤ 3 * length rows
 parts-few c schema [] = omega arith
 parts-few c schema (row ∷ rows) =
     let rest = parts-few c schema rows in
@@ -289,7 +289,7 @@ parts-few c schema (row ∷ rows) =
             arith,
             rest,
             length-append (parts_of c schema row)
-                (parts_in c schema rows),
+                (parts_of_all c schema rows),
             parts_of-few c schema row,
           ))
       | false ↦ omega (arith, rest)
@@ -322,7 +322,7 @@ parts_at-push c schema vs places place v inside e =
     ∙ ap (λ l. parts_at c schema vs places ++ l) (append-nil (parts_of c schema v.row))
 
 parts-taken : (c : Change) (schema : List Column) (vs : List Version)
-    → flat_map (λ (v : Version). parts_of c schema v.row) (filter (is_taken c schema) vs) ≡ parts_in c schema
+    → flat_map (λ (v : Version). parts_of c schema v.row) (filter (is_taken c schema) vs) ≡ parts_of_all c schema
     (current vs)
 parts-taken c schema [] = refl
 parts-taken c schema (v ∷ vs) =
@@ -330,7 +330,7 @@ parts-taken c schema (v ∷ vs) =
     elim (is_open v) as
     (λ b. flat_map (λ (v : Version). parts_of c schema v.row)
     (cond (b && removes c schema v.row) (v ∷ filter (is_taken c schema) vs)
-    (filter (is_taken c schema) vs)) ≡ parts_in c schema
+    (filter (is_taken c schema) vs)) ≡ parts_of_all c schema
     (map (λ (v : Version). v.row) (cond b (v ∷ filter is_open vs) (filter is_open vs)))) [
       | true ↦ elim (removes c schema v.row) as
           (λ t. flat_map (λ (v : Version). parts_of c schema v.row)
@@ -344,7 +344,7 @@ parts-taken c schema (v ∷ vs) =
 
 -- what comes in the place of all that a change takes
 pub parts_at-taken : (c : Change) (schema : List Column) (vs : List Version) (taken : List ℕ)
-    → taken ≡ places_from (is_taken c schema) 0 vs → parts_at c schema vs taken ≡ parts_in c schema (current vs)
+    → taken ≡ places_from (is_taken c schema) 0 vs → parts_at c schema vs taken ≡ parts_of_all c schema (current vs)
 parts_at-taken c schema vs taken e =
     ap (parts_at c schema vs) e
     ∙ ap (flat_map (λ (v : Version). parts_of c schema v.row)) (picked-places_from (is_taken c schema) vs)
@@ -395,7 +395,7 @@ made-push before commit c schema vs taken more place v old new inside e was now 
 pub made-all : (before commit : ℕ) (c : Change) (schema : List Column) (vs : List Version) (taken : List ℕ)
     (new : Making) → taken ≡ places_from (is_taken c schema) 0 vs
     → new ≡ made_so_far before commit c schema vs taken
-    → made_of new ≡ made commit (numbered before (parts_in c schema (current vs)))
+    → made_of new ≡ made commit (numbered before (parts_of_all c schema (current vs)))
 made-all before commit c schema vs taken new e same =
     ap made_of same ∙ ap (λ ds. made commit (numbered before ds)) (parts_at-taken c schema vs taken e)
 

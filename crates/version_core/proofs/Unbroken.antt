@@ -19,7 +19,7 @@ use Rattle.key_core.specs.Keys.{collide, have_collision, same_key}
 use Rattle.key_core.proofs.Collisions.{collide-flips, shared, shares}
 use Rattle.key_core.proofs.Replaced.{AreApart, IsPartOf, Misses, append-all, apart-from_none, apart-replaced, none-from_apart}
 use Rattle.version_core.specs.Keys.{is_column_of, rows_left, sets_key, break_key}
-use Rattle.version_core.specs.Rows.{Pair, drafts_of, part, parts_in, parts_of, removes, set_at, unnumbered}
+use Rattle.version_core.specs.Rows.{Pair, drafts_of, part, parts_of_all, parts_of, removes, set_at, unnumbered}
 use Rattle.version_core.specs.declared.change.Change.{Change}
 use Rattle.version_core.specs.declared.change.Change.TheVariants.{Make, Update, Delete}
 
@@ -152,9 +152,9 @@ replaced : (key : List ℕ) (c : Change) (schema : List Column) (rows : List Row
     → AllByRecursion (IsPartOf (collide key) (collide-flips key) (unnumbered row)) (parts_of c schema row))
     → ((row : Row) → AreApart (collide key) (parts_of c schema row))
     → have_collision key (map unnumbered rows) ≡ false
-    → have_collision key (rows_left c schema rows ++ parts_in c schema rows) ≡ false
+    → have_collision key (rows_left c schema rows ++ parts_of_all c schema rows) ≡ false
 replaced key c schema rows inside apart none =
-    none-from_apart (collide key) (rows_left c schema rows ++ parts_in c schema rows)
+    none-from_apart (collide key) (rows_left c schema rows ++ parts_of_all c schema rows)
     (apart-replaced (collide key) (collide-flips key) unnumbered (removes c schema)
     (parts_of c schema) inside apart rows (apart-from_none (collide key) (map unnumbered rows) none))
 

@@ -52,14 +52,14 @@ parts_of (Delete table portion conds) columns row =
 parts_of c columns row = []
 
 -- what comes in the place of all rows that a change takes out
-abbrev pub parts_in : Change → List Column → List Row → List Draft
-parts_in c columns rows = flat_map (parts_of c columns) (filter (removes c columns) rows)
+abbrev pub parts_of_all : Change → List Column → List Row → List Draft
+parts_of_all c columns rows = flat_map (parts_of c columns) (filter (removes c columns) rows)
 
 -- all new rows of a change
 abbrev pub drafts_of : Change → List Column → List Row → List Draft
 drafts_of (Make table schema) columns rows = []
 drafts_of (Load table drafts) columns rows = drafts
-drafts_of c columns rows = parts_in c columns rows
+drafts_of c columns rows = parts_of_all c columns rows
 
 -- drafts as rows, with the ids that follow the used ones
 abbrev pub numbered : ℕ → List Draft → List Row

@@ -3,7 +3,7 @@
 ghost use Rattle.std.specs.Prelude.{◌≡◌, ◌≢◌, ◌++◌, List, [], true, false, map, IfOk, OnOk};
 ghost use Rattle.std.specs.List.{list_any};
 ghost use Rattle.key_core.specs.Keys.{collide, have_collision};
-ghost use Rattle.key_core.specs.Order.{row_in};
+ghost use Rattle.key_core.specs.Order.{tested_row};
 ghost use Rattle.row_core.specs.Schema.{key_of};
 ghost use Rattle.version_core.specs.Finding.{ListsOpen, any_row, AreSought};
 ghost use Rattle.version_core.specs.Keys.{AreNear, collides_left, is_column_of, is_left, overlap_after, rows_left, sets_key, break_key};
@@ -110,7 +110,7 @@ fn rows_left<'a>(
     open_at: &[usize],
 ) -> Result<Vec<KeyedRow<'a>>, NoMemory>
     requires { ListsOpen versions.now any_row open_at.now }
-    ensures { IfOk result (λ rows. map row_in rows.items
+    ensures { IfOk result (λ rows. map tested_row rows.items
         ≡ rows_left change.now schema.now (current versions.now)) }
 {
     let mut rows = Vec::new(alloc);
@@ -141,7 +141,7 @@ fn is_left(
 
 /// The version's row, as its key is tested.
 fn keyed(version: &Version) -> KeyedRow<'_>
-    ensures { row_in result ≡ draft_of version.now }
+    ensures { tested_row result ≡ draft_of version.now }
 {
     KeyedRow {
         values: version.row.values.as_slice(),
@@ -151,8 +151,8 @@ fn keyed(version: &Version) -> KeyedRow<'_>
 
 /// Adds the versions' rows.
 fn push_rows<'a>(rows: &mut Vec<KeyedRow<'a>>, versions: &'a [Version]) -> Result<(), NoMemory>
-    ensures { OnOk result (map row_in rows.new.items
-        ≡ map row_in rows.old.items ++ map draft_of versions.now) }
+    ensures { OnOk result (map tested_row rows.new.items
+        ≡ map tested_row rows.old.items ++ map draft_of versions.now) }
 {
     for version in versions {
         if let Err(_) = rows.push(keyed(version)) {

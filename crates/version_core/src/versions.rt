@@ -11,7 +11,7 @@ ghost use Rattle.version_core.specs.Keys.{is_column_of, overlap_after, rows_left
 ghost use Rattle.version_core.specs.Limits.{bucket_count, version_limit};
 ghost use Rattle.version_core.specs.Made.{made, draft_of};
 ghost use Rattle.version_core.specs.OpenVersions.{closed_at, current, is_taken, places_from, versions_after};
-ghost use Rattle.version_core.specs.Rows.{conds_of, drafts_of, numbered, parts_in, removes, unnumbered};
+ghost use Rattle.version_core.specs.Rows.{conds_of, drafts_of, numbered, parts_of_all, removes, unnumbered};
 ghost use Rattle.version_core.specs.declared.change.Change.{Change};
 
 use crate::change::Change;
@@ -111,7 +111,7 @@ impl Versions {
     pub fn most_parts(&self) -> usize
         requires { length self.now ≤ version_limit }
         ensures { (change : Change) (columns : List Column)
-            → length (parts_in change columns (current self.now)) ≤ result }
+            → length (parts_of_all change columns (current self.now)) ≤ result }
     {
         3 * self.open_at.len()
     }
@@ -119,7 +119,7 @@ impl Versions {
     /// How many rows come in the place of those that the change takes out.
     pub fn count_parts(&self, schema: &Schema, change: &Change) -> usize
         requires { length self.now ≤ version_limit }
-        ensures { result ≡ length (parts_in change.now schema.now (current self.now)) }
+        ensures { result ≡ length (parts_of_all change.now schema.now (current self.now)) }
     {
         let lookup = lookup_of(&self.indexes, schema, change);
         let places = candidates(self.open_at.as_slice(), &self.indexes, lookup);
@@ -375,7 +375,7 @@ fn plan_portion(
     requires periods { ArePeriods versions.now periods.now }
     requires places { AreCandidates change.now schema.now versions.now places.now }
     ensures new { IfOk result (λ plan. plan.new.items ≡ made commit
-        (numbered (length versions.now) (parts_in change.now schema.now (current versions.now)))) }
+        (numbered (length versions.now) (parts_of_all change.now schema.now (current versions.now)))) }
     ensures taken { IfOk result (λ plan. plan.taken.items
         ≡ places_from (is_taken change.now schema.now) 0 versions.now) }
 {
@@ -406,7 +406,7 @@ fn count_parts(
     requires few { length versions.now ≤ version_limit }
     requires periods { ArePeriods versions.now periods.now }
     requires places { AreCandidates change.now schema.now versions.now places.now }
-    ensures { result ≡ length (parts_in change.now schema.now (current versions.now)) }
+    ensures { result ≡ length (parts_of_all change.now schema.now (current versions.now)) }
 {
     let mut count = 0;
     let columns = columns_sought(schema, change);

@@ -16,7 +16,7 @@ use Rattle.work_core.proofs.Counting.{times-append}
 use Rattle.work_core.proofs.Places.{count_at-set, at_their_places-set}
 
 -- the numbers of two lists of values
-pub times-numbers-append : {T : Type 0} (x : ℕ) (us vs : List (Numbered T))
+times-numbers-append : {T : Type 0} (x : ℕ) (us vs : List (Numbered T))
     → times x (numbers_of (us ++ vs)) ≡ times x (numbers_of us) + times x (numbers_of vs)
 times-numbers-append x us vs =
     ap (times x) (map-append (λ v. v.number) us vs) ∙ times-append x (numbers_of us) (numbers_of vs)

@@ -3,5 +3,5 @@ pub mod Handed
 pub mod Places
 pub mod Rule
 pub mod Team
-pub mod ValuesAt
+pub mod PresentValues
 pub mod ViewSums

@@ -35,7 +35,7 @@ pub place_read : {T : Type 0} (places : List (Option T)) (i : ℕ) (x : Option T
 place_read places i x inside read = get_or_default places i None x inside ∙ sym read
 
 -- a place with a value has one
-pub count_at-some : {T : Type 0} (places : List (Option T)) (x : ℕ) → IsSome (slice_index_or places x None)
+count_at-some : {T : Type 0} (places : List (Option T)) (x : ℕ) → IsSome (slice_index_or places x None)
     → count_at places x ≡ 1
 count_at-some places x e = rw e refl
 

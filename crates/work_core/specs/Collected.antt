@@ -16,10 +16,10 @@ pub record IsFirstGap {T : Type 0} (places : List (Option T)) (i : ℕ) : Type 0
   pub least : (k : ℕ) → k < i → IsSome (slice_index_or places k None)
 
 -- the values of the places that are not empty, in their order
-abbrev pub values_at : {T : Type 0} → List (Option T) → List T
-values_at [] = []
-values_at (Some x ∷ places) = x ∷ values_at places
-values_at (None ∷ places) = values_at places
+abbrev pub present_values : {T : Type 0} → List (Option T) → List T
+present_values [] = []
+present_values (Some x ∷ places) = x ∷ present_values places
+present_values (None ∷ places) = present_values places
 
 module _ {W Out : Type 0} (g : PairWork.Ghosts W Out) where
   -- what is at a place is a value of the pair of its number

@@ -28,4 +28,4 @@ pub use name::PairName;
 pub use outs::Outs;
 pub use piece::Piece;
 pub use run::{WORKER_LIMIT, run_pairs};
-pub use stretch::Stretch;
+pub use stretch::{STRETCH_PAIRS, Stretch, run_stretch};

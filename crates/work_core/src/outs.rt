@@ -1,6 +1,6 @@
 //! The values of all pairs of a job.
 
-ghost use Rattle.std.specs.Prelude.{◌≡◌, ◌==◌, All, IfOk, IsSome, Some, map, length, slice_get};
+ghost use Rattle.std.specs.Prelude.{All, IfOk, IsSome, Some, length, map, slice_get, ◌==◌, ◌≡◌};
 ghost use Rattle.std.specs.Option.{option_copied};
 
 use std::alloc::{AllocError, Global};
@@ -14,11 +14,11 @@ pub struct Outs<T> {
 
 impl<T> Model for Outs<T> {
     ghost use Rattle.std.specs.Prelude.{All, IsSome, List};
-    ghost use Rattle.work_core.specs.Collected.{values_at};
+    ghost use Rattle.work_core.specs.Collected.{present_values};
 
     ghost Value = { List T };
 
-    ghost view = { λ o. values_at o.places.items };
+    ghost view = { λ o. present_values o.places.items };
 
     ghost invariant = { λ o. All IsSome o.places.items };
 }

@@ -1,13 +1,20 @@
 //! Stretches: pairs of a job that follow one another by number, as a job of their own.
 
-ghost use Rattle.std.specs.Prelude.{◌≡◌, ◌+◌, ◌≤◌};
+ghost use Rattle.std.specs.Prelude.{◌≡◌, ◌+◌, ◌<◌, ◌≤◌, IfOk};
 ghost use Rattle.work_core.specs.Jobs.{AreValues};
+ghost use Rattle.work_core.specs.Limits.{worker_limit};
 ghost use Rattle.work_core.specs.Stretches.{AreValuesFrom, number_within, number_within-at, number_within-is, stretch-few, stretch-inside};
 
+use crate::gate::Gate;
 use crate::job::PairWork;
 use crate::name::PairName;
 use crate::outs::Outs;
+use crate::run::run_pairs;
 use std::alloc::{AllocError, Global};
+use std::thread::Threads;
+
+/// The most pairs that a query runs before it takes what they gave, so that no more values are held at once.
+pub const STRETCH_PAIRS: u64 = 65_536;
 
 /// The pairs of a job from one number on, so many of them, as a job: the pair with number i is the job's with
 /// number `first + i`, with its name, its inputs and its value.
@@ -88,4 +95,24 @@ impl<'a, W: PairWork> PairWork for Stretch<'a, W> {
     fn same(&self, other: &Self, pair: PairName) -> bool {
         self.place(pair).is_some() && other.place(pair).is_some() && self.job.same(other.job, pair)
     }
+}
+
+/// The values of the `count` pairs of the job from number `first` on, run as [`run_pairs`] runs all of them.
+pub fn run_stretch<R: Threads + Sync, W: PairWork, G: Gate>(
+    rt: &R,
+    alloc: Global,
+    job: &W,
+    first: u64,
+    count: u64,
+    workers: u32,
+    gate: &G,
+) -> Result<Outs<W::Out>, AllocError>
+    requires inside { first + count ≤ W.pairs job.now }
+    requires workers { (0 < workers) × (workers ≤ worker_limit) }
+    ensures { IfOk result (AreValuesFrom W.PairWork job.now first count) }
+{
+    let stretch = Stretch::new(job, first, count);
+    let outs = run_pairs(rt, alloc, &stretch, workers, gate)?;
+    stretch.has_values_of_job(&outs);
+    Ok(outs)
 }

@@ -1,7 +1,7 @@
 use Rattle.std.proofs.Common.{◌≡◌, List, Option, Some, length, sym, refl, subst, arith}
 use Rattle.std.specs.Borrow.{Bor}
 use Rattle.row_core.specs.declared.value.Value.{Value}
-use Rattle.agg_core.specs.Grouping.{IsLast, values_in}
+use Rattle.agg_core.specs.Grouping.{IsLast, copied_groups}
 use Rattle.agg_core.proofs.GroupLemmas.{class_pushed}
 use Rattle.agg_core.proofs.groups.enter_group.Goals as goal
 
@@ -12,6 +12,6 @@ returns c =
     class_pushed c.args.value.now c.args.groups.now.items c.push.new.self.items (Some c.args.value) c.len-class.result
     refl c.requires.rise c.requires.upto
     (λ last. c.if-is_last.ensures
-    (subst (λ (l : List (Option (Bor Value))). IsLast (values_in l) (Some c.args.value.now))
+    (subst (λ (l : List (Option (Bor Value))). IsLast (copied_groups l) (Some c.args.value.now))
     (sym c.deref.ensures.value) last))
     c.in_default.ensures.items counted

@@ -6,7 +6,7 @@ use Rattle.row_core.specs.Refusals.{first_of}
 use Rattle.version_core.specs.Limits.{version_limit}
 use Rattle.book_core.specs.Limits.{commit_limit}
 use Rattle.version_core.specs.Shown.{shown}
-use Rattle.version_core.specs.Rows.{parts_in}
+use Rattle.version_core.specs.Rows.{parts_of_all}
 use Rattle.book_core.specs.StoredTables.{StoredTable, table_at}
 use Rattle.book_core.specs.State.{pair_tests, full_tests}
 use Rattle.book_core.proofs.Refusals.{load_wrong, load_full, load_taken}
@@ -66,16 +66,16 @@ returns-in-None c =
     ∙ ap (λ l. first_of
     (flat_map (pair_tests c.table.inside.schema) l ++ full_tests c.args.commits
     (length c.table.inside.versions + length
-    (parts_in c.args.change.now c.table.inside.schema
+    (parts_of_all c.args.change.now c.table.inside.schema
     (shown c.args.commits c.table.inside.versions))))) c.as_slice-in-None.ensures
     ∙ ap (λ t. first_of
     (flat_map (pair_tests t.schema) c.in-Update.conds ++ full_tests c.args.commits
     (length t.versions + length
-    (parts_in c.args.change.now t.schema (shown c.args.commits t.versions))))) c.table.view_is
+    (parts_of_all c.args.change.now t.schema (shown c.args.commits t.versions))))) c.table.view_is
     ∙ ap (λ d. first_of
     (flat_map (pair_tests c.args.table.now.schema) c.in-Update.conds ++ full_tests c.args.commits
     (length c.args.table.now.versions + length
-    (parts_in d c.args.table.now.schema (shown c.args.commits c.args.table.now.versions))))) c.in-Update.is))
+    (parts_of_all d c.args.table.now.schema (shown c.args.commits c.args.table.now.versions))))) c.in-Update.is))
 
 pub returns-in-Delete : goal.returns-in-Delete
 returns-in-Delete c = rw c.in-Delete.is (
@@ -83,13 +83,13 @@ returns-in-Delete c = rw c.in-Delete.is (
     ∙ ap (λ l. first_of
     (flat_map (pair_tests c.table.inside.schema) l ++ full_tests c.args.commits
     (length c.table.inside.versions + length
-    (parts_in c.args.change.now c.table.inside.schema
+    (parts_of_all c.args.change.now c.table.inside.schema
     (shown c.args.commits c.table.inside.versions))))) c.as_slice-in-Delete.ensures
     ∙ ap (λ t. first_of
     (flat_map (pair_tests t.schema) c.in-Delete.conds ++ full_tests c.args.commits
     (length t.versions + length
-    (parts_in c.args.change.now t.schema (shown c.args.commits t.versions))))) c.table.view_is
+    (parts_of_all c.args.change.now t.schema (shown c.args.commits t.versions))))) c.table.view_is
     ∙ ap (λ d. first_of
     (flat_map (pair_tests c.args.table.now.schema) c.in-Delete.conds ++ full_tests c.args.commits
     (length c.args.table.now.versions + length
-    (parts_in d c.args.table.now.schema (shown c.args.commits c.args.table.now.versions))))) c.in-Delete.is)
+    (parts_of_all d c.args.table.now.schema (shown c.args.commits c.args.table.now.versions))))) c.in-Delete.is)

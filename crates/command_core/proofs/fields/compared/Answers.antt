@@ -2,7 +2,7 @@ use Rattle.std.proofs.Common.{◌∙◌, ap, sym}
 use Rattle.std.specs.Option.{ok_or}
 use Rattle.std.specs.Prelude.{codes}
 use Rattle.row_core.specs.Refusals.{and_then, map_ok}
-use Rattle.command_core.specs.Fields.{both, name_in}
+use Rattle.command_core.specs.Fields.{both_ok, name_in}
 use Rattle.command_core.specs.Lines.{fields_in}
 use Rattle.command_core.specs.Pairs.{compared_by, name_pairs, paired_behind}
 use Rattle.command_core.specs.Records.{Record}
@@ -19,6 +19,6 @@ returns-in-Some c =
     let told = c.in-Some.ensures ∙ ap (paired_behind (codes "on")) rest in
     let follow =
     λ (names : Record).
-    map_ok compared_by (both (both (name_in it.left.now) (name_in it.right.now)) (name_pairs names)) in
+    map_ok compared_by (both_ok (both_ok (name_in it.left.now) (name_in it.right.now)) (name_pairs names)) in
     let whole = compared-two line it.left.now it.right.now (sym it.ensures) (sym it.ensures') in
     c.names_and_pairs.ensures ∙ (ap (λ o. and_then (ok_or o BadCommand) follow) told ∙ sym whole)

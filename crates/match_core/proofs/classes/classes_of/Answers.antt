@@ -3,7 +3,8 @@ use Rattle.std.specs.Prelude.{None}
 use Rattle.std.proofs.lemmas.List.{take_more}
 use Rattle.row_core.specs.Refusals.{first_of}
 use Rattle.match_core.specs.Classes.{AreClasses, values_under}
-use Rattle.match_core.specs.Columns.{Names, tests_of_names}
+use Rattle.row_core.specs.Name.{NamePair}
+use Rattle.match_core.specs.Columns.{tests_of_names}
 use Rattle.match_core.specs.Cells.{Refines}
 use Rattle.row_core.proofs.RefusalLemmas.{each_allowed}
 use Rattle.match_core.proofs.SplitClasses.{no_columns, one_more, written_back}
@@ -12,7 +13,7 @@ use Rattle.match_core.proofs.classes.classes_of.Goals as goal
 pub split_by-requires-clause-allowed : goal.split_by-requires-clause-allowed
 split_by-requires-clause-allowed c =
     let tests = tests_of_names c.args.left.schema.now c.args.right.schema.now in
-    subst (λ (pair : Names). first_of (tests pair) ≡ None) (sym c.pair-item.is)
+    subst (λ (pair : NamePair). first_of (tests pair) ≡ None) (sym c.pair-item.is)
     (each_allowed tests c.args.on.now c.loop-pair.pair-index c.pair-item.result c.requires c.loop-pair-test.true)
 
 pub loop-pair-init : goal.loop-pair-init
@@ -40,8 +41,8 @@ loop-pair-preserved c =
     subst (λ (l : List ℕ). Refines l (values_under left right lefts rights pair) new) same c.in_ok-split_by.ensures in
     let more : AreClasses left right lefts rights (take i on ++ pair ∷ []) new =
     one_more left right lefts rights (take i on) pair old new c.loop-pair.invariant len refines in
-    let front : take i on ++ pair ∷ [] ≡ take (i + 1) on = ap (λ (p : Names). take i on ++ p ∷ []) c.pair-item.is
+    let front : take i on ++ pair ∷ [] ≡ take (i + 1) on = ap (λ (p : NamePair). take i on ++ p ∷ []) c.pair-item.is
     ∙ sym (take_more on i pair c.loop-pair-test.true) in
     subst (AreClasses left right lefts rights (take (i + 1) on))
     (sym (written_back old new c.loop-pair.classes.len len (sym c.loop-pair.classes.ok.0)))
-    (subst (λ (l : List Names). AreClasses left right lefts rights l new) front more)
+    (subst (λ (l : List NamePair). AreClasses left right lefts rights l new) front more)

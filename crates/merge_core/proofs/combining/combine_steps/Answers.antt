@@ -5,7 +5,7 @@ use Rattle.merge_core.proofs.combining.combine_steps.Goals as goal
 
 pub loop-step-init : goal.loop-step-init
 loop-step-init c =
-    rw c.new-steps.ensures.items
+    rw c.in_ok-steps.ensures.items
     (combining_start c.args.one.now c.args.other.now _ c.requires.one_apart c.requires.other_apart c.requires.can_add
     (starts_same c.args.one.now _ _ (omega (arith, ints)) c.in-Some.ensures.0)
     (starts_same c.args.other.now _ _ (omega (arith, ints)) c.in-Some.ensures.1))

@@ -2,7 +2,7 @@ use Rattle.std.proofs.Common.{refl, sym, subst, ap, ◌∙◌, ◌≡◌, ◌+�
 use Rattle.merge_core.specs.Tallies.{both}
 use Rattle.merge_core.specs.Steps.{StepList, IsBoth, tally_at}
 use Rattle.merge_core.specs.Combining.{CanAdd, IsBothSteps}
-use Rattle.merge_core.proofs.TallyLemmas.{StandsFor-append}
+use Rattle.merge_core.proofs.TallyLemmas.{IsStepListOf-append}
 use Rattle.merge_core.proofs.WeightLemmas.{can_add, both_kept}
 use Rattle.merge_core.proofs.steps.combine.Goals as goal
 
@@ -40,4 +40,4 @@ returns-clause-items c xs ys one other =
           ap (λ (v : StepList). v.weight + c.other.inside.weight) c.one.view_is
           ∙ ap (λ (v : StepList). c.args.one.now.weight + v.weight) c.other.view_is;
     } in
-    StandsFor-append c.args.one.now c.args.other.now _ is xs ys one other
+    IsStepListOf-append c.args.one.now c.args.other.now _ is xs ys one other

@@ -16,7 +16,7 @@ use Rattle.command_core.specs.declared.refusal.Refusal.{Refusal}
 use Rattle.command_core.proofs.Cutting.{slice_get-there}
 use Rattle.script_core.specs.Failure.{IsRecordFailure, failure_at}
 use Rattle.script_core.specs.Refusal.{value_refusal}
-use Rattle.script_core.specs.Effects.{pair_read, value_in}
+use Rattle.script_core.specs.Effects.{pair_read, named_value}
 use Rattle.script_core.proofs.pairs.value_named.Goals as goal
 
 -- a value that was read, or why it was not, is what a column's kind makes of the text
@@ -52,12 +52,12 @@ pair-read : (number : ℕ) (columns : List Column) (name text : List ℕ) (place
 pair-read number columns name text place result e h =
     subst (λ (o : Option ℕ).
     IsRead number name
-    (value_in name text
+    (named_value name text
     (option_map (λ (column : Column). column.kind) (option_and_then (slice_get columns) o))) result) (sym e)
     (by_column (slice_get columns place) refl h)
   where
     by_column : (found : Option Column) → slice_get columns place ≡ found → IsAnswerAt found text result
-        → IsRead number name (value_in name text (option_map (λ (column : Column). column.kind) found)) result
+        → IsRead number name (named_value name text (option_map (λ (column : Column). column.kind) found)) result
     by_column None none k = absurd (slice_get-there columns place (column_of-within columns name place e) none)
     by_column (Some column) there k = value-read number name (value_of column.kind text) result k
 

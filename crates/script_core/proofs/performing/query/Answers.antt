@@ -2,7 +2,7 @@ use Rattle.std.proofs.Common.{◌≡◌, ◌∙◌, ◌+◌, Err, ap, refl}
 use Rattle.std.proofs.lemmas.Result.{err_from_is_err_and}
 use Rattle.cert_core.specs.declared.verdict.Certificate.{Certificate}
 use Rattle.match_core.specs.Items.{items_of}
-use Rattle.command_core.specs.Fields.{both}
+use Rattle.command_core.specs.Fields.{both_ok}
 use Rattle.command_core.specs.Lines.{lines_in}
 use Rattle.command_core.specs.Meaning.{Agg, Anti, At, Check, Dip, Join, Rows}
 use Rattle.command_core.specs.PairsIn.{compared_in}
@@ -11,7 +11,7 @@ use Rattle.script_core.specs.Answer.{IsAggOf, IsAntiOf, IsDipOf, IsJoinOf, IsVer
 use Rattle.script_core.specs.Effects.{aggregated_told, claim_of, rows_on, rows_told, sides_told}
 use Rattle.store_core.specs.Snapshots.{history}
 use Rattle.script_core.proofs.Answering.{query-failed}
-use Rattle.script_core.proofs.Comparing.{aggregated-failed, both-failed, sides-failed}
+use Rattle.script_core.proofs.Comparing.{aggregated-failed, both_ok-failed, sides-failed}
 use Rattle.script_core.proofs.performing.query.Goals as goal
 
 pub returns-in_err-shown-in-Rows : goal.returns-in_err-shown-in-Rows
@@ -128,6 +128,6 @@ returns-in_err-shown-in-Check g c =
     let claimed = claim_of (number + 1) body in
     rw c.in-Check.is
     (query-failed number (Check table parts instant asof body) before before
-    (both told claimed) (λ read. IsVerdictOn (items_of read.0) read.1 certificate) why
+    (both_ok told claimed) (λ read. IsVerdictOn (items_of read.0) read.1 certificate) why
     c.from_residual-in_err-shown-in-Check.result (λ given it. it) (p.1 ∙ ap Err p.2) refl
-    (both-failed told claimed why (failed.fails table)))
+    (both_ok-failed told claimed why (failed.fails table)))

@@ -4,16 +4,16 @@ use Rattle.dip_core.specs.Item.{IdsRise}
 use Rattle.dip_core.specs.declared.item.Item.{Item}
 use Rattle.match_core.specs.Items.{items_of}
 use Rattle.match_core.proofs.ItemIds.{IdsRise-items_of}
-use Rattle.command_core.specs.Fields.{both}
+use Rattle.command_core.specs.Fields.{both_ok}
 use Rattle.command_core.specs.Lines.{lines_in}
 use Rattle.store_core.specs.Snapshots.{history}
 use Rattle.script_core.specs.Effects.{claim_of, rows_told}
 use Rattle.script_core.specs.Ledgers.{commit_shown}
 use Rattle.script_core.proofs.queries.check.Goals as goal
 
-both-Ok : {S T E : Type 0} (one : Result S E) (other : Result T E) (x : S) (y : T) → one ≡ Ok x → other ≡ Ok y
-    → both one other ≡ Ok (x, y)
-both-Ok one other x y e f = ap (λ r. both r other) e ∙ ap (λ r. both (Ok x) r) f
+both_ok-Ok : {S T E : Type 0} (one : Result S E) (other : Result T E) (x : S) (y : T) → one ≡ Ok x → other ≡ Ok y
+    → both_ok one other ≡ Ok (x, y)
+both_ok-Ok one other x y e f = ap (λ r. both_ok r other) e ∙ ap (λ r. both_ok (Ok x) r) f
 
 pub check_division-requires : goal.check_division-requires
 check_division-requires c =
@@ -32,6 +32,6 @@ returns c =
     subst (λ (items : List Item). IsVerdict items claim c.args.certificate verdict) same
     c.in_ok-check_division.ensures.verdict in (
       (h.0, claim),
-      both-Ok told claimed h.0 claim h.1 c.in_ok-claim.ensures,
+      both_ok-Ok told claimed h.0 claim h.1 c.in_ok-claim.ensures,
       record { verdict = verdict; applies = applies; is = refl },
     )

@@ -1,7 +1,7 @@
 -- The commands before `at` are done, and their answers are written.
 use Rattle.std.proofs.Common.{◌≡◌, ◌+◌, ◌*◌, ◌≤◌, ◌-◌, [], length}
 use Rattle.stream_core.specs.Counted.{failures_of, inner_of}
-use Rattle.script_core.specs.Ledgers.{held, left_in}
+use Rattle.script_core.specs.Ledgers.{ledger_history, left_in}
 use Rattle.script_core.proofs.Progress.{Progress}
 use Rattle.script_core.proofs.session.answer_all.Given as goal
 
@@ -14,7 +14,7 @@ invariant-loop-at g l = record {
   tries : failures_of l.writer + l.patience.left ≤ failures_of l.fn.writer + l.fn.patience.left;
   begins : l.printer ≡ record { text = []; fields = [] };
   progress : Progress l.records (g.W.Write.contents (inner_of l.fn.writer))
-      (g.W.Write.contents (inner_of l.writer)) (held l.ledger) l.at l.outcome;
+      (g.W.Write.contents (inner_of l.writer)) (ledger_history l.ledger) l.at l.outcome;
   left : 2 * length l.records ≤ left_in l.ledger + 2 * l.at;
 }
 

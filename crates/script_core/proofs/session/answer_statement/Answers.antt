@@ -1,7 +1,7 @@
 use Rattle.std.proofs.Common.{subst, sym}
 use Rattle.std.proofs.lemmas.Result.{IfOk-weaker}
 use Rattle.command_core.specs.Statement.{Statement}
-use Rattle.script_core.specs.Ledgers.{held}
+use Rattle.script_core.specs.Ledgers.{ledger_history}
 use Rattle.script_core.specs.Performing.{PrintsStatement}
 use Rattle.script_core.proofs.session.answer_statement.Goals as goal
 
@@ -15,6 +15,6 @@ returns-in-Together-clause-printed g c =
     (λ told given meant stands.
     let is = rw c.in-Together.is at stands in
     subst
-    (λ (said : Statement). PrintsStatement (held c.args.ledger.now) c.args.number said
-    (held c.answer_together.new.ledger) c.args.printer.now c.answer_together.new.printer told) (sym is.2)
+    (λ (said : Statement). PrintsStatement (ledger_history c.args.ledger.now) c.args.number said
+    (ledger_history c.answer_together.new.ledger) c.args.printer.now c.answer_together.new.printer told) (sym is.2)
     (given is.0 is.1)) c.answer_together.ensures.printed

@@ -9,8 +9,8 @@ use Rattle.book_core.specs.History.{History}
 use Rattle.store_core.specs.Snapshots.{history}
 use Rattle.command_core.proofs.Cutting.{rest-from}
 use Rattle.script_core.specs.Answer.{IsAnswerTo}
-use Rattle.script_core.specs.Ledgers.{held}
-use Rattle.script_core.specs.Performing.{AsksLoad, PrintsQueries, PrintsStretch}
+use Rattle.script_core.specs.Ledgers.{ledger_history}
+use Rattle.script_core.specs.Performing.{AsksLoad, PrintsQueries, PrintsSection}
 use Rattle.script_core.specs.declared.outcome.Outcome.{Outcome}
 use Rattle.script_core.proofs.Blocks.{block-printed, load-cut, load-members, printed-fields}
 use Rattle.script_core.proofs.together.answer_beside_load.Goals as goal
@@ -68,10 +68,10 @@ append-requires-clause-there g c =
     let back = rest-from (lines_in c.range-rest.result) (lines_in c.range-2.result) c.len-2.result taken
     c.len-2.ensures c.range-2.ensures in
     let last = back ∙ ap (drop taken) rest in
-    let behind : PrintsStretch (history c.args.context.now.newest.now) (number + place + taken)
+    let behind : PrintsSection (history c.args.context.now.newest.now) (number + place + taken)
     (lines_in c.range-2.result)
     c.new-later.result c.answer_both-queries.new.later c.in_ok-before.behind =
-    IfOk-at_ok (λ (told : Outcome × Outcome). PrintsStretch (history c.args.context.now.newest.now)
+    IfOk-at_ok (λ (told : Outcome × Outcome). PrintsSection (history c.args.context.now.newest.now)
     (number + place + taken)
     (lines_in c.range-2.result) c.new-later.result c.answer_both-queries.new.later told.1)
     c.in_ok-before.was c.answer_both-queries.ensures.back in
@@ -98,14 +98,14 @@ returns-clause-printed g c = λ members are.
     c.len-2.ensures c.range-2.ensures in
     let last = back ∙ ap (drop taken) rest in
     let queries = c.answer_both-queries.ensures in
-    let first : PrintsStretch newest number (lines_in c.range.result) c.args.printer.now
+    let first : PrintsSection newest number (lines_in c.range.result) c.args.printer.now
     c.answer_both-queries.new.printer c.in_ok-before.before =
-    IfOk-at_ok (λ (told : Outcome × Outcome). PrintsStretch newest number (lines_in c.range.result)
+    IfOk-at_ok (λ (told : Outcome × Outcome). PrintsSection newest number (lines_in c.range.result)
     c.args.printer.now c.answer_both-queries.new.printer told.0) c.in_ok-before.was queries.front in
     let ahead = first.printed cut.front (subst (λ l. AreMembers number l cut.front) (sym front) cut.before) in
-    let second : PrintsStretch newest (number + place + taken) (lines_in c.range-2.result) c.new-later.result
+    let second : PrintsSection newest (number + place + taken) (lines_in c.range-2.result) c.new-later.result
     c.answer_both-queries.new.later c.in_ok-before.behind =
-    IfOk-at_ok (λ (told : Outcome × Outcome). PrintsStretch newest (number + place + taken)
+    IfOk-at_ok (λ (told : Outcome × Outcome). PrintsSection newest (number + place + taken)
     (lines_in c.range-2.result) c.new-later.result c.answer_both-queries.new.later told.1)
     c.in_ok-before.was queries.back in
     let behind = second.printed cut.back
@@ -113,15 +113,16 @@ returns-clause-printed g c = λ members are.
     let others = subst
     (λ (u : Unwritten). PrintsQueries newest (placed_in true cut.back) u c.answer_both-queries.new.later
     c.in_ok-before.behind) c.new-later.ensures behind in
-    let after = held c.answer_both-queries.new.ledger in
-    let done : IsAnswerTo (held c.args.ledger.now) (number + place) meant c.in_ok-answer.answer after =
-    IfOk-at_ok (λ (a : Answer). IsAnswerTo (held c.args.ledger.now) (number + place) meant a after)
+    let after = ledger_history c.answer_both-queries.new.ledger in
+    let done : IsAnswerTo (ledger_history c.args.ledger.now) (number + place) meant c.in_ok-answer.answer after =
+    IfOk-at_ok (λ (a : Answer). IsAnswerTo (ledger_history c.args.ledger.now) (number + place) meant a after)
     c.in_ok-answer.was queries.load in
     let here : IsAnswerTo newest cut.load.number (meaning_inside false cut.load) c.in_ok-answer.answer after =
     subst (λ (h : History). IsAnswerTo h cut.load.number (meaning_inside false cut.load) c.in_ok-answer.answer after)
     (sym c.requires.same)
-    (subst (λ m. IsAnswerTo (held c.args.ledger.now) cut.load.number m c.in_ok-answer.answer after) cut.means
-    (subst (λ n. IsAnswerTo (held c.args.ledger.now) n meant c.in_ok-answer.answer after) (sym cut.numbered) done)) in
+    (subst (λ m. IsAnswerTo (ledger_history c.args.ledger.now) cut.load.number m c.in_ok-answer.answer after) cut.means
+    (subst (λ n. IsAnswerTo (ledger_history c.args.ledger.now) n meant c.in_ok-answer.answer after)
+    (sym cut.numbered) done)) in
     let said = c.in_ok-print.ensures.ok in
     block-printed newest after members cut.front cut.back cut.load c.refusals.result
     c.args.printer.now c.answer_both-queries.new.printer c.print.new.self c.answer_both-queries.new.later

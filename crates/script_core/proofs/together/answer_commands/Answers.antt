@@ -1,7 +1,7 @@
 use Rattle.std.proofs.Common.{sym}
 use Rattle.std.proofs.lemmas.Result.{IfOk-weaker}
 use Rattle.store_core.specs.Snapshots.{history}
-use Rattle.script_core.specs.Ledgers.{held}
+use Rattle.script_core.specs.Ledgers.{ledger_history}
 use Rattle.script_core.proofs.Blocks.{queries-block}
 use Rattle.script_core.proofs.together.answer_commands.Goals as goal
 
@@ -14,7 +14,7 @@ pub returns-in-None-clause-printed : goal.returns-in-None-clause-printed
 returns-in-None-clause-printed g c =
     IfOk-weaker c.answer_queries.result _ _
     (λ told given members are.
-    queries-block (history c.args.context.now.newest.now) (held c.args.ledger.now) members c.args.printer.now
+    queries-block (history c.args.context.now.newest.now) (ledger_history c.args.ledger.now) members c.args.printer.now
     c.answer_queries.new.printer told (c.in-None.ensures.none c.args.block.first members are)
     (sym c.requires.same) (given.printed members are)) c.answer_queries.ensures
 

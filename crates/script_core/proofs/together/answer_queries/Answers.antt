@@ -9,7 +9,7 @@ use Rattle.script_core.proofs.together.answer_queries.Goals as goal
 
 pub loop-at-preserved : goal.loop-at-preserved
 loop-at-preserved g c =
-    let lines = lines_in c.args.stretch.lines in
+    let lines = lines_in c.args.section.lines in
     let at = c.loop-at.at in
     let taken = c.next_inside-command.result.taken in
     let rest = rest-from lines (lines_in c.range.result) c.len-in-loop-at.result at c.len-in-loop-at.ensures
@@ -21,7 +21,7 @@ loop-at-preserved g c =
       few = omega (arith, next.some, c.loop-at.invariant.few);
       fewer = omega (arith, c.loop-at.invariant.fewer, c.in_ok-errors.ensures.few);
       begins = ap (λ (u : Unwritten). u.fields) one.printed;
-      done = queries-more (history c.args.context.now.newest.now) c.args.stretch.first lines at taken c.args.printer.now
+      done = queries-more (history c.args.context.now.newest.now) c.args.section.first lines at taken c.args.printer.now
           c.loop-at.printer c.answer_query.new.printer c.loop-at.told _
           (meaning_of c.next_inside-command.result.command)
           c.in_ok-errors.errors c.loop-at.invariant.done next.within next.next next.allowed one refl refl;
@@ -29,11 +29,11 @@ loop-at-preserved g c =
 
 pub returns : goal.returns
 returns g c =
-    let lines = lines_in c.args.stretch.lines in
+    let lines = lines_in c.args.section.lines in
     let over : length lines ≤ c.loop-at.at = omega (arith, c.loop-at-test.false, c.len.ensures) in
     record {
       printed = λ members are.
-          queries-all (history c.args.context.now.newest.now) c.args.stretch.first lines c.loop-at.at c.args.printer.now
+          queries-all (history c.args.context.now.newest.now) c.args.section.first lines c.loop-at.at c.args.printer.now
           c.loop-at.printer c.loop-at.told c.loop-at.invariant.done over members are;
       few = c.loop-at.invariant.fewer;
       fewer = omega (arith, c.loop-at.invariant.few, c.loop-at.invariant.within);

@@ -2,7 +2,7 @@ use Rattle.std.proofs.Common.{◌≡◌, ◌∙◌, [], ◌∷◌, ap, false, le
 use Rattle.book_core.specs.History.{History}
 use Rattle.command_core.specs.Statement.{placed_in}
 use Rattle.answer_core.specs.PrintedRecords.{together_record}
-use Rattle.script_core.specs.Ledgers.{held}
+use Rattle.script_core.specs.Ledgers.{ledger_history}
 use Rattle.script_core.specs.Performing.{PrintsBlock}
 use Rattle.script_core.proofs.Blocks.{block-stated}
 use Rattle.script_core.proofs.together.answer_together.Goals as goal
@@ -10,8 +10,8 @@ use Rattle.script_core.proofs.together.answer_together.Goals as goal
 pub returns-clause-printed : goal.returns-clause-printed
 returns-clause-printed g c = λ members are.
     let number = c.args.number in
-    let before = held c.args.ledger.now in
-    let after = held c.answer_commands.new.ledger in
+    let before = ledger_history c.args.ledger.now in
+    let after = ledger_history c.answer_commands.new.ledger in
     let shown = c.in_ok-newest.ensures.shows in
     let count : c.number.result ≡ length before = c.number.ensures.number ∙ (shown.1 ∙ ap length shown.0) in
     let block = subst (λ (h : History). PrintsBlock h (placed_in false members) after c.together.new.self

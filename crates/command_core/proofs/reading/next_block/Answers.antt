@@ -6,7 +6,7 @@ use Rattle.command_core.specs.Records.{Record}
 use Rattle.command_core.proofs.BehindLemmas.{block-behind}
 use Rattle.command_core.proofs.Cuts.{block-means, unended-means}
 use Rattle.command_core.proofs.Cutting.{rest-from}
-use Rattle.command_core.proofs.command.next_block.Goals as goal
+use Rattle.command_core.proofs.reading.next_block.Goals as goal
 
 take-short : (n : ℕ) (xs : List Record) → length (take n xs) ≤ n
 take-short n xs = omega (arith, length-take n xs)

@@ -1,11 +1,11 @@
 -- The rows so far are those of the records before this place.
 use Rattle.std.proofs.Common.{◌≡◌, ◌+◌, drop}
 use Rattle.command_core.specs.Lines.{lines_in}
-use Rattle.script_core.specs.Effects.{rows_of}
+use Rattle.script_core.specs.Effects.{loaded_rows}
 use Rattle.script_core.proofs.Loading.{behind}
-use Rattle.script_core.proofs.rows.rows_of.Given as goal
+use Rattle.script_core.proofs.rows.loaded_rows.Given as goal
 
 abbrev pub invariant-loop-place : goal.invariant-loop-place
 invariant-loop-place l =
-    rows_of l.schema l.number (lines_in l.lines) ≡ behind l.rows
-    (rows_of l.schema (l.number + l.place) (drop l.place (lines_in l.lines)))
+    loaded_rows l.schema l.number (lines_in l.lines) ≡ behind l.rows
+    (loaded_rows l.schema (l.number + l.place) (drop l.place (lines_in l.lines)))

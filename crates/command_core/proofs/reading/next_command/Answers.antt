@@ -4,8 +4,8 @@ use Rattle.command_core.specs.Lines.{fields_in}
 use Rattle.command_core.specs.Meaning.{behind_length, told}
 use Rattle.command_core.specs.Words.{verb_of}
 use Rattle.command_core.proofs.BehindLemmas.{record-behind}
-use Rattle.command_core.proofs.command.next_command.Goals.{in-Ok, in-Err-Refused}
-use Rattle.command_core.proofs.command.next_command.Goals as goal
+use Rattle.command_core.proofs.reading.next_command.Goals.{in-Ok, in-Err-Refused}
+use Rattle.command_core.proofs.reading.next_command.Goals as goal
 
 pub returns-clause-behind : goal.returns-clause-behind
 returns-clause-behind c =

@@ -4,7 +4,7 @@ use Rattle.command_core.specs.Lines.{fields_in, lines_in}
 use Rattle.command_core.specs.Meaning.{IsBody}
 use Rattle.command_core.proofs.Cuts.{IsBody-more}
 use Rattle.command_core.proofs.Cutting.{take-slice_get}
-use Rattle.command_core.proofs.command.body_len.Goals as goal
+use Rattle.command_core.proofs.reading.body_len.Goals as goal
 
 pub loop-place-preserved : goal.loop-place-preserved
 loop-place-preserved c =

@@ -1,7 +1,7 @@
 use Rattle.std.proofs.Common.{◌+◌, ◌∙◌, sym}
 use Rattle.csv.specs.Records.{fields_of}
 use Rattle.command_core.proofs.Cutting.{field_at-slice_get, slice_get-part, slice_get-part-past}
-use Rattle.command_core.proofs.lines.Line.get.Goals as goal
+use Rattle.command_core.proofs.line.Line.get.Goals as goal
 
 pub returns-then-place-self : goal.returns-then-place-self
 returns-then-place-self c =

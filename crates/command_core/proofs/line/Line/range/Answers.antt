@@ -1,7 +1,7 @@
 use Rattle.std.proofs.Common.{◌≤◌, ◌-◌, arith, sym}
 use Rattle.csv.specs.Records.{fields_of}
 use Rattle.command_core.proofs.Cutting.{length-part, part-part}
-use Rattle.command_core.proofs.lines.Line.range.Goals as goal
+use Rattle.command_core.proofs.line.Line.range.Goals as goal
 
 pub returns : goal.returns
 returns c =
