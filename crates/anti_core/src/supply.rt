@@ -2,21 +2,16 @@
 
 ghost use Rattle.std.specs.Prelude.{◌<◌, ◌≤◌, ◌+◌, ◌*◌, length, IfOk};
 ghost use Rattle.std.specs.Option.{ForSome};
-ghost use Rattle.dip_core.specs.Item.{item_limit};
 ghost use Rattle.work_core.specs.Limits.{worker_limit};
 ghost use Rattle.anti_core.specs.PairGaps.{AreGapsFrom};
 
 use crate::pairs::GapPairs;
-use dip_core::Division;
+use grid_core::stretch_len;
 use merge_core::Gaps;
 use period_core::NoMemory;
 use std::alloc::Global;
 use std::thread::Threads;
-use work_core::{Gate, Outs, PairWork, STRETCH_PAIRS, run_stretch};
-
-/// How many items the parts of a stretch's pairs have, at most and but for the last pair. A pair has no more gaps than
-/// its parts have items, so no more gaps are held at once.
-const STRETCH_ITEMS: u64 = 1_000_000;
+use work_core::{Gate, Outs, run_stretch};
 
 /// The gaps of pairs that follow one another by number.
 #[derive(Drop)]
@@ -69,44 +64,7 @@ fn run_from<R: Threads + Sync, G: Gate>(
     // What is known of each division.
     let _ = pairs.left.parts();
     let _ = pairs.right.parts();
-    let count = stretch_len(pairs, first);
+    let count = stretch_len(pairs.left, pairs.right, first);
     let values = run_stretch(rt, alloc, pairs, first, count, workers, gate)?;
     Ok(Supply { first, values })
-}
-
-/// How many pairs a stretch from number `first` on has: at least one.
-fn stretch_len(pairs: &GapPairs<'_>, first: u64) -> u64
-    requires { first < length pairs.now.left.now * length pairs.now.right.now }
-    ensures some { 0 < result }
-    ensures inside { first + result ≤ length pairs.now.left.now * length pairs.now.right.now }
-{
-    let most = (pairs.count() - first).min(STRETCH_PAIRS);
-    let mut items = items_of_pair(pairs, first);
-    for len in 1..most {
-        if items >= STRETCH_ITEMS {
-            return len;
-        }
-        items += items_of_pair(pairs, first + len);
-    }
-    most
-}
-
-/// How many items both parts of a pair have.
-fn items_of_pair(pairs: &GapPairs<'_>, number: u64) -> u64
-    requires { number < length pairs.now.left.now * length pairs.now.right.now }
-    ensures { result ≤ 2 * item_limit }
-{
-    let pair = pairs.name(number);
-    let left = items_of_part(pairs.left, pair.left);
-    let right = items_of_part(pairs.right, pair.right);
-    left + right
-}
-
-/// How many items a part has.
-fn items_of_part(division: &Division, number: u32) -> u64
-    requires { number < length division.now }
-    ensures { result ≤ item_limit }
-{
-    let _ = division.parts();
-    division.part(number).items().len() as u64
 }

@@ -6,10 +6,11 @@ ghost use Rattle.join_core.specs.PairValues.{AreOfFirstPairs};
 
 use crate::pairs::JoinPairs;
 use crate::rows::{JoinRow, add_rows, turns_of};
+use grid_core::stretch_len;
 use period_core::NoMemory;
 use std::alloc::Global;
 use std::thread::Threads;
-use work_core::{Gate, PairWork, STRETCH_PAIRS, run_stretch};
+use work_core::{Gate, PairWork, run_stretch};
 
 /// The rows of pairs, and how often a cursor advanced for them.
 #[derive(Drop)]
@@ -38,7 +39,7 @@ pub(crate) fn rows_of_pairs<R: Threads + Sync, G: Gate>(
     let mut turns = 0;
     let mut first = 0;
     while first < count {
-        let len = (count - first).min(STRETCH_PAIRS);
+        let len = stretch_len(pairs.left, pairs.right, first);
         let outs = run_stretch(rt, alloc, pairs, first, len, workers, gate)?;
         add_rows(&outs, &mut rows)?;
         turns += turns_of(&outs);

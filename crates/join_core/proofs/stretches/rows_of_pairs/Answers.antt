@@ -1,4 +1,4 @@
-use Rattle.std.proofs.Common.{◌≡◌, ◌+◌, ◌-◌, ◌*◌, ◌≤◌, length, min, arith}
+use Rattle.std.proofs.Common.{◌≡◌, ◌+◌, ◌*◌, ◌≤◌, length, arith}
 use Rattle.work_core.specs.Limits.{pair_limit}
 use Rattle.grid_core.specs.GridLaws.{few_pairs}
 use Rattle.join_core.proofs.StretchLemmas.{AreOfFirstPairs-more, stretch-fits, stretches-fit}
@@ -6,25 +6,25 @@ use Rattle.join_core.proofs.stretches.rows_of_pairs.Goals as goal
 
 pub turns_of-turns-requires : goal.turns_of-turns-requires
 turns_of-turns-requires g c =
-    let ps = c.args.pairs.now.left.now in
-    let qs = c.args.pairs.now.right.now in
-    let least : c.min-len.result ≡ min (c.count-count.result - c.loop-first.first) 65_536 = c.min-len.ensures in
-    let len : length c.in_ok-outs.outs ≡ c.min-len.result = c.in_ok-outs.ensures.len in
-    let few : length c.in_ok-outs.outs ≤ pair_limit = omega (arith, least, len) in
-    stretch-fits ps qs c.loop-first.first c.in_ok-outs.outs c.parts.ensures.small c.parts-2.ensures.small
-    c.in_ok-outs.ensures.each few
+    let w = c.args.pairs.now in
+    let inside : c.loop-first.first + c.stretch_len-len.result ≤ length w.left.now * length w.right.now =
+    c.stretch_len-len.ensures.inside in
+    let len : length c.in_ok-outs.outs ≡ c.stretch_len-len.result = c.in_ok-outs.ensures.len in
+    let all : length w.left.now * length w.right.now ≤ pair_limit =
+    few_pairs (length w.left.now) (length w.right.now) w.left_few w.right_few in
+    let few : length c.in_ok-outs.outs ≤ pair_limit = omega (arith, inside, len, all) in
+    stretch-fits w.left.now w.right.now c.loop-first.first c.in_ok-outs.outs c.parts.ensures.small
+    c.parts-2.ensures.small c.in_ok-outs.ensures.each few
 
 pub overflow_add-turns : goal.overflow_add-turns
 overflow_add-turns g c =
     let w = c.args.pairs.now in
-    let least : c.min-len.result ≡ min (c.count-count.result - c.loop-first.first) 65_536 = c.min-len.ensures in
-    let len : length c.in_ok-outs.outs ≡ c.min-len.result = c.in_ok-outs.ensures.len in
-    let first : c.loop-first.first ≤ c.count-count.result = c.loop-first.invariant.0 in
-    let count : c.count-count.result ≡ length w.left.now * length w.right.now = c.loop-first.invariant.1 in
+    let inside : c.loop-first.first + c.stretch_len-len.result ≤ length w.left.now * length w.right.now =
+    c.stretch_len-len.ensures.inside in
+    let len : length c.in_ok-outs.outs ≡ c.stretch_len-len.result = c.in_ok-outs.ensures.len in
     let all : length w.left.now * length w.right.now ≤ pair_limit =
     few_pairs (length w.left.now) (length w.right.now) w.left_few w.right_few in
-    let few : c.loop-first.first + length c.in_ok-outs.outs ≤ pair_limit =
-    omega (arith, least, len, first, count, all) in
+    let few : c.loop-first.first + length c.in_ok-outs.outs ≤ pair_limit = omega (arith, inside, len, all) in
     let fits = stretches-fit w.left.now w.right.now c.loop-first.first c.loop-first.rows.items c.loop-first.turns
     c.in_ok-outs.outs c.loop-first.invariant.2 c.parts.ensures.small c.parts-2.ensures.small
     c.in_ok-outs.ensures.each few in
@@ -34,11 +34,13 @@ overflow_add-turns g c =
 pub loop-first-preserved : goal.loop-first-preserved
 loop-first-preserved g c =
     let w = c.args.pairs.now in
-    let least : c.min-len.result ≡ min (c.count-count.result - c.loop-first.first) 65_536 = c.min-len.ensures in
-    let first : c.loop-first.first ≤ c.count-count.result = c.loop-first.invariant.0 in (
-      omega (arith, least, first),
+    let inside : c.loop-first.first + c.stretch_len-len.result ≤ length w.left.now * length w.right.now =
+    c.stretch_len-len.ensures.inside in
+    let count : c.count-count.result ≡ length w.left.now * length w.right.now = c.loop-first.invariant.1 in (
+      omega (arith, inside, count),
       c.loop-first.invariant.1,
       AreOfFirstPairs-more w.left.now w.right.now c.loop-first.first c.loop-first.rows.items c.loop-first.turns
-          c.in_ok-outs.outs c.add_rows.new.rows.items c.turns_of-turns.result c.min-len.result c.loop-first.invariant.2
-          c.in_ok-outs.ensures.len c.in_ok-outs.ensures.each c.in_ok-add_rows.ensures c.turns_of-turns.ensures,
+          c.in_ok-outs.outs c.add_rows.new.rows.items c.turns_of-turns.result c.stretch_len-len.result
+          c.loop-first.invariant.2 c.in_ok-outs.ensures.len c.in_ok-outs.ensures.each c.in_ok-add_rows.ensures
+          c.turns_of-turns.ensures,
     )

@@ -1,6 +1,6 @@
 use Rattle.std.proofs.Common.{arith}
 use Rattle.dip_core.proofs.PartedLemmas.{length-part_at}
-use Rattle.anti_core.proofs.supply.items_of_part.Goals as goal
+use Rattle.grid_core.proofs.stretches.items_of_part.Goals as goal
 
 pub returns : goal.returns
 returns c =

@@ -1,5 +1,0 @@
-use Rattle.std.proofs.Common.{◌≤◌}
-use Rattle.anti_core.proofs.supply.stretch_len.Given as goal
-
-abbrev pub invariant-loop-len : goal.invariant-loop-len
-invariant-loop-len l = l.items ≤ 3_000_000
