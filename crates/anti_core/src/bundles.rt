@@ -17,9 +17,14 @@ use std::alloc::Global;
 use std::thread::Threads;
 use work_core::Gate;
 
-/// A bundle ends with the class by which one side has so many items. In a larger one many pairs of parts share no
-/// class; a smaller one is over before its threads have started.
-const BUNDLE_ITEMS: usize = 4_096;
+/// About so many bundles are made of a table, unless that makes them too small or too large.
+const BUNDLES: usize = 32;
+
+/// A bundle of fewer items would be over before its threads have started.
+const BUNDLE_LEAST: usize = 256;
+
+/// In a bundle of more items many pairs of parts would share no class.
+const BUNDLE_MOST: usize = 4_096;
 
 /// The anti-join of two lists of items, which match where their classes are equal. The right items are united before
 /// they are divided: of those that hold at once each class has one, however many there were.
@@ -69,11 +74,12 @@ fn rows_of_bundles<R: Threads + Sync, G: Gate>(
     requires ids { HasDistinctIds left.now }
     ensures { IfOk result (λ rows. AreItemsRows left.now right.now rows.items) }
 {
+    let enough = bundle_items(left, right);
     let mut rows = Vec::new(alloc);
     let mut lefts = left;
     let mut rights = right;
     'bundles: while let Some(first) = lefts.first() {
-        let class = last_class(first, lefts, rights);
+        let class = last_class(first, lefts, rights, enough);
         let (low_lefts, high_lefts) = parted_behind(class, lefts);
         let (low_rights, high_rights) = parted_behind(class, rights);
         let mut found = rows_of_items(rt, alloc, low_lefts, low_rights, workers, gate)?;
@@ -84,18 +90,24 @@ fn rows_of_bundles<R: Threads + Sync, G: Gate>(
     Ok(rows)
 }
 
+/// A bundle ends with the class by which one side has more items than this.
+fn bundle_items(left: &[Item], right: &[Item]) -> usize {
+    let share = left.len().max(right.len()) / BUNDLES;
+    share.max(BUNDLE_LEAST).min(BUNDLE_MOST)
+}
+
 /// The last class of the bundle that begins with that left item: the first by which one of the sides has enough, but
 /// none before the item's own.
-fn last_class(first: &Item, lefts: &[Item], rights: &[Item]) -> u64
+fn last_class(first: &Item, lefts: &[Item], rights: &[Item], enough: usize) -> u64
     ensures { first.now.class ≤ result }
 {
-    let enough = class_of_enough(lefts).min(class_of_enough(rights));
-    enough.max(first.class)
+    let class = class_of_enough(lefts, enough).min(class_of_enough(rights, enough));
+    class.max(first.class)
 }
 
 /// The class by which there are enough items for a bundle; where there aren't, the greatest that can be.
-fn class_of_enough(items: &[Item]) -> u64 {
-    match items.get(BUNDLE_ITEMS - 1) {
+fn class_of_enough(items: &[Item], enough: usize) -> u64 {
+    match items.get(enough) {
         Some(item) => item.class,
         None => u64::MAX,
     }
