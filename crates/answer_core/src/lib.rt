@@ -3,6 +3,7 @@
 
 mod answer;
 mod joined;
+mod kept_text;
 mod print;
 mod print_agg;
 mod print_anti;

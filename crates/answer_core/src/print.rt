@@ -129,8 +129,7 @@ impl AnswerWriter {
     {
         self.field(b"row")?;
         self.number(row.id)?;
-        self.point(row.period.from)?;
-        self.point(row.period.to)?;
+        self.period(&row.period)?;
         self.values(row.values.as_slice())?;
         self.end_record()
     }
@@ -160,8 +159,7 @@ impl AnswerWriter {
     {
         self.field(b"version")?;
         self.number(version.row.id)?;
-        self.point(version.row.period.from)?;
-        self.point(version.row.period.to)?;
+        self.period(&version.row.period)?;
         self.number(version.sysfrom)?;
         self.system_end(version.systo)?;
         self.values(version.row.values.as_slice())?;

@@ -34,8 +34,7 @@ impl AnswerWriter {
     {
         self.field(b"row")?;
         self.group(&row.group)?;
-        self.point(row.period.from)?;
-        self.point(row.period.to)?;
+        self.period(&row.period)?;
         self.wide(row.value)?;
         self.end_record()
     }

@@ -36,8 +36,7 @@ impl AnswerWriter {
     {
         self.field(b"row")?;
         self.number(row.id)?;
-        self.point(row.period.from)?;
-        self.point(row.period.to)?;
+        self.period(&row.period)?;
         self.values_of(left, row.id)?;
         self.end_record()
     }

@@ -47,8 +47,7 @@ impl AnswerWriter {
         ensures { OnOk result (Adds self.old self.new (join_record left.now right.now row.now ∷ [])) }
     {
         self.field(b"row")?;
-        self.point(row.period.from)?;
-        self.point(row.period.to)?;
+        self.period(&row.period)?;
         self.number(row.left)?;
         self.number(row.right)?;
         self.values_of(left, row.left)?;

@@ -10,9 +10,10 @@ ghost use Rattle.answer_core.specs.Unwritten.{Unwritten, left_by, nothing};
 ghost use Rattle.stream_core.specs.Faults.{ExplainsWriting, last_failures};
 ghost use Rattle.answer_core.specs.RecordBytes.{answer_writer};
 
+use crate::kept_text::KeptText;
 use csv::{ByteRecord, Writer, WriterBuilder};
 use itoa::Buffer;
-use period_core::{NoMemory, Point};
+use period_core::{NoMemory, Period, Point};
 use std::alloc::{AllocError, Global};
 use std::io::Write;
 use std::marker::Model;
@@ -29,7 +30,8 @@ pub struct AnswerWriter {
     alloc: Global,
     writer: Writer<Vec<u8>>,
     row: ByteRecord,
-    text: Vec<u8>,
+    from_text: KeptText,
+    to_text: KeptText,
     written: usize,
 }
 
@@ -75,7 +77,8 @@ impl AnswerWriter {
             alloc,
             writer: writer_behind(Vec::new(alloc)),
             row: ByteRecord::new(alloc),
-            text: Vec::new(alloc),
+            from_text: KeptText::new(alloc),
+            to_text: KeptText::new(alloc),
             written: 0,
         }
     }
@@ -127,9 +130,19 @@ impl AnswerWriter {
     pub(crate) fn point(&mut self, point: Point) -> Result<(), NoMemory>
         ensures { OnOk result (self.new ≡ record self.old { fields = self.old.fields ++ point_text point ∷ [] }) }
     {
-        self.text.clear();
-        point.write(&mut self.text)?;
-        push(&mut self.row, &self.text)
+        self.from_text.keep(point)?;
+        push(&mut self.row, self.from_text.text())
+    }
+
+    /// Adds the start and the end of a period to the record at hand.
+    pub(crate) fn period(&mut self, period: &Period) -> Result<(), NoMemory>
+        ensures { OnOk result (self.new ≡ record self.old {
+          fields = self.old.fields ++ point_text period.now.from ∷ point_text period.now.to ∷ [];
+        }) }
+    {
+        self.point(period.from)?;
+        self.to_text.keep(period.to)?;
+        push(&mut self.row, self.to_text.text())
     }
 
     /// Ends the record at hand.
@@ -171,7 +184,8 @@ impl AnswerWriter {
             alloc,
             writer,
             row,
-            text,
+            from_text,
+            to_text,
             written,
         } = self;
         let mut records = text_of(writer)?;
@@ -181,7 +195,8 @@ impl AnswerWriter {
             alloc,
             writer: writer_behind(records),
             row,
-            text,
+            from_text,
+            to_text,
             written,
         })
     }
