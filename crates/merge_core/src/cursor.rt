@@ -1,6 +1,6 @@
 //! Readers of parts that only go forward.
 
-ghost use Rattle.std.specs.Prelude.{◌≡◌, ◌<◌, ◌^◌, [], ◌∷◌, length, drop, MatchBool, MatchOption, IsTrue, ◌↔◌};
+ghost use Rattle.std.specs.Prelude.{◌≡◌, ◌<◌, ◌^◌, [], ◌∷◌, length, drop, MatchOption, IsTrue, ◌↔◌};
 ghost use Rattle.dip_core.specs.Item.{IsChain};
 
 use dip_core::{Item, Part};
@@ -55,15 +55,6 @@ impl<'a> Cursor<'a> {
         ensures { IsTrue result ↔ (self.now ≡ []) }
     {
         self.rest.is_empty()
-    }
-
-    /// Passes the next item where `passes` says so. It takes no branch, for loops in which that can't be
-    /// foreseen.
-    pub(crate) fn advance_if(&mut self, passes: bool)
-        ensures { MatchBool passes (self.new ≡ drop 1 self.old) (self.new ≡ self.old) }
-    {
-        let passed = self.rest.len().min(usize::from(passes));
-        self.rest = &self.rest[passed..];
     }
 
     /// Passes the next item; behind the last one it stays there.
