@@ -1,6 +1,6 @@
-//! The text of the last point that was printed, kept for the next one: answers are in the order of time, so that many
-//! records follow each other with one point.
-ghost use Rattle.std.specs.Prelude.{◌≡◌, ℤ, Some, OnOk};
+//! The text of the last point that was printed, kept for the next one: the records of a join are by start and then by
+//! end, so many that follow each other have a point in common.
+ghost use Rattle.std.specs.Prelude.{◌≡◌, IfOk};
 ghost use Rattle.period_core.specs.Point.{point_text};
 
 use period_core::{NoMemory, Point};
@@ -34,24 +34,16 @@ impl KeptText {
         }
     }
 
-    /// Keeps the text of a point.
-    pub(crate) fn keep(&mut self, point: Point) -> Result<(), NoMemory>
-        ensures { OnOk result (self.new ≡ Some point) }
+    /// The text of a point, which is written out where another one's is kept.
+    pub(crate) fn text_of(&mut self, point: Point) -> Result<&[u8], NoMemory>
+        ensures { IfOk result (λ text. text.now ≡ point_text point) }
     {
-        if self.point == Some(point) {
-            return Ok(());
+        if self.point != Some(point) {
+            self.point = None;
+            self.text.clear();
+            point.write(&mut self.text)?;
+            self.point = Some(point);
         }
-        self.point = None;
-        self.text.clear();
-        point.write(&mut self.text)?;
-        self.point = Some(point);
-        Ok(())
-    }
-
-    /// The text of the point that is kept.
-    pub(crate) fn text(&self) -> &[u8]
-        ensures { (point : ℤ) → self.now ≡ Some point → result.now ≡ point_text point }
-    {
-        &self.text
+        Ok(&self.text)
     }
 }

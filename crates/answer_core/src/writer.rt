@@ -130,8 +130,7 @@ impl AnswerWriter {
     pub(crate) fn point(&mut self, point: Point) -> Result<(), NoMemory>
         ensures { OnOk result (self.new ≡ record self.old { fields = self.old.fields ++ point_text point ∷ [] }) }
     {
-        self.from_text.keep(point)?;
-        push(&mut self.row, self.from_text.text())
+        push(&mut self.row, self.from_text.text_of(point)?)
     }
 
     /// Adds the start and the end of a period to the record at hand.
@@ -141,8 +140,7 @@ impl AnswerWriter {
         }) }
     {
         self.point(period.from)?;
-        self.to_text.keep(period.to)?;
-        push(&mut self.row, self.to_text.text())
+        push(&mut self.row, self.to_text.text_of(period.to)?)
     }
 
     /// Ends the record at hand.

@@ -90,10 +90,10 @@ fn rows_of_bundles<R: Threads + Sync, G: Gate>(
     Ok(rows)
 }
 
-/// A bundle ends with the class by which one side has more items than this.
+/// The number of items of which one side has more by the class that ends a bundle.
 fn bundle_items(left: &[Item], right: &[Item]) -> usize {
     let share = left.len().max(right.len()) / BUNDLES;
-    share.max(BUNDLE_LEAST).min(BUNDLE_MOST)
+    share.clamp(BUNDLE_LEAST, BUNDLE_MOST)
 }
 
 /// The last class of the bundle that begins with that left item: the first by which one of the sides has enough, but

@@ -1,2 +1,1 @@
-pub mod NameLemmas
 pub mod SameLemmas

@@ -1,12 +1,11 @@
 //! How many pairs of two divisions are run before what they gave is taken.
 
-ghost use Rattle.std.specs.Prelude.{◌≡◌, ◌+◌, ◌*◌, ◌<◌, ◌≤◌, ℕ, length};
+ghost use Rattle.std.specs.Prelude.{◌+◌, ◌*◌, ◌<◌, ◌≤◌, length};
 ghost use Rattle.dip_core.specs.Item.{item_limit};
-ghost use Rattle.grid_core.specs.Grid.{grid_name};
 
 use crate::parts::name_in;
 use dip_core::Division;
-use work_core::{PairName, STRETCH_PAIRS};
+use work_core::STRETCH_PAIRS;
 
 /// How many items the parts of a stretch's pairs have, at most and but for the last pair. A pair has no more hits, and
 /// no more gaps, than its parts have items, so no more of them are held at once.
@@ -18,47 +17,24 @@ pub fn stretch_len(left: &Division, right: &Division, first: u64) -> u64
     ensures some { 0 < result }
     ensures inside { first + result ≤ length left.now * length right.now }
 {
-    let rights = right.parts();
-    let count = left.parts() as u64 * rights as u64;
+    let count = left.parts() as u64 * right.parts() as u64;
     let most = (count - first).min(STRETCH_PAIRS);
-    let mut pair = name_in(left, right, first);
-    let mut items = items_of_pair(left, right, pair);
+    let mut items = items_of_pair(left, right, first);
     for len in 1..most {
         if items >= STRETCH_ITEMS {
             return len;
         }
-        pair = name_behind(pair, rights);
-        items += items_of_pair(left, right, pair);
+        items += items_of_pair(left, right, first + len);
     }
     most
 }
 
-// The pair whose number is one more, with so many right parts.
-fn name_behind(pair: PairName, rights: u32) -> PairName
-    requires right { pair.right < rights }
-    requires left { pair.left < item_limit }
-    ensures { (number : ℕ) → pair ≡ grid_name rights number → result ≡ grid_name rights (number + 1) }
-{
-    let PairName { left, right } = pair;
-    if right + 1 < rights {
-        PairName {
-            left,
-            right: right + 1,
-        }
-    } else {
-        PairName {
-            left: left + 1,
-            right: 0,
-        }
-    }
-}
-
-// How many items both parts of a pair have.
-fn items_of_pair(left: &Division, right: &Division, pair: PairName) -> u64
-    requires left { pair.left < length left.now }
-    requires right { pair.right < length right.now }
+// How many items both parts of the pair of that number have.
+fn items_of_pair(left: &Division, right: &Division, number: u64) -> u64
+    requires { number < length left.now * length right.now }
     ensures { result ≤ 2 * item_limit }
 {
+    let pair = name_in(left, right, number);
     items_of_part(left, pair.left) + items_of_part(right, pair.right)
 }
 
