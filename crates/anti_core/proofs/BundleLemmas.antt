@@ -1,41 +1,20 @@
 -- The rows of all items, from those of the items of some classes and of all higher ones.
-use Rattle.std.proofs.Common.{◌≡◌, ◌≢◌, ◌⊎◌, ℕ, ◌+◌, ◌<◌, ◌≤◌, ℤ, List, [], ◌∷◌, ◌++◌, length, take, drop, get_or, true, false, leb, leb-true, sym, subst, ap, None, ◌∙◌, refl, inl, inr, arith, append-nil, length-append}
-use Rattle.std.specs.Prelude.{Contains, AllPairs, slice_get}
-use Rattle.std.specs.List.Sorted.{IsPartitionPoint}
-use Rattle.std.proofs.lemmas.Bool.{leb-false}
-use Rattle.std.proofs.lemmas.List.{append_assoc, get_or-take, get_or-drop, length-drop, length-take, take-append-drop}
+use Rattle.std.proofs.Common.{◌≡◌, ◌≢◌, ◌⊎◌, ℕ, ◌<◌, ◌≤◌, ℤ, List, [], ◌++◌, length, get_or, sym, subst, ap, ◌∙◌, refl, inl, inr, arith, append-nil}
+use Rattle.std.specs.Prelude.{Contains, AllPairs}
+use Rattle.std.proofs.lemmas.List.{append_assoc}
 use Rattle.std.proofs.lemmas.List.Elements.{All-contains, Contains-append_left, Contains-append_right, Contains-append_cases}
-use Rattle.std.proofs.lemmas.List.Sorted.{IsNonDecreasingBy-drop}
-use Rattle.std.proofs.Math.Seq.{drop-append_seam}
 use Rattle.dip_core.specs.declared.item.Item.{Item}
 use Rattle.dip_core.specs.Item.{HasDistinctIds}
 use Rattle.list_core.proofs.WantedLemmas.{IsListOf-append}
-use Rattle.dip_core.proofs.PartedLemmas.{distinct-earlier, distinct-later, ids-apart}
+use Rattle.dip_core.proofs.PartedLemmas.{ids-apart}
 use Rattle.merge_core.specs.Gaps.{IsCovered, IsUncovered}
 use Rattle.merge_core.proofs.SweepLemmas.{IsMaximal-same}
 use Rattle.anti_core.specs.declared.rows.AntiRow.{AntiRow}
-use Rattle.anti_core.specs.Bundles.{ArePartedBehind, ClassesRise}
+use Rattle.grid_core.specs.Bundles.{ArePartedBehind, ClassesRise}
+use Rattle.grid_core.proofs.BundleLemmas.{high-distinct, high-few, high-rise}
 use Rattle.anti_core.specs.ItemAnti.{IsItemsAntiRow, AreItemsRows}
 use Rattle.anti_core.specs.United.{StandsBefore}
 use Rattle.anti_core.proofs.ItemLemmas.{AreItemsRows-none, covered-there}
-
--- ---- parted items
-
--- those before and behind the place from which a test for higher classes fails
-pub parted-from_point : (class : ℕ) (items low high : List Item) (n : ℕ) → n ≤ length items
-    → IsPartitionPoint (λ y. leb y.class class ≡ true) (λ y. leb y.class class ≡ false) items n → low ≡ take n items
-    → high ≡ drop n items → ArePartedBehind class items low high
-parted-from_point class items low high n inside point front back = rw (front, back) (record {
-  whole = sym (take-append-drop n items);
-  upto = λ k d h.
-      let within : k < n = omega (arith, h, inside, length-take n items) in
-      subst (λ (x : Item). x.class ≤ class) (sym (get_or-take n items k d within))
-      (leb-true (get_or items k d).class class (point.0 k d (omega arith) within));
-  above = λ k d h.
-      let within : n + k < length items = omega (arith, h, inside, length-drop n items) in
-      subst (λ (x : Item). class < x.class) (sym (get_or-drop n items k d))
-      (leb-false (get_or items (n + k) d).class class (point.1 (n + k) d (omega arith) within));
-})
 
 -- united items rise by class
 pub united-rise : (items : List Item) → AllPairs StandsBefore items → ClassesRise items
@@ -50,25 +29,6 @@ united-rise items ordered = λ i j d upto inside.
   where
     equal_or_less : (m n : ℕ) → m ≤ n → (m ≡ n) ⊎ (m < n)
     equal_or_less m n h = grind arith
-
--- where there is no first item there is none
-pub none_first : (items : List Item) → None ≡ slice_get items 0 → items ≡ []
-none_first [] e = refl
-none_first (y ∷ items) e = absurd cc
-
-module _ (class : ℕ) (items low high : List Item) (parted : ArePartedBehind class items low high) where
-  -- ids that are distinct in all are so in each
-  pub low-distinct : HasDistinctIds items → HasDistinctIds low
-  low-distinct distinct = distinct-earlier low high (subst HasDistinctIds parted.whole distinct)
-
-  pub high-distinct : HasDistinctIds items → HasDistinctIds high
-  high-distinct distinct = distinct-later low high (subst HasDistinctIds parted.whole distinct)
-
-  -- and the higher classes still rise
-  pub high-rise : ClassesRise items → ClassesRise high
-  high-rise rise =
-      subst ClassesRise (ap (drop (length low)) parted.whole ∙ drop-append_seam low high)
-      (IsNonDecreasingBy-drop (λ (x : Item). x.class) (length low) items rise)
 
 -- ---- the rows of a bundle, and of the items behind it
 
@@ -191,11 +151,11 @@ bundling_more left right lefts rights low_left high_left low_right high_right cl
           (AreItemsRows-parted class lefts low_left high_left rights low_right high_right one other found rest i.ids
           rows all));
       left_few = (let most = i.left_few in
-          let whole = ap (λ (xs : List Item). length xs) one.whole in
-          omega (arith, most, whole, length-append low_left high_left));
+          let few = high-few class lefts low_left high_left one in
+          omega (arith, most, few));
       right_few = (let most = i.right_few in
-          let whole = ap (λ (xs : List Item). length xs) other.whole in
-          omega (arith, most, whole, length-append low_right high_right));
+          let few = high-few class rights low_right high_right other in
+          omega (arith, most, few));
       left_rise = high-rise class lefts low_left high_left one i.left_rise;
       right_rise = high-rise class rights low_right high_right other i.right_rise;
       ids = high-distinct class lefts low_left high_left one i.ids;

@@ -2,14 +2,15 @@
 
 ghost use Rattle.std.specs.Prelude.{◌<◌, ◌≤◌, length, IfOk};
 ghost use Rattle.dip_core.specs.Item.{item_limit, HasDistinctIds};
-ghost use Rattle.dip_core.specs.Division.{all_of, IsLeastDivision};
+ghost use Rattle.dip_core.specs.Division.{all_of};
 ghost use Rattle.work_core.specs.Limits.{worker_limit};
 ghost use Rattle.anti_core.specs.ItemAnti.{AreItemsRows};
 
 use crate::pairs::GapPairs;
 use crate::part_gaps::gaps_of_part;
 use crate::rows::{AntiRow, add_rows};
-use dip_core::{Division, Item, create_dip};
+use dip_core::Item;
+use grid_core::divided;
 use period_core::NoMemory;
 use std::alloc::Global;
 use std::thread::Threads;
@@ -34,15 +35,6 @@ fn rows_of_parts<R: Threads + Sync, G: Gate>(
         add_rows(gaps.as_slice(), &mut rows)?;
     }
     Ok(rows)
-}
-
-/// The division of some items, which are copied.
-fn divided<R: Threads + Sync>(rt: &R, alloc: Global, items: &[Item]) -> Result<Division, NoMemory>
-    requires { length items.now ≤ item_limit }
-    ensures { IfOk result (IsLeastDivision items.now) }
-{
-    let own = Vec::from_slice(alloc, items)?;
-    create_dip(rt, alloc, own)
 }
 
 /// The rows of some left items, which match right items of their classes. Both sides are divided.

@@ -1,1 +1,2 @@
+pub mod BundleLemmas
 pub mod SameLemmas

@@ -1,2 +1,3 @@
+pub mod Bundles
 pub mod Grid
 pub mod GridLaws

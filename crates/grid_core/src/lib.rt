@@ -1,9 +1,12 @@
 #![tactic(auto)]
 
-//! The pairs of a part of one division and a part of another, numbered by left part and then by right part.
+//! The pairs of a part of one division and a part of another, numbered by left part and then by right part, and the
+//! items of some classes, which are divided on their own.
 
+mod bundles;
 mod parts;
 mod stretches;
 
+pub use bundles::{divided, last_class, middle_class, order_by_class, parted_behind};
 pub use parts::{name_in, place_in, same_part};
 pub use stretches::stretch_len;

@@ -15,7 +15,7 @@ use Rattle.merge_core.proofs.HitLemmas.{Hit-same}
 use Rattle.join_core.specs.declared.pairs.JoinOut.{JoinOut}
 use Rattle.join_core.specs.declared.rows.JoinRow.{JoinRow}
 use Rattle.join_core.specs.Join.{join_cmp}
-use Rattle.join_core.specs.ItemJoin.{IsItemsJoinRow, IsItemsJoin}
+use Rattle.join_core.specs.ItemJoin.{IsItemsJoinRow, AreItemsRows, IsItemsJoin}
 use Rattle.join_core.specs.PairValues.{AreFirstValues, hits_in, rows_in, row_of_hit}
 use Rattle.join_core.proofs.ListLemmas.{differ-map}
 use Rattle.join_core.proofs.OrderLemmas.{JoinRow-same_fields, sorted_rows}
@@ -84,15 +84,24 @@ module _ (A B : List Item) (ps qs : List (List Item)) (outs : List JoinOut) (len
       let e : row_of_hit hit ≡ r = JoinRow-same_fields (row_of_hit hit) r refl (sym w.left_id) (sym w.right_id) in
       subst (Contains (rows_in outs)) e (Contains-map row_of_hit (hits_in outs) hit is)
 
-  -- the rows of all pairs, sorted, are the join
-  pub IsItemsJoin-sorted : (rows : List JoinRow) → IsPermutation (rows_in outs) rows → IsSorted join_cmp rows
-      → IsItemsJoin A B rows
-  IsItemsJoin-sorted rows moved sorted = record {
-    ordered = sorted_rows (rows_in outs) rows rows-differ moved sorted;
+  -- the rows of all pairs are those of the items
+  pub AreItemsRows-of_pairs : AreItemsRows A B (rows_in outs)
+  AreItemsRows-of_pairs = record {
+    ordered = rows-differ;
     exactly = λ r. (
-      λ h. (let back = Contains-permutation rows (rows_in outs) r (IsPermutation-sym (rows_in outs) rows moved) h in
-          let m = Contains-map_source row_of_hit (hits_in outs) r back in
+      λ h. (let m = Contains-map_source row_of_hit (hits_in outs) r h in
           subst (IsItemsJoinRow A B) m.2 (row-of_items m.0 (hit-of_items m.0 m.1))),
-      λ w. Contains-permutation (rows_in outs) rows r moved (row-of_pairs r w),
+      λ w. row-of_pairs r w,
     );
   }
+
+-- sorted they are the join
+pub IsItemsJoin-sorted : (A B : List Item) (found rows : List JoinRow) → AreItemsRows A B found
+    → IsPermutation found rows → IsSorted join_cmp rows → IsItemsJoin A B rows
+IsItemsJoin-sorted A B found rows all moved sorted = record {
+  ordered = sorted_rows found rows all.ordered moved sorted;
+  exactly = λ r. (
+    λ h. (all.exactly r).0 (Contains-permutation rows found r (IsPermutation-sym found rows moved) h),
+    λ w. Contains-permutation found rows r moved ((all.exactly r).1 w),
+  );
+}

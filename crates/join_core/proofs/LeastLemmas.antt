@@ -33,7 +33,7 @@ IsApart-unclassed items apart i j d below within o =
     apart i j d below (omega (arith, n)) (rw (← one, ← other) o)
 
 -- a division of items is one of them without their classes
-IsDivision-unclassed : (items : List Item) (parts : List (List Item)) → IsDivision items parts
+pub IsDivision-unclassed : (items : List Item) (parts : List (List Item)) → IsDivision items parts
     → IsDivision (map unclassed items) (map (map unclassed) parts)
 IsDivision-unclassed items parts d = record {
   together = subst (IsPermutation (map unclassed items)) (sym (all_of-map parts))
@@ -44,7 +44,7 @@ IsDivision-unclassed items parts d = record {
 }
 
 -- as many items hold an instant without their classes
-crowd-unclassed : (items : List Item) (t : ℤ) → crowd (map unclassed items) t ≡ crowd items t
+pub crowd-unclassed : (items : List Item) (t : ℤ) → crowd (map unclassed items) t ≡ crowd items t
 crowd-unclassed [] t = refl
 crowd-unclassed (x ∷ items) t =
     sum_by-cons (λ (y : Item). cond (holds_at t y.period) 1 0) (unclassed x) (map unclassed items)
@@ -52,7 +52,7 @@ crowd-unclassed (x ∷ items) t =
     ∙ sym (sum_by-cons (λ (y : Item). cond (holds_at t y.period) 1 0) x items)
 
 -- some instant is held by as many items as there are parts
-crowded : (items : List Item) (parts : List (List Item)) (instant : Option ℤ) → IsDivision items parts
+pub crowded : (items : List Item) (parts : List (List Item)) (instant : Option ℤ) → IsDivision items parts
     → IsInstantOf parts instant → (t : ℤ) × (crowd items t ≡ length parts)
 crowded items parts None d is =
     let e : parts ≡ [] = is.none.0 refl in

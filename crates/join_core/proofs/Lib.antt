@@ -1,3 +1,7 @@
+pub mod AdvanceLemmas
+pub mod BundleLemmas
+pub mod BundledLemmas
+pub mod ItemLemmas
 pub mod JoinExistence
 pub mod JoinedLemmas
 pub mod LeastLemmas

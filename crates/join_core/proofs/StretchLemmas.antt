@@ -1,5 +1,5 @@
 -- The pairs of a join, stretch by stretch.
-use Rattle.std.proofs.Common.{◌≡◌, ℕ, ◌+◌, ◌*◌, ◌/◌, ◌%◌, ◌^◌, ◌<◌, ◌≤◌, List, ◌++◌, length, Some, sym, subst, ap, ◌∙◌, inl, inr, arith, length-append}
+use Rattle.std.proofs.Common.{◌≡◌, ℕ, ◌+◌, ◌*◌, ◌/◌, ◌%◌, ◌^◌, ◌<◌, ◌≤◌, List, [], ◌++◌, length, Some, refl, sym, subst, ap, ◌∙◌, inl, inr, arith, append-nil, append_assoc, length-append}
 use Rattle.std.specs.Prelude.{slice_get}
 use Rattle.std.proofs.lemmas.List.Sums.{sum_by-append}
 use Rattle.dip_core.specs.declared.item.Item.{Item}
@@ -9,7 +9,7 @@ use Rattle.dip_core.proofs.PartedLemmas.{length-part_at}
 use Rattle.work_core.specs.Limits.{pair_limit}
 use Rattle.join_core.specs.declared.pairs.JoinOut.{JoinOut}
 use Rattle.join_core.specs.declared.rows.JoinRow.{JoinRow}
-use Rattle.join_core.specs.PairValues.{IsPairValue, AreFirstValues, AreOfFirstPairs, rows_in, turns_in}
+use Rattle.join_core.specs.PairValues.{IsPairValue, AreFirstValues, AreOfFirstPairs, AddsFirstPairs, rows_in, turns_in}
 use Rattle.join_core.proofs.ListLemmas.{slice_get-append_cases}
 use Rattle.join_core.proofs.LoopLemmas.{rows_in-append}
 use Rattle.join_core.proofs.TurnLemmas.{few-turns, few-turns_of}
@@ -46,6 +46,27 @@ AreOfFirstPairs-more ps qs n rows turns new rows' turns' count is len each more 
       turns_are = ap (λ k. k + turns') is.turns_are ∙ ap (λ k. turns_in is.outs + k) added ∙ sym all;
     }
 
+-- the same behind rows that were there
+pub AddsFirstPairs-more : (ps qs : List (List Item)) (n : ℕ) (old rows : List JoinRow) (turns : ℕ)
+    (new : List JoinOut) (rows' : List JoinRow) (turns' count : ℕ) → AddsFirstPairs ps qs n old rows turns
+    → length new ≡ count → ((i : ℕ) (o : JoinOut) → slice_get new i ≡ Some o → IsValueAt ps qs (n + i) o)
+    → rows' ≡ rows ++ rows_in new → turns' ≡ turns_in new
+    → AddsFirstPairs ps qs (n + count) old rows' (turns + turns')
+AddsFirstPairs-more ps qs n old rows turns new rows' turns' count adds len each more added = record {
+  added = adds.added ++ rows_in new;
+  split = more ∙ ap (λ (l : List JoinRow). l ++ rows_in new) adds.split ∙ append_assoc old adds.added (rows_in new);
+  are = AreOfFirstPairs-more ps qs n adds.added turns new (adds.added ++ rows_in new) turns' count adds.are len each refl
+      added;
+}
+
+-- before all pairs
+pub AddsFirstPairs-none : (ps qs : List (List Item)) (rows : List JoinRow) → AddsFirstPairs ps qs 0 rows rows 0
+AddsFirstPairs-none ps qs rows = record {
+  added = [];
+  split = sym (append-nil rows);
+  are = record { outs = []; len = refl; values = λ i o h. cc; rows_are = refl; turns_are = refl };
+}
+
 -- pairs have few advances
 few-of : (ps qs : List (List Item)) (n : ℕ) (outs : List JoinOut) → length (all_of ps) ≤ item_limit
     → length (all_of qs) ≤ item_limit
@@ -80,9 +101,9 @@ stretches-fit ps qs n rows turns new is hp hq each few =
     omega (arith, now, before, l, t, few)
 
 -- after all pairs of two divisions, which are these
-pub AreOfFirstPairs-of : (us vs ps qs : List (List Item)) (rows : List JoinRow) (turns : ℕ) → us ≡ ps → vs ≡ qs
-    → AreOfFirstPairs us vs (length us * length vs) rows turns
-    → AreOfFirstPairs ps qs (length ps * length qs) rows turns
-AreOfFirstPairs-of us vs ps qs rows turns e f is =
-    subst (λ (l : List (List Item)). AreOfFirstPairs ps l (length ps * length l) rows turns) f
-    (subst (λ (l : List (List Item)). AreOfFirstPairs l vs (length l * length vs) rows turns) e is)
+pub AddsFirstPairs-of : (us vs ps qs : List (List Item)) (old new : List JoinRow) (turns : ℕ) → us ≡ ps → vs ≡ qs
+    → AddsFirstPairs us vs (length us * length vs) old new turns
+    → AddsFirstPairs ps qs (length ps * length qs) old new turns
+AddsFirstPairs-of us vs ps qs old new turns e f is =
+    subst (λ (l : List (List Item)). AddsFirstPairs ps l (length ps * length l) old new turns) f
+    (subst (λ (l : List (List Item)). AddsFirstPairs l vs (length l * length vs) old new turns) e is)

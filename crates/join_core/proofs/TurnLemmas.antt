@@ -19,7 +19,7 @@ use Rattle.join_core.proofs.PairLemmas.{value_of}
 use Rattle.join_core.proofs.ValueLemmas.{le_prop}
 
 -- one value more
-turns_in-cons : (o : JoinOut) (outs : List JoinOut) → turns_in (o ∷ outs) ≡ o.turns + turns_in outs
+pub turns_in-cons : (o : JoinOut) (outs : List JoinOut) → turns_in (o ∷ outs) ≡ o.turns + turns_in outs
 turns_in-cons o outs = sum_by-cons (λ (out : JoinOut). out.turns) o outs
 
 -- the advances of one left part with all right parts

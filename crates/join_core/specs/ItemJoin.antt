@@ -1,5 +1,5 @@
 -- The join of two lists of items, which match where their classes are equal.
-use Rattle.std.specs.Prelude.{◌≡◌, List, Contains}
+use Rattle.std.specs.Prelude.{◌≡◌, ◌≢◌, List, Contains}
 use Rattle.dip_core.specs.declared.item.Item.{Item}
 use Rattle.list_core.specs.Wanted.{IsListOf}
 use Rattle.merge_core.specs.Hits.{IsShared}
@@ -20,3 +20,7 @@ pub record IsItemsJoinRow (left right : List Item) (row : JoinRow) : Type 0 wher
 -- all of them, each once, by start, end, left id and right id
 abbrev pub IsItemsJoin : List Item → List Item → List JoinRow → Type 0
 IsItemsJoin left right rows = IsListOf RowBefore (IsItemsJoinRow left right) rows
+
+-- all of them, each once, in any order
+abbrev pub AreItemsRows : List Item → List Item → List JoinRow → Type 0
+AreItemsRows left right rows = IsListOf (λ a b. a ≢ b) (IsItemsJoinRow left right) rows

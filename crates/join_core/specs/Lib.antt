@@ -1,3 +1,4 @@
+pub mod Bundles
 pub mod Join
 pub mod ItemJoin
 pub mod PairValues

@@ -1,5 +1,5 @@
 -- The values of the pairs of parts in a join, and what they are together.
-use Rattle.std.specs.Prelude.{◌≡◌, ℕ, ◌/◌, ◌%◌, List, length, map, flat_map, sum_by, slice_get, Some}
+use Rattle.std.specs.Prelude.{◌≡◌, ℕ, ◌/◌, ◌%◌, ◌++◌, List, length, map, flat_map, sum_by, slice_get, Some}
 use Rattle.dip_core.specs.declared.item.Item.{Item}
 use Rattle.dip_core.specs.Division.{part_at}
 use Rattle.list_core.specs.Wanted.{IsListOf}
@@ -42,3 +42,10 @@ pub record AreOfFirstPairs
   pub values : AreFirstValues lefts rights outs
   pub rows_are : rows ≡ rows_in outs
   pub turns_are : turns ≡ turns_in outs
+
+-- behind the old rows stand those of the first n pairs
+pub record AddsFirstPairs
+    (lefts rights : List (List Item)) (n : ℕ) (old new : List JoinRow) (turns : ℕ) : Type 0 where
+  pub added : List JoinRow
+  pub split : new ≡ old ++ added
+  pub are : AreOfFirstPairs lefts rights n added turns

@@ -18,10 +18,11 @@ use work_core::Gate;
 
 /// The pairs of a left and a right row that are equal in each named pair of columns and share an instant, each
 /// with all the instants that both hold, by start, end, left id and right id: the same rows for every number of
-/// workers. Both sides are divided, and the gate is called before and after each pair of parts, which tests show.
+/// workers. Both sides are divided, a few values of the columns at a time unless that takes too few advances, and
+/// the gate is called before and after each pair of parts, which tests show.
 ///
-/// For k left parts, m right parts, a left rows and b right rows the cursors advance at least k * m times, and
-/// at most m * a + k * b times.
+/// For k and m, the least numbers of parts of all left and of all right rows, and for a left rows and b right rows
+/// the cursors advance at least k * m times, and at most m * a + k * b times.
 ///
 /// # Errors
 ///

@@ -1,8 +1,10 @@
 #![tactic(auto)]
 
-//! Which rows of two tables match and share an instant: both are divided, and each part of the one is merged
-//! with each part of the other, by many workers.
+//! Which rows of two tables match and share an instant: both are divided, some classes at a time, and each part of the
+//! one is merged with each part of the other, by many workers.
 
+mod advances;
+mod bundles;
 mod joins;
 mod laws;
 mod pairs;

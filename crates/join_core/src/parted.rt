@@ -1,18 +1,22 @@
 //! The join of items, from the pairs of the parts of their divisions.
 
-ghost use Rattle.std.specs.Prelude.{◌<◌, ◌≤◌, ℕ, List, length, map, IfOk, IsPermutation};
-ghost use Rattle.dip_core.specs.declared.item.Item.{Item};
-ghost use Rattle.dip_core.specs.Division.{all_of, IsLeast};
+ghost use Rattle.std.specs.Prelude.{◌<◌, ◌≤◌, ℕ, length, map, All, AllPairs, IfOk};
+ghost use Rattle.dip_core.specs.Division.{IsLeast};
 ghost use Rattle.dip_core.specs.Item.{item_limit, HasDistinctIds};
+ghost use Rattle.grid_core.specs.Bundles.{ClassesRise};
 ghost use Rattle.match_core.specs.Items.{unclassed};
 ghost use Rattle.work_core.specs.Limits.{worker_limit};
-ghost use Rattle.join_core.specs.ItemJoin.{IsItemsJoin};
+ghost use Rattle.join_core.specs.Bundles.{lefts_of, rights_of, AreBundlesAdvances, MatchNothing};
+ghost use Rattle.join_core.specs.ItemJoin.{AreItemsRows, IsItemsJoin};
 ghost use Rattle.join_core.specs.Join.{IsWithin};
 
+use crate::advances::advance_enough;
+use crate::bundles::{Bundle, bundles_of};
 use crate::pairs::JoinPairs;
-use crate::rows::JoinRows;
-use crate::stretches::{PairRows, rows_of_pairs};
-use dip_core::{Division, Item, create_dip};
+use crate::rows::{JoinRow, JoinRows};
+use crate::stretches::add_rows_of_pairs;
+use dip_core::Item;
+use grid_core::{divided, order_by_class};
 use period_core::NoMemory;
 use sort_core::sort_unstable;
 use std::alloc::Global;
@@ -28,39 +32,106 @@ pub struct JoinAnswer {
     pub turns: u64,
 }
 
-/// The join of two divisions' items, from all pairs of their parts.
-fn join_parts<R: Threads + Sync, G: Gate>(
+/// The rows of a join in any order, and how often a cursor advanced for them.
+#[derive(Drop)]
+struct FoundRows {
+    rows: Vec<JoinRow>,
+    turns: u64,
+}
+
+/// The rows of all bundles, bundle by bundle.
+fn rows_of_bundles<R: Threads + Sync, G: Gate>(
     rt: &R,
     alloc: Global,
-    left: &Division,
-    right: &Division,
+    bundles: &[Bundle],
     workers: u32,
     gate: &G,
-) -> Result<JoinAnswer, NoMemory>
+) -> Result<FoundRows, NoMemory>
     requires workers { (0 < workers) × (workers ≤ worker_limit) }
-    ensures rows { IfOk result (λ answer. (a b : List Item) → IsPermutation a (all_of left.now)
-        → IsPermutation b (all_of right.now) → HasDistinctIds a → HasDistinctIds b → IsItemsJoin a b answer.rows) }
-    ensures turns { IfOk result (λ answer. IsWithin (length left.now) (length right.now) (length (all_of left.now))
-        (length (all_of right.now)) answer.turns) }
+    requires left_few { length (lefts_of bundles.now) ≤ item_limit }
+    requires right_few { length (rights_of bundles.now) ≤ item_limit }
+    requires left_ids { HasDistinctIds (lefts_of bundles.now) }
+    requires right_ids { HasDistinctIds (rights_of bundles.now) }
+    requires unmatched { AllPairs MatchNothing bundles.now }
+    ensures rows { IfOk result (λ found. AreItemsRows (lefts_of bundles.now) (rights_of bundles.now) found.rows.items) }
+    ensures turns { IfOk result (λ found. AreBundlesAdvances bundles.now found.turns) }
 {
-    // What is known of each division.
-    let _ = left.parts();
-    let _ = right.parts();
-    let pairs = JoinPairs::new(left, right);
-    let PairRows { mut rows, turns } = rows_of_pairs(rt, alloc, &pairs, workers, gate)?;
-    sort_unstable(rt, &mut rows);
-    Ok(JoinAnswer {
-        rows: JoinRows::from(rows),
-        turns,
-    })
+    let mut rows = Vec::new(alloc);
+    let mut turns = 0;
+    for bundle in bundles {
+        // What is known of each division.
+        let _ = bundle.left.parts();
+        let _ = bundle.right.parts();
+        let pairs = JoinPairs::new(&bundle.left, &bundle.right);
+        turns += add_rows_of_pairs(rt, alloc, &pairs, workers, gate, &mut rows)?;
+    }
+    Ok(FoundRows { rows, turns })
+}
+
+/// The rows of items that are divided as a whole.
+fn rows_of_whole<R: Threads + Sync, G: Gate>(
+    rt: &R,
+    alloc: Global,
+    left: &[Item],
+    right: &[Item],
+    workers: u32,
+    gate: &G,
+) -> Result<FoundRows, NoMemory>
+    requires workers { (0 < workers) × (workers ≤ worker_limit) }
+    requires left_few { length left.now ≤ item_limit }
+    requires right_few { length right.now ≤ item_limit }
+    requires left_ids { HasDistinctIds left.now }
+    requires right_ids { HasDistinctIds right.now }
+    ensures rows { IfOk result (λ found. AreItemsRows left.now right.now found.rows.items) }
+    ensures turns { IfOk result (λ found. (k m : ℕ) → IsLeast (map unclassed left.now) k
+        → IsLeast (map unclassed right.now) m → IsWithin k m (length left.now) (length right.now) found.turns) }
+{
+    let lefts = divided(rt, alloc, left)?;
+    let rights = divided(rt, alloc, right)?;
+    // An instant that as many items hold as there are parts shows that there are no fewer.
+    let _ = lefts.instant();
+    let _ = rights.instant();
+    let mut rows = Vec::new(alloc);
+    let pairs = JoinPairs::new(&lefts, &rights);
+    let turns = add_rows_of_pairs(rt, alloc, &pairs, workers, gate, &mut rows)?;
+    Ok(FoundRows { rows, turns })
+}
+
+/// The rows of items whose classes rise: by bundles, unless these take fewer advances than all parts with each other
+/// need.
+fn rows_by_class<R: Threads + Sync, G: Gate>(
+    rt: &R,
+    alloc: Global,
+    left: &[Item],
+    right: &[Item],
+    workers: u32,
+    gate: &G,
+) -> Result<FoundRows, NoMemory>
+    requires workers { (0 < workers) × (workers ≤ worker_limit) }
+    requires left_few { length left.now ≤ item_limit }
+    requires right_few { length right.now ≤ item_limit }
+    requires left_rise { ClassesRise left.now }
+    requires right_rise { ClassesRise right.now }
+    requires left_ids { HasDistinctIds left.now }
+    requires right_ids { HasDistinctIds right.now }
+    ensures rows { IfOk result (λ found. AreItemsRows left.now right.now found.rows.items) }
+    ensures turns { IfOk result (λ found. (k m : ℕ) → IsLeast (map unclassed left.now) k
+        → IsLeast (map unclassed right.now) m → IsWithin k m (length left.now) (length right.now) found.turns) }
+{
+    let bundles = bundles_of(rt, alloc, left, right, workers)?;
+    if advance_enough(&bundles) {
+        return rows_of_bundles(rt, alloc, &bundles, workers, gate);
+    }
+    drop(bundles);
+    rows_of_whole(rt, alloc, left, right, workers, gate)
 }
 
 /// The join of two lists of items, which match where their classes are equal.
 pub(crate) fn join_items<R: Threads + Sync, G: Gate>(
     rt: &R,
     alloc: Global,
-    left: Vec<Item>,
-    right: Vec<Item>,
+    mut left: Vec<Item>,
+    mut right: Vec<Item>,
     workers: u32,
     gate: &G,
 ) -> Result<JoinAnswer, NoMemory>
@@ -73,10 +144,12 @@ pub(crate) fn join_items<R: Threads + Sync, G: Gate>(
     ensures turns { IfOk result (λ answer. (k m : ℕ) → IsLeast (map unclassed left.items) k
         → IsLeast (map unclassed right.items) m → IsWithin k m (length left.items) (length right.items) answer.turns) }
 {
-    let lefts = create_dip(rt, alloc, left)?;
-    let rights = create_dip(rt, alloc, right)?;
-    // An instant that as many items hold as there are parts shows that there are no fewer.
-    let _ = lefts.instant();
-    let _ = rights.instant();
-    join_parts(rt, alloc, &lefts, &rights, workers, gate)
+    order_by_class(&mut left);
+    order_by_class(&mut right);
+    let FoundRows { mut rows, turns } = rows_by_class(rt, alloc, &left, &right, workers, gate)?;
+    sort_unstable(rt, &mut rows);
+    Ok(JoinAnswer {
+        rows: JoinRows::from(rows),
+        turns,
+    })
 }

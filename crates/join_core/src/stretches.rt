@@ -2,7 +2,7 @@
 
 ghost use Rattle.std.specs.Prelude.{◌≡◌, ◌<◌, ◌≤◌, ◌*◌, length, IfOk};
 ghost use Rattle.work_core.specs.Limits.{worker_limit};
-ghost use Rattle.join_core.specs.PairValues.{AreOfFirstPairs};
+ghost use Rattle.join_core.specs.PairValues.{AddsFirstPairs};
 
 use crate::pairs::JoinPairs;
 use crate::rows::{JoinRow, add_rows, turns_of};
@@ -12,38 +12,31 @@ use std::alloc::Global;
 use std::thread::Threads;
 use work_core::{Gate, PairWork, run_stretch};
 
-/// The rows of pairs, and how often a cursor advanced for them.
-#[derive(Drop)]
-pub(crate) struct PairRows {
-    pub rows: Vec<JoinRow>,
-    pub turns: u64,
-}
-
-/// The rows of all pairs, pair by pair.
-pub(crate) fn rows_of_pairs<R: Threads + Sync, G: Gate>(
+/// Adds the rows of all pairs, pair by pair, and returns how often a cursor advanced for them.
+pub(crate) fn add_rows_of_pairs<R: Threads + Sync, G: Gate>(
     rt: &R,
     alloc: Global,
     pairs: &JoinPairs<'_>,
     workers: u32,
     gate: &G,
-) -> Result<PairRows, NoMemory>
+    rows: &mut Vec<JoinRow>,
+) -> Result<u64, NoMemory>
     requires workers { (0 < workers) × (workers ≤ worker_limit) }
-    ensures { IfOk result (λ found. AreOfFirstPairs pairs.now.left.now pairs.now.right.now
-        (length pairs.now.left.now * length pairs.now.right.now) found.rows.items found.turns) }
+    ensures { IfOk result (λ turns. AddsFirstPairs pairs.now.left.now pairs.now.right.now
+        (length pairs.now.left.now * length pairs.now.right.now) rows.old.items rows.new.items turns) }
 {
     // What is known of each division.
     let _ = pairs.left.parts();
     let _ = pairs.right.parts();
     let count = pairs.count();
-    let mut rows = Vec::new(alloc);
     let mut turns = 0;
     let mut first = 0;
     while first < count {
         let len = stretch_len(pairs.left, pairs.right, first);
         let outs = run_stretch(rt, alloc, pairs, first, len, workers, gate)?;
-        add_rows(&outs, &mut rows)?;
+        add_rows(&outs, rows)?;
         turns += turns_of(&outs);
         first += len;
     }
-    Ok(PairRows { rows, turns })
+    Ok(turns)
 }

@@ -79,6 +79,24 @@ pub fn steps_of(rt: &(impl Abort + Alloc<A = Global>), item: Item) -> Result<Ste
     Ok(Steps::of_part(rt.alloc(), part)?)
 }
 
+// Adds a row of a number.
+fn push_number(
+    rt: &(impl Abort + Alloc<A = Global>),
+    rows: &mut RowList,
+    period: Period,
+    number: i64,
+) -> Result<(), Fail> {
+    assert!(rt; rows.len() < 1_000_000);
+    let mut values = Values::new(rt.alloc());
+    values.push(Value::Int(number))?;
+    rows.push(Row {
+        id: rows.len() as u64 + 1,
+        period,
+        values,
+    })?;
+    Ok(())
+}
+
 /// A table with a column `c` of numbers. Its rows, with ids from 1 on, hold from one day of January 2024 on and
 /// before another, and have a number.
 pub fn numbers(
@@ -87,17 +105,21 @@ pub fn numbers(
 ) -> Result<Table, Fail> {
     let schema = Schema::new(rt.alloc(), &[(Name::parse(b"c")?, Kind::Int)])?;
     let mut list = RowList::new(rt.alloc());
-    let mut id = 0;
     for (from, to, number) in rows {
-        assert!(rt; id < 1_000_000);
-        id += 1;
-        let mut values = Values::new(rt.alloc());
-        values.push(Value::Int(*number))?;
-        list.push(Row {
-            id,
-            period: january(rt, *from, *to),
-            values,
-        })?;
+        push_number(rt, &mut list, january(rt, *from, *to), *number)?;
+    }
+    Ok(Table { schema, rows: list })
+}
+
+/// The same of rows that hold on these periods.
+pub fn numbers_of(
+    rt: &(impl Abort + Alloc<A = Global>),
+    rows: &[(Period, i64)],
+) -> Result<Table, Fail> {
+    let schema = Schema::new(rt.alloc(), &[(Name::parse(b"c")?, Kind::Int)])?;
+    let mut list = RowList::new(rt.alloc());
+    for (period, number) in rows {
+        push_number(rt, &mut list, *period, *number)?;
     }
     Ok(Table { schema, rows: list })
 }

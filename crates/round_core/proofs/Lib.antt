@@ -2,6 +2,7 @@ pub mod TwoLemmas
 pub mod SameSteps
 pub mod SortLemmas
 pub mod RoundLemmas
+pub mod HalfLemmas
 pub mod PermutedLemmas
 pub mod RunLemmas
 pub mod ClosingLemmas

@@ -1,7 +1,9 @@
 //! The plateaus of all classes.
 
 ghost use Rattle.std.specs.Prelude.{◌<◌, ◌≤◌, length, AllPairs, IfOk};
+ghost use Rattle.std.specs.Thread.{IsSync};
 ghost use Rattle.dip_core.specs.Item.{item_limit};
+ghost use Rattle.grid_core.specs.Bundles.{ClassesRise};
 ghost use Rattle.work_core.specs.Limits.{worker_limit};
 ghost use Rattle.round_core.specs.Plateaus.{ArePlateaus};
 
@@ -11,10 +13,70 @@ use crate::plateau::Plateau;
 use crate::rounds::combine_all;
 use crate::runs::class_lists;
 use dip_core::Item;
+use grid_core::{middle_class, parted_behind};
 use period_core::NoMemory;
 use std::alloc::Global;
-use std::thread::Threads;
+use std::thread::{Threads, join};
 use work_core::Gate;
+
+/// The plateaus of all classes, whose lists go through the rounds together.
+fn plateaus_by_rounds<R: Threads + Sync, G: Gate>(
+    rt: &R,
+    alloc: Global,
+    measure: Measure,
+    items: &[Item],
+    workers: u32,
+    gate: &G,
+) -> Result<Vec<Plateau>, NoMemory>
+    requires workers { (0 < workers) × (workers ≤ worker_limit) }
+    requires few { length items.now ≤ item_limit }
+    requires rise { ClassesRise items.now }
+    ensures { IfOk result (λ plateaus. ArePlateaus measure items.now plateaus.items) }
+{
+    let lists = class_lists(rt, alloc, items)?;
+    let all = combine_all(rt, alloc, lists, workers, gate)?;
+    plateaus_in(alloc, measure, all)
+}
+
+/// The plateaus of all classes. Half of the workers find those of the lower classes, where there are enough of both.
+#[cycle(halves)]
+fn plateaus_of_halves<R: Threads + Sync, G: Gate>(
+    rt: &R,
+    alloc: Global,
+    measure: Measure,
+    items: &[Item],
+    workers: u32,
+    gate: &G,
+) -> Result<Vec<Plateau>, NoMemory>
+    requires workers { (0 < workers) × (workers ≤ worker_limit) }
+    requires few { length items.now ≤ item_limit }
+    requires rise { ClassesRise items.now }
+    ensures { IfOk result (λ plateaus. ArePlateaus measure items.now plateaus.items) }
+{
+    let Some(class) = middle_class(items, &[], workers) else {
+        return plateaus_by_rounds(rt, alloc, measure, items, workers, gate);
+    };
+    let (low_items, high_items) = parted_behind(class, items);
+    let few = workers / 2;
+    let others = workers - few;
+    let (low, high) = join(
+        rt,
+        || -> Result<Vec<Plateau>, NoMemory>
+            requires { IsSync R.row × IsSync G.row × (0 < few) × (few ≤ worker_limit)
+                × (length low_items.now ≤ item_limit) × ClassesRise low_items.now }
+            ensures { IfOk result (λ plateaus. ArePlateaus measure low_items.entry.now plateaus.items) }
+        { plateaus_of_halves(rt, alloc, measure, low_items, few, gate) },
+        || -> Result<Vec<Plateau>, NoMemory>
+            requires { IsSync R.row × IsSync G.row × (0 < others) × (others ≤ worker_limit)
+                × (length high_items.now ≤ item_limit) × ClassesRise high_items.now }
+            ensures { IfOk result (λ plateaus. ArePlateaus measure high_items.entry.now plateaus.items) }
+        { plateaus_of_halves(rt, alloc, measure, high_items, others, gate) },
+    );
+    let mut plateaus = low?;
+    let mut high = high?;
+    plateaus.append(&mut high)?;
+    Ok(plateaus)
+}
 
 /// The plateaus of all classes, by class and start: the same for every number of workers. The items of a class
 /// stand together, by rising class. The gate is called before and after each two lists of steps that are taken
@@ -36,7 +98,5 @@ pub fn plateaus_of<R: Threads + Sync, G: Gate>(
     requires grouped { AllPairs (λ a b. a.class ≤ b.class) items.now }
     ensures { IfOk result (λ plateaus. ArePlateaus measure items.now plateaus.items) }
 {
-    let lists = class_lists(rt, alloc, items)?;
-    let all = combine_all(rt, alloc, lists, workers, gate)?;
-    plateaus_in(alloc, measure, all)
+    plateaus_of_halves(rt, alloc, measure, items, workers, gate)
 }

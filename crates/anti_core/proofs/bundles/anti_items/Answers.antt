@@ -16,18 +16,18 @@ use Rattle.anti_core.proofs.bundles.anti_items.Given.{Over}
 moved : (g : Over) (c : After-deref-2 g) → IsPermutation c.args.left.items c.deref.result.now
 moved g c = rw c.deref.ensures.value c.order_by_class.ensures.permutation
 
-pub rows_of_bundles-requires-clause-left_few : goal.rows_of_bundles-requires-clause-left_few
-rows_of_bundles-requires-clause-left_few g c = λ κs outlives.
+pub rows_of_halves-requires-clause-left_few : goal.rows_of_halves-requires-clause-left_few
+rows_of_halves-requires-clause-left_few g c = λ κs outlives.
     (let few : length c.args.left.items ≤ item_limit = c.requires.left_few in
     let same = length_permutation c.args.left.items c.deref.result.now (moved g c) in
     omega (arith, same, few))
 
-pub rows_of_bundles-requires-clause-right_rise : goal.rows_of_bundles-requires-clause-right_rise
-rows_of_bundles-requires-clause-right_rise g c = λ κs outlives.
+pub rows_of_halves-requires-clause-right_rise : goal.rows_of_halves-requires-clause-right_rise
+rows_of_halves-requires-clause-right_rise g c = λ κs outlives.
     rw c.deref-2.ensures.value (united-rise c.in_ok-united.united.items c.in_ok-united.ensures.all.ordered)
 
-pub rows_of_bundles-requires-clause-ids : goal.rows_of_bundles-requires-clause-ids
-rows_of_bundles-requires-clause-ids g c = λ κs outlives.
+pub rows_of_halves-requires-clause-ids : goal.rows_of_halves-requires-clause-ids
+rows_of_halves-requires-clause-ids g c = λ κs outlives.
     HasDistinctIds-permutation c.args.left.items c.deref.result.now (moved g c) c.requires.left_ids
 
 pub returns : goal.returns

@@ -1,4 +1,5 @@
-use Rattle.anti_core.proofs.BundleLemmas.{bundling_start, bundling_more, bundling_end, low-distinct, none_first}
+use Rattle.grid_core.proofs.BundleLemmas.{low-distinct, none_first}
+use Rattle.anti_core.proofs.BundleLemmas.{bundling_start, bundling_more, bundling_end}
 use Rattle.anti_core.proofs.bundles.rows_of_bundles.Goals as goal
 
 pub bundles-init : goal.bundles-init

@@ -1,0 +1,63 @@
+-- Items by class, parted behind a class.
+use Rattle.std.proofs.Common.{◌≡◌, ℕ, ◌+◌, ◌<◌, ◌≤◌, List, [], ◌∷◌, ◌++◌, length, take, drop, get_or, true, false, leb, leb-true, sym, subst, ap, None, ◌∙◌, refl, arith, length-append}
+use Rattle.std.specs.Prelude.{slice_get}
+use Rattle.std.specs.List.Sorted.{IsPartitionPoint}
+use Rattle.std.proofs.lemmas.Bool.{leb-false}
+use Rattle.std.proofs.lemmas.List.{get_or-take, get_or-drop, length-drop, length-take, take-append-drop}
+use Rattle.std.proofs.lemmas.List.Sorted.{IsNonDecreasingBy-drop, IsNonDecreasingBy-take}
+use Rattle.std.proofs.Math.Seq.{drop-append_seam, take-append_seam}
+use Rattle.dip_core.specs.declared.item.Item.{Item}
+use Rattle.dip_core.specs.Item.{HasDistinctIds}
+use Rattle.dip_core.proofs.PartedLemmas.{distinct-earlier, distinct-later}
+use Rattle.grid_core.specs.Bundles.{ArePartedBehind, ClassesRise}
+
+-- those before and behind the place from which a test for higher classes fails
+pub parted-from_point : (class : ℕ) (items low high : List Item) (n : ℕ) → n ≤ length items
+    → IsPartitionPoint (λ y. leb y.class class ≡ true) (λ y. leb y.class class ≡ false) items n → low ≡ take n items
+    → high ≡ drop n items → ArePartedBehind class items low high
+parted-from_point class items low high n inside point front back = rw (front, back) (record {
+  whole = sym (take-append-drop n items);
+  upto = λ k d h.
+      let within : k < n = omega (arith, h, inside, length-take n items) in
+      subst (λ (x : Item). x.class ≤ class) (sym (get_or-take n items k d within))
+      (leb-true (get_or items k d).class class (point.0 k d (omega arith) within));
+  above = λ k d h.
+      let within : n + k < length items = omega (arith, h, inside, length-drop n items) in
+      subst (λ (x : Item). class < x.class) (sym (get_or-drop n items k d))
+      (leb-false (get_or items (n + k) d).class class (point.1 (n + k) d (omega arith) within));
+})
+
+-- where there is no first item there is none
+pub none_first : (items : List Item) → None ≡ slice_get items 0 → items ≡ []
+none_first [] e = refl
+none_first (y ∷ items) e = absurd cc
+
+module _ (class : ℕ) (items low high : List Item) (parted : ArePartedBehind class items low high) where
+  -- ids that are distinct in all are so in each
+  pub low-distinct : HasDistinctIds items → HasDistinctIds low
+  low-distinct distinct = distinct-earlier low high (subst HasDistinctIds parted.whole distinct)
+
+  pub high-distinct : HasDistinctIds items → HasDistinctIds high
+  high-distinct distinct = distinct-later low high (subst HasDistinctIds parted.whole distinct)
+
+  -- neither are more than all
+  pub low-few : length low ≤ length items
+  low-few =
+      let whole : length items ≡ length (low ++ high) = ap length parted.whole in
+      omega (arith, whole, length-append low high)
+
+  pub high-few : length high ≤ length items
+  high-few =
+      let whole : length items ≡ length (low ++ high) = ap length parted.whole in
+      omega (arith, whole, length-append low high)
+
+  -- the classes of each still rise
+  pub low-rise : ClassesRise items → ClassesRise low
+  low-rise rise =
+      subst ClassesRise (ap (take (length low)) parted.whole ∙ take-append_seam low high)
+      (IsNonDecreasingBy-take (λ (x : Item). x.class) (length low) items rise)
+
+  pub high-rise : ClassesRise items → ClassesRise high
+  high-rise rise =
+      subst ClassesRise (ap (drop (length low)) parted.whole ∙ drop-append_seam low high)
+      (IsNonDecreasingBy-drop (λ (x : Item). x.class) (length low) items rise)

@@ -1,0 +1,80 @@
+//! Items by class, a bundle at a time: all items of some classes. Items of other classes don't match them, so the parts
+//! of a bundle are paired with each other alone. They are few, since few of its items hold at once.
+
+ghost use Rattle.std.specs.Prelude.{◌≤◌, length, IfOk, IsSome, IsPermutation};
+ghost use Rattle.dip_core.specs.Item.{item_limit};
+ghost use Rattle.dip_core.specs.Division.{IsLeastDivision};
+ghost use Rattle.grid_core.specs.Bundles.{ArePartedBehind, ClassesRise};
+
+use dip_core::{Division, Item, create_dip};
+use period_core::NoMemory;
+use std::alloc::Global;
+use std::thread::Threads;
+
+/// Of fewer items half would be over before the other half's thread has started.
+const ITEMS_FOR_HALVES: usize = 8_192;
+
+/// Puts the items by class.
+pub fn order_by_class(items: &mut Vec<Item>)
+    ensures permutation { IsPermutation items.old.items items.new.items }
+    ensures sorted { ClassesRise items.new.items }
+{
+    items.sort_unstable_by_key(|item| item.class);
+}
+
+/// The last class of the bundle that begins with that item of either side: the first by which one of the sides has
+/// enough, but none before the item's own.
+pub fn last_class(first: &Item, lefts: &[Item], rights: &[Item], enough: usize) -> u64
+    ensures { first.now.class ≤ result }
+{
+    let class = class_of_enough(lefts, enough).min(class_of_enough(rights, enough));
+    class.max(first.class)
+}
+
+// The class by which there are enough items for a bundle; where there aren't, the greatest that can be.
+fn class_of_enough(items: &[Item], enough: usize) -> u64 {
+    match items.get(enough) {
+        Some(item) => item.class,
+        None => u64::MAX,
+    }
+}
+
+/// The items of classes up to that one, and those of higher classes.
+pub fn parted_behind(class: u64, items: &[Item]) -> (&[Item], &[Item])
+    requires { ClassesRise items.now }
+    ensures { ArePartedBehind class items.now result.0.now result.1.now }
+{
+    let low = items.partition_point(|item| item.class <= class);
+    items.split_at(low)
+}
+
+/// The class behind which items are parted so that half of the workers take each half: about the middle one of the
+/// side that has more. None for one worker, and where items are few or most are of one class.
+pub fn middle_class(left: &[Item], right: &[Item], workers: u32) -> Option<u64>
+    ensures { IsSome result → 2 ≤ workers }
+{
+    let more = if left.len() < right.len() {
+        right
+    } else {
+        left
+    };
+    if workers < 2 || more.len() < ITEMS_FOR_HALVES {
+        return None;
+    }
+    let middle = more.get(more.len() / 2)?.class;
+    let later = more.get(more.len() / 4 * 3)?.class;
+    if middle < later { Some(middle) } else { None }
+}
+
+/// The division of some items, which are copied.
+pub fn divided<R: Threads + Sync>(
+    rt: &R,
+    alloc: Global,
+    items: &[Item],
+) -> Result<Division, NoMemory>
+    requires { length items.now ≤ item_limit }
+    ensures { IfOk result (IsLeastDivision items.now) }
+{
+    let own = Vec::from_slice(alloc, items)?;
+    create_dip(rt, alloc, own)
+}

@@ -1,0 +1,296 @@
+-- The rows and the advances of bundles, one after another.
+use Rattle.std.proofs.Common.{◌≡◌, ◌≢◌, ℕ, ◌+◌, ◌*◌, ◌<◌, ◌≤◌, List, [], ◌∷◌, ◌++◌, length, flat_map, take, drop, All, get_or, Some, sym, subst, ap, ◌∙◌, arith, append-nil, length-append}
+use Rattle.std.specs.Prelude.{slice_get, sum_by, Contains, AllPairs}
+use Rattle.std.proofs.lemmas.List.{take_all, take_more, take-append-drop}
+use Rattle.std.proofs.lemmas.List.Concat.{flat_map-append, length-flat_map}
+use Rattle.std.proofs.lemmas.List.Sorted.{IsPermutation-refl}
+use Rattle.std.proofs.lemmas.List.Sums.{sum_by_more, sum_by-take-le}
+use Rattle.std.proofs.lemmas.Nat.{mul-le}
+use Rattle.std.proofs.lemmas.Option.{get_or_from_slice_get, slice_get_within}
+use Rattle.dip_core.specs.declared.item.Item.{Item}
+use Rattle.dip_core.specs.Item.{item_limit, HasDistinctIds}
+use Rattle.dip_core.specs.Division.{all_of}
+use Rattle.dip_core.proofs.AddedLemmas.{length-le-all_of}
+use Rattle.dip_core.proofs.PartedLemmas.{distinct-earlier, distinct-later}
+use Rattle.list_core.proofs.PlaceLemmas.{All-front, All-seam}
+use Rattle.join_core.specs.declared.bundles.Bundle.{Bundle}
+use Rattle.join_core.specs.declared.rows.JoinRow.{JoinRow}
+use Rattle.join_core.specs.Bundles.{lefts_of, rights_of, MatchNothing, AreBundlesAdvances, left_parts, right_parts, least_between, least_advances}
+use Rattle.join_core.specs.ItemJoin.{AreItemsRows}
+use Rattle.join_core.specs.PairValues.{AddsFirstPairs}
+use Rattle.join_core.proofs.AdvanceLemmas.{least_between-turns}
+use Rattle.join_core.proofs.ItemLemmas.{AreItemsRows-append, AreItemsRows-none}
+use Rattle.join_core.proofs.JoinedLemmas.{AreItemsRows-of_pairs}
+use Rattle.join_core.proofs.ListLemmas.{Contains-flat_map_source, within_take}
+use Rattle.join_core.proofs.TurnLemmas.{all_turns-within}
+
+-- ---- one bundle more
+
+-- the items of one bundle more
+module _ (f : Bundle → List Item) where
+  pub items-more : (bundles : List Bundle) (i : ℕ) (b : Bundle) → slice_get bundles i ≡ Some b
+      → flat_map f (take (i + 1) bundles) ≡ flat_map f (take i bundles) ++ f b
+  items-more bundles i b at =
+      let inside : i < length bundles = slice_get_within bundles i b at in
+      ap (flat_map f) (take_more bundles i b inside)
+      ∙ flat_map-append f (take i bundles) (get_or bundles i b ∷ [])
+      ∙ ap (λ z. flat_map f (take i bundles) ++ z) (append-nil (f (get_or bundles i b)))
+      ∙ ap (λ (c : Bundle). flat_map f (take i bundles) ++ f c) (get_or_from_slice_get bundles i b b at)
+
+  -- the first bundles have no more items than all
+  pub items-few : (bundles : List Bundle) (i : ℕ)
+      → length (flat_map f (take i bundles)) ≤ length (flat_map f bundles)
+  items-few bundles i =
+      let some = length-flat_map f (take i bundles) in
+      let all = length-flat_map f bundles in
+      let less = sum_by-take-le (λ (b : Bundle). length (f b)) bundles i in
+      omega (arith, some, all, less)
+
+  -- where ids are distinct they are so in the first bundles
+  pub distinct-few : (bundles : List Bundle) (i : ℕ) → HasDistinctIds (flat_map f bundles)
+      → HasDistinctIds (flat_map f (take i bundles))
+  distinct-few bundles i distinct =
+      distinct-earlier (flat_map f (take i bundles)) (flat_map f (drop i bundles))
+      (subst HasDistinctIds
+      (sym (ap (flat_map f) (take-append-drop i bundles)) ∙ flat_map-append f (take i bundles) (drop i bundles))
+      distinct)
+
+-- a number of each bundle, summed
+pub sum-more : (f : Bundle → ℕ) (bundles : List Bundle) (i : ℕ) (b : Bundle) → slice_get bundles i ≡ Some b
+    → sum_by f (take (i + 1) bundles) ≡ sum_by f (take i bundles) + f b
+sum-more f bundles i b at =
+    sum_by_more f bundles i b (slice_get_within bundles i b at)
+    ∙ ap (λ (c : Bundle). sum_by f (take i bundles) + f c) (get_or_from_slice_get bundles i b b at)
+
+-- no earlier bundle matches a later one
+earlier-unmatched : (bundles : List Bundle) (i j : ℕ) (b c : Bundle) → AllPairs MatchNothing bundles
+    → slice_get bundles i ≡ Some b → slice_get bundles j ≡ Some c → j < i → MatchNothing c b
+earlier-unmatched bundles i j b c unmatched at there less =
+    subst (λ (d : Bundle). MatchNothing d b) (get_or_from_slice_get bundles j c c there)
+    (subst (MatchNothing (get_or bundles j c)) (get_or_from_slice_get bundles i b c at)
+    (unmatched j i c less (slice_get_within bundles i b at)))
+
+module _ (bundles : List Bundle) (i : ℕ) (b : Bundle) (unmatched : AllPairs MatchNothing bundles)
+    (at : slice_get bundles i ≡ Some b) where
+  pub first-forth : (x y : Item) → Contains (lefts_of (take i bundles)) x → Contains (all_of b.right) y
+      → x.class ≢ y.class
+  first-forth x y h k =
+      let s = Contains-flat_map_source (λ (c : Bundle). all_of c.left) (take i bundles) x h in
+      let w = within_take bundles i s.0 s.1 s.2 in
+      (earlier-unmatched bundles i s.0 b s.1 unmatched at w.1 w.0).forth x y s.3 k
+
+  pub first-back : (x y : Item) → Contains (all_of b.left) x → Contains (rights_of (take i bundles)) y
+      → x.class ≢ y.class
+  first-back x y h k =
+      let s = Contains-flat_map_source (λ (c : Bundle). all_of c.right) (take i bundles) y k in
+      let w = within_take bundles i s.0 s.1 s.2 in
+      (earlier-unmatched bundles i s.0 b s.1 unmatched at w.1 w.0).back x y h s.3
+
+-- ---- the rows and advances so far
+
+-- those of the first bundles, which are few enough for a number
+pub record IsJoining (bundles : List Bundle) (i : ℕ) (rows : List JoinRow) (turns : ℕ) : Type 0 where
+  pub rows_are : AreItemsRows (lefts_of (take i bundles)) (rights_of (take i bundles)) rows
+  pub advances : AreBundlesAdvances (take i bundles) turns
+  pub small : turns
+      ≤ item_limit * length (lefts_of (take i bundles)) + item_limit * length (rights_of (take i bundles))
+
+-- at first none
+pub joining_start : (bundles : List Bundle) (rows : List JoinRow) → rows ≡ [] → IsJoining bundles 0 rows 0
+joining_start bundles rows none = record {
+  rows_are = subst (AreItemsRows [] []) (sym none) (AreItemsRows-none []);
+  advances = record { at_least = omega arith; at_most = λ k m lefts rights. omega arith };
+  small = omega arith;
+}
+
+-- a product with a sum
+mul-add : (a b c : ℕ) → a * (b + c) ≡ a * b + a * c
+mul-add a b c = grind arith
+
+-- bounds by all items, of those so far and of more
+bound-more : (k m k' m' a b c d u v turns more : ℕ) → u ≡ a + c → v ≡ b + d → turns ≤ m * a + k * b
+    → more ≤ m' * c + k' * d → m' ≤ m → k' ≤ k → turns + more ≤ m * u + k * v
+bound-more k m k' m' a b c d u v turns more e f one other p q =
+    let lefts = mul-le m' c m c p (omega arith) in
+    let rights = mul-le k' d k d q (omega arith) in
+    let x : m * u ≡ m * a + m * c = ap (λ n. m * n) e ∙ mul-add m a c in
+    let y : k * v ≡ k * b + k * d = ap (λ n. k * n) f ∙ mul-add k b d in
+    omega (arith, one, other, lefts, rights, x, y)
+
+module _ (bundles : List Bundle) (i : ℕ) (b : Bundle) (unmatched : AllPairs MatchNothing bundles)
+    (at : slice_get bundles i ≡ Some b) (left_ids : HasDistinctIds (lefts_of bundles))
+    (right_ids : HasDistinctIds (rights_of bundles)) (left_filled : All (λ (p : List Item). 0 < length p) b.left)
+    (right_filled : All (λ (p : List Item). 0 < length p) b.right) (left_few : length b.left ≤ item_limit)
+    (right_few : length b.right ≤ item_limit) where
+  left_more : lefts_of (take (i + 1) bundles) ≡ lefts_of (take i bundles) ++ all_of b.left
+  left_more = items-more (λ (c : Bundle). all_of c.left) bundles i b at
+
+  right_more : rights_of (take (i + 1) bundles) ≡ rights_of (take i bundles) ++ all_of b.right
+  right_more = items-more (λ (c : Bundle). all_of c.right) bundles i b at
+
+  left_distinct : HasDistinctIds (lefts_of (take i bundles) ++ all_of b.left)
+  left_distinct =
+      subst HasDistinctIds left_more (distinct-few (λ (c : Bundle). all_of c.left) bundles (i + 1) left_ids)
+
+  right_distinct : HasDistinctIds (rights_of (take i bundles) ++ all_of b.right)
+  right_distinct =
+      subst HasDistinctIds right_more (distinct-few (λ (c : Bundle). all_of c.right) bundles (i + 1) right_ids)
+
+  left_len : length (lefts_of (take (i + 1) bundles)) ≡ length (lefts_of (take i bundles)) + length (all_of b.left)
+  left_len = ap length left_more ∙ length-append (lefts_of (take i bundles)) (all_of b.left)
+
+  right_len : length (rights_of (take (i + 1) bundles))
+      ≡ length (rights_of (take i bundles)) + length (all_of b.right)
+  right_len = ap length right_more ∙ length-append (rights_of (take i bundles)) (all_of b.right)
+
+  -- the rows of the bundle
+  rows-own : (old new : List JoinRow) (added : ℕ)
+      (adds : AddsFirstPairs b.left b.right (length b.left * length b.right) old new added)
+      → AreItemsRows (all_of b.left) (all_of b.right) adds.added
+  rows-own old new added adds =
+      subst (AreItemsRows (all_of b.left) (all_of b.right)) (sym adds.are.rows_are)
+      (AreItemsRows-of_pairs (all_of b.left) (all_of b.right) b.left b.right adds.are.outs adds.are.len adds.are.values
+      (IsPermutation-refl (all_of b.left)) (IsPermutation-refl (all_of b.right))
+      (distinct-later (lefts_of (take i bundles)) (all_of b.left) left_distinct)
+      (distinct-later (rights_of (take i bundles)) (all_of b.right) right_distinct))
+
+  rows-more : (old new : List JoinRow) (added : ℕ)
+      → AddsFirstPairs b.left b.right (length b.left * length b.right) old new added
+      → AreItemsRows (lefts_of (take i bundles)) (rights_of (take i bundles)) old
+      → AreItemsRows (lefts_of (take (i + 1) bundles)) (rights_of (take (i + 1) bundles)) new
+  rows-more old new added adds before =
+      subst (λ (xs : List Item). AreItemsRows xs (rights_of (take (i + 1) bundles)) new) (sym left_more)
+      (subst (λ (ys : List Item). AreItemsRows (lefts_of (take i bundles) ++ all_of b.left) ys new) (sym right_more)
+      (subst (AreItemsRows (lefts_of (take i bundles) ++ all_of b.left) (rights_of (take i bundles) ++ all_of b.right))
+      (sym adds.split)
+      (AreItemsRows-append (lefts_of (take i bundles)) (rights_of (take i bundles)) (all_of b.left) (all_of b.right)
+      old adds.added left_distinct (first-forth bundles i b unmatched at) (first-back bundles i b unmatched at) before
+      (rows-own old new added adds))))
+
+  -- a bundle more
+  pub joining_more : (old new : List JoinRow) (turns added : ℕ)
+      → AddsFirstPairs b.left b.right (length b.left * length b.right) old new added
+      → IsJoining bundles i old turns → IsJoining bundles (i + 1) new (turns + added)
+  joining_more old new turns added adds was =
+      let is = adds.are.turns_are in
+      let least = least_between-turns b.left b.right adds.are.outs adds.are.len adds.are.values in
+      let within = all_turns-within b.left b.right adds.are.outs adds.are.len adds.are.values left_filled
+      right_filled in
+      let most : added ≤ length b.right * length (all_of b.left) + length b.left * length (all_of b.right) =
+      (let w = within.at_most in omega (arith, is, w)) in
+      let before = was.advances in
+      record {
+        rows_are = rows-more old new added adds was.rows_are;
+        advances = record {
+          at_least = (let so_far = before.at_least in
+              let sum = sum-more (λ (c : Bundle). least_between c.left c.right) bundles i b at in
+              omega (arith, least, is, so_far, sum));
+          at_most = λ k m lefts rights.
+              bound-more k m (length b.left) (length b.right) (length (lefts_of (take i bundles)))
+              (length (rights_of (take i bundles))) (length (all_of b.left)) (length (all_of b.right))
+              (length (lefts_of (take (i + 1) bundles))) (length (rights_of (take (i + 1) bundles))) turns added left_len
+              right_len
+              (before.at_most k m (first-all (λ (c : Bundle). length c.left ≤ k) lefts)
+              (first-all (λ (c : Bundle). length c.right ≤ m) rights))
+              most (own-all (λ (c : Bundle). length c.right ≤ m) rights)
+              (own-all (λ (c : Bundle). length c.left ≤ k) lefts);
+        };
+        small = bound-more item_limit item_limit (length b.left) (length b.right)
+            (length (lefts_of (take i bundles))) (length (rights_of (take i bundles))) (length (all_of b.left))
+            (length (all_of b.right)) (length (lefts_of (take (i + 1) bundles)))
+            (length (rights_of (take (i + 1) bundles))) turns added left_len right_len was.small most right_few left_few;
+      }
+    where
+      inside : i < length bundles
+      inside = slice_get_within bundles i b at
+
+      -- the first bundles and one more
+      front : take (i + 1) bundles ≡ take i bundles ++ b ∷ []
+      front =
+          take_more bundles i b inside
+          ∙ ap (λ (c : Bundle). take i bundles ++ c ∷ []) (get_or_from_slice_get bundles i b b at)
+
+      first-all : (P : Bundle → Type 0) → All P (take (i + 1) bundles) → All P (take i bundles)
+      first-all P all = All-front P (take i bundles) (b ∷ []) (subst (All P) front all)
+
+      own-all : (P : Bundle → Type 0) → All P (take (i + 1) bundles) → P b
+      own-all P all = All-seam P (take i bundles) b [] (subst (All P) front all)
+
+  -- it fits a number
+  pub joining-fits : (old new : List JoinRow) (turns added : ℕ)
+      → AddsFirstPairs b.left b.right (length b.left * length b.right) old new added → IsJoining bundles i old turns
+      → length (lefts_of bundles) ≤ item_limit → length (rights_of bundles) ≤ item_limit
+      → turns + added ≤ 2_000_000_000_000
+  joining-fits old new turns added adds was lefts rights =
+      let next = (joining_more old new turns added adds was).small in
+      let a = items-few (λ (c : Bundle). all_of c.left) bundles (i + 1) in
+      let b = items-few (λ (c : Bundle). all_of c.right) bundles (i + 1) in
+      omega (arith, next, a, b, lefts, rights)
+
+-- at the end those of all
+pub joining_end : (bundles : List Bundle) (i : ℕ) (rows : List JoinRow) (turns : ℕ) → length bundles ≤ i
+    → IsJoining bundles i rows turns
+    → AreItemsRows (lefts_of bundles) (rights_of bundles) rows × AreBundlesAdvances bundles turns
+joining_end bundles i rows turns all is = (
+  subst (λ (bs : List Bundle). AreItemsRows (lefts_of bs) (rights_of bs) rows) (take_all i bundles all) is.rows_are,
+  subst (λ (bs : List Bundle). AreBundlesAdvances bs turns) (take_all i bundles all) is.advances,
+)
+
+-- ---- how many parts there are, and how many advances at least
+
+-- those of the first bundles
+pub record IsCounting (bundles : List Bundle) (i lefts rights advances : ℕ) : Type 0 where
+  pub lefts_are : lefts ≡ left_parts (take i bundles)
+  pub rights_are : rights ≡ right_parts (take i bundles)
+  pub lefts_few : lefts ≤ length (lefts_of (take i bundles))
+  pub rights_few : rights ≤ length (rights_of (take i bundles))
+  pub advances_are : advances ≤ least_advances (take i bundles)
+
+pub counting_more : (bundles : List Bundle) (i lefts rights advances more next : ℕ) (b : Bundle)
+    → slice_get bundles i ≡ Some b → All (λ (p : List Item). 0 < length p) b.left
+    → All (λ (p : List Item). 0 < length p) b.right → more ≤ least_between b.left b.right → next ≤ advances + more
+    → IsCounting bundles i lefts rights advances
+    → IsCounting bundles (i + 1) (lefts + length b.left) (rights + length b.right) next
+counting_more bundles i lefts rights advances more next b at left_filled right_filled least sum was =
+    let l = was.lefts_are in
+    let r = was.rights_are in
+    let l_few = was.lefts_few in
+    let r_few = was.rights_few in
+    let a = was.advances_are in
+    let l_more = sum-more (λ (c : Bundle). length c.left) bundles i b at in
+    let r_more = sum-more (λ (c : Bundle). length c.right) bundles i b at in
+    let a_more = sum-more (λ (c : Bundle). least_between c.left c.right) bundles i b at in
+    let l_len = ap length (items-more (λ (c : Bundle). all_of c.left) bundles i b at)
+    ∙ length-append (lefts_of (take i bundles)) (all_of b.left) in
+    let r_len = ap length (items-more (λ (c : Bundle). all_of c.right) bundles i b at)
+    ∙ length-append (rights_of (take i bundles)) (all_of b.right) in
+    let l_all = length-le-all_of b.left left_filled in
+    let r_all = length-le-all_of b.right right_filled in
+    record {
+      lefts_are = omega (arith, l, l_more);
+      rights_are = omega (arith, r, r_more);
+      lefts_few = omega (arith, l_few, l_len, l_all);
+      rights_few = omega (arith, r_few, r_len, r_all);
+      advances_are = omega (arith, a, a_more, least, sum);
+    }
+
+-- at the end all are counted
+pub counting_end : (bundles : List Bundle) (i lefts rights advances : ℕ) → length bundles ≤ i
+    → IsCounting bundles i lefts rights advances → lefts * rights ≤ advances
+    → left_parts bundles * right_parts bundles ≤ least_advances bundles
+counting_end bundles i lefts rights advances all is enough =
+    let least = is.advances_are in
+    subst (λ (bs : List Bundle). left_parts bs * right_parts bs ≤ least_advances bs) (take_all i bundles all)
+    (subst (λ (n : ℕ). n * right_parts (take i bundles) ≤ least_advances (take i bundles)) is.lefts_are
+    (subst (λ (n : ℕ). lefts * n ≤ least_advances (take i bundles)) is.rights_are (omega (arith, enough, least))))
+
+-- those of the first bundles are few
+pub counting-few : (bundles : List Bundle) (i lefts rights advances : ℕ) → length (lefts_of bundles) ≤ item_limit
+    → length (rights_of bundles) ≤ item_limit → IsCounting bundles i lefts rights advances
+    → (lefts ≤ item_limit) × (rights ≤ item_limit)
+counting-few bundles i lefts rights advances left_few right_few is =
+    let a = is.lefts_few in
+    let b = is.rights_few in
+    let c = items-few (λ (d : Bundle). all_of d.left) bundles i in
+    let d = items-few (λ (e : Bundle). all_of e.right) bundles i in
+    (omega (arith, a, c, left_few), omega (arith, b, d, right_few))

@@ -1,0 +1,108 @@
+-- The plateaus of all items, from those of the items of some classes and of all higher ones.
+use Rattle.std.proofs.Common.{◌≡◌, ◌⊎◌, ℕ, ◌<◌, ◌≤◌, cond, List, [], ◌∷◌, ◌++◌, get_or, refl, sym, subst, ap, ◌∙◌, inl, inr, arith, append-nil}
+use Rattle.std.specs.Prelude.{All, AllPairs, ◌==◌}
+use Rattle.std.proofs.lemmas.Bool.{cases_lt, ne_eqb}
+use Rattle.std.proofs.lemmas.List.Elements.{All-head, All-tail, filter-append}
+use Rattle.dip_core.specs.declared.item.Item.{Item}
+use Rattle.list_core.proofs.WantedLemmas.{IsListOf-append}
+use Rattle.grid_core.specs.Bundles.{ArePartedBehind, ClassesRise}
+use Rattle.merge_core.specs.Gaps.{IsMaximal}
+use Rattle.merge_core.specs.Tallies.{holding}
+use Rattle.merge_core.proofs.SharedLemmas.{first_held}
+use Rattle.round_core.specs.declared.measure.Measure.{Measure}
+use Rattle.round_core.specs.declared.plateau.Plateau.{Plateau}
+use Rattle.round_core.specs.Plateaus.{of_class, HasValue, IsPlateau, PlateauBefore, ArePlateaus}
+use Rattle.round_core.proofs.CollectLemmas.{no_tally}
+
+-- ---- two ways to say that classes rise
+
+pub rise-from_grouped : (items : List Item) → AllPairs (λ (a b : Item). a.class ≤ b.class) items → ClassesRise items
+rise-from_grouped items grouped = λ i j d upto inside.
+    (elim (equal_or_less i j upto) [
+      | inl e ↦ subst (λ (k : ℕ). (get_or items i d).class ≤ (get_or items k d).class) e (omega arith)
+      | inr less ↦ grouped i j d less inside
+    ])
+  where
+    equal_or_less : (m n : ℕ) → m ≤ n → (m ≡ n) ⊎ (m < n)
+    equal_or_less m n h = grind arith
+
+pub grouped-from_rise : (items : List Item) → ClassesRise items → AllPairs (λ (a b : Item). a.class ≤ b.class) items
+grouped-from_rise items rise = λ i j d less inside. rise i j d (omega arith) inside
+
+-- ---- items of lower classes, and of higher ones
+
+-- items of other classes are none of a class
+none_of : (class : ℕ) (items : List Item) → All (λ (x : Item). x.class ≡ class → ⊥) items → of_class class items ≡ []
+none_of class [] others = refl
+none_of class (x ∷ items) others =
+    ap (λ b. cond b (x ∷ of_class class items) (of_class class items))
+    (ne_eqb x.class class (All-head (λ (y : Item). y.class ≡ class → ⊥) x items others))
+    ∙ none_of class items (All-tail (λ (y : Item). y.class ≡ class → ⊥) x items others)
+
+-- a class without items has no plateau
+no_plateau : (measure : Measure) (items : List Item) (p : Plateau) → of_class p.class items ≡ []
+    → IsPlateau measure items p → ⊥
+no_plateau measure items p none is =
+    let h = is.maximal.inside p.period.from (first_held p.period) in
+    no_tally (of_class p.class items) p.period.from h.tally (ap (λ z. holding z p.period.from) none) h.is
+
+module _ (measure : Measure) (class : ℕ) (items low high : List Item) (parted : ArePartedBehind class items low high)
+  where
+    -- of a class up to that one all items are among the lower ones
+    low_class : (k : ℕ) → k ≤ class → of_class k (low ++ high) ≡ of_class k low
+    low_class k upto =
+        filter-append (λ (x : Item). x.class == k) low high
+        ∙ ap (λ z. of_class k low ++ z)
+        (none_of k high (λ i d h same. let above = parted.above i d h in omega (arith, above, same, upto)))
+        ∙ append-nil (of_class k low)
+
+    -- of a higher class they are among the others
+    high_class : (k : ℕ) → class < k → of_class k (low ++ high) ≡ of_class k high
+    high_class k above =
+        filter-append (λ (x : Item). x.class == k) low high
+        ∙ ap (λ z. z ++ of_class k high)
+        (none_of k low (λ i d h same. let upto = parted.upto i d h in omega (arith, above, same, upto)))
+
+    -- a plateau of the lower items is of a class up to that one
+    low_plateau : (p : Plateau) → IsPlateau measure low p → p.class ≤ class
+    low_plateau p is = elim (cases_lt class p.class) [
+      | inl above ↦ absurd (no_plateau measure low p
+          (none_of p.class low (λ i d h same. let upto = parted.upto i d h in omega (arith, above, same, upto))) is)
+      | inr upto ↦ omega (arith, upto)
+    ]
+
+    -- and one of the others is of a higher class
+    high_plateau : (p : Plateau) → IsPlateau measure high p → class < p.class
+    high_plateau p is = elim (cases_lt class p.class) [
+      | inl above ↦ above
+      | inr upto ↦ absurd (no_plateau measure high p
+          (none_of p.class high (λ i d h same. let above = parted.above i d h in omega (arith, above, same, upto))) is)
+    ]
+
+    -- a plateau goes by the items of its class
+    moved : (some other : List Item) (p : Plateau) → of_class p.class some ≡ of_class p.class other
+        → IsPlateau measure some p → IsPlateau measure other p
+    moved some other p same is = record {
+      maximal = subst (λ (z : List Item). IsMaximal (HasValue measure z p.value) p.period) same is.maximal;
+    }
+
+    both_have : (p : Plateau) → IsPlateau measure (low ++ high) p → IsPlateau measure low p ⊎ IsPlateau measure high p
+    both_have p is = elim (cases_lt class p.class) [
+      | inl above ↦ inr (moved (low ++ high) high p (high_class p.class above) is)
+      | inr upto ↦ inl (moved (low ++ high) low p (low_class p.class (omega (arith, upto))) is)
+    ]
+
+    -- the plateaus of both
+    pub ArePlateaus-parted : (rows more : List Plateau) → ArePlateaus measure low rows → ArePlateaus measure high more
+        → ArePlateaus measure items (rows ++ more)
+    ArePlateaus-parted rows more one other =
+        subst (λ (xs : List Item). ArePlateaus measure xs (rows ++ more)) (sym parted.whole)
+        (IsListOf-append PlateauBefore (IsPlateau measure low) (IsPlateau measure high)
+        (IsPlateau measure (low ++ high)) rows more one other
+        (λ a b i j.
+        let lower = low_plateau a i in
+        let higher = high_plateau b j in
+        inl (omega (arith, lower, higher)))
+        (λ p is. moved low (low ++ high) p (sym (low_class p.class (low_plateau p is))) is)
+        (λ p is. moved high (low ++ high) p (sym (high_class p.class (high_plateau p is))) is)
+        both_have)
