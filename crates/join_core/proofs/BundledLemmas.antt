@@ -1,10 +1,11 @@
 -- The rows and the advances of bundles, one after another.
-use Rattle.std.proofs.Common.{◌≡◌, ◌≢◌, ℕ, ◌+◌, ◌*◌, ◌<◌, ◌≤◌, List, [], ◌∷◌, ◌++◌, length, flat_map, take, drop, All, get_or, Some, sym, subst, ap, ◌∙◌, arith, append-nil, length-append}
+use Rattle.std.proofs.Common.{◌≡◌, ◌≢◌, ℕ, ◌+◌, ◌*◌, ◌<◌, ◌≤◌, List, [], ◌∷◌, ◌++◌, length, flat_map, take, drop, All, get_or, Some, sym, subst, ap, ◌∙◌, inl, inr, arith, append-nil, length-append}
 use Rattle.std.specs.Prelude.{slice_get, sum_by, Contains, AllPairs}
 use Rattle.std.proofs.lemmas.List.{take_all, take_more, take-append-drop}
 use Rattle.std.proofs.lemmas.List.Concat.{flat_map-append, length-flat_map}
+use Rattle.std.proofs.lemmas.List.Elements.{Contains-append_left, Contains-append_right, Contains-get_or}
 use Rattle.std.proofs.lemmas.List.Sorted.{IsPermutation-refl}
-use Rattle.std.proofs.lemmas.List.Sums.{sum_by_more, sum_by-take-le}
+use Rattle.std.proofs.lemmas.List.Sums.{sum_by_more, sum_by-append, sum_by-take-le}
 use Rattle.std.proofs.lemmas.Nat.{mul-le}
 use Rattle.std.proofs.lemmas.Option.{get_or_from_slice_get, slice_get_within}
 use Rattle.dip_core.specs.declared.item.Item.{Item}
@@ -12,7 +13,9 @@ use Rattle.dip_core.specs.Item.{item_limit, HasDistinctIds}
 use Rattle.dip_core.specs.Division.{all_of}
 use Rattle.dip_core.proofs.AddedLemmas.{length-le-all_of}
 use Rattle.dip_core.proofs.PartedLemmas.{distinct-earlier, distinct-later}
-use Rattle.list_core.proofs.PlaceLemmas.{All-front, All-seam}
+use Rattle.list_core.proofs.PlaceLemmas.{All-back, All-front, All-seam}
+use Rattle.list_core.proofs.RisingLemmas.{AllPairs-head, AllPairs-tail, Contains-cons_cases, Contains-none}
+use Rattle.list_core.proofs.WantedLemmas.{AllPairs-before}
 use Rattle.join_core.specs.declared.bundles.Bundle.{Bundle}
 use Rattle.join_core.specs.declared.rows.JoinRow.{JoinRow}
 use Rattle.join_core.specs.Bundles.{lefts_of, rights_of, MatchNothing, AreBundlesAdvances, left_parts, right_parts, least_between, least_advances}
@@ -231,9 +234,12 @@ module _ (bundles : List Bundle) (i : ℕ) (b : Bundle) (unmatched : AllPairs Ma
 pub joining_end : (bundles : List Bundle) (i : ℕ) (rows : List JoinRow) (turns : ℕ) → length bundles ≤ i
     → IsJoining bundles i rows turns
     → AreItemsRows (lefts_of bundles) (rights_of bundles) rows × AreBundlesAdvances bundles turns
+    × (turns ≤ item_limit * length (lefts_of bundles) + item_limit * length (rights_of bundles))
 joining_end bundles i rows turns all is = (
   subst (λ (bs : List Bundle). AreItemsRows (lefts_of bs) (rights_of bs) rows) (take_all i bundles all) is.rows_are,
   subst (λ (bs : List Bundle). AreBundlesAdvances bs turns) (take_all i bundles all) is.advances,
+  subst (λ (bs : List Bundle). turns ≤ item_limit * length (lefts_of bs) + item_limit * length (rights_of bs))
+      (take_all i bundles all) is.small,
 )
 
 -- ---- how many parts there are, and how many advances at least
@@ -294,3 +300,126 @@ counting-few bundles i lefts rights advances left_few right_few is =
     let c = items-few (λ (d : Bundle). all_of d.left) bundles i in
     let d = items-few (λ (e : Bundle). all_of e.right) bundles i in
     (omega (arith, a, c, left_few), omega (arith, b, d, right_few))
+
+-- ---- the bundles in two shares
+
+AllPairs-front : {X : Type 0} (R : X → X → Type 0) (xs ys : List X) → AllPairs R (xs ++ ys) → AllPairs R xs
+AllPairs-front R [] ys all = λ i j d below inside. absurd (omega arith)
+AllPairs-front R (x ∷ xs) ys all =
+    AllPairs-before R x xs (λ y h. AllPairs-head R x (xs ++ ys) y all (Contains-append_left xs ys y h))
+    (AllPairs-front R xs ys (AllPairs-tail R x (xs ++ ys) all))
+
+AllPairs-back : {X : Type 0} (R : X → X → Type 0) (xs ys : List X) → AllPairs R (xs ++ ys) → AllPairs R ys
+AllPairs-back R [] ys all = all
+AllPairs-back R (x ∷ xs) ys all = AllPairs-back R xs ys (AllPairs-tail R x (xs ++ ys) all)
+
+AllPairs-across : {X : Type 0} (R : X → X → Type 0) (xs ys : List X) → AllPairs R (xs ++ ys) → (x y : X)
+    → Contains xs x → Contains ys y → R x y
+AllPairs-across R [] ys all x y h k = absurd (Contains-none x h)
+AllPairs-across {X} R (z ∷ zs) ys all x y h k = elim (Contains-cons_cases z zs x h) [
+  | inl e ↦ subst (λ (v : X). R v y) e (AllPairs-head R z (zs ++ ys) y all (Contains-append_right zs ys y k))
+  | inr later ↦ AllPairs-across R zs ys (AllPairs-tail R z (zs ++ ys) all) x y later k
+]
+
+Contains-from_slice_get : {X : Type 0} (xs : List X) (i : ℕ) (x : X) → slice_get xs i ≡ Some x → Contains xs x
+Contains-from_slice_get {X} xs i x at =
+    subst (Contains xs) (get_or_from_slice_get xs i x x at) (Contains-get_or xs i x (slice_get_within xs i x at))
+
+-- cut in two they are those in front and those behind
+pub shares-whole : (bundles front back : List Bundle) (n : ℕ) → front ≡ take n bundles → back ≡ drop n bundles
+    → bundles ≡ front ++ back
+shares-whole bundles front back n e f = rw (e, f) (sym (take-append-drop n bundles))
+
+module _ (bundles front back : List Bundle) (whole : bundles ≡ front ++ back) where
+  lefts_split : lefts_of bundles ≡ lefts_of front ++ lefts_of back
+  lefts_split = ap lefts_of whole ∙ flat_map-append (λ (b : Bundle). all_of b.left) front back
+
+  rights_split : rights_of bundles ≡ rights_of front ++ rights_of back
+  rights_split = ap rights_of whole ∙ flat_map-append (λ (b : Bundle). all_of b.right) front back
+
+  pub shares-lefts : length (lefts_of bundles) ≡ length (lefts_of front) + length (lefts_of back)
+  shares-lefts = ap length lefts_split ∙ length-append (lefts_of front) (lefts_of back)
+
+  pub shares-rights : length (rights_of bundles) ≡ length (rights_of front) + length (rights_of back)
+  shares-rights = ap length rights_split ∙ length-append (rights_of front) (rights_of back)
+
+  pub shares-left_ids : HasDistinctIds (lefts_of bundles)
+      → HasDistinctIds (lefts_of front) × HasDistinctIds (lefts_of back)
+  shares-left_ids ids =
+      let both = subst HasDistinctIds lefts_split ids in
+      (distinct-earlier (lefts_of front) (lefts_of back) both, distinct-later (lefts_of front) (lefts_of back) both)
+
+  pub shares-right_ids : HasDistinctIds (rights_of bundles)
+      → HasDistinctIds (rights_of front) × HasDistinctIds (rights_of back)
+  shares-right_ids ids =
+      let both = subst HasDistinctIds rights_split ids in (
+        distinct-earlier (rights_of front) (rights_of back) both,
+        distinct-later (rights_of front) (rights_of back) both,
+      )
+
+  pub shares-unmatched : AllPairs MatchNothing bundles → AllPairs MatchNothing front × AllPairs MatchNothing back
+  shares-unmatched unmatched =
+      let both = subst (AllPairs MatchNothing) whole unmatched in
+      (AllPairs-front MatchNothing front back both, AllPairs-back MatchNothing front back both)
+
+  -- the rows of both
+  pub shares-rows : (rows more : List JoinRow) → AllPairs MatchNothing bundles → HasDistinctIds (lefts_of bundles)
+      → AreItemsRows (lefts_of front) (rights_of front) rows → AreItemsRows (lefts_of back) (rights_of back) more
+      → AreItemsRows (lefts_of bundles) (rights_of bundles) (rows ++ more)
+  shares-rows rows more unmatched ids one other =
+      subst (λ (xs : List Item). AreItemsRows xs (rights_of bundles) (rows ++ more)) (sym lefts_split)
+      (subst (λ (ys : List Item). AreItemsRows (lefts_of front ++ lefts_of back) ys (rows ++ more))
+      (sym rights_split)
+      (AreItemsRows-append (lefts_of front) (rights_of front) (lefts_of back) (rights_of back) rows more
+      (subst HasDistinctIds lefts_split ids)
+      (λ x y h k.
+      let s = Contains-flat_map_source (λ (b : Bundle). all_of b.left) front x h in
+      let t = Contains-flat_map_source (λ (b : Bundle). all_of b.right) back y k in
+      (across s.1 t.1 (Contains-from_slice_get front s.0 s.1 s.2)
+      (Contains-from_slice_get back t.0 t.1 t.2)).forth x y s.3 t.3)
+      (λ x y h k.
+      let s = Contains-flat_map_source (λ (b : Bundle). all_of b.left) back x h in
+      let t = Contains-flat_map_source (λ (b : Bundle). all_of b.right) front y k in
+      (across t.1 s.1 (Contains-from_slice_get front t.0 t.1 t.2)
+      (Contains-from_slice_get back s.0 s.1 s.2)).back x y s.3 t.3)
+      one other))
+    where
+      across : (b c : Bundle) → Contains front b → Contains back c → MatchNothing b c
+      across b c h k =
+          AllPairs-across MatchNothing front back (subst (AllPairs MatchNothing) whole unmatched) b c h k
+
+  -- the advances of both
+  pub shares-advances : (turns more : ℕ) → AreBundlesAdvances front turns → AreBundlesAdvances back more
+      → AreBundlesAdvances bundles (turns + more)
+  shares-advances turns more one other = record {
+    at_least = (let a = one.at_least in
+        let b = other.at_least in
+        let split = ap least_advances whole
+        ∙ sum_by-append (λ (b : Bundle). least_between b.left b.right) front back in
+        omega (arith, a, b, split));
+    at_most = λ k m lefts rights.
+        bound-more k m k m (length (lefts_of front)) (length (rights_of front)) (length (lefts_of back))
+        (length (rights_of back)) (length (lefts_of bundles)) (length (rights_of bundles)) turns more shares-lefts
+        shares-rights
+        (one.at_most k m (in_front (λ (b : Bundle). length b.left ≤ k) lefts)
+        (in_front (λ (b : Bundle). length b.right ≤ m) rights))
+        (other.at_most k m (in_back (λ (b : Bundle). length b.left ≤ k) lefts)
+        (in_back (λ (b : Bundle). length b.right ≤ m) rights))
+        (omega arith) (omega arith);
+  }
+    where
+      in_front : (P : Bundle → Type 0) → All P bundles → All P front
+      in_front P all = All-front P front back (subst (All P) whole all)
+
+      in_back : (P : Bundle → Type 0) → All P bundles → All P back
+      in_back P all = All-back P front back (subst (All P) whole all)
+
+  -- and they are few
+  pub shares-small : (turns more : ℕ)
+      → turns ≤ item_limit * length (lefts_of front) + item_limit * length (rights_of front)
+      → more ≤ item_limit * length (lefts_of back) + item_limit * length (rights_of back)
+      → turns + more ≤ item_limit * length (lefts_of bundles) + item_limit * length (rights_of bundles)
+  shares-small turns more one other =
+      bound-more item_limit item_limit item_limit item_limit (length (lefts_of front)) (length (rights_of front))
+      (length (lefts_of back)) (length (rights_of back)) (length (lefts_of bundles)) (length (rights_of bundles)) turns
+      more shares-lefts shares-rights one other (omega arith) (omega arith)

@@ -1,6 +1,7 @@
 //! The join of items, from the pairs of the parts of their divisions.
 
-ghost use Rattle.std.specs.Prelude.{◌<◌, ◌≤◌, ℕ, length, map, All, AllPairs, IfOk};
+ghost use Rattle.std.specs.Prelude.{◌<◌, ◌≤◌, ◌+◌, ◌*◌, ℕ, length, map, AllPairs, IfOk};
+ghost use Rattle.std.specs.Thread.{IsSync};
 ghost use Rattle.dip_core.specs.Division.{IsLeast};
 ghost use Rattle.dip_core.specs.Item.{item_limit, HasDistinctIds};
 ghost use Rattle.grid_core.specs.Bundles.{ClassesRise};
@@ -20,7 +21,7 @@ use grid_core::{divided, order_by_class};
 use period_core::NoMemory;
 use sort_core::sort_unstable;
 use std::alloc::Global;
-use std::thread::Threads;
+use std::thread::{Threads, join};
 use work_core::Gate;
 
 /// The answer of a join.
@@ -31,6 +32,9 @@ pub struct JoinAnswer {
     /// How often the cursors of the parts advanced in all.
     pub turns: u64,
 }
+
+/// Fewer bundles are not shared out: all workers run the pairs of each.
+const SHARE_LEAST: usize = 8;
 
 /// The rows of a join in any order, and how often a cursor advanced for them.
 #[derive(Drop)]
@@ -55,6 +59,8 @@ fn rows_of_bundles<R: Threads + Sync, G: Gate>(
     requires unmatched { AllPairs MatchNothing bundles.now }
     ensures rows { IfOk result (λ found. AreItemsRows (lefts_of bundles.now) (rights_of bundles.now) found.rows.items) }
     ensures turns { IfOk result (λ found. AreBundlesAdvances bundles.now found.turns) }
+    ensures small { IfOk result (λ found. found.turns
+        ≤ item_limit * length (lefts_of bundles.now) + item_limit * length (rights_of bundles.now)) }
 {
     let mut rows = Vec::new(alloc);
     let mut turns = 0;
@@ -66,6 +72,64 @@ fn rows_of_bundles<R: Threads + Sync, G: Gate>(
         turns += add_rows_of_pairs(rt, alloc, &pairs, workers, gate, &mut rows)?;
     }
     Ok(FoundRows { rows, turns })
+}
+
+/// The rows of all bundles. Half of the workers find those of half of the bundles, so few threads are started.
+#[cycle(shares)]
+fn rows_of_shares<R: Threads + Sync, G: Gate>(
+    rt: &R,
+    alloc: Global,
+    bundles: &[Bundle],
+    workers: u32,
+    gate: &G,
+) -> Result<FoundRows, NoMemory>
+    requires workers { (0 < workers) × (workers ≤ worker_limit) }
+    requires left_few { length (lefts_of bundles.now) ≤ item_limit }
+    requires right_few { length (rights_of bundles.now) ≤ item_limit }
+    requires left_ids { HasDistinctIds (lefts_of bundles.now) }
+    requires right_ids { HasDistinctIds (rights_of bundles.now) }
+    requires unmatched { AllPairs MatchNothing bundles.now }
+    ensures rows { IfOk result (λ found. AreItemsRows (lefts_of bundles.now) (rights_of bundles.now) found.rows.items) }
+    ensures turns { IfOk result (λ found. AreBundlesAdvances bundles.now found.turns) }
+    ensures small { IfOk result (λ found. found.turns
+        ≤ item_limit * length (lefts_of bundles.now) + item_limit * length (rights_of bundles.now)) }
+{
+    if workers < 2 || bundles.len() < SHARE_LEAST {
+        return rows_of_bundles(rt, alloc, bundles, workers, gate);
+    }
+    let (front, back) = bundles.split_at(bundles.len() / 2);
+    let few = workers / 2;
+    let others = workers - few;
+    let (first, second) = join(
+        rt,
+        || -> Result<FoundRows, NoMemory>
+            requires { IsSync R.row × IsSync G.row × (0 < few) × (few ≤ worker_limit)
+                × (length (lefts_of front.now) ≤ item_limit) × (length (rights_of front.now) ≤ item_limit)
+                × HasDistinctIds (lefts_of front.now) × HasDistinctIds (rights_of front.now)
+                × AllPairs MatchNothing front.now }
+            ensures { IfOk result (λ found.
+                AreItemsRows (lefts_of front.entry.now) (rights_of front.entry.now) found.rows.items
+                × AreBundlesAdvances front.entry.now found.turns
+                × (found.turns ≤ item_limit * length (lefts_of front.entry.now)
+                + item_limit * length (rights_of front.entry.now))) }
+        { rows_of_shares(rt, alloc, front, few, gate) },
+        || -> Result<FoundRows, NoMemory>
+            requires { IsSync R.row × IsSync G.row × (0 < others) × (others ≤ worker_limit)
+                × (length (lefts_of back.now) ≤ item_limit) × (length (rights_of back.now) ≤ item_limit)
+                × HasDistinctIds (lefts_of back.now) × HasDistinctIds (rights_of back.now)
+                × AllPairs MatchNothing back.now }
+            ensures { IfOk result (λ found.
+                AreItemsRows (lefts_of back.entry.now) (rights_of back.entry.now) found.rows.items
+                × AreBundlesAdvances back.entry.now found.turns
+                × (found.turns ≤ item_limit * length (lefts_of back.entry.now)
+                + item_limit * length (rights_of back.entry.now))) }
+        { rows_of_shares(rt, alloc, back, others, gate) },
+    );
+    let mut found = first?;
+    let mut second = second?;
+    found.rows.append(&mut second.rows)?;
+    found.turns += second.turns;
+    Ok(found)
 }
 
 /// The rows of items that are divided as a whole.
@@ -120,7 +184,7 @@ fn rows_by_class<R: Threads + Sync, G: Gate>(
 {
     let bundles = bundles_of(rt, alloc, left, right, workers)?;
     if advance_enough(&bundles) {
-        return rows_of_bundles(rt, alloc, &bundles, workers, gate);
+        return rows_of_shares(rt, alloc, &bundles, workers, gate);
     }
     drop(bundles);
     rows_of_whole(rt, alloc, left, right, workers, gate)

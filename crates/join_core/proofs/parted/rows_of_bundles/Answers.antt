@@ -44,3 +44,8 @@ pub returns-clause-turns : goal.returns-clause-turns
 returns-clause-turns g c =
     (joining_end c.args.bundles.now c.loop-bundle.bundle-index c.loop-bundle.rows.items c.loop-bundle.turns
     c.loop-bundle-test.false c.loop-bundle.invariant).1
+
+pub returns-clause-small : goal.returns-clause-small
+returns-clause-small g c =
+    (joining_end c.args.bundles.now c.loop-bundle.bundle-index c.loop-bundle.rows.items c.loop-bundle.turns
+    c.loop-bundle-test.false c.loop-bundle.invariant).2
