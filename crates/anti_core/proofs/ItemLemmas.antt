@@ -1,7 +1,8 @@
 -- The rows of items, part by part, and from the items of parts to the items that were divided.
-use Rattle.std.proofs.Common.{◌≡◌, ◌≢◌, ℕ, ◌+◌, ◌<◌, ℤ, List, [], ◌++◌, length, map, take, refl, sym, subst, ap, ◌∙◌, inl, inr, arith}
+use Rattle.std.proofs.Common.{◌≡◌, ◌≢◌, ℕ, ◌+◌, ◌<◌, ℤ, List, [], ◌++◌, length, map, take, drop, refl, sym, subst, ap, ◌∙◌, inl, inr, arith, length-append}
 use Rattle.std.specs.Prelude.{◌<ℤ◌, Contains, IsPermutation, IsSorted}
 use Rattle.std.proofs.lemmas.Int.{ints}
+use Rattle.std.proofs.lemmas.List.{take-append-drop}
 use Rattle.std.proofs.lemmas.List.Elements.{Contains-append_left, Contains-append_right, Contains-append_cases}
 use Rattle.std.proofs.lemmas.List.Sorted.{Contains-permutation, IsPermutation-sym}
 use Rattle.dip_core.specs.declared.item.Item.{Item}
@@ -17,7 +18,7 @@ use Rattle.anti_core.specs.declared.rows.AntiRow.{AntiRow}
 use Rattle.anti_core.specs.Anti.{anti_cmp}
 use Rattle.anti_core.specs.ItemAnti.{row_of_gap, IsItemsAntiRow, AreItemsRows, IsItemsAnti}
 use Rattle.list_core.proofs.MadeLemmas.{Contains-map, Contains-map_source, AllPairs-map}
-use Rattle.dip_core.proofs.PartedLemmas.{all_of-more}
+use Rattle.dip_core.proofs.PartedLemmas.{all_of-more, distinct-earlier, distinct-later, ids-apart}
 use Rattle.anti_core.proofs.OrderLemmas.{AntiRow-same_fields, sorted_rows}
 use Rattle.anti_core.proofs.PartLemmas.{parts-apart}
 
@@ -65,18 +66,18 @@ row-of_more : (xs ys right : List Item) → ((x : Item) → Contains xs x → Co
     → IsItemsAntiRow xs right row → IsItemsAntiRow ys right row
 row-of_more xs ys right more row is = record { x = is.x; x_in = more is.x is.x_in; id = is.id; maximal = is.maximal }
 
--- the rows of some items, and behind them those of the items of a part
-AreItemsRows-append : (xs p right : List Item) (rows : List AntiRow) (gaps : List Gap)
-    → ((x y : Item) → Contains xs x → Contains p y → x.id ≡ y.id → ⊥) → AreItemsRows xs right rows
-    → ListsGaps p right gaps → AreItemsRows (xs ++ p) right (rows ++ map row_of_gap gaps)
-AreItemsRows-append xs p right rows gaps apart before lists =
-    IsListOf-append (λ (a b : AntiRow). a ≢ b) (IsItemsAntiRow xs right) (IsItemsAntiRow p right)
-    (IsItemsAntiRow (xs ++ p) right)
-    rows (map row_of_gap gaps) before (AreItemsRows-from_gaps p right gaps lists)
+-- the rows of some items, and behind them those of others
+AreItemsRows-both : (xs ys right : List Item) (rows more : List AntiRow)
+    → ((x y : Item) → Contains xs x → Contains ys y → x.id ≡ y.id → ⊥) → AreItemsRows xs right rows
+    → AreItemsRows ys right more → AreItemsRows (xs ++ ys) right (rows ++ more)
+AreItemsRows-both xs ys right rows more apart one other =
+    IsListOf-append (λ (a b : AntiRow). a ≢ b) (IsItemsAntiRow xs right) (IsItemsAntiRow ys right)
+    (IsItemsAntiRow (xs ++ ys) right)
+    rows more one other
     (λ a b i j same. apart i.x j.x i.x_in j.x_in (sym i.id ∙ ap (λ (v : AntiRow). v.id) same ∙ j.id))
-    (row-of_more xs (xs ++ p) right (Contains-append_left xs p))
-    (row-of_more p (xs ++ p) right (Contains-append_right xs p))
-    (λ row is. elim (Contains-append_cases xs p is.x is.x_in) [
+    (row-of_more xs (xs ++ ys) right (Contains-append_left xs ys))
+    (row-of_more ys (xs ++ ys) right (Contains-append_right xs ys))
+    (λ row is. elim (Contains-append_cases xs ys is.x is.x_in) [
       | inl k ↦ inl (record { x = is.x; x_in = k; id = is.id; maximal = is.maximal })
       | inr k ↦ inr (record { x = is.x; x_in = k; id = is.id; maximal = is.maximal })
     ])
@@ -90,8 +91,29 @@ AreItemsRows-more ps l right old new gaps slice inside distinct before lists sam
     subst (λ z. AreItemsRows z right new) (sym (all_of-more ps l inside))
     (subst (AreItemsRows (all_of (take l ps) ++ part_at ps l) right)
     (sym (e ∙ ap (λ z. old ++ map row_of_gap z) same))
-    (AreItemsRows-append (all_of (take l ps)) (part_at ps l) right old gaps
-    (λ x y h k same. parts-apart ps l x y inside distinct h k same) before lists))
+    (AreItemsRows-both (all_of (take l ps)) (part_at ps l) right old (map row_of_gap gaps)
+    (λ x y h k same. parts-apart ps l x y inside distinct h k same) before
+    (AreItemsRows-from_gaps (part_at ps l) right gaps lists)))
+
+-- ---- of the left items in two shares
+
+module _ (left front back : List Item) (n : ℕ) (is_front : front ≡ take n left) (is_back : back ≡ drop n left) where
+  whole : left ≡ front ++ back
+  whole = rw (is_front, is_back) (sym (take-append-drop n left))
+
+  pub shares-length : length left ≡ length front + length back
+  shares-length = ap length whole ∙ length-append front back
+
+  pub shares-ids : HasDistinctIds left → HasDistinctIds front × HasDistinctIds back
+  shares-ids ids =
+      let both = subst HasDistinctIds whole ids in (distinct-earlier front back both, distinct-later front back both)
+
+  pub shares-rows : (right : List Item) (rows more : List AntiRow) → HasDistinctIds left
+      → AreItemsRows front right rows → AreItemsRows back right more → AreItemsRows left right (rows ++ more)
+  shares-rows right rows more ids one other =
+      subst (λ (xs : List Item). AreItemsRows xs right (rows ++ more)) (sym whole)
+      (AreItemsRows-both front back right rows more
+      (λ x y h k same. ids-apart front back x y (subst HasDistinctIds whole ids) h k same) one other)
 
 -- ---- in order
 

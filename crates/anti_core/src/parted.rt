@@ -1,6 +1,7 @@
 //! The rows of items, from the gaps of the parts of their divisions.
 
 ghost use Rattle.std.specs.Prelude.{◌<◌, ◌≤◌, length, IfOk};
+ghost use Rattle.std.specs.Thread.{IsSync};
 ghost use Rattle.dip_core.specs.Item.{item_limit, HasDistinctIds};
 ghost use Rattle.dip_core.specs.Division.{all_of};
 ghost use Rattle.work_core.specs.Limits.{worker_limit};
@@ -9,12 +10,15 @@ ghost use Rattle.anti_core.specs.ItemAnti.{AreItemsRows};
 use crate::pairs::GapPairs;
 use crate::part_gaps::gaps_of_part;
 use crate::rows::{AntiRow, add_rows};
-use dip_core::Item;
+use dip_core::{Division, Item};
 use grid_core::divided;
 use period_core::NoMemory;
 use std::alloc::Global;
-use std::thread::Threads;
+use std::thread::{Threads, join};
 use work_core::Gate;
+
+/// Of fewer items half would be over before the other half's thread has started.
+const ITEMS_FOR_SHARES: usize = 16_384;
 
 /// The rows of all left parts, part by part.
 fn rows_of_parts<R: Threads + Sync, G: Gate>(
@@ -37,6 +41,48 @@ fn rows_of_parts<R: Threads + Sync, G: Gate>(
     Ok(rows)
 }
 
+/// The rows of some left items, against right items that are divided. Half of the workers find those of half of the
+/// left items, where these are many: so items of one class are shared out too.
+#[cycle(lefts)]
+fn rows_of_lefts<R: Threads + Sync, G: Gate>(
+    rt: &R,
+    alloc: Global,
+    left: &[Item],
+    rights: &Division,
+    workers: u32,
+    gate: &G,
+) -> Result<Vec<AntiRow>, NoMemory>
+    requires workers { (0 < workers) × (workers ≤ worker_limit) }
+    requires left_few { length left.now ≤ item_limit }
+    requires ids { HasDistinctIds left.now }
+    ensures { IfOk result (λ rows. AreItemsRows left.now (all_of rights.now) rows.items) }
+{
+    if workers < 2 || left.len() < ITEMS_FOR_SHARES {
+        let lefts = divided(rt, alloc, left)?;
+        return rows_of_parts(rt, alloc, &GapPairs::new(&lefts, rights), workers, gate);
+    }
+    let (front, back) = left.split_at(left.len() / 2);
+    let few = workers / 2;
+    let others = workers - few;
+    let (first, second) = join(
+        rt,
+        || -> Result<Vec<AntiRow>, NoMemory>
+            requires { IsSync R.row × IsSync G.row × (0 < few) × (few ≤ worker_limit) × (length front.now ≤ item_limit)
+                × HasDistinctIds front.now }
+            ensures { IfOk result (λ rows. AreItemsRows front.entry.now (all_of rights.entry.now) rows.items) }
+        { rows_of_lefts(rt, alloc, front, rights, few, gate) },
+        || -> Result<Vec<AntiRow>, NoMemory>
+            requires { IsSync R.row × IsSync G.row × (0 < others) × (others ≤ worker_limit)
+                × (length back.now ≤ item_limit) × HasDistinctIds back.now }
+            ensures { IfOk result (λ rows. AreItemsRows back.entry.now (all_of rights.entry.now) rows.items) }
+        { rows_of_lefts(rt, alloc, back, rights, others, gate) },
+    );
+    let mut rows = first?;
+    let mut later = second?;
+    rows.append(&mut later)?;
+    Ok(rows)
+}
+
 /// The rows of some left items, which match right items of their classes. Both sides are divided.
 pub(crate) fn rows_of_items<R: Threads + Sync, G: Gate>(
     rt: &R,
@@ -52,7 +98,6 @@ pub(crate) fn rows_of_items<R: Threads + Sync, G: Gate>(
     requires ids { HasDistinctIds left.now }
     ensures { IfOk result (λ rows. AreItemsRows left.now right.now rows.items) }
 {
-    let lefts = divided(rt, alloc, left)?;
     let rights = divided(rt, alloc, right)?;
-    rows_of_parts(rt, alloc, &GapPairs::new(&lefts, &rights), workers, gate)
+    rows_of_lefts(rt, alloc, left, &rights, workers, gate)
 }

@@ -14,7 +14,7 @@ use Rattle.anti_core.proofs.bundles.anti_items.Given.{Over}
 
 -- the left items by class are the same ones
 moved : (g : Over) (c : After-deref-2 g) → IsPermutation c.args.left.items c.deref.result.now
-moved g c = rw c.deref.ensures.value c.order_by_class.ensures.permutation
+moved g c = rw c.deref.ensures.value c.in_ok-lefts.ensures.permutation
 
 pub rows_of_halves-requires-clause-left_few : goal.rows_of_halves-requires-clause-left_few
 rows_of_halves-requires-clause-left_few g c = λ κs outlives.
@@ -24,7 +24,7 @@ rows_of_halves-requires-clause-left_few g c = λ κs outlives.
 
 pub rows_of_halves-requires-clause-right_rise : goal.rows_of_halves-requires-clause-right_rise
 rows_of_halves-requires-clause-right_rise g c = λ κs outlives.
-    rw c.deref-2.ensures.value (united-rise c.in_ok-united.united.items c.in_ok-united.ensures.all.ordered)
+    rw c.deref-2.ensures.value (united-rise c.in_ok-lefts.united.items c.in_ok-lefts.ensures.union.all.ordered)
 
 pub rows_of_halves-requires-clause-ids : goal.rows_of_halves-requires-clause-ids
 rows_of_halves-requires-clause-ids g c = λ κs outlives.
@@ -41,6 +41,6 @@ returns g c =
     c.sort_unstable.ensures.permutation c.sort_unstable.ensures.sorted in
     subst (IsItemsAnti left c.args.right.items) (sym c.from.ensures)
     (IsItemsAnti-alike left c.args.right.items united sorted
-    (rw c.deref-2.ensures.value c.in_ok-united.ensures.alike)
-    (rows-permutation left lefts united united (rw c.deref.ensures.value c.order_by_class.ensures.permutation)
+    (rw c.deref-2.ensures.value c.in_ok-lefts.ensures.union.alike)
+    (rows-permutation left lefts united united (rw c.deref.ensures.value c.in_ok-lefts.ensures.permutation)
     (IsPermutation-refl united) AntiRowBefore sorted lists))

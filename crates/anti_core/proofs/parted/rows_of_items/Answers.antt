@@ -1,29 +1,16 @@
-use Rattle.std.proofs.Common.{◌≢◌, List, subst}
+use Rattle.std.proofs.Common.{◌≢◌}
+use Rattle.std.proofs.lemmas.List.Sorted.{IsPermutation-refl}
 use Rattle.std.proofs.lemmas.Result.{IfOk-weaker}
-use Rattle.dip_core.specs.declared.item.Item.{Item}
 use Rattle.dip_core.specs.Division.{all_of}
-use Rattle.dip_core.proofs.DivisionLemmas.{HasDistinctIds-permutation}
 use Rattle.anti_core.specs.declared.rows.AntiRow.{AntiRow}
-use Rattle.anti_core.specs.ItemAnti.{AreItemsRows}
 use Rattle.anti_core.proofs.ItemLemmas.{rows-permutation}
 use Rattle.anti_core.proofs.parted.rows_of_items.Goals as goal
 
-pub rows_of_parts-requires-clause-ids : goal.rows_of_parts-requires-clause-ids
-rows_of_parts-requires-clause-ids g c = λ κs outlives.
-    rw c.new.ensures.left
-    (HasDistinctIds-permutation c.args.left.now (all_of c.in_ok-lefts.lefts)
-    c.in_ok-lefts.ensures.division.together c.requires.ids)
-
 pub returns : goal.returns
 returns g c =
-    let lefts = c.in_ok-lefts.lefts in
-    let rights = c.in_ok-rights.rights in
-    IfOk-weaker c.rows_of_parts.result _ _
+    let left = c.args.left.now in
+    IfOk-weaker c.rows_of_lefts.result _ _
     (λ rows all.
-    rows-permutation c.args.left.now (all_of lefts) c.args.right.now (all_of rights)
-    c.in_ok-lefts.ensures.division.together c.in_ok-rights.ensures.division.together
-    (λ (a b : AntiRow). a ≢ b) rows.items
-    (subst (λ (qs : List (List Item)). AreItemsRows (all_of lefts) (all_of qs) rows.items) c.new.ensures.right
-    (subst (λ (ps : List (List Item)). AreItemsRows (all_of ps) (all_of c.new.result.right.now) rows.items)
-    c.new.ensures.left all)))
-    c.rows_of_parts.ensures
+    rows-permutation left left c.args.right.now (all_of c.in_ok-rights.rights) (IsPermutation-refl left)
+    c.in_ok-rights.ensures.division.together (λ (a b : AntiRow). a ≢ b) rows.items all)
+    c.rows_of_lefts.ensures
