@@ -5,6 +5,7 @@ pub mod RoundLemmas
 pub mod HalfLemmas
 pub mod PermutedLemmas
 pub mod RunLemmas
+pub mod ShareLemmas
 pub mod ClosingLemmas
 pub mod CollectLemmas
 pub mod PlateauExistence

@@ -3,7 +3,7 @@ use Rattle.std.proofs.Common.{◌≡◌, ◌+◌, ◌<◌, ◌≤◌, ℕ, suc, 
 use Rattle.std.specs.Prelude.{ℤ, ◌==◌, Contains, IsPermutation, nat_eq}
 use Rattle.std.proofs.lemmas.Bool.{cases_eq, eq-eqb, ne_eqb}
 use Rattle.std.proofs.lemmas.List.{take-append-drop}
-use Rattle.std.proofs.lemmas.List.Elements.{All-head, All-tail, filter-append, Contains-append_right}
+use Rattle.std.proofs.lemmas.List.Elements.{All-head, All-tail, filter-append, Contains-append_left, Contains-append_right}
 use Rattle.std.proofs.lemmas.List.Sorted.{length_permutation}
 use Rattle.dip_core.specs.declared.item.Item.{Item}
 use Rattle.dip_core.specs.Division.{all_of, part_at}
@@ -14,7 +14,7 @@ use Rattle.merge_core.specs.Steps.{tally_at}
 use Rattle.merge_core.proofs.TallyLemmas.{IsTallyAt-append}
 use Rattle.round_core.specs.declared.class_steps.ClassSteps.{ClassSteps}
 use Rattle.round_core.specs.Plateaus.{of_class}
-use Rattle.round_core.specs.ClassLists.{tally_for, class_at, weight_of, RisesFrom, StandForAll, AreOf, AddsSteps}
+use Rattle.round_core.specs.ClassLists.{tally_for, class_at, weight_of, RisesFrom, StandForAll, AreOf, AddsSteps, HasItem, AreOfItems}
 use Rattle.round_core.proofs.RoundLemmas.{both-assoc}
 use Rattle.round_core.proofs.PermutedLemmas.{IsTallyAt-permuted}
 
@@ -121,7 +121,7 @@ stand_of_class class xs old new h a =
       few = a.few;
     }
 
-stand_more : (xs ys : List Item) (ls ms : List ClassSteps) → StandForAll xs ls → StandForAll ys ms
+pub stand_more : (xs ys : List Item) (ls ms : List ClassSteps) → StandForAll xs ls → StandForAll ys ms
     → StandForAll (xs ++ ys) (ls ++ ms)
 stand_more xs ys ls ms a b =
     record {
@@ -138,6 +138,38 @@ stand_more xs ys ls ms a b =
           let w = length-append ls ms in let l = length-append xs ys in
           let u = a.few in let v = b.few in omega (arith, w, l, u, v));
     }
+
+-- ---- of the classes of items
+
+HasItem-early : (xs ys : List Item) (class : ℕ) → HasItem xs class → HasItem (xs ++ ys) class
+HasItem-early xs ys class h = record {
+  item = h.item;
+  item_in = Contains-append_left xs ys h.item h.item_in;
+  class_is = h.class_is;
+}
+
+HasItem-late : (xs ys : List Item) (class : ℕ) → HasItem ys class → HasItem (xs ++ ys) class
+HasItem-late xs ys class h = record {
+  item = h.item;
+  item_in = Contains-append_right xs ys h.item h.item_in;
+  class_is = h.class_is;
+}
+
+-- lists of the classes of two lists of items
+pub of_items_more : (xs ys : List Item) (ls ms : List ClassSteps) → AreOfItems xs ls → AreOfItems ys ms
+    → AreOfItems (xs ++ ys) (ls ++ ms)
+of_items_more xs ys [] [] a b = tt
+of_items_more xs ys [] (m ∷ ms) a b = (HasItem-late xs ys m.class b.0, of_items_more xs ys [] ms a b.1)
+of_items_more xs ys (l ∷ ls) ms a b = (HasItem-early xs ys l.class a.0, of_items_more xs ys ls ms a.1 b)
+
+-- lists of the first item's class
+of_first : (first : Item) (run : List Item) (ls : List ClassSteps) → AreOf first.class ls
+    → AreOfItems (first ∷ run) ls
+of_first first run [] own = tt
+of_first first run (l ∷ ls) own = (
+  record { item = first; item_in = Contains-head first run; class_is = sym own.0 },
+  of_first first run ls own.1,
+)
 
 -- ---- in order
 
@@ -172,10 +204,11 @@ pub record IsListing (all left : List Item) (lists : List ClassSteps) : Type 0 w
   pub split : all ≡ gone ++ left
   pub stand : StandForAll gone lists
   pub rises : RisesFrom 0 lists
+  pub classes : AreOfItems gone lists
   pub below : (x : Item) → Contains left x → UpTo x.class lists
   pub grouped : AllPairs (λ (a b : Item). a.class ≤ b.class) left
 
-AllPairs-behind : (xs ys : List Item) → AllPairs (λ (a b : Item). a.class ≤ b.class) (xs ++ ys)
+pub AllPairs-behind : (xs ys : List Item) → AllPairs (λ (a b : Item). a.class ≤ b.class) (xs ++ ys)
     → AllPairs (λ (a b : Item). a.class ≤ b.class) ys
 AllPairs-behind [] ys h = h
 AllPairs-behind (z ∷ xs) ys h =
@@ -204,6 +237,10 @@ listing_run all left rest first run lists lists' e own adds was =
       rises =
           subst (RisesFrom 0) (sym adds.split)
           (rise_more 0 first.class lists adds.added (omega arith) before adds.own was.rises);
+      classes =
+          subst (AreOfItems (was.gone ++ first ∷ run)) (sym adds.split)
+          (of_items_more was.gone (first ∷ run) lists adds.added was.classes
+          (of_first first run adds.added adds.own));
       below = λ x h.
           subst (UpTo x.class) (sym adds.split)
           (UpTo-append x.class lists adds.added

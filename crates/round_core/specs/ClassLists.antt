@@ -1,5 +1,5 @@
 -- Lists of steps of classes, and what those of one class come to together.
-use Rattle.std.specs.Prelude.{◌≡◌, ◌≢◌, ◌==◌, ◌+◌, ◌≤◌, ◌++◌, ℕ, if◌then◌else◌, Option, None, List, [], ◌∷◌, length, ℤ}
+use Rattle.std.specs.Prelude.{◌≡◌, ◌≢◌, ◌==◌, ◌+◌, ◌≤◌, ◌++◌, ℕ, if◌then◌else◌, Option, None, List, [], ◌∷◌, length, ℤ, Contains}
 use Rattle.dip_core.specs.declared.item.Item.{Item}
 use Rattle.merge_core.specs.declared.tally.Tally.{Tally}
 use Rattle.merge_core.specs.Tallies.{IsTallyAt, both}
@@ -25,6 +25,17 @@ weight_of (l ∷ ls) = l.steps.weight + weight_of ls
 abbrev pub RisesFrom : ℕ → List ClassSteps → Type 0
 RisesFrom least [] = Unit {0}
 RisesFrom least (l ∷ ls) = (least ≤ l.class) × RisesFrom l.class ls
+
+-- one of the items is of that class
+pub record HasItem (items : List Item) (class : ℕ) : Type 0 where
+  pub item : Item
+  pub item_in : Contains items item
+  pub class_is : item.class ≡ class
+
+-- each list is of the class of one of the items
+abbrev pub AreOfItems : List Item → List ClassSteps → Type 0
+AreOfItems items [] = Unit {0}
+AreOfItems items (l ∷ ls) = HasItem items l.class × AreOfItems items ls
 
 -- the first list, if there is one, is of another class
 abbrev pub StartsOtherwise : ℕ → List ClassSteps → Type 0

@@ -11,7 +11,7 @@ use crate::closing::plateaus_in;
 use crate::measure::Measure;
 use crate::plateau::Plateau;
 use crate::rounds::combine_all;
-use crate::runs::class_lists;
+use crate::runs::shared_lists;
 use dip_core::Item;
 use grid_core::{middle_class, parted_behind};
 use period_core::NoMemory;
@@ -33,7 +33,7 @@ fn plateaus_by_rounds<R: Threads + Sync, G: Gate>(
     requires rise { ClassesRise items.now }
     ensures { IfOk result (λ plateaus. ArePlateaus measure items.now plateaus.items) }
 {
-    let lists = class_lists(rt, alloc, items)?;
+    let lists = shared_lists(rt, alloc, items, workers)?;
     let all = combine_all(rt, alloc, lists, workers, gate)?;
     plateaus_in(alloc, measure, all)
 }

@@ -1,9 +1,10 @@
 //! The items of each class as lists of steps.
 
 ghost use Rattle.std.specs.Prelude.{◌≡◌, ◌<◌, ◌≤◌, length, take, All, AllPairs, IfOk, OnOk};
+ghost use Rattle.std.specs.Thread.{IsSync};
 ghost use Rattle.dip_core.specs.Item.{item_limit};
 ghost use Rattle.dip_core.specs.Division.{all_of};
-ghost use Rattle.round_core.specs.ClassLists.{AddsSteps, RisesFrom, StandForAll};
+ghost use Rattle.round_core.specs.ClassLists.{AddsSteps, AreOfItems, RisesFrom, StandForAll};
 
 use crate::class_steps::ClassSteps;
 use dip_core::{Division, Item, Part, create_dip};
@@ -11,7 +12,10 @@ use merge_core::Steps;
 use period_core::NoMemory;
 use std::alloc::Global;
 use std::collections::VecDeque;
-use std::thread::Threads;
+use std::thread::{Threads, join};
+
+/// Of fewer items half would be over before the other half's thread has started.
+const ITEMS_FOR_SHARES: usize = 16_384;
 
 /// Adds the steps of a part.
 fn push_part(
@@ -77,7 +81,7 @@ fn run_len(class: u64, items: &[Item]) -> usize
 }
 
 /// Lists of steps for the items of each class, by rising class.
-pub(crate) fn class_lists<R: Threads + Sync>(
+fn class_lists<R: Threads + Sync>(
     rt: &R,
     alloc: Global,
     items: &[Item],
@@ -86,6 +90,7 @@ pub(crate) fn class_lists<R: Threads + Sync>(
     requires grouped { AllPairs (λ a b. a.class ≤ b.class) items.now }
     ensures stand { IfOk result (λ lists. StandForAll items.now lists.items) }
     ensures rise { IfOk result (λ lists. RisesFrom 0 lists.items) }
+    ensures classes { IfOk result (λ lists. AreOfItems items.now lists.items) }
 {
     let mut lists = VecDeque::new(alloc);
     let mut left = items;
@@ -96,5 +101,47 @@ pub(crate) fn class_lists<R: Threads + Sync>(
         push_run(rt, alloc, class, run, &mut lists)?;
         left = rest;
     }
+    Ok(lists)
+}
+
+/// Lists of steps for the items of each class, by rising class. Half of the workers make those of the first half of the
+/// items, where there are enough; the items of a class may then be divided in several shares.
+#[cycle(shares)]
+pub(crate) fn shared_lists<R: Threads + Sync>(
+    rt: &R,
+    alloc: Global,
+    items: &[Item],
+    workers: u32,
+) -> Result<VecDeque<ClassSteps>, NoMemory>
+    requires few { length items.now ≤ item_limit }
+    requires grouped { AllPairs (λ a b. a.class ≤ b.class) items.now }
+    ensures stand { IfOk result (λ lists. StandForAll items.now lists.items) }
+    ensures rise { IfOk result (λ lists. RisesFrom 0 lists.items) }
+    ensures classes { IfOk result (λ lists. AreOfItems items.now lists.items) }
+{
+    if workers < 2 || items.len() < ITEMS_FOR_SHARES {
+        return class_lists(rt, alloc, items);
+    }
+    let (front, back) = items.split_at(items.len() / 2);
+    let few = workers / 2;
+    let others = workers - few;
+    let (first, second) = join(
+        rt,
+        || -> Result<VecDeque<ClassSteps>, NoMemory>
+            requires { IsSync R.row × (length front.now ≤ item_limit)
+                × AllPairs (λ a b. a.class ≤ b.class) front.now }
+            ensures { IfOk result (λ lists. StandForAll front.entry.now lists.items × RisesFrom 0 lists.items
+                × AreOfItems front.entry.now lists.items) }
+        { shared_lists(rt, alloc, front, few) },
+        || -> Result<VecDeque<ClassSteps>, NoMemory>
+            requires { IsSync R.row × (length back.now ≤ item_limit)
+                × AllPairs (λ a b. a.class ≤ b.class) back.now }
+            ensures { IfOk result (λ lists. StandForAll back.entry.now lists.items × RisesFrom 0 lists.items
+                × AreOfItems back.entry.now lists.items) }
+        { shared_lists(rt, alloc, back, others) },
+    );
+    let mut lists = first?;
+    let mut second = second?;
+    lists.append(&mut second)?;
     Ok(lists)
 }

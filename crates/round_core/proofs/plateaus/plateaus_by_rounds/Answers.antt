@@ -11,5 +11,5 @@ returns g c =
     c.in_ok-all.ensures.round c.in_ok-lists.ensures.rise c.in_ok-all.ensures.ones h)
     c.plateaus_in.ensures
 
-pub class_lists-requires-clause-grouped : goal.class_lists-requires-clause-grouped
-class_lists-requires-clause-grouped g c = λ κs outlives. grouped-from_rise c.args.items.now c.requires.rise
+pub shared_lists-requires-clause-grouped : goal.shared_lists-requires-clause-grouped
+shared_lists-requires-clause-grouped g c = λ κs outlives. grouped-from_rise c.args.items.now c.requires.rise
