@@ -80,7 +80,7 @@ fn agg_rows<R: Threads + Sync, G: Gate>(
     requires values { HaveValues by rows.now }
     ensures { IfOk result (λ answer. AreAggRows measure (amount_at amount) (value_at_place by) rows.now answer.items) }
 {
-    let grouped = group_rows(alloc, rows, amount, by)?;
+    let grouped = group_rows(rt, alloc, rows, amount, by, workers)?;
     let plateaus = plateaus_of(rt, alloc, measure, &grouped.items, workers, gate)?;
     rows_of_plateaus(alloc, &grouped.groups, &plateaus)
 }

@@ -7,7 +7,9 @@ ghost use Rattle.agg_core.specs.Entries.{AreEntries, AreSortedEntries, sort_valu
 
 use period_core::NoMemory;
 use row_core::{Row, Value};
+use sort_core::sort_by_key;
 use std::alloc::{AllocError, Global};
+use std::thread::Threads;
 
 /// A value as a sort compares it: what decides is at hand, and no text is copied.
 #[derive(Clone, Copy, Debug, PartialEq, Eq, PartialOrd, Ord)]
@@ -25,16 +27,18 @@ pub(crate) struct Entry<'a> {
 }
 
 /// An entry for each row, by rising value at that place.
-pub(crate) fn sorted_entries<'a>(
+pub(crate) fn sorted_entries<'a, R: Threads + Sync>(
+    rt: &R,
     alloc: Global,
     rows: &'a [Row],
     place: u32,
+    workers: u32,
 ) -> Result<Vec<Entry<'a>>, NoMemory>
     requires { All (λ row. place < length row.values) rows.now }
     ensures { IfOk result (λ entries. AreSortedEntries place rows.entry.now entries.items) }
 {
     let mut entries = entries_of(alloc, rows, place)?;
-    sort_entries(&mut entries)?;
+    sort_entries(rt, alloc, &mut entries, workers)?;
     Ok(entries)
 }
 
@@ -73,10 +77,15 @@ fn key_of(value: &Value) -> Key<'_>
 }
 
 // Puts the entries by rising value, those of one value in the order in which they stood.
-fn sort_entries(entries: &mut Vec<Entry<'_>>) -> Result<(), NoMemory>
+fn sort_entries<R: Threads + Sync>(
+    rt: &R,
+    alloc: Global,
+    entries: &mut Vec<Entry<'_>>,
+    workers: u32,
+) -> Result<(), NoMemory>
     ensures permutation { IsPermutation entries.old.items entries.new.items }
     ensures sorted { OnOk result (IsSortedByKey sort_value value_cmp entries.new.items) }
     ensures stable { IsStableByKey sort_value value_cmp entries.old.items entries.new.items }
 {
-    entries.sort_by_key(|entry| entry.key)
+    sort_by_key(rt, alloc, entries, |entry| entry.key, workers)
 }

@@ -19,6 +19,7 @@ use dip_core::Item;
 use period_core::NoMemory;
 use row_core::{Row, Value};
 use std::alloc::{AllocError, Global};
+use std::thread::Threads;
 
 /// Rows by group.
 #[derive(Drop)]
@@ -32,11 +33,13 @@ pub(crate) struct GroupedRows<'a> {
 
 /// The rows by group, with the numbers that they have at one place: by the values at another place, or as one group
 /// where there is none.
-pub(crate) fn group_rows<'a>(
+pub(crate) fn group_rows<'a, R: Threads + Sync>(
+    rt: &R,
     alloc: Global,
     rows: &'a [Row],
     amount: Option<u32>,
     by: Option<u32>,
+    workers: u32,
 ) -> Result<GroupedRows<'a>, NoMemory>
     requires { HaveValues by rows.now }
     ensures { IfOk result (λ grouped. IsGrouping (amount_at amount) (value_at_place by) rows.entry.now
@@ -45,7 +48,7 @@ pub(crate) fn group_rows<'a>(
     match by {
         None => one_group(alloc, rows, amount),
         Some(place) => {
-            let entries = sorted_entries(alloc, rows, place)?;
+            let entries = sorted_entries(rt, alloc, rows, place, workers)?;
             group_entries(alloc, &entries, amount)
         }
     }

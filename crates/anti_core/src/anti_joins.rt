@@ -60,7 +60,7 @@ fn anti_rows<R: Threads + Sync, G: Gate>(
     ensures { IfOk result (IsAnti (MatchesOn left.entry.schema.now right.entry.schema.now on.now)
         left.entry.rows.now right.entry.rows.now) }
 {
-    let classes = classes_of(alloc, left, right, on)?;
+    let classes = classes_of(rt, alloc, left, right, on, workers)?;
     let (left_classes, right_classes) = classes.split_at(left.rows.len());
     let lefts = items_with(alloc, left.rows.as_slice(), left_classes)?;
     let rights = items_with(alloc, right.rows.as_slice(), right_classes)?;

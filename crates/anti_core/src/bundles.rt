@@ -173,6 +173,6 @@ pub(crate) fn anti_items<R: Threads + Sync, G: Gate>(
 {
     let (lefts, united) = prepared(rt, alloc, left, right, workers)?;
     let mut rows = rows_of_halves(rt, alloc, &lefts, &united, workers, gate)?;
-    sort_unstable(rt, &mut rows);
+    sort_unstable(rt, &mut rows, workers);
     Ok(AntiRows::from(rows))
 }

@@ -58,7 +58,7 @@ fn rows_of_lefts<R: Threads + Sync, G: Gate>(
     ensures { IfOk result (λ rows. AreItemsRows left.now (all_of rights.now) rows.items) }
 {
     if workers < 2 || left.len() < ITEMS_FOR_SHARES {
-        let lefts = divided(rt, alloc, left)?;
+        let lefts = divided(rt, alloc, left, workers)?;
         return rows_of_parts(rt, alloc, &GapPairs::new(&lefts, rights), workers, gate);
     }
     let (front, back) = left.split_at(left.len() / 2);
@@ -98,6 +98,6 @@ pub(crate) fn rows_of_items<R: Threads + Sync, G: Gate>(
     requires ids { HasDistinctIds left.now }
     ensures { IfOk result (λ rows. AreItemsRows left.now right.now rows.items) }
 {
-    let rights = divided(rt, alloc, right)?;
+    let rights = divided(rt, alloc, right, workers)?;
     rows_of_lefts(rt, alloc, left, &rights, workers, gate)
 }

@@ -106,18 +106,19 @@ fn place_all(alloc: Global, sorted: &[Item]) -> Result<Placer, NoMemory>
 
 /// Divides the items, which are at most 1,000,000, into the least number of parts without overlaps. Items
 /// of distinct ids are placed one after another, by start, end and id, as `Placer::place` does. Many are sorted
-/// on several threads.
+/// on several threads, but by one worker on one.
 pub fn create_dip<R: Threads + Sync>(
     rt: &R,
     alloc: Global,
     mut items: Vec<Item>,
+    workers: u32,
 ) -> Result<Division, NoMemory>
     requires { length items.items ≤ item_limit }
     ensures least { IfOk result (IsLeastDivision items.items) }
     ensures dip { IfOk result (λ division. HasDistinctIds items.items → IsDip items.items division) }
     ensures empty { IfOk result (λ division. (division ≡ []) ↔ (items.items ≡ [])) }
 {
-    sort_unstable(rt, &mut items);
+    sort_unstable(rt, &mut items, workers);
     let placer = place_all(alloc, &items)?;
     Ok(placer.finish())
 }

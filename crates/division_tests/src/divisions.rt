@@ -57,7 +57,7 @@ fn check_placing(
     assert_eq!(rt; placer.len(), items.len() as u64);
     let placed = placer.finish();
     assert!(rt; items.len() <= 1_000_000);
-    let divided = create_dip(rt, rt.alloc(), Vec::from_slice(rt.alloc(), items)?)?;
+    let divided = create_dip(rt, rt.alloc(), Vec::from_slice(rt.alloc(), items)?, 1)?;
     assert_eq!(rt; placed.instant(), divided.instant());
     assert_eq!(rt; placed.parts(), divided.parts());
     for number in 0..placed.parts() {
@@ -77,7 +77,7 @@ fn places_rows(rt: HostRuntime) -> Result<(), Fail> {
         item(&rt, 4, b"05", b"06"),
     ];
     check_placing(&rt, &rows, &[0, 1, 2, 1, 0])?;
-    let division = create_dip(&rt, rt.alloc(), Vec::from_slice(rt.alloc(), &rows)?)?;
+    let division = create_dip(&rt, rt.alloc(), Vec::from_slice(rt.alloc(), &rows)?, 1)?;
     let third = Point::parse(b"2024-01-03")?;
     assert_eq!(rt; division.instant(), Some(third));
     Ok(())
@@ -131,7 +131,7 @@ fn falling(rt: &impl Alloc<A = Global>) -> Result<Vec<Item>, Fail> {
 fn divides_a_row_of_5_000(rt: HostRuntime) -> Result<(), Fail> {
     let items = falling(&rt)?;
     assert_eq!(rt; items.len(), 5_000);
-    let division = create_dip(&rt, rt.alloc(), items)?;
+    let division = create_dip(&rt, rt.alloc(), items, 4)?;
     assert_eq!(rt; division.parts(), 10);
     for number in 0..10 {
         assert!(rt; number < division.parts());

@@ -71,10 +71,11 @@ pub fn divided<R: Threads + Sync>(
     rt: &R,
     alloc: Global,
     items: &[Item],
+    workers: u32,
 ) -> Result<Division, NoMemory>
     requires { length items.now ≤ item_limit }
     ensures { IfOk result (IsLeastDivision items.now) }
 {
     let own = Vec::from_slice(alloc, items)?;
-    create_dip(rt, alloc, own)
+    create_dip(rt, alloc, own, workers)
 }

@@ -33,21 +33,23 @@ fn bundle_of<R: Threads + Sync>(
     alloc: Global,
     left: &[Item],
     right: &[Item],
+    workers: u32,
 ) -> Result<Bundle, NoMemory>
     requires left_few { length left.now ≤ item_limit }
     requires right_few { length right.now ≤ item_limit }
     ensures { IfOk result (λ bundle. IsBundle left.now right.now bundle) }
 {
-    let left = divided(rt, alloc, left)?;
-    let right = divided(rt, alloc, right)?;
+    let left = divided(rt, alloc, left, workers)?;
+    let right = divided(rt, alloc, right, workers)?;
     // As many items hold this instant as there are parts.
     let _ = left.instant();
     let _ = right.instant();
     Ok(Bundle { left, right })
 }
 
-/// The number of items of which one side has more by the class that ends a bundle.
-fn bundle_items(left: &[Item], right: &[Item]) -> usize {
+/// The number of items of which one side has more by the class that ends a bundle. It is told by all items, so that half
+/// of them make no smaller bundles: smaller ones have more parts together, and may advance too seldom for them.
+pub(crate) fn bundle_items(left: &[Item], right: &[Item]) -> usize {
     let share = left.len().max(right.len()) / BUNDLES;
     share.max(BUNDLE_LEAST)
 }
@@ -59,6 +61,8 @@ fn bundles_by_one<R: Threads + Sync>(
     alloc: Global,
     left: &[Item],
     right: &[Item],
+    enough: usize,
+    workers: u32,
 ) -> Result<Vec<Bundle>, NoMemory>
     requires left_few { length left.now ≤ item_limit }
     requires right_few { length right.now ≤ item_limit }
@@ -66,7 +70,6 @@ fn bundles_by_one<R: Threads + Sync>(
     requires right_rise { ClassesRise right.now }
     ensures { IfOk result (λ bundles. AreBundles left.now right.now bundles.items) }
 {
-    let enough = bundle_items(left, right);
     let mut bundles = Vec::new(alloc);
     let mut lefts = left;
     let mut rights = right;
@@ -74,12 +77,12 @@ fn bundles_by_one<R: Threads + Sync>(
         let class = last_class(first, lefts, rights, enough);
         let (low_lefts, high_lefts) = parted_behind(class, lefts);
         let (low_rights, high_rights) = parted_behind(class, rights);
-        let bundle = bundle_of(rt, alloc, low_lefts, low_rights)?;
+        let bundle = bundle_of(rt, alloc, low_lefts, low_rights, workers)?;
         bundles.push(bundle)?;
         lefts = high_lefts;
         rights = high_rights;
     }
-    let last = bundle_of(rt, alloc, lefts, rights)?;
+    let last = bundle_of(rt, alloc, lefts, rights, workers)?;
     bundles.push(last)?;
     Ok(bundles)
 }
@@ -92,6 +95,7 @@ pub(crate) fn bundles_of<R: Threads + Sync>(
     alloc: Global,
     left: &[Item],
     right: &[Item],
+    enough: usize,
     workers: u32,
 ) -> Result<Vec<Bundle>, NoMemory>
     requires left_few { length left.now ≤ item_limit }
@@ -101,7 +105,7 @@ pub(crate) fn bundles_of<R: Threads + Sync>(
     ensures { IfOk result (λ bundles. AreBundles left.now right.now bundles.items) }
 {
     let Some(class) = middle_class(left, right, workers) else {
-        return bundles_by_one(rt, alloc, left, right);
+        return bundles_by_one(rt, alloc, left, right, enough, workers);
     };
     let (low_lefts, high_lefts) = parted_behind(class, left);
     let (low_rights, high_rights) = parted_behind(class, right);
@@ -113,12 +117,12 @@ pub(crate) fn bundles_of<R: Threads + Sync>(
             requires { IsSync R.row × (length low_lefts.now ≤ item_limit) × (length low_rights.now ≤ item_limit)
                 × ClassesRise low_lefts.now × ClassesRise low_rights.now }
             ensures { IfOk result (λ bundles. AreBundles low_lefts.entry.now low_rights.entry.now bundles.items) }
-        { bundles_of(rt, alloc, low_lefts, low_rights, few) },
+        { bundles_of(rt, alloc, low_lefts, low_rights, enough, few) },
         || -> Result<Vec<Bundle>, NoMemory>
             requires { IsSync R.row × (length high_lefts.now ≤ item_limit) × (length high_rights.now ≤ item_limit)
                 × ClassesRise high_lefts.now × ClassesRise high_rights.now }
             ensures { IfOk result (λ bundles. AreBundles high_lefts.entry.now high_rights.entry.now bundles.items) }
-        { bundles_of(rt, alloc, high_lefts, high_rights, others) },
+        { bundles_of(rt, alloc, high_lefts, high_rights, enough, others) },
     );
     let mut bundles = low?;
     let mut high = high?;

@@ -70,7 +70,7 @@ fn join_rows<R: Threads + Sync, G: Gate>(
         → IsLeast (items_of right.entry.rows.now) m
         → IsWithin k m (length left.entry.rows.now) (length right.entry.rows.now) answer.turns) }
 {
-    let classes = classes_of(alloc, left, right, on)?;
+    let classes = classes_of(rt, alloc, left, right, on, workers)?;
     let (left_classes, right_classes) = classes.split_at(left.rows.len());
     let lefts = items_with(alloc, left.rows.as_slice(), left_classes)?;
     let rights = items_with(alloc, right.rows.as_slice(), right_classes)?;

@@ -12,7 +12,7 @@ ghost use Rattle.join_core.specs.ItemJoin.{AreItemsRows, IsItemsJoin};
 ghost use Rattle.join_core.specs.Join.{IsWithin};
 
 use crate::advances::advance_enough;
-use crate::bundles::{Bundle, bundles_of};
+use crate::bundles::{Bundle, bundle_items, bundles_of};
 use crate::pairs::JoinPairs;
 use crate::rows::{JoinRow, JoinRows};
 use crate::stretches::add_rows_of_pairs;
@@ -150,8 +150,8 @@ fn rows_of_whole<R: Threads + Sync, G: Gate>(
     ensures turns { IfOk result (λ found. (k m : ℕ) → IsLeast (map unclassed left.now) k
         → IsLeast (map unclassed right.now) m → IsWithin k m (length left.now) (length right.now) found.turns) }
 {
-    let lefts = divided(rt, alloc, left)?;
-    let rights = divided(rt, alloc, right)?;
+    let lefts = divided(rt, alloc, left, workers)?;
+    let rights = divided(rt, alloc, right, workers)?;
     // An instant that as many items hold as there are parts shows that there are no fewer.
     let _ = lefts.instant();
     let _ = rights.instant();
@@ -182,7 +182,8 @@ fn rows_by_class<R: Threads + Sync, G: Gate>(
     ensures turns { IfOk result (λ found. (k m : ℕ) → IsLeast (map unclassed left.now) k
         → IsLeast (map unclassed right.now) m → IsWithin k m (length left.now) (length right.now) found.turns) }
 {
-    let bundles = bundles_of(rt, alloc, left, right, workers)?;
+    let enough = bundle_items(left, right);
+    let bundles = bundles_of(rt, alloc, left, right, enough, workers)?;
     if advance_enough(&bundles) {
         return rows_of_shares(rt, alloc, &bundles, workers, gate);
     }
@@ -211,7 +212,7 @@ pub(crate) fn join_items<R: Threads + Sync, G: Gate>(
     order_by_class(&mut left);
     order_by_class(&mut right);
     let FoundRows { mut rows, turns } = rows_by_class(rt, alloc, &left, &right, workers, gate)?;
-    sort_unstable(rt, &mut rows);
+    sort_unstable(rt, &mut rows, workers);
     Ok(JoinAnswer {
         rows: JoinRows::from(rows),
         turns,

@@ -17,8 +17,10 @@ ghost use Rattle.match_core.specs.Cells.{
 
 use crate::NoMemory;
 use row_core::{Row, Value};
+use sort_core::sort_unstable;
 use std::alloc::Global;
 use std::hash::{FoldHasher, Hasher};
+use std::thread::Threads;
 
 /// A row's value in a column, with the class of the row so far, so that no value is looked up while they are
 /// sorted, and none is copied. Numbers have the empty text. Texts have a hash as their number, which mostly
@@ -36,20 +38,22 @@ pub(crate) struct Cell<'a> {
 
 /// Splits the classes, those of the left rows before those of the right ones: two rows have one class
 /// exactly where they had, and their values at those places are equal.
-pub(crate) fn refine(
+pub(crate) fn refine<R: Threads + Sync>(
+    rt: &R,
     alloc: Global,
     classes: &mut [u64],
     lefts: &[Row],
     rights: &[Row],
     left_place: usize,
     right_place: usize,
+    workers: u32,
 ) -> Result<(), NoMemory>
     requires count { length classes.old ≡ length lefts.now + length rights.now }
     requires kind { AreOneKind (values_at left_place right_place lefts.now rights.now) }
     ensures { OnOk result (Refines classes.old (values_at left_place right_place lefts.now rights.now) classes.new) }
 {
     let mut cells = cells_of(alloc, classes, lefts, rights, left_place, right_place)?;
-    cells.sort_unstable();
+    sort_unstable(rt, &mut cells, workers);
     number_classes(&cells, classes);
     Ok(())
 }

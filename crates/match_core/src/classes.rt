@@ -11,19 +11,23 @@ use crate::cells::refine;
 use crate::side::Side;
 use row_core::Name;
 use std::alloc::Global;
+use std::thread::Threads;
 
 /// A class for each left row, and then for each right one: two rows, of whichever sides, have one class
 /// exactly where they are equal in each named pair of columns. Without names all rows have one. It takes
-/// time of the order n log n in the rows for each pair of names, whatever their values are.
+/// time of the order n log n in the rows for each pair of names, whatever their values are. Many are sorted on
+/// several threads, but by one worker on one.
 ///
 /// # Errors
 ///
 /// `NoMemory` where a growth is refused.
-pub fn classes_of(
+pub fn classes_of<R: Threads + Sync>(
+    rt: &R,
     alloc: Global,
     left: Side<'_>,
     right: Side<'_>,
     on: &[(Name, Name)],
+    workers: u32,
 ) -> Result<Vec<u64>, NoMemory>
     requires { columns_refusal left.schema.now right.schema.now on.now ≡ None }
     ensures { IfOk result (λ classes. AreClasses left.entry.schema.now right.entry.schema.now left.entry.rows.now
@@ -32,18 +36,20 @@ pub fn classes_of(
     let count = left.rows.len() + right.rows.len();
     let mut classes = vec![in alloc; 0; count]?;
     for pair in on {
-        split_by(alloc, &mut classes, left, right, pair)?;
+        split_by(rt, alloc, &mut classes, left, right, pair, workers)?;
     }
     Ok(classes)
 }
 
 // Splits the classes by one pair of columns.
-fn split_by(
+fn split_by<R: Threads + Sync>(
+    rt: &R,
     alloc: Global,
     classes: &mut [u64],
     left: Side<'_>,
     right: Side<'_>,
     pair: &(Name, Name),
+    workers: u32,
 ) -> Result<(), NoMemory>
     requires count { length classes.old ≡ length left.rows.now + length right.rows.now }
     requires allowed { first_of (tests_of_names left.schema.now right.schema.now pair.now) ≡ None }
@@ -60,11 +66,13 @@ fn split_by(
     let lefts = left.rows.as_slice();
     let rights = right.rows.as_slice();
     refine(
+        rt,
         alloc,
         classes,
         lefts,
         rights,
         left_place as usize,
         right_place as usize,
+        workers,
     )
 }

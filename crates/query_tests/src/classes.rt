@@ -6,6 +6,7 @@ use row_core::{Kind, Name, Row, RowList, Schema, Text, Value, Values};
 use std::alloc::Global;
 use std::process::Abort;
 use std::test::Fail;
+use std::thread::Threads;
 
 // A table with a column `t` of texts and a column `n` of numbers, and rows of one day with these values.
 fn table(rt: &(impl Abort + Alloc<A = Global>), rows: &[(&[u8], i64)]) -> Result<Table, Fail> {
@@ -31,7 +32,7 @@ fn table(rt: &(impl Abort + Alloc<A = Global>), rows: &[(&[u8], i64)]) -> Result
 
 // Rows have one class exactly where these numbers are equal.
 fn check_classes(
-    rt: &(impl Abort + Alloc<A = Global>),
+    rt: &(impl Abort + Alloc<A = Global> + Threads + Sync),
     left: &Table,
     right: &Table,
     on: &[(Name, Name)],
@@ -41,7 +42,7 @@ fn check_classes(
     if let Some(refused) = refusal_of_pairs(one.schema, other.schema, on) {
         panic!(rt; "{refused:?}")
     }
-    let classes = classes_of(rt.alloc(), one, other, on)?;
+    let classes = classes_of(rt, rt.alloc(), one, other, on, 1)?;
     assert_eq!(rt; classes.len(), want.len());
     for (class, number) in classes.iter().zip(want) {
         check_class(rt, *class, *number, &classes, want);

@@ -94,7 +94,7 @@ fn divide(
     items: &[Item],
 ) -> Result<Division, Fail> {
     assert!(rt; items.len() <= 1_000_000);
-    let division = create_dip(rt, rt.alloc(), Vec::from_slice(rt.alloc(), items)?)?;
+    let division = create_dip(rt, rt.alloc(), Vec::from_slice(rt.alloc(), items)?, 4)?;
     assert_eq!(rt; division.parts(), 2);
     Ok(division)
 }

@@ -53,6 +53,7 @@ fn push_run<R: Threads + Sync>(
     alloc: Global,
     class: u64,
     items: &[Item],
+    workers: u32,
     lists: &mut VecDeque<ClassSteps>,
 ) -> Result<(), NoMemory>
     requires some { 0 < length items.now }
@@ -63,7 +64,7 @@ fn push_run<R: Threads + Sync>(
         return push_part(alloc, class, part, lists);
     }
     let own = Vec::from_slice(alloc, items)?;
-    let division = create_dip(rt, alloc, own)?;
+    let division = create_dip(rt, alloc, own, workers)?;
     push_parts(alloc, class, &division, lists)?;
     Ok(())
 }
@@ -85,6 +86,7 @@ fn class_lists<R: Threads + Sync>(
     rt: &R,
     alloc: Global,
     items: &[Item],
+    workers: u32,
 ) -> Result<VecDeque<ClassSteps>, NoMemory>
     requires few { length items.now ≤ item_limit }
     requires grouped { AllPairs (λ a b. a.class ≤ b.class) items.now }
@@ -98,7 +100,7 @@ fn class_lists<R: Threads + Sync>(
         let class = first.class;
         let len = 1 + run_len(class, later);
         let (run, rest) = left.split_at(len);
-        push_run(rt, alloc, class, run, &mut lists)?;
+        push_run(rt, alloc, class, run, workers, &mut lists)?;
         left = rest;
     }
     Ok(lists)
@@ -120,7 +122,7 @@ pub(crate) fn shared_lists<R: Threads + Sync>(
     ensures classes { IfOk result (λ lists. AreOfItems items.now lists.items) }
 {
     if workers < 2 || items.len() < ITEMS_FOR_SHARES {
-        return class_lists(rt, alloc, items);
+        return class_lists(rt, alloc, items, workers);
     }
     let (front, back) = items.split_at(items.len() / 2);
     let few = workers / 2;

@@ -86,7 +86,7 @@ pub(crate) fn query<T: Threads + Sync>(
         Command::FromTo { table, first, end } => from_to(newest, number, table, first, end),
         Command::Dip { table, asof } => {
             let shown = shown_asof(newest, number, asof)?;
-            divide(rt, alloc, &shown, number, table)
+            divide(rt, alloc, &shown, number, table, workers)
         }
         Command::Join { tables, asof } => {
             let shown = shown_asof(newest, number, asof)?;

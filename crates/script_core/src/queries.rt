@@ -88,6 +88,7 @@ pub(crate) fn divide<T: Threads + Sync>(
     snapshot: &Snapshot,
     number: u64,
     table: Name,
+    workers: u32,
 ) -> Result<Answer, Failure>
     ensures { Gives (rows_told number (history snapshot.now) (commit_shown snapshot.now) table)
         (λ rows answer. IsDipOf (items_of rows) answer) result }
@@ -99,7 +100,7 @@ pub(crate) fn divide<T: Threads + Sync>(
     };
     Ok(Answer::Division {
         rows: rows.len(),
-        division: dip(rt, alloc, side)?,
+        division: dip(rt, alloc, side, workers)?,
     })
 }
 

@@ -6,7 +6,7 @@ use Rattle.agg_core.proofs.GroupLemmas.{grouping_of}
 use Rattle.agg_core.proofs.groups.group_rows.Goals as goal
 
 pub returns-in_ok-entries-in-Some : goal.returns-in_ok-entries-in-Some
-returns-in_ok-entries-in-Some c =
+returns-in_ok-entries-in-Some g c =
     IfOk-weaker c.group_entries.result _ _
     (λ grouped numbered.
     subst (λ (by : Option ℕ).

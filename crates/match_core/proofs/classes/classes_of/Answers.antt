@@ -11,13 +11,13 @@ use Rattle.match_core.proofs.SplitClasses.{no_columns, one_more, written_back}
 use Rattle.match_core.proofs.classes.classes_of.Goals as goal
 
 pub split_by-requires-clause-allowed : goal.split_by-requires-clause-allowed
-split_by-requires-clause-allowed c =
+split_by-requires-clause-allowed g c = λ κs outlives.
     let tests = tests_of_names c.args.left.schema.now c.args.right.schema.now in
     subst (λ (pair : NamePair). first_of (tests pair) ≡ None) (sym c.pair-item.is)
     (each_allowed tests c.args.on.now c.loop-pair.pair-index c.pair-item.result c.requires c.loop-pair-test.true)
 
 pub loop-pair-init : goal.loop-pair-init
-loop-pair-init c =
+loop-pair-init g c =
     let zeros = c.in_ok-classes.ensures.items_if_clones_equal (λ y e. e) in
     subst (AreClasses c.args.left.schema.now c.args.right.schema.now c.args.left.rows.now c.args.right.rows.now [])
     (sym zeros)
@@ -25,7 +25,7 @@ loop-pair-init c =
     (omega (arith, c.len.ensures, c.len-2.ensures)))
 
 pub loop-pair-preserved : goal.loop-pair-preserved
-loop-pair-preserved c =
+loop-pair-preserved g c =
     let left = c.args.left.schema.now in
     let right = c.args.right.schema.now in
     let lefts = c.args.left.rows.now in

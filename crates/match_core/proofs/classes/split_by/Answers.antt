@@ -8,7 +8,7 @@ use Rattle.match_core.proofs.SplitClasses.{allowed, columns_one_kind, values_und
 use Rattle.match_core.proofs.classes.split_by.Goals as goal
 
 pub refine-requires-clause-kind : goal.refine-requires-clause-kind
-refine-requires-clause-kind c =
+refine-requires-clause-kind g c = λ κs outlives.
     let left = c.args.left.schema.now in
     let right = c.args.right.schema.now in
     let lefts = c.args.left.rows.now in
@@ -30,7 +30,7 @@ refine-requires-clause-kind c =
     (values_at c.in-Some.left_place c.in-Some-column.right_place rows rights)) (sym c.as_slice-lefts.ensures) there)
 
 pub returns : goal.returns
-returns c =
+returns g c =
     let left = c.args.left.schema.now in
     let right = c.args.right.schema.now in
     let lefts = c.args.left.rows.now in
