@@ -1,4 +1,5 @@
 pub mod AnswerWriter
+pub mod Begun
 pub mod JoinedRows
 pub mod PrintedRecords
 pub mod RecordBytes

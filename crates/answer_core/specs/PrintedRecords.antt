@@ -72,11 +72,16 @@ version_record v =
 abbrev pub version_records : List Version → List Record
 version_records versions = map version_record versions ++ end_record (length versions) ∷ []
 
--- two rows that were joined: the period that they share, their ids, and the values of both
+-- two rows that were joined: the period that they share, and their ids
+abbrev pub join_front : JoinRow → Record
+join_front row =
+    codes "row" ∷ point_text row.period.from ∷ point_text row.period.to ∷ decimal row.left ∷ decimal row.right ∷ []
+
+-- and the values of both
 abbrev pub join_record : List Row → List Row → JoinRow → Record
 join_record left right row =
-    codes "row" ∷ point_text row.period.from ∷ point_text row.period.to ∷ decimal row.left ∷ decimal row.right
-    ∷ (map value_text (values_with left row.left) ++ map value_text (values_with right row.right))
+    join_front row
+    ++ (map value_text (values_with left row.left) ++ map value_text (values_with right row.right))
 
 -- one record for each pair of rows that were joined, and how many there are
 abbrev pub join_records : JoinedRows → List Record

@@ -1,5 +1,5 @@
-//! The text of the last point that was printed, kept for the next one: the records of a join are by start and then by
-//! end, so many that follow each other have a point in common.
+//! The text of the last point that was printed, kept for the next one: records that follow each other often have a point
+//! in common, as those of a join do, which are by start and then by end.
 ghost use Rattle.std.specs.Prelude.{◌≡◌, IfOk};
 ghost use Rattle.period_core.specs.Point.{point_text};
 

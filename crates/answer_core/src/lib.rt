@@ -2,6 +2,7 @@
 #![tactic(auto)]
 
 mod answer;
+mod join_records;
 mod joined;
 mod kept_text;
 mod print;
@@ -10,7 +11,9 @@ mod print_anti;
 mod print_division;
 mod print_join;
 mod print_log;
+mod row_values;
 mod unmatched;
+mod values_text;
 mod writer;
 
 pub use answer::Answer;

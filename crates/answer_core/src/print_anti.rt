@@ -3,11 +3,11 @@ ghost use Rattle.std.specs.Prelude.{◌≡◌, ◌∷◌, [], OnOk, map};
 ghost use Rattle.answer_core.specs.PrintedRecords.{anti_record, anti_records};
 ghost use Rattle.answer_core.specs.Unwritten.{Adds};
 
+use crate::row_values::RowValues;
 use crate::unmatched::Unmatched;
 use crate::writer::AnswerWriter;
 use anti_core::AntiRow;
 use period_core::NoMemory;
-use query_core::RowsById;
 
 impl AnswerWriter {
     /// The rows with the periods in which none matched them, and how many there are.
@@ -15,12 +15,12 @@ impl AnswerWriter {
         requires { self.old.fields ≡ [] }
         ensures { OnOk result (Adds self.old self.new (anti_records unmatched.now)) }
     {
-        let left = unmatched.left_by_id(self.alloc())?;
+        let left = unmatched.left_values(self.alloc())?;
         self.anti_rows(unmatched.rows(), &left)?;
         self.end(unmatched.rows().len() as u64)
     }
 
-    fn anti_rows(&mut self, rows: &[AntiRow], left: &RowsById<'_>) -> Result<(), NoMemory>
+    fn anti_rows(&mut self, rows: &[AntiRow], left: &RowValues<'_>) -> Result<(), NoMemory>
         requires { self.old.fields ≡ [] }
         ensures { OnOk result (Adds self.old self.new (map (anti_record left.now) rows.now)) }
     {
@@ -30,14 +30,14 @@ impl AnswerWriter {
         Ok(())
     }
 
-    fn anti_row(&mut self, row: &AntiRow, left: &RowsById<'_>) -> Result<(), NoMemory>
+    fn anti_row(&mut self, row: &AntiRow, left: &RowValues<'_>) -> Result<(), NoMemory>
         requires { self.old.fields ≡ [] }
         ensures { OnOk result (Adds self.old self.new (anti_record left.now row.now ∷ [])) }
     {
         self.field(b"row")?;
         self.number(row.id)?;
         self.period(&row.period)?;
-        self.values_of(left, row.id)?;
+        self.values(left.of(row.id))?;
         self.end_record()
     }
 }

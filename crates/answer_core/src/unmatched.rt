@@ -2,9 +2,9 @@
 ghost use Rattle.std.specs.Prelude.{◌≡◌, IfOk};
 ghost use Rattle.row_core.specs.Rows.{RowsRise};
 
+use crate::row_values::RowValues;
 use anti_core::{AntiRow, AntiRows};
 use period_core::NoMemory;
-use query_core::RowsById;
 use row_core::RowList;
 use std::alloc::Global;
 use std::marker::Model;
@@ -43,10 +43,10 @@ impl Unmatched {
         self.rows.as_slice()
     }
 
-    /// The left table's rows, to be found by their ids.
-    pub(crate) fn left_by_id(&self, alloc: Global) -> Result<RowsById<'_>, NoMemory>
-        ensures { IfOk result (λ found. found ≡ self.now.left) }
+    /// The values of the left table's rows.
+    pub(crate) fn left_values(&self, alloc: Global) -> Result<RowValues<'_>, NoMemory>
+        ensures { IfOk result (λ values. values ≡ self.now.left) }
     {
-        RowsById::new(alloc, &self.left)
+        RowValues::new(alloc, &self.left)
     }
 }

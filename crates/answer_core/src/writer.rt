@@ -47,7 +47,7 @@ impl Model for AnswerWriter {
 }
 
 /// A writer of `csv` that adds to a text.
-fn writer_behind(text: Vec<u8>) -> Writer<Vec<u8>>
+pub(crate) fn writer_behind(text: Vec<u8>) -> Writer<Vec<u8>>
     ensures setup { writer_setup result ≡ answer_writer }
     ensures fresh { fields_written result ≡ 0 }
     ensures clean { has_written result ≡ false }
@@ -73,9 +73,16 @@ impl AnswerWriter {
     pub fn new(alloc: Global) -> Self
         ensures { result ≡ nothing }
     {
+        AnswerWriter::behind(alloc, Vec::new(alloc))
+    }
+
+    /// An answer whose records have these bytes so far.
+    fn behind(alloc: Global, text: Vec<u8>) -> Self
+        ensures { result ≡ record { text = text.items; fields = [] } }
+    {
         AnswerWriter {
             alloc,
-            writer: writer_behind(Vec::new(alloc)),
+            writer: writer_behind(text),
             row: ByteRecord::new(alloc),
             from_text: KeptText::new(alloc),
             to_text: KeptText::new(alloc),
@@ -93,6 +100,32 @@ impl AnswerWriter {
         ensures { self.new ≡ nothing }
     {
         *self = AnswerWriter::new(self.alloc);
+    }
+
+    /// Takes the bytes of its records that aren't written yet. It begins anew, whether they can be had or not.
+    pub(crate) fn take_text(&mut self) -> Result<Vec<u8>, NoMemory>
+        ensures { IfOk result (λ text. text.items ≡ self.old.text) }
+    {
+        let own = mem::replace(self, AnswerWriter::new(self.alloc));
+        own.into_text()
+    }
+
+    /// The bytes of its records that aren't written yet.
+    fn into_text(self) -> Result<Vec<u8>, NoMemory>
+        ensures { IfOk result (λ text. text.items ≡ self.text) }
+    {
+        let text = text_of(self.writer)?;
+        if self.written == 0 {
+            return Ok(text);
+        }
+        Vec::from_slice(self.alloc, &text[self.written..])
+    }
+
+    /// Begins anew, behind records of these bytes.
+    pub(crate) fn put_text(&mut self, text: Vec<u8>)
+        ensures { self.new ≡ record { text = text.items; fields = [] } }
+    {
+        *self = AnswerWriter::behind(self.alloc, text);
     }
 
     /// Adds a field to the record at hand.

@@ -32,7 +32,7 @@ pub fn sort_unstable<R: Threads + Sync, T: Ord + Send>(rt: &R, items: &mut Vec<T
 ///
 /// # Errors
 ///
-/// `AllocError` where a growth is refused: then the items stand in any order.
+/// `AllocError` where a growth is refused: then the items may not be sorted, but those of equal keys stand in their order.
 pub fn sort_by_key<
     R: Threads + Sync,
     T: Send,
