@@ -8,7 +8,6 @@ use Rattle.std.specs.Ordering.{is_lt}
 use Rattle.std.proofs.lemmas.Bool.Decides.{Decides-eqb, same_from_decides}
 use Rattle.std.proofs.lemmas.List.{get_or-take, get_or_default, length-map, length-take-le, take_more}
 use Rattle.std.proofs.lemmas.List.Elements.{All-map, All-cons, All-nil, All-contains, Contains-get_or, Contains-append_left, Contains-push, Contains-push_cases}
-use Rattle.std.proofs.lemmas.List.Sorted.{Contains-permutation, length_permutation}
 use Rattle.std.proofs.lemmas.Option.{slice_get_within, slice_get-get_or, get_or_from_slice_get}
 use Rattle.std.proofs.lemmas.Slice.Zip.{AllZip-long}
 use Rattle.row_core.specs.ValueOrder.{maybe_cmp, same_maybe, value_cmp}
@@ -25,7 +24,7 @@ use Rattle.round_core.specs.Plateaus.{of_class}
 use Rattle.agg_core.specs.declared.entries.Entry.{Entry}
 use Rattle.agg_core.specs.Agg.{amount_item}
 use Rattle.agg_core.specs.Groups.{rows_of_group}
-use Rattle.agg_core.specs.Entries.{AreRising, AreSortedEntries, entry_row, value_at_place}
+use Rattle.agg_core.specs.Entries.{AreInGroups, AreRising, entry_row, value_at_place}
 use Rattle.agg_core.specs.Grouping.{AreNotAfter, GroupBefore, IsClassOf, IsGrouping, IsLast, AreItemsByGroup, IsNumberedItem, RisesByGroup, copied_groups}
 use Rattle.agg_core.proofs.OrderLemmas.{not_after}
 use Rattle.agg_core.proofs.EntryLemmas.{AllZip-more}
@@ -165,7 +164,7 @@ each_kept amount_of old new (e ∷ es) (x ∷ items) kept all = (
 )
 
 -- each item's class is the number of a group
-classes_within : (amount_of : Row → ℤ) (groups : List (Option Value)) (es : List Entry) (items : List Item)
+pub classes_within : (amount_of : Row → ℤ) (groups : List (Option Value)) (es : List Entry) (items : List Item)
     → AllZip (IsNumberedItem amount_of groups) es items → All (λ (x : Item). x.class < length groups) items
 classes_within amount_of groups [] [] all = All-nil (λ (x : Item). x.class < length groups)
 classes_within amount_of groups [] (x ∷ items) all = absurd all
@@ -280,27 +279,24 @@ entry_listed amount_of groups (b ∷ es) (x ∷ items) all e h = elim (Contains-
   | inr later ↦ entry_listed amount_of groups es items all.1 e later
 ]
 
--- rows that were sorted and numbered
-pub grouping_of : (amount_of : Row → ℤ) (place : ℕ) (rows : List Row) (es : List Entry) (items : List Item)
-    (groups : List (Option Value)) → AreSortedEntries place rows es → AreItemsByGroup amount_of es items groups
-    → IsGrouping amount_of (value_at_place (Some place)) rows items groups
-grouping_of amount_of place rows es items groups sorted numbered = record {
+-- the rows of entries that were numbered
+pub grouping_of : (amount_of : Row → ℤ) (group_of : Row → Option Value) (es : List Entry) (items : List Item)
+    (groups : List (Option Value)) → AreInGroups group_of es → AreItemsByGroup amount_of es items groups
+    → IsGrouping amount_of group_of (map entry_row es) items groups
+grouping_of amount_of group_of es items groups grouped numbered = record {
   classes = numbered.classes;
-  count =
-      AllZip-long (IsNumberedItem amount_of groups) es items numbered.each ∙ sym (length-map es entry_row)
-      ∙ length_permutation rows (map entry_row es) sorted.moved;
+  count = AllZip-long (IsNumberedItem amount_of groups) es items numbered.each ∙ sym (length-map es entry_row);
   within = classes_within amount_of groups es items numbered.each;
   rise = numbered.rise;
   listed = λ row h.
-      let (e, there, is) =
-      Contains-map_source entry_row es row (Contains-permutation rows (map entry_row es) row sorted.moved h) in
-      subst (Contains groups) (sym (sorted.each e there) ∙ ap (value_at_place (Some place)) is)
+      let (e, there, is) = Contains-map_source entry_row es row h in
+      subst (Contains groups) (sym (own e there) ∙ ap group_of is)
       (entry_listed amount_of groups es items numbered.each e there);
-  of_classes = λ c g at.
-      of_class-rows amount_of (value_at_place (Some place)) groups es items c g numbered.rise at sorted.each
-      numbered.each
-      ∙ ap (map (amount_item amount_of c)) (sorted.kept g);
+  of_classes = λ c g at. of_class-rows amount_of group_of groups es items c g numbered.rise at own numbered.each;
 }
+  where
+    own : (e : Entry) → Contains es e → group_of e.row.now ≡ Some e.value.now
+    own e there = All-contains (λ (b : Entry). group_of b.row.now ≡ Some b.value.now) es e grouped there
 
 -- ---- one group of all rows
 

@@ -3,3 +3,4 @@ pub mod EntryLemmas
 pub mod GroupLemmas
 pub mod PlateauLemmas
 pub mod AggExistence
+pub mod ShareLemmas

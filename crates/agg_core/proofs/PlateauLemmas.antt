@@ -32,7 +32,7 @@ use Rattle.agg_core.specs.declared.func.Func.{Func}
 use Rattle.agg_core.specs.Agg.{AreAggRows, IsAgg, IsAggRow, amount_in, amount_item, measure_of, number_column, amount_of_value, value_in}
 use Rattle.agg_core.specs.Entries.{amount_at, place_in, value_at_place}
 use Rattle.agg_core.specs.Groups.{AggRowBefore, rows_of_group}
-use Rattle.agg_core.specs.Grouping.{IsGrouping, agg_row_of}
+use Rattle.agg_core.specs.Grouping.{ArePlateauRows, IsGrouping, agg_row_of}
 use Rattle.agg_core.proofs.EntryLemmas.{filter-map}
 
 -- ---- lists
@@ -131,22 +131,28 @@ row_of_group measure amount_of group_of rows row is =
       (maybe_decides (group_of r) row.group).0 test,
     )
 
+-- where all classes are below a number, a plateau's is
+plateau_within : (measure : Measure) (items : List Item) (n : ℕ) (p : Plateau)
+    → All (λ (x : Item). x.class < n) items → IsPlateau measure items p → p.class < n
+plateau_within measure items n p within is =
+    let (x, there) = period_held measure (of_class p.class items) p.value p.period is.maximal in
+    let test : (x.class == p.class) ≡ true = filtered_passes (λ (y : Item). y.class == p.class) items x there in
+    subst (λ k. k < n) ((Decides-eqb x.class p.class).0 test)
+    (All-contains (λ (y : Item). y.class < n) items x within
+    (filtered_in (λ (y : Item). y.class == p.class) items x there))
+
+-- so are those of all plateaus
+pub classes_within : (measure : Measure) (items : List Item) (n : ℕ) (ps : List Plateau)
+    → All (λ (x : Item). x.class < n) items → ArePlateaus measure items ps → All (λ (p : Plateau). p.class < n) ps
+classes_within measure items n ps within all i d h =
+    plateau_within measure items n (get_or ps i d) within
+    ((all.exactly (get_or ps i d)).0 (Contains-get_or ps i d h))
+
 module _ (measure : Measure) (amount_of : Row → ℤ) (group_of : Row → Option Value) (rows : List Row) (items : List Item)
     (groups : List (Option Value)) (grouping : IsGrouping amount_of group_of rows items groups) where
   -- a plateau's class is the number of a group
-  pub class_within : (p : Plateau) → IsPlateau measure items p → p.class < length groups
-  class_within p is =
-      let (x, there) = period_held measure (of_class p.class items) p.value p.period is.maximal in
-      let test : (x.class == p.class) ≡ true = filtered_passes (λ (y : Item). y.class == p.class) items x there in
-      subst (λ n. n < length groups) ((Decides-eqb x.class p.class).0 test)
-      (All-contains (λ (y : Item). y.class < length groups) items x grouping.within
-      (filtered_in (λ (y : Item). y.class == p.class) items x there))
-
-  -- so are those of all plateaus
-  pub classes_within : (ps : List Plateau) → ArePlateaus measure items ps
-      → All (λ (p : Plateau). p.class < length groups) ps
-  classes_within ps all i d h =
-      class_within (get_or ps i d) ((all.exactly (get_or ps i d)).0 (Contains-get_or ps i d h))
+  class_within : (p : Plateau) → IsPlateau measure items p → p.class < length groups
+  class_within p is = plateau_within measure items (length groups) p grouping.within is
 
   -- the plateaus of a group's number are maximal periods of its rows
   row_maximal : (c : ℕ) (g : Option Value) (value : ℤ) (p : Period) → slice_get groups c ≡ Some g
@@ -205,19 +211,22 @@ module _ (measure : Measure) (amount_of : Row → ℤ) (group_of : Row → Optio
       ∙ int_less a.period.from b.period.from earlier
 
   -- the rows of all plateaus are all that is wanted
-  pub answer_of : (ps : List Plateau) (answer : List AggRow) → ArePlateaus measure items ps
-      → answer ≡ map (agg_row_of groups) ps → AreAggRows measure amount_of group_of rows answer
-  answer_of ps answer all e = subst (AreAggRows measure amount_of group_of rows) (sym e) (record {
-    ordered = AllPairs-map PlateauBefore AggRowBefore (agg_row_of groups) ps
-        (λ a b there. rows_before a b ((all.exactly b).0 there)) all.ordered;
-    exactly = λ row. (
-      λ h. let (p, there, is) = Contains-map_source (agg_row_of groups) ps row h in
-          subst (IsAggRow measure amount_of group_of rows) is (row_of_plateau p ((all.exactly p).0 there)),
-      λ w. let (p, wanted, is) = plateau_of_row row w in
-          subst (Contains (map (agg_row_of groups) ps)) is
-          (Contains-map (agg_row_of groups) ps p ((all.exactly p).1 wanted)),
-    );
-  })
+  pub answer_of : (answer : List AggRow) → ArePlateauRows measure items groups answer
+      → AreAggRows measure amount_of group_of rows answer
+  answer_of answer made =
+      let ps = made.plateaus in
+      let all = made.all in
+      subst (AreAggRows measure amount_of group_of rows) (sym made.is) (record {
+        ordered = AllPairs-map PlateauBefore AggRowBefore (agg_row_of groups) ps
+            (λ a b there. rows_before a b ((all.exactly b).0 there)) all.ordered;
+        exactly = λ row. (
+          λ h. let (p, there, is) = Contains-map_source (agg_row_of groups) ps row h in
+              subst (IsAggRow measure amount_of group_of rows) is (row_of_plateau p ((all.exactly p).0 there)),
+          λ w. let (p, wanted, is) = plateau_of_row row w in
+              subst (Contains (map (agg_row_of groups) ps)) is
+              (Contains-map (agg_row_of groups) ps p ((all.exactly p).1 wanted)),
+        );
+      })
 
 -- ---- places of columns
 

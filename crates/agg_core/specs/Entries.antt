@@ -1,6 +1,7 @@
 -- Rows sorted by the values that they are grouped by.
-use Rattle.std.specs.Prelude.{◌≡◌, ℕ, ℤ, List, map, AllPairs, Contains, false, Option, Some, option_and_then, slice_get, IsPermutation}
+use Rattle.std.specs.Prelude.{◌≡◌, ◌≤◌, ℕ, ℤ, List, length, map, take, drop, All, AllPairs, Contains, false, Option, Some, option_and_then, slice_get, IsPermutation}
 use Rattle.std.specs.List.{AllZip}
+use Rattle.std.specs.declared.cmp.Ordering.TheVariants.{Less}
 use Rattle.std.specs.Ordering.{is_lt}
 use Rattle.row_core.specs.Schema.{column_of}
 use Rattle.row_core.specs.ValueOrder.{value_cmp}
@@ -8,11 +9,13 @@ use Rattle.row_core.specs.declared.row.Row.{Row}
 use Rattle.row_core.specs.declared.schema.Column.{Column}
 use Rattle.row_core.specs.declared.value.Value.{Value}
 use Rattle.row_core.specs.declared.value.Value.TheVariants as value
-use Rattle.agg_core.specs.Agg.{amount_of_value}
+use Rattle.round_core.specs.declared.measure.Measure.{Measure}
+use Rattle.agg_core.specs.Agg.{AreAggRows, amount_of_value}
 use Rattle.agg_core.specs.Groups.{rows_of_group}
 use Rattle.agg_core.specs.declared.entries.Entry.{Entry}
 use Rattle.agg_core.specs.declared.entries.Key.{Key}
 use Rattle.agg_core.specs.declared.entries.Key.TheVariants.{Number, Text}
+use Rattle.agg_core.specs.declared.rows.AggRow.{AggRow}
 
 -- the place of a column, where one is named
 abbrev pub place_in : List Column → Option (List ℕ) → Option ℕ
@@ -60,3 +63,22 @@ pub record AreSortedEntries (place : ℕ) (rows : List Row) (entries : List Entr
   pub moved : IsPermutation rows (map entry_row entries)
   pub kept : (group : Option Value) → rows_of_group (value_at_place (Some place)) group (map entry_row entries)
       ≡ rows_of_group (value_at_place (Some place)) group rows
+
+-- each entry's row is of the group of the entry's value
+abbrev pub AreInGroups : (Row → Option Value) → List Entry → Type 0
+AreInGroups group_of entries = All (λ (e : Entry). group_of e.row.now ≡ Some e.value.now) entries
+
+-- what the rows of entries come to, where they are grouped by the entries' values
+abbrev pub AreRowsOfEntries : Measure → (Row → ℤ) → List Entry → List AggRow → Type 0
+AreRowsOfEntries measure amount_of entries answer =
+    (group_of : Row → Option Value) → AreInGroups group_of entries
+    → AreAggRows measure amount_of group_of (map entry_row entries) answer
+
+-- each value of some entries is before each value of others
+abbrev pub AreApart : List Entry → List Entry → Type 0
+AreApart low high =
+    (a b : Entry) → Contains low a → Contains high b → value_cmp a.value.now b.value.now ≡ Less
+
+-- the values of the first so many entries are before those of the others, so no group is on both sides
+abbrev pub IsSplit : List Entry → ℕ → Type 0
+IsSplit entries split = (split ≤ length entries) × AreApart (take split entries) (drop split entries)

@@ -10,7 +10,8 @@ use Rattle.row_core.specs.declared.row.Row.{Row}
 use Rattle.row_core.specs.declared.value.Value.{Value}
 use Rattle.dip_core.specs.declared.item.Item.{Item}
 use Rattle.round_core.specs.declared.plateau.Plateau.{Plateau}
-use Rattle.round_core.specs.Plateaus.{of_class}
+use Rattle.round_core.specs.declared.measure.Measure.{Measure}
+use Rattle.round_core.specs.Plateaus.{ArePlateaus, of_class}
 use Rattle.agg_core.specs.Agg.{amount_item}
 use Rattle.agg_core.specs.Groups.{rows_of_group}
 use Rattle.agg_core.specs.declared.entries.Entry.{Entry}
@@ -81,3 +82,10 @@ agg_row_of groups plateau = record {
   period = plateau.period;
   value = plateau.value;
 }
+
+-- a row for each plateau of items whose classes are the numbers of groups, in their order
+pub record ArePlateauRows (measure : Measure) (items : List Item) (groups : List (Option Value))
+    (answer : List AggRow) : Type 0 where
+  pub plateaus : List Plateau
+  pub all : ArePlateaus measure items plateaus
+  pub is : answer ≡ map (agg_row_of groups) plateaus

@@ -8,12 +8,14 @@ ghost use Rattle.agg_core.specs.Agg.{AreAggRows, IsAgg, agg_refusal};
 ghost use Rattle.agg_core.specs.Entries.{amount_at, place_in, value_at_place};
 ghost use Rattle.agg_core.specs.Grouping.{HaveValues};
 
+use crate::entries::sorted_entries;
 use crate::func::{Func, agg_refusal, measure_of, number_column};
-use crate::groups::group_rows;
-use crate::rows::{AggRow, AggRows, rows_of_plateaus};
+use crate::groups::one_group;
+use crate::rows::{AggRow, AggRows, rows_of_groups};
+use crate::shares::rows_of_entries;
 use match_core::{QueryRefused, Side};
 use period_core::NoMemory;
-use round_core::{Measure, plateaus_of};
+use round_core::Measure;
 use row_core::{Failure, Name, Row, Schema};
 use std::alloc::Global;
 use std::thread::Threads;
@@ -23,8 +25,8 @@ use work_core::Gate;
 /// some of its rows hold and come to one value, with that value, by group and start: the same rows for every number
 /// of workers. Numbers are ordered by value, texts by their bytes. Where no column is named all rows are one group.
 ///
-/// Rows are sorted once, by their groups, so many small groups cost no more than a large one. The gate is called
-/// before and after each piece of work, as `plateaus_of` tells.
+/// Rows are sorted once, by their groups, so many small groups cost no more than a large one, and then the groups are
+/// shared out among the workers. The gate is called before and after each piece of work, as `plateaus_of` tells.
 ///
 /// # Errors
 ///
@@ -80,9 +82,16 @@ fn agg_rows<R: Threads + Sync, G: Gate>(
     requires values { HaveValues by rows.now }
     ensures { IfOk result (λ answer. AreAggRows measure (amount_at amount) (value_at_place by) rows.now answer.items) }
 {
-    let grouped = group_rows(rt, alloc, rows, amount, by, workers)?;
-    let plateaus = plateaus_of(rt, alloc, measure, &grouped.items, workers, gate)?;
-    rows_of_plateaus(alloc, &grouped.groups, &plateaus)
+    match by {
+        None => {
+            let grouped = one_group(alloc, rows, amount)?;
+            rows_of_groups(rt, alloc, measure, &grouped, workers, gate)
+        }
+        Some(place) => {
+            let entries = sorted_entries(rt, alloc, rows, place, workers)?;
+            rows_of_entries(rt, alloc, measure, &entries, amount, workers, gate)
+        }
+    }
 }
 
 // The place of a column, where one is named.

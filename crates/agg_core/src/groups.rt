@@ -6,7 +6,6 @@ ghost use Rattle.agg_core.specs.Entries.{AreRising, amount_at, value_at_place};
 ghost use Rattle.agg_core.specs.Grouping.{
   AreItemsByGroup,
   AreNotAfter,
-  HaveValues,
   IsClassOf,
   IsGrouping,
   IsLast,
@@ -14,12 +13,11 @@ ghost use Rattle.agg_core.specs.Grouping.{
   copied_groups,
 };
 
-use crate::entries::{Entry, sorted_entries};
+use crate::entries::Entry;
 use dip_core::Item;
 use period_core::NoMemory;
 use row_core::{Row, Value};
 use std::alloc::{AllocError, Global};
-use std::thread::Threads;
 
 /// Rows by group.
 #[derive(Drop)]
@@ -31,31 +29,8 @@ pub(crate) struct GroupedRows<'a> {
     pub groups: Vec<Option<&'a Value>>,
 }
 
-/// The rows by group, with the numbers that they have at one place: by the values at another place, or as one group
-/// where there is none.
-pub(crate) fn group_rows<'a, R: Threads + Sync>(
-    rt: &R,
-    alloc: Global,
-    rows: &'a [Row],
-    amount: Option<u32>,
-    by: Option<u32>,
-    workers: u32,
-) -> Result<GroupedRows<'a>, NoMemory>
-    requires { HaveValues by rows.now }
-    ensures { IfOk result (λ grouped. IsGrouping (amount_at amount) (value_at_place by) rows.entry.now
-        grouped.items.items (copied_groups grouped.groups.items)) }
-{
-    match by {
-        None => one_group(alloc, rows, amount),
-        Some(place) => {
-            let entries = sorted_entries(rt, alloc, rows, place, workers)?;
-            group_entries(alloc, &entries, amount)
-        }
-    }
-}
-
-// All rows as one group.
-fn one_group<'a>(
+/// All rows as one group, with the numbers that they have at the place.
+pub(crate) fn one_group<'a>(
     alloc: Global,
     rows: &'a [Row],
     amount: Option<u32>,
@@ -72,8 +47,8 @@ fn one_group<'a>(
     Ok(GroupedRows { items, groups })
 }
 
-// The rows of entries that stand by rising value, each value a group.
-fn group_entries<'a>(
+/// The rows of entries that stand by rising value, each value a group, with the numbers that they have at the place.
+pub(crate) fn group_entries<'a>(
     alloc: Global,
     entries: &[Entry<'a>],
     amount: Option<u32>,

@@ -9,6 +9,7 @@ mod func;
 mod groups;
 mod laws;
 mod rows;
+mod shares;
 
 pub use aggregates::agg;
 pub use func::Func;

@@ -58,7 +58,7 @@ fn push_front(
 }
 
 /// Adds the values of the row of that id.
-fn push_values(
+fn push_values_of(
     alloc: Global,
     records: &mut Vec<u8>,
     writer: &mut Writer<Vec<u8>>,
@@ -92,8 +92,8 @@ fn push_record(
         ≡ records.old.items ++ row_text answer_writer (join_record left.now right.now row.now)) }
 {
     push_front(records, &mut kept.from, &mut kept.to, row)?;
-    push_values(alloc, records, &mut kept.values, left, row.left)?;
-    push_values(alloc, records, &mut kept.values, right, row.right)?;
+    push_values_of(alloc, records, &mut kept.values, left, row.left)?;
+    push_values_of(alloc, records, &mut kept.values, right, row.right)?;
     records.push(b'\n')?;
     Ok(())
 }

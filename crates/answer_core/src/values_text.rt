@@ -5,15 +5,12 @@ ghost use Rattle.answer_core.specs.PrintedRecords.{value_text};
 ghost use Rattle.answer_core.specs.RecordBytes.{answer_writer};
 ghost use Rattle.answer_core.specs.Begun.{IsBegun, text_in};
 
-use crate::writer::writer_behind;
+use crate::writer::{KEPT, writer_behind};
 use csv::Writer;
 use itoa::Buffer;
 use period_core::NoMemory;
 use row_core::Value;
 use std::alloc::{AllocError, Global};
-
-/// The bytes that a record has before another is begun.
-const KEPT: usize = 65_536;
 
 /// A writer in a record that begins with an empty field.
 pub(crate) fn begun(alloc: Global) -> Result<Writer<Vec<u8>>, NoMemory>
@@ -81,7 +78,7 @@ fn flush(writer: &mut Writer<Vec<u8>>) -> Result<(), NoMemory>
 }
 
 /// How many bytes the record has. Where they are many, another is begun.
-fn begin(alloc: Global, writer: &mut Writer<Vec<u8>>) -> Result<usize, NoMemory>
+fn record_len(alloc: Global, writer: &mut Writer<Vec<u8>>) -> Result<usize, NoMemory>
     requires { IsBegun writer.old }
     ensures begun { OnOk result (IsBegun writer.new) }
     ensures len { IfOk result (λ len. len ≡ length (text_in writer.new)) }
@@ -105,7 +102,7 @@ pub(crate) fn add_values(
     ensures text { OnOk result
         (text.new.items ≡ text.old.items ++ fields_text answer_writer (map value_text values.now)) }
 {
-    let start = begin(alloc, writer)?;
+    let start = record_len(alloc, writer)?;
     push_values(writer, values)?;
     flush(writer)?;
     text.extend_from_slice(&writer.get_ref()[start..])

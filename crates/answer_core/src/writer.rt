@@ -21,7 +21,7 @@ use std::mem;
 use stream_core::{Counted, Patience, RunFault, write_all};
 
 /// The bytes that a writer of `csv` keeps before it is made anew.
-const KEPT: usize = 65_536;
+pub(crate) const KEPT: usize = 65_536;
 
 /// Makes the bytes of an answer, and writes them. Contracts see the bytes of its records so far, and the
 /// fields so far of its next record.

@@ -6,5 +6,6 @@ pub mod MaximalLemmas
 pub mod OrderLemmas
 pub mod PartLemmas
 pub mod RowLemmas
+pub mod ShareLemmas
 pub mod SupplyLemmas
 pub mod UnitedLemmas

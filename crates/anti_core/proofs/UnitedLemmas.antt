@@ -13,6 +13,7 @@ use Rattle.std.proofs.lemmas.List.Sorted.{Contains-permutation, IsPermutation-sy
 use Rattle.period_core.specs.declared.period.Period.{Period}
 use Rattle.period_core.specs.Period.{Holds}
 use Rattle.dip_core.specs.declared.item.Item.{Item}
+use Rattle.list_core.specs.Wanted.{IsListOf}
 use Rattle.list_core.proofs.RisingLemmas.{AllPairs-head, AllPairs-tail, Contains-head, Contains-cons, Contains-cons_cases, Contains-none}
 use Rattle.list_core.proofs.WantedLemmas.{AllPairs-before, IsListOf-append, IsListOf-one, IsListOf-none, IsListOf-same}
 use Rattle.dip_core.proofs.PartedLemmas.{Item-same}
@@ -21,8 +22,7 @@ use Rattle.merge_core.proofs.SharedLemmas.{by_order, first_held}
 use Rattle.merge_core.proofs.SweepLemmas.{IsMaximal-same}
 use Rattle.merge_core.proofs.MaximalAround.{maximal-once}
 use Rattle.anti_core.specs.declared.rows.AntiRow.{AntiRow}
-use Rattle.anti_core.specs.Anti.{AntiRowBefore}
-use Rattle.anti_core.specs.ItemAnti.{IsItemsAntiRow, IsItemsAnti}
+use Rattle.anti_core.specs.ItemAnti.{IsItemsAntiRow}
 use Rattle.anti_core.specs.United.{IsUnited, IsUnion, StandsBefore, CoverAlike, StandByClass, RunsInto, IsPlain, IsMerged}
 
 -- ---- what some items cover
@@ -484,9 +484,10 @@ row_alike left items others same row is = record {
       is.maximal;
 }
 
--- so the anti-joins are one
-pub IsItemsAnti-alike : (left items others : List Item) (rows : List AntiRow) → CoverAlike items others
-    → IsItemsAnti left others rows → IsItemsAnti left items rows
-IsItemsAnti-alike left items others rows same lists =
-    IsListOf-same AntiRowBefore (IsItemsAntiRow left others) (IsItemsAntiRow left items) rows
+-- so the rows are the same
+pub rows-alike : (Before : AntiRow → AntiRow → Type 0) (left items others : List Item) (rows : List AntiRow)
+    → CoverAlike items others → IsListOf Before (IsItemsAntiRow left others) rows
+    → IsListOf Before (IsItemsAntiRow left items) rows
+rows-alike Before left items others rows same lists =
+    IsListOf-same Before (IsItemsAntiRow left others) (IsItemsAntiRow left items) rows
     (row_alike left others items (turned items others same)) (row_alike left items others same) lists

@@ -6,9 +6,9 @@ ghost use Rattle.match_core.specs.Columns.{MatchesOn, columns_refusal};
 ghost use Rattle.work_core.specs.Limits.{worker_limit};
 ghost use Rattle.anti_core.specs.Anti.{IsAnti};
 
-use crate::bundles::anti_items;
 use crate::rows::AntiRows;
-use match_core::{QueryRefused, Side, classes_of, items_with, refusal_of_pairs};
+use crate::sides::anti_sides;
+use match_core::{QueryRefused, Side, classes_of, refusal_of_pairs};
 use period_core::NoMemory;
 use row_core::{Failure, Name};
 use std::alloc::Global;
@@ -62,7 +62,16 @@ fn anti_rows<R: Threads + Sync, G: Gate>(
 {
     let classes = classes_of(rt, alloc, left, right, on, workers)?;
     let (left_classes, right_classes) = classes.split_at(left.rows.len());
-    let lefts = items_with(alloc, left.rows.as_slice(), left_classes)?;
-    let rights = items_with(alloc, right.rows.as_slice(), right_classes)?;
-    anti_items(rt, alloc, lefts, rights, workers, gate)
+    let lefts = left.rows.as_slice();
+    let rights = right.rows.as_slice();
+    anti_sides(
+        rt,
+        alloc,
+        lefts,
+        left_classes,
+        rights,
+        right_classes,
+        workers,
+        gate,
+    )
 }

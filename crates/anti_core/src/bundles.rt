@@ -1,21 +1,18 @@
-//! The anti-join of items, a bundle at a time: all items of some classes. Items of other classes don't match them, so
-//! the parts of a bundle are paired with each other alone. They are few, since few of its items hold at once.
+//! The rows of items, a bundle at a time: all items of some classes. Items of other classes don't match them, so the
+//! parts of a bundle are paired with each other alone. They are few, since few of its items hold at once.
 
-ghost use Rattle.std.specs.Prelude.{◌<◌, ◌≤◌, length, IfOk, IsPermutation};
+ghost use Rattle.std.specs.Prelude.{◌<◌, ◌≤◌, length, IfOk};
 ghost use Rattle.std.specs.Thread.{IsSync};
 ghost use Rattle.dip_core.specs.Item.{item_limit, HasDistinctIds};
 ghost use Rattle.grid_core.specs.Bundles.{ClassesRise};
 ghost use Rattle.work_core.specs.Limits.{worker_limit};
-ghost use Rattle.anti_core.specs.ItemAnti.{AreItemsRows, IsItemsAnti};
-ghost use Rattle.anti_core.specs.United.{IsUnion};
+ghost use Rattle.anti_core.specs.ItemAnti.{AreItemsRows};
 
 use crate::parted::rows_of_items;
-use crate::rows::{AntiRow, AntiRows};
-use crate::united::united_items;
+use crate::rows::AntiRow;
 use dip_core::Item;
-use grid_core::{last_class, middle_class, order_by_class, parted_behind};
+use grid_core::{last_class, middle_class, parted_behind};
 use period_core::NoMemory;
-use sort_core::sort_unstable;
 use std::alloc::Global;
 use std::thread::{Threads, join};
 use work_core::Gate;
@@ -28,9 +25,6 @@ const BUNDLE_LEAST: usize = 256;
 
 /// In a bundle of more items many pairs of parts would share no class.
 const BUNDLE_MOST: usize = 4_096;
-
-/// Of fewer items one side would be ordered before the other side's thread has started.
-const ITEMS_FOR_THREAD: usize = 4_096;
 
 /// The number of items of which one side has more by the class that ends a bundle.
 fn bundle_items(left: &[Item], right: &[Item]) -> usize {
@@ -73,7 +67,7 @@ fn rows_of_bundles<R: Threads + Sync, G: Gate>(
 
 /// The rows of all left items. Half of the workers find those of the lower classes, where there are enough of both.
 #[cycle(halves)]
-fn rows_of_halves<R: Threads + Sync, G: Gate>(
+pub(crate) fn rows_of_halves<R: Threads + Sync, G: Gate>(
     rt: &R,
     alloc: Global,
     left: &[Item],
@@ -115,64 +109,4 @@ fn rows_of_halves<R: Threads + Sync, G: Gate>(
     let mut high = high?;
     rows.append(&mut high)?;
     Ok(rows)
-}
-
-/// The items by class.
-fn by_class(mut items: Vec<Item>) -> Vec<Item>
-    ensures permutation { IsPermutation items.items result.items }
-    ensures sorted { ClassesRise result.items }
-{
-    order_by_class(&mut items);
-    items
-}
-
-/// The left items by class, and the right ones united. A second worker unites these meanwhile, where both are many.
-fn prepared<R: Threads + Sync>(
-    rt: &R,
-    alloc: Global,
-    left: Vec<Item>,
-    right: Vec<Item>,
-    workers: u32,
-) -> Result<(Vec<Item>, Vec<Item>), NoMemory>
-    ensures permutation { IfOk result (λ both. IsPermutation left.items both.0.items) }
-    ensures sorted { IfOk result (λ both. ClassesRise both.0.items) }
-    ensures union { IfOk result (λ both. IsUnion right.items both.1.items) }
-{
-    if workers < 2 || left.len().min(right.len()) < ITEMS_FOR_THREAD {
-        let united = united_items(alloc, right)?;
-        return Ok((by_class(left), united));
-    }
-    let (united, lefts) = join(
-        rt,
-        move || -> Result<Vec<Item>, NoMemory>
-            ensures { IfOk result (λ united. IsUnion right.items united.items) }
-        { united_items(alloc, right) },
-        move || -> Vec<Item>
-            ensures { IsPermutation left.items result.items × ClassesRise result.items }
-        { by_class(left) },
-    );
-    let united = united?;
-    Ok((lefts, united))
-}
-
-/// The anti-join of two lists of items, which match where their classes are equal. The right items are united before
-/// they are divided: of those that hold at once each class has one, however many there were.
-pub(crate) fn anti_items<R: Threads + Sync, G: Gate>(
-    rt: &R,
-    alloc: Global,
-    left: Vec<Item>,
-    right: Vec<Item>,
-    workers: u32,
-    gate: &G,
-) -> Result<AntiRows, NoMemory>
-    requires workers { (0 < workers) × (workers ≤ worker_limit) }
-    requires left_few { length left.items ≤ item_limit }
-    requires right_few { length right.items ≤ item_limit }
-    requires left_ids { HasDistinctIds left.items }
-    ensures { IfOk result (IsItemsAnti left.items right.items) }
-{
-    let (lefts, united) = prepared(rt, alloc, left, right, workers)?;
-    let mut rows = rows_of_halves(rt, alloc, &lefts, &united, workers, gate)?;
-    sort_unstable(rt, &mut rows, workers);
-    Ok(AntiRows::from(rows))
 }

@@ -11,6 +11,7 @@ mod pairs;
 mod part_gaps;
 mod parted;
 mod rows;
+mod sides;
 mod supply;
 mod united;
 

@@ -1,27 +1,49 @@
 //! The right items of each class united, before they are divided: all that counts is which instants they hold.
 
-ghost use Rattle.std.specs.Prelude.{IfOk, IsPermutation, MatchOption};
+ghost use Rattle.std.specs.Prelude.{IfOk, IsPermutation, MatchOption, OnOk};
 ghost use Rattle.anti_core.specs.United.{RunsInto, IsMerged, IsPlain, IsUnion, StandByClass};
 
 use dip_core::Item;
 use period_core::{NoMemory, Period};
+use sort_core::sort_by_key;
 use std::alloc::Global;
+use std::thread::Threads;
 
 /// The longest periods in which some item of each class holds, as items of their class, by class and start. They have
 /// no ids: each has the id 0, and the amount 0.
-pub(crate) fn united_items(alloc: Global, mut items: Vec<Item>) -> Result<Vec<Item>, NoMemory>
+pub(crate) fn united_items<R: Threads + Sync>(
+    rt: &R,
+    alloc: Global,
+    mut items: Vec<Item>,
+    workers: u32,
+) -> Result<Vec<Item>, NoMemory>
     ensures { IfOk result (λ united. IsUnion items.items united.items) }
 {
-    sort_by_class(&mut items);
+    sort_by_class(rt, alloc, &mut items, workers)?;
     unite(alloc, &items)
 }
 
-/// Puts the items by class, and those of one class by start.
-fn sort_by_class(items: &mut Vec<Item>)
+/// Puts the items by class, and those of one class by start. One worker takes the sort that needs no memory.
+fn sort_by_class<R: Threads + Sync>(
+    rt: &R,
+    alloc: Global,
+    items: &mut Vec<Item>,
+    workers: u32,
+) -> Result<(), NoMemory>
     ensures permutation { IsPermutation items.old.items items.new.items }
-    ensures sorted { StandByClass items.new.items }
+    ensures sorted { OnOk result (StandByClass items.new.items) }
 {
-    items.sort_unstable_by_key(|item| (item.class, item.period.from));
+    if workers < 2 {
+        items.sort_unstable_by_key(|item| (item.class, item.period.from));
+        return Ok(());
+    }
+    sort_by_key(
+        rt,
+        alloc,
+        items,
+        |item| (item.class, item.period.from),
+        workers,
+    )
 }
 
 /// The items without ids and amounts, each as one with those behind it that continue it.

@@ -1,5 +1,5 @@
 -- Sorted cells, and their runs.
-use Rattle.std.proofs.Common.{◌≡◌, ◌↔◌, ℕ, zero, suc, ◌+◌, ◌-◌, ◌<◌, ◌≤◌, ℤ, Bool, true, false, cond, List, length, get_or, refl, sym, subst, ap, ◌∙◌, inl, inr, arith}
+use Rattle.std.proofs.Common.{◌≡◌, ◌↔◌, ℕ, zero, suc, ◌+◌, ◌<◌, ◌≤◌, ℤ, Bool, true, false, cond, List, length, get_or, refl, sym, subst, ap, ◌∙◌, inl, inr, arith}
 use Rattle.std.specs.Prelude.{IsSorted}
 use Rattle.std.specs.Bool.{Decides}
 use Rattle.std.specs.Cmp.{IsTotalOrder}
@@ -12,14 +12,14 @@ use Rattle.std.proofs.lemmas.Bool.Decides.{Decides-eqb, Decides-int_eq, Decides-
 use Rattle.std.proofs.lemmas.Cmp.{then_total, on_total, int_cmp_total, nat_cmp_total, nat_list_cmp_total, tied_itself, ranked, int_ranked}
 use Rattle.std.proofs.lemmas.List.Sorted.{sorted_far, ranks_by}
 use Rattle.match_core.specs.declared.cells.Cell.{Cell}
-use Rattle.match_core.specs.Cells.{same_cell, runs_before}
+use Rattle.match_core.specs.Cells.{cell_cmp, same_cell}
 
 -- one class so far, and one value
 abbrev pub SameCell : Cell → Cell → Type 0
 SameCell a b = (a.class ≡ b.class) × ((a.number ≡ b.number) × (a.text.now ≡ b.text.now))
 
 -- the test of cells that are the same decides it
-same_cell-decides : (a b : Cell) → Decides (same_cell a b) (SameCell a b)
+pub same_cell-decides : (a b : Cell) → Decides (same_cell a b) (SameCell a b)
 same_cell-decides a b =
     Decides-and _ _ (Decides-eqb a.class b.class)
     (Decides-and _ _ (Decides-int_eq a.number b.number) (bytes_decides a.text.now b.text.now))
@@ -32,13 +32,8 @@ SameCell-sym a b s = (sym s.0, (sym s.1.0, sym s.1.1))
 SameCell-trans : (a b c : Cell) → SameCell a b → SameCell b c → SameCell a c
 SameCell-trans a b c s t = (s.0 ∙ t.0, (s.1.0 ∙ t.1.0, s.1.1 ∙ t.1.1))
 
--- the order of cells: by class, number and text
-abbrev pub cell_cmp : Cell → Cell → Ordering
-cell_cmp a b = ordering_then (nat_cmp a.class b.class)
-    (ordering_then (int_cmp a.number b.number) (slice_cmp nat_cmp a.text.now b.text.now))
-
--- it is a total order
-cell_total : IsTotalOrder cell_cmp
+-- the order of cells is a total one
+pub cell_total : IsTotalOrder cell_cmp
 cell_total =
     then_total (on_total (λ (x : Cell). x.class) nat_cmp_total)
     (then_total (on_total (λ (x : Cell). x.number) int_cmp_total)
@@ -94,6 +89,11 @@ between a b c low high s =
 
 -- ---- runs of sorted cells
 
+-- how many runs of cells that are the same have ended before place i
+abbrev pub runs_before : Cell → List Cell → ℕ → ℕ
+runs_before d cells zero = 0
+runs_before d cells (suc i) = runs_before d cells i + cond (same_cell (get_or cells i d) (get_or cells (suc i) d)) 0 1
+
 -- what the runs before two places tell of the cells there
 record Along (d : Cell) (cells : List Cell) (i j : ℕ) : Type 0 where
   pub more : runs_before d cells i ≤ runs_before d cells j
@@ -101,7 +101,7 @@ record Along (d : Cell) (cells : List Cell) (i j : ℕ) : Type 0 where
   pub equal : SameCell (get_or cells i d) (get_or cells j d) → runs_before d cells i ≡ runs_before d cells j
 
 -- a cell is the same as itself
-SameCell-itself : (a : Cell) → SameCell a a
+pub SameCell-itself : (a : Cell) → SameCell a a
 SameCell-itself a = (refl, (refl, refl))
 
 -- they tell it of one place

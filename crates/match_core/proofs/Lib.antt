@@ -2,6 +2,8 @@ pub mod CellRuns
 pub mod ItemIds
 pub mod MadeCells
 pub mod Matching
+pub mod MergedLists
+pub mod NumberedCells
 pub mod RefinedClasses
 pub mod RowItems
 pub mod SideIds

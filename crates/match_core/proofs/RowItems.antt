@@ -1,12 +1,14 @@
 -- Rows and their items.
-use Rattle.std.proofs.Common.{◌≡◌, ◌<◌, ◌≤◌, ℕ, zero, suc, ◌+◌, List, length, [], ◌∷◌, get_or, take, ◌++◌, Some, refl, subst, ap, ◌∙◌, inl, inr, arith}
+use Rattle.std.proofs.Common.{◌≡◌, ◌<◌, ◌≤◌, ℕ, zero, suc, ◌+◌, false, cond, List, length, [], ◌∷◌, get_or, take, ◌++◌, Some, refl, subst, ap, ◌∙◌, inl, inr, arith, append-nil}
 use Rattle.std.specs.Prelude.{slice_get, AllPairs, Contains}
+use Rattle.std.proofs.lemmas.List.Elements.{filter-append}
 use Rattle.row_core.specs.Rows.{RowsRise}
 use Rattle.row_core.specs.declared.row.Row.{Row}
 use Rattle.dip_core.specs.declared.item.Item.{Item}
 use Rattle.list_core.proofs.RisingLemmas.{AllPairs-head, Contains-cons, Contains-cons_cases, Contains-head, Contains-none}
 use Rattle.list_core.proofs.WantedLemmas.{AllPairs-before}
-use Rattle.match_core.specs.Items.{item_with, items_with}
+use Rattle.match_core.specs.Items.{has_class, item_with, items_of_share, items_with, share_of}
+use Rattle.match_core.specs.declared.share.Share.{Share}
 
 -- a row and its item at one place
 pub record IsItemAt (rows : List Row) (classes : List ℕ) (r : Row) (x : Item) : Type 0 where
@@ -116,3 +118,25 @@ items_with-front (r ∷ rows) [] n h enough = absurd (omega arith)
 items_with-front (r ∷ rows) (c ∷ classes) zero h enough = absurd (omega arith)
 items_with-front (r ∷ rows) (c ∷ classes) (suc n) h enough =
     ap (λ l. item_with r c ∷ l) (items_with-front rows classes n (omega arith) (omega arith))
+
+-- one more row, and its item, if that is of the share
+pub items_of_share-more : (share : Share) (rows : List Row) (classes : List ℕ) (i : ℕ) (r : Row) → i < length rows
+    → i < length classes
+    → items_of_share share (take (i + 1) rows) (take (i + 1) classes)
+    ≡ items_of_share share (take i rows) (take i classes) ++ cond (has_class share (get_or classes i 0))
+    (item_with (get_or rows i r) (get_or classes i 0) ∷ []) []
+items_of_share-more share rows classes i r h k =
+    ap (share_of share) (items_with-more rows classes i r h k)
+    ∙ filter-append (λ (x : Item). has_class share x.class) (items_with (take i rows) (take i classes))
+    (item_with (get_or rows i r) (get_or classes i 0) ∷ [])
+
+-- one more row, whose item isn't of the share
+pub items_of_share-same : (share : Share) (rows : List Row) (classes : List ℕ) (i : ℕ) → i < length rows
+    → i < length classes → has_class share (get_or classes i 0) ≡ false
+    → items_of_share share (take (i + 1) rows) (take (i + 1) classes) ≡ items_of_share share (take i rows) (take i classes)
+items_of_share-same share [] classes i h k off = absurd (omega arith)
+items_of_share-same share (q ∷ rows) classes i h k off =
+    items_of_share-more share (q ∷ rows) classes i q h k
+    ∙ ap (λ b. items_of_share share (take i (q ∷ rows)) (take i classes) ++ cond b
+    (item_with (get_or (q ∷ rows) i q) (get_or classes i 0) ∷ []) []) off
+    ∙ append-nil (items_of_share share (take i (q ∷ rows)) (take i classes))

@@ -1,6 +1,6 @@
 -- Classes that are split by one pair of columns after another.
 use Rattle.std.proofs.Common.{◌≡◌, ℕ, zero, suc, ◌+◌, ◌<◌, List, [], ◌∷◌, ◌++◌, length, map, take, drop, get_or, replicate, Bool, true, false, not, Option, Some, None, refl, sym, subst, ap, ◌∙◌, arith}
-use Rattle.std.specs.Prelude.{All, ◌&&◌, is_none, option_map, option_and_then, slice_get, IsTrue}
+use Rattle.std.specs.Prelude.{All, is_none, option_map, option_and_then, slice_get, IsTrue}
 use Rattle.std.proofs.lemmas.List.{append-nil, take_all, drop_all, get_or-replicate, length-replicate, get_or_append_left, length_push, get_or_push}
 use Rattle.std.proofs.lemmas.List.Elements.{All-push, All-append, All-map}
 use Rattle.std.proofs.lemmas.Bool.{and_parts}

@@ -1,26 +1,39 @@
-//! Splits classes of rows by the values of a column: equal values are brought side by side by a sort.
+//! Splits classes of rows by the values of a column: equal values are brought side by side by a sort of each side.
 
-ghost use Rattle.std.specs.Prelude.{◌≡◌, ℕ, ◌+◌, ◌-◌, ◌<◌, ◌≤◌, All, Some, IfOk, OnOk, length, slice_get};
+ghost use Rattle.std.specs.Prelude.{
+  ◌≡◌,
+  ◌+◌,
+  ◌<◌,
+  ◌^◌,
+  Some,
+  IfOk,
+  OnOk,
+  length,
+  take,
+  drop,
+  slice_get,
+};
 ghost use Rattle.match_core.specs.declared.cells.Cell.{Cell};
 ghost use Rattle.match_core.specs.Cells.{
   IsCell,
   AreCells,
   AreOneKind,
-  AgreeOnPlaces,
-  AreNumbered,
+  AreSorted,
   Refines,
+  column_at,
   hash_of,
-  runs_before,
-  same_cell,
   values_at,
 };
 
 use crate::NoMemory;
+use crate::numbering::number_classes;
 use row_core::{Row, Value};
-use sort_core::sort_unstable;
 use std::alloc::Global;
 use std::hash::{FoldHasher, Hasher};
-use std::thread::Threads;
+use std::thread::{Threads, join};
+
+/// Of fewer rows one side's cells would be sorted before the other side's thread has started.
+const ROWS_FOR_THREAD: usize = 4_096;
 
 /// A row's value in a column, with the class of the row so far, so that no value is looked up while they are
 /// sorted, and none is copied. Numbers have the empty text. Texts have a hash as their number, which mostly
@@ -29,11 +42,11 @@ use std::thread::Threads;
 #[derive(Clone, Copy)]
 #[derive_where(Debug, PartialEq, Eq, PartialOrd, Ord)]
 pub(crate) struct Cell<'a> {
-    class: u64,
-    number: i64,
-    text: &'a str,
+    pub(crate) class: u64,
+    pub(crate) number: i64,
+    pub(crate) text: &'a str,
     #[derive_where(skip(EqHashOrd))]
-    place: usize,
+    pub(crate) place: usize,
 }
 
 /// Splits the classes, those of the left rows before those of the right ones: two rows have one class
@@ -52,52 +65,113 @@ pub(crate) fn refine<R: Threads + Sync>(
     requires kind { AreOneKind (values_at left_place right_place lefts.now rights.now) }
     ensures { OnOk result (Refines classes.old (values_at left_place right_place lefts.now rights.now) classes.new) }
 {
-    let mut cells = cells_of(alloc, classes, lefts, rights, left_place, right_place)?;
-    sort_unstable(rt, &mut cells, workers);
-    number_classes(&cells, classes);
+    let (left_cells, right_cells) = sorted_sides(
+        rt,
+        alloc,
+        classes,
+        lefts,
+        rights,
+        left_place,
+        right_place,
+        workers,
+    )?;
+    number_classes(&left_cells, &right_cells, classes);
     Ok(())
 }
 
-// A cell for each row, in their order.
-fn cells_of<'a>(
+// The sorted cells of the left rows, and those of the right ones: by two workers at once, where rows are many.
+fn sorted_sides<'a, R: Threads + Sync>(
+    rt: &R,
     alloc: Global,
     classes: &[u64],
     lefts: &'a [Row],
     rights: &'a [Row],
     left_place: usize,
     right_place: usize,
-) -> Result<Vec<Cell<'a>>, NoMemory>
+    workers: u32,
+) -> Result<(Vec<Cell<'a>>, Vec<Cell<'a>>), NoMemory>
     requires count { length classes.now ≡ length lefts.now + length rights.now }
-    requires kind { AreOneKind (values_at left_place right_place lefts.now rights.now) }
-    ensures count { IfOk result (λ cells. length cells.items ≡ length classes.now) }
-    ensures cells { IfOk result (λ cells. AreCells classes.now
-        (values_at left_place right_place lefts.now rights.now) cells.items) }
+    requires left { AreOneKind (column_at left_place lefts.now) }
+    requires right { AreOneKind (column_at right_place rights.now) }
+    ensures left { IfOk result (λ both. AreSorted 0 (take (length lefts.now) classes.now)
+        (column_at left_place lefts.now) both.0.items) }
+    ensures right { IfOk result (λ both. AreSorted (length lefts.now) (drop (length lefts.now) classes.now)
+        (column_at right_place rights.now) both.1.items) }
 {
-    let mut cells = Vec::with_capacity(alloc, classes.len())?;
-    for i in 0..classes.len() {
-        let value = value_at(lefts, rights, left_place, right_place, i);
-        cells.push(cell_of(classes[i], value, i))?;
+    let before = lefts.len();
+    let (left_classes, right_classes) = classes.split_at(before);
+    if workers < 2 || before.min(rights.len()) < ROWS_FOR_THREAD {
+        let left_cells = sorted_cells(alloc, 0, left_classes, lefts, left_place)?;
+        let right_cells = sorted_cells(alloc, before, right_classes, rights, right_place)?;
+        return Ok((left_cells, right_cells));
+    }
+    let (left_cells, right_cells) = join(
+        rt,
+        || -> Result<Vec<Cell>, NoMemory>
+            requires { (length left_classes.now ≡ length lefts.now) × (length lefts.now < 2 ^ 63)
+                × AreOneKind (column_at left_place lefts.now) }
+            ensures { IfOk result (λ cells. AreSorted 0 left_classes.entry.now
+                (column_at left_place lefts.entry.now) cells.items) }
+        { sorted_cells(alloc, 0, left_classes, lefts, left_place) },
+        || -> Result<Vec<Cell>, NoMemory>
+            requires { (length right_classes.now ≡ length rights.now) × (before + length rights.now < 2 ^ 63)
+                × AreOneKind (column_at right_place rights.now) }
+            ensures { IfOk result (λ cells. AreSorted before right_classes.entry.now
+                (column_at right_place rights.entry.now) cells.items) }
+        { sorted_cells(alloc, before, right_classes, rights, right_place) },
+    );
+    let left_cells = left_cells?;
+    let right_cells = right_cells?;
+    Ok((left_cells, right_cells))
+}
+
+// The sorted cells of a side's rows, which stand behind so many of the other side.
+fn sorted_cells<'a>(
+    alloc: Global,
+    before: usize,
+    classes: &[u64],
+    rows: &'a [Row],
+    place: usize,
+) -> Result<Vec<Cell<'a>>, NoMemory>
+    requires count { length classes.now ≡ length rows.now }
+    requires room { before + length rows.now < 2 ^ 63 }
+    requires kind { AreOneKind (column_at place rows.now) }
+    ensures { IfOk result (λ cells. AreSorted before classes.now (column_at place rows.now) cells.items) }
+{
+    let mut cells = cells_of(alloc, before, classes, rows, place)?;
+    cells.sort_unstable();
+    Ok(cells)
+}
+
+// A cell for each row of a side, in their order.
+fn cells_of<'a>(
+    alloc: Global,
+    before: usize,
+    classes: &[u64],
+    rows: &'a [Row],
+    place: usize,
+) -> Result<Vec<Cell<'a>>, NoMemory>
+    requires count { length classes.now ≡ length rows.now }
+    requires room { before + length rows.now < 2 ^ 63 }
+    requires kind { AreOneKind (column_at place rows.now) }
+    ensures count { IfOk result (λ cells. length cells.items ≡ length rows.now) }
+    ensures cells { IfOk result (λ cells. AreCells before classes.now (column_at place rows.now) cells.items) }
+{
+    let mut cells = Vec::with_capacity(alloc, rows.len())?;
+    for i in 0..rows.len() {
+        let value = value_at(rows, place, i);
+        cells.push(cell_of(classes[i], value, before + i))?;
     }
     Ok(cells)
 }
 
-// The value of the row at place i, the left rows standing before the right ones.
-fn value_at<'a>(
-    lefts: &'a [Row],
-    rights: &'a [Row],
-    left_place: usize,
-    right_place: usize,
-    i: usize,
-) -> &'a Value
-    requires within { i < length lefts.now + length rights.now }
-    requires kind { AreOneKind (values_at left_place right_place lefts.now rights.now) }
-    ensures { slice_get (values_at left_place right_place lefts.now rights.now) i ≡ Some (Some result.now) }
+// The value of row i at that place.
+fn value_at(rows: &[Row], place: usize, i: usize) -> &Value
+    requires within { i < length rows.now }
+    requires kind { AreOneKind (column_at place rows.now) }
+    ensures { slice_get (column_at place rows.now) i ≡ Some (Some result.now) }
 {
-    if i < lefts.len() {
-        value_in(&lefts[i], left_place)
-    } else {
-        value_in(&rights[i - lefts.len()], right_place)
-    }
+    value_in(&rows[i], place)
 }
 
 // The row's value at that place.
@@ -135,40 +209,4 @@ fn hash_of(text: &str) -> u64
     let mut hasher = FoldHasher::default();
     hasher.write(text.as_bytes());
     hasher.finish()
-}
-
-// Numbers the classes in the order of the cells, a new one wherever they change.
-fn number_classes(cells: &[Cell], classes: &mut [u64])
-    requires within { All (λ cell. cell.place < length classes.old) cells.now }
-    requires agree { AgreeOnPlaces cells.now }
-    ensures { AreNumbered cells.now (length cells.now) classes.new }
-{
-    let mut class = 0;
-    for i in 0..cells.len() {
-        class = next_class(cells, i, class);
-        classes[cells[i].place] = class;
-    }
-}
-
-// The class of the cell at place i, given that of the one before it, or 0 at the first.
-fn next_class(cells: &[Cell], i: usize, class: u64) -> u64
-    requires within { i < length cells.now }
-    requires small { class ≤ i }
-    ensures runs { (d : Cell) → class ≡ runs_before d cells.now (i - 1) → result ≡ runs_before d cells.now i }
-    ensures small { result ≤ class + 1 }
-{
-    if i == 0 {
-        return class;
-    }
-    if is_same_cell(&cells[i - 1], &cells[i]) {
-        class
-    } else {
-        class + 1
-    }
-}
-
-fn is_same_cell(a: &Cell, b: &Cell) -> bool
-    ensures { result ≡ same_cell a.now b.now }
-{
-    a.class == b.class && a.number == b.number && a.text == b.text
 }

@@ -6,11 +6,14 @@
 mod cells;
 mod classes;
 mod columns;
+mod numbering;
 mod row_items;
+mod share;
 mod side;
 
 pub use classes::classes_of;
 pub use columns::{QueryRefused, refusal_of_pairs};
 pub use period_core::NoMemory;
-pub use row_items::{items, items_with};
+pub use row_items::{items, items_of_share, items_with};
+pub use share::Share;
 pub use side::Side;

@@ -1,9 +1,10 @@
 //! Rows as items, which are divided and merged.
 
 ghost use Rattle.std.specs.Prelude.{◌≡◌, ◌≤◌, IfOk, length};
-ghost use Rattle.match_core.specs.Items.{item_with, items_of, items_with};
+ghost use Rattle.match_core.specs.Items.{has_class, item_with, items_of, items_of_share, items_with};
 
 use crate::NoMemory;
+use crate::share::Share;
 use dip_core::Item;
 use row_core::{Row, RowList};
 use std::alloc::Global;
@@ -40,6 +41,41 @@ pub fn items_with(alloc: Global, rows: &[Row], classes: &[u64]) -> Result<Vec<It
         items.push(item_with(&rows[i], classes[i]))?;
     }
     Ok(items)
+}
+
+/// The rows as items in their order, each of the class that stands at its place: those of a share's classes alone.
+///
+/// # Errors
+///
+/// `NoMemory` where a growth is refused.
+pub fn items_of_share(
+    alloc: Global,
+    rows: &[Row],
+    classes: &[u64],
+    share: Share,
+) -> Result<Vec<Item>, NoMemory>
+    requires { length rows.now ≤ length classes.now }
+    ensures { IfOk result (λ items. items.items ≡ items_of_share share rows.now classes.now) }
+{
+    let mut items = Vec::new(alloc);
+    for i in 0..rows.len() {
+        let class = classes[i];
+        if has_class(share, class) {
+            items.push(item_with(&rows[i], class))?;
+        }
+    }
+    Ok(items)
+}
+
+// Whether a share has that class.
+fn has_class(share: Share, class: u64) -> bool
+    ensures { result ≡ has_class share class }
+{
+    match share {
+        Share::All => true,
+        Share::UpTo(last) => class <= last,
+        Share::Above(last) => last < class,
+    }
 }
 
 // The row as an item of that class.

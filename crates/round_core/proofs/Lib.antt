@@ -1,7 +1,10 @@
+pub mod SpanLemmas
 pub mod TwoLemmas
 pub mod SameSteps
 pub mod SortLemmas
 pub mod RoundLemmas
+pub mod CutItems
+pub mod CutLemmas
 pub mod HalfLemmas
 pub mod PermutedLemmas
 pub mod RunLemmas

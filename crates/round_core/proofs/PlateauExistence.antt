@@ -68,7 +68,7 @@ int_or_not a b = elim (by_order a b) [
 ]
 
 -- whether some items come to a value can be told
-value_or_not : (measure : Measure) (items : List Item) (v t : ℤ)
+pub value_or_not : (measure : Measure) (items : List Item) (v t : ℤ)
     → HasValue measure items v t ⊎ (HasValue measure items v t → ⊥)
 value_or_not measure items v t = told (some_tally items t)
   where
@@ -82,7 +82,7 @@ value_or_not measure items v t = told (some_tally items t)
 -- ---- items bound what they come to
 
 -- where items come to a value, one of them holds the instant
-holder : (measure : Measure) (items : List Item) (v t : ℤ) → HasValue measure items v t
+pub holder : (measure : Measure) (items : List Item) (v t : ℤ) → HasValue measure items v t
     → (x : Item) × Contains items x × Holds x.period t
 holder measure items v t h =
     let m = amount_from (holding items t) h.tally.min h.is.min_in in
@@ -90,7 +90,7 @@ holder measure items v t h =
     (m.0, k.0, Holds-from_test t m.0.period k.1)
 
 -- an item of a class is one of the items, and of that class
-own_item : (class : ℕ) (items : List Item) (x : Item) → Contains (of_class class items) x
+pub own_item : (class : ℕ) (items : List Item) (x : Item) → Contains (of_class class items) x
     → Contains items x × (x.class ≡ class)
 own_item class [] x h = absurd (Contains-none x h)
 own_item class (y ∷ items) x h = split (nat_eq y.class class) refl (own_item class items x) h
@@ -112,7 +112,7 @@ own_item class (y ∷ items) x h = split (nat_eq y.class class) refl (own_item c
     split false e rec k = let m = rec k in (Contains-cons y items x m.0, m.1)
 
 -- instants between which all items lie
-bounds : (items : List Item) → (lo hi : ℤ)
+pub bounds : (items : List Item) → (lo hi : ℤ)
     × ((x : Item) (t : ℤ) → Contains items x → Holds x.period t → (lo ≤ℤ t) × (t <ℤ hi))
 bounds [] = (pos 0, pos 0, λ x t h k. absurd (Contains-none x h))
 bounds (y ∷ items) =
@@ -177,7 +177,7 @@ module _ (measure : Measure) (items : List Item) where
     is : IsPlateau measure items p
 
   -- two plateaus of one class that share an instant are one
-  one_at : (p q : Plateau) (t : ℤ) → p.class ≡ q.class → Holds p.period t → Holds q.period t → IsPlateau measure items p
+  pub one_at : (p q : Plateau) (t : ℤ) → p.class ≡ q.class → Holds p.period t → Holds q.period t → IsPlateau measure items p
       → IsPlateau measure items q → p ≡ q
   one_at p q t same h k i j =
       let a = i.maximal.inside t h in

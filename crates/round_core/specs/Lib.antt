@@ -1,4 +1,5 @@
 pub mod Plateaus
+pub mod Spans
 pub mod Together
 pub mod Twos
 pub mod TwoLaws

@@ -39,7 +39,7 @@ fn plateau_of(measure: Measure, class: u64, step: &Step) -> Plateau
 }
 
 /// Both as one, where the second starts where the first ends, with the same value.
-fn joined(one: &Plateau, next: &Plateau) -> Option<Plateau>
+pub(crate) fn joined(one: &Plateau, next: &Plateau) -> Option<Plateau>
     ensures { MatchOption result (Continues one.now next.now → ⊥)
         (λ joined. Continues one.now next.now × IsJoined one.now next.now joined) }
 {

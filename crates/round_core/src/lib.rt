@@ -12,6 +12,7 @@ mod plateaus;
 mod round;
 mod rounds;
 mod runs;
+mod spans;
 mod tally_round;
 
 pub use laws::classes_have_one_list;

@@ -12,6 +12,7 @@ use crate::measure::Measure;
 use crate::plateau::Plateau;
 use crate::rounds::combine_all;
 use crate::runs::shared_lists;
+use crate::spans::plateaus_of_spans;
 use dip_core::Item;
 use grid_core::{middle_class, parted_behind};
 use period_core::NoMemory;
@@ -20,7 +21,7 @@ use std::thread::{Threads, join};
 use work_core::Gate;
 
 /// The plateaus of all classes, whose lists go through the rounds together.
-fn plateaus_by_rounds<R: Threads + Sync, G: Gate>(
+pub(crate) fn plateaus_by_rounds<R: Threads + Sync, G: Gate>(
     rt: &R,
     alloc: Global,
     measure: Measure,
@@ -54,7 +55,7 @@ fn plateaus_of_halves<R: Threads + Sync, G: Gate>(
     ensures { IfOk result (λ plateaus. ArePlateaus measure items.now plateaus.items) }
 {
     let Some(class) = middle_class(items, &[], workers) else {
-        return plateaus_by_rounds(rt, alloc, measure, items, workers, gate);
+        return plateaus_of_spans(rt, alloc, measure, items, workers, gate);
     };
     let (low_items, high_items) = parted_behind(class, items);
     let few = workers / 2;

@@ -1,5 +1,6 @@
 -- What performing a command gives: its answer, or why there is none.
-use Rattle.std.specs.Prelude.{ℕ, ◌≡◌, ◌≤◌, List, length, true, Result, Ok, Err, ⊤}
+use Rattle.std.specs.Prelude.{ℕ, ◌≡◌, ◌≤◌, All, IfOk, IsTrue, List, length, true, Option, Result, Ok, Err, ⊤}
+use Rattle.std.specs.Borrow.{Bor}
 use Rattle.answer_core.specs.PrintedRecords.{errors_in}
 use Rattle.answer_core.specs.Unwritten.{Adds, Unwritten}
 use Rattle.answer_core.specs.declared.answer.Answer.{Answer}
@@ -12,12 +13,28 @@ use Rattle.command_core.specs.Statement.{AreMembers, Member, Placed, Statement, 
 use Rattle.script_core.specs.Answer.{Answers, AnswersBlock, AnswersEach, AnswersOne, IsAnswerTo}
 use Rattle.script_core.specs.declared.outcome.Outcome.{Outcome}
 use Rattle.script_core.specs.Failure.{Failure, IsFailureOf}
+use Rattle.row_core.specs.Rows.{RowsRise}
+use Rattle.row_core.specs.Schema.{fits}
 use Rattle.row_core.specs.declared.failure.Failure.TheVariants.{Refused, NoMemory}
+use Rattle.row_core.specs.declared.row.Row.{Row}
+use Rattle.row_core.specs.declared.schema.Column.{Column}
+use Rattle.script_core.specs.Effects.{columns_told, rows_told}
+use Rattle.version_core.specs.Limits.{version_limit}
 
 -- a value is what is asked of what may be read, and a refusal the one that applies
 abbrev pub Gives : {S T : Type 0} → Result S Fault → (S → T → Type 0) → Result T Failure → Type 0
 Gives {S} meant Is (Ok value) = (read : S) × (meant ≡ Ok read) × Is read value
 Gives meant Is (Err failure) = IsFailureOf meant failure
+
+-- a table's columns and rows, read as they are shown to the command of this number: by rising id, no more of them than
+-- there can be versions, and each fits the columns
+pub record IsShown (number : ℕ) (history : History) (asof : Option ℕ) (table : List ℕ)
+    (result : Result (Bor (List Column) × List Row) Failure) : Type 0 where
+  pub gives : Gives (rows_told number history asof table) (λ rows read. read.1 ≡ rows) result
+  pub columns : IfOk result (λ read. columns_told number history table ≡ Ok read.0.now)
+  pub few : IfOk result (λ read. length read.1 ≤ version_limit)
+  pub rise : IfOk result (λ read. RowsRise read.1)
+  pub fit : IfOk result (λ read. All (λ row. IsTrue (fits read.0.now row.values)) read.1)
 
 -- the change is made as it is meant, and its commit's number answered; or nothing changes
 abbrev pub Changes : Result History Fault → History → History → Result Answer Failure → Type 0

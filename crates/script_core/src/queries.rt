@@ -11,7 +11,7 @@ ghost use Rattle.row_core.specs.Rows.{RowsRise};
 ghost use Rattle.row_core.specs.Schema.{fits};
 ghost use Rattle.script_core.specs.Answer.{IsAggOf, IsAntiOf, IsDipOf, IsJoinOf, IsVerdictOn, IsVersions};
 ghost use Rattle.script_core.specs.Ledgers.{commit_shown, ShowsAll};
-ghost use Rattle.script_core.specs.Performing.{Gives};
+ghost use Rattle.script_core.specs.Performing.{Gives, IsShown};
 ghost use Rattle.store_core.specs.Snapshots.{history};
 ghost use Rattle.script_core.specs.Effects.{agg_func, aggregated_told, claim_of, columns_told, rows_on, rows_told, sides_told, versions_told};
 ghost use Rattle.answer_core.specs.declared.answer.Answer.TheVariants.{Rows};
@@ -29,22 +29,16 @@ use period_core::Point;
 use query_core::{Side, dip, items};
 use row_core::{Name, RowList, Schema};
 use std::alloc::Global;
-use std::thread::Threads;
+use std::thread::{self, Threads};
 use store_core::Snapshot;
 use work_core::OpenGate;
 
+/// What a snapshot shows of a table: its columns and its rows.
+type Shown<'a> = (&'a Schema, RowList);
+
 /// A table's columns, and its rows that a snapshot shows, which the command of this number asks for.
-fn shown_table<'a>(
-    snapshot: &'a Snapshot,
-    number: u64,
-    table: Name,
-) -> Result<(&'a Schema, RowList), Failure>
-    ensures gives { Gives (rows_told number (history snapshot.now) (commit_shown snapshot.now) table)
-        (λ rows read. read.1 ≡ rows) result }
-    ensures columns { IfOk result (λ read. columns_told number (history snapshot.now) table ≡ Ok read.0.now) }
-    ensures few { IfOk result (λ read. length read.1 ≤ version_limit) }
-    ensures rise { IfOk result (λ read. RowsRise read.1) }
-    ensures fit { IfOk result (λ read. All (λ row. IsTrue (fits read.0.now row.values)) read.1) }
+fn shown_table(snapshot: &Snapshot, number: u64, table: Name) -> Result<Shown<'_>, Failure>
+    ensures { IsShown number (history snapshot.now) (commit_shown snapshot.now) table result }
 {
     let rows = match snapshot.rows(table) {
         Ok(rows) => rows,
@@ -54,6 +48,33 @@ fn shown_table<'a>(
         Ok(schema) => Ok((schema, rows)),
         Err(_) => Err(refused(number, Refusal::NoTable)),
     }
+}
+
+/// Both tables that the command of this number compares. Two workers and more read them on two threads.
+fn shown_tables<'a, T: Threads + Sync>(
+    rt: &T,
+    snapshot: &'a Snapshot,
+    number: u64,
+    left: Name,
+    right: Name,
+    workers: u32,
+) -> (Result<Shown<'a>, Failure>, Result<Shown<'a>, Failure>)
+    ensures left { IsShown number (history snapshot.now) (commit_shown snapshot.now) left result.0 }
+    ensures right { IsShown number (history snapshot.now) (commit_shown snapshot.now) right result.1 }
+{
+    if workers < 2 {
+        let left = shown_table(snapshot, number, left);
+        return (left, shown_table(snapshot, number, right));
+    }
+    thread::join(
+        rt,
+        || -> Result<Shown<'_>, Failure>
+            ensures { IsShown number (history snapshot.entry.now) (commit_shown snapshot.entry.now) left result }
+        { shown_table(snapshot, number, left) },
+        || -> Result<Shown<'_>, Failure>
+            ensures { IsShown number (history snapshot.entry.now) (commit_shown snapshot.entry.now) right result }
+        { shown_table(snapshot, number, right) },
+    )
 }
 
 /// All rows of a table.
@@ -118,8 +139,9 @@ pub(crate) fn join_tables<T: Threads + Sync>(
         (compared_in tables.entry))
         (λ sides. IsJoinOf sides.0 sides.1 (name_pairs_in tables.entry.on)) result }
 {
-    let (left_columns, left) = shown_table(snapshot, number, tables.left)?;
-    let (right_columns, right) = shown_table(snapshot, number, tables.right)?;
+    let (left, right) = shown_tables(rt, snapshot, number, tables.left, tables.right, workers);
+    let (left_columns, left) = left?;
+    let (right_columns, right) = right?;
     let on = name_pairs(alloc, tables.on)?;
     let left_side = Side {
         schema: left_columns,
@@ -150,8 +172,9 @@ pub(crate) fn anti_tables<T: Threads + Sync>(
         (compared_in tables.entry))
         (λ sides. IsAntiOf sides.0 sides.1 (name_pairs_in tables.entry.on)) result }
 {
-    let (left_columns, left) = shown_table(snapshot, number, tables.left)?;
-    let (right_columns, right) = shown_table(snapshot, number, tables.right)?;
+    let (left, right) = shown_tables(rt, snapshot, number, tables.left, tables.right, workers);
+    let (left_columns, left) = left?;
+    let (right_columns, right) = right?;
     let on = name_pairs(alloc, tables.on)?;
     let left_side = Side {
         schema: left_columns,

@@ -1,28 +1,44 @@
-use Rattle.std.proofs.Common.{◌<◌, ◌∙◌, All, ap, map, subst}
-use Rattle.std.specs.Option.{option_copied}
-use Rattle.std.proofs.lemmas.List.{length-map}
+use Rattle.std.proofs.Common.{◌≡◌, ◌≤◌, Option, None, ℕ, ap, arith, length, subst, sym}
 use Rattle.std.proofs.lemmas.Result.{IfOk-weaker}
-use Rattle.round_core.specs.declared.plateau.Plateau.{Plateau}
+use Rattle.dip_core.specs.Item.{item_limit}
+use Rattle.agg_core.specs.Agg.{AreAggRows}
 use Rattle.agg_core.specs.Entries.{amount_at, value_at_place}
-use Rattle.agg_core.specs.Grouping.{agg_row_of, copied_groups}
-use Rattle.agg_core.proofs.PlateauLemmas.{answer_of, classes_within}
+use Rattle.agg_core.specs.Grouping.{copied_groups}
+use Rattle.agg_core.proofs.PlateauLemmas.{answer_of}
+use Rattle.agg_core.proofs.ShareLemmas.{length-entries, rows_of_sorted}
 use Rattle.agg_core.proofs.aggregates.agg_rows.Goals as goal
 
-pub rows_of_plateaus-requires : goal.rows_of_plateaus-requires
-rows_of_plateaus-requires g c =
-    rw (c.deref-3.ensures.value, c.deref-2.ensures.value)
-    (subst (λ n. All (λ (p : Plateau). p.class < n) c.in_ok-plateaus.plateaus.items)
-    (length-map c.in_ok-grouped.grouped.groups.items option_copied)
-    (classes_within c.args.measure (amount_at c.args.amount) (value_at_place c.args.by) c.args.rows.now
-    c.in_ok-grouped.grouped.items.items (copied_groups c.in_ok-grouped.grouped.groups.items) c.in_ok-grouped.ensures
-    c.in_ok-plateaus.plateaus.items (rw c.deref.ensures.value at c.in_ok-plateaus.ensures)))
+pub rows_of_entries-requires-clause-few : goal.rows_of_entries-requires-clause-few
+rows_of_entries-requires-clause-few g c = λ κs outlives.
+    (let entries = c.in_ok-entries-in-Some.entries.items in
+    let few : length c.args.rows.now ≤ item_limit = c.requires.few in
+    let same : length entries ≡ length c.args.rows.now =
+    length-entries c.in-Some.place c.args.rows.now entries c.in_ok-entries-in-Some.ensures in
+    let long : length c.deref.result.now ≡ length entries = ap length c.deref.ensures.value in
+    omega (arith, few, same, long))
 
-pub returns : goal.returns
-returns g c =
-    IfOk-weaker c.rows_of_plateaus.result _ _
-    (λ answer e. answer_of c.args.measure (amount_at c.args.amount) (value_at_place c.args.by) c.args.rows.now
-    c.in_ok-grouped.grouped.items.items (copied_groups c.in_ok-grouped.grouped.groups.items) c.in_ok-grouped.ensures
-    c.in_ok-plateaus.plateaus.items answer.items (rw c.deref.ensures.value at c.in_ok-plateaus.ensures)
-    (e ∙ ap (λ l. map (agg_row_of (copied_groups l)) c.deref-3.result.now) c.deref-2.ensures.value
-    ∙ ap (map (agg_row_of (copied_groups c.in_ok-grouped.grouped.groups.items))) c.deref-3.ensures.value))
-    c.rows_of_plateaus.ensures
+pub returns-in_ok-grouped-in-None : goal.returns-in_ok-grouped-in-None
+returns-in_ok-grouped-in-None g c =
+    let grouped = c.in_ok-grouped-in-None.grouped in
+    IfOk-weaker c.rows_of_groups.result _ _
+    (λ answer made.
+    subst
+    (λ (by : Option ℕ).
+    AreAggRows c.args.measure (amount_at c.args.amount) (value_at_place by) c.args.rows.now answer.items)
+    (sym c.in-None.is)
+    (answer_of c.args.measure (amount_at c.args.amount) (value_at_place None) c.args.rows.now grouped.items.items
+    (copied_groups grouped.groups.items) c.in_ok-grouped-in-None.ensures answer.items made))
+    c.rows_of_groups.ensures
+
+pub returns-in_ok-entries-in-Some : goal.returns-in_ok-entries-in-Some
+returns-in_ok-entries-in-Some g c =
+    let entries = c.in_ok-entries-in-Some.entries.items in
+    IfOk-weaker c.rows_of_entries.result _ _
+    (λ answer all.
+    subst
+    (λ (by : Option ℕ).
+    AreAggRows c.args.measure (amount_at c.args.amount) (value_at_place by) c.args.rows.now answer.items)
+    (sym c.in-Some.is)
+    (rows_of_sorted c.args.measure (amount_at c.args.amount) c.in-Some.place c.args.rows.now entries answer.items
+    c.in_ok-entries-in-Some.ensures (rw c.deref.ensures.value at all)))
+    c.rows_of_entries.ensures

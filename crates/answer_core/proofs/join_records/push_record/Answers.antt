@@ -14,10 +14,10 @@ returns-clause-text c =
     let row = c.args.row.now in
     let lefts = map value_text (values_with c.args.left.now row.left) in
     let rights = map value_text (values_with c.args.right.now row.right) in
-    record_added old c.push_front.new.records.items c.push_values.new.records.items c.push_values-2.new.records.items
+    record_added old c.push_front.new.records.items c.push_values_of.new.records.items c.push_values_of-2.new.records.items
     c.push.new.self.items (row_body answer_writer (join_front row)) (fields_text answer_writer lefts)
-    (fields_text answer_writer rights) (10 ∷ []) c.in_ok-push_front.ensures c.in_ok-push_values.ensures.text
-    c.in_ok-push_values-2.ensures.text c.in_ok-push.ensures.items
+    (fields_text answer_writer rights) (10 ∷ []) c.in_ok-push_front.ensures c.in_ok-push_values_of.ensures.text
+    c.in_ok-push_values_of-2.ensures.text c.in_ok-push.ensures.items
     ∙ ap (λ t. old ++ t)
     (sym (record_text (point_text row.period.from) (point_text row.period.to) (decimal row.left) (decimal row.right)
     lefts rights))

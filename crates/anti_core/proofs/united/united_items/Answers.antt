@@ -3,7 +3,7 @@ use Rattle.anti_core.proofs.UnitedLemmas.{union_moved}
 use Rattle.anti_core.proofs.united.united_items.Goals as goal
 
 pub returns : goal.returns
-returns c =
+returns g c =
     IfOk-weaker c.unite.result _ _
     (λ united u.
     union_moved c.args.items.items c.deref.result.now united.items

@@ -15,12 +15,12 @@ returns-in-Ok g c =
     let tables = compared_in c.args.tables in
     let left : TableRows = (c.in_ok-left_columns.left_columns.now, c.in_ok-left_columns.left) in
     let right : TableRows = (c.in_ok-right_columns.right_columns.now, c.in_ok-right_columns.right) in
-    let (_, told, is) = c.in_ok-left_columns.ensures.gives in
-    let (_, told', is') = c.in_ok-right_columns.ensures.gives in
+    let (_, told, is) = rw c.in_ok-left_columns.was at (c.shown_tables-left.ensures.left.gives) in
+    let (_, told', is') = rw c.in_ok-right_columns.was at (c.shown_tables-left.ensures.right.gives) in
     let one = table-read number h asof tables.left left.0 left.1 (told ∙ ap Ok (sym is))
-    c.in_ok-left_columns.ensures.columns in
+    (rw c.in_ok-left_columns.was at (c.shown_tables-left.ensures.left.columns)) in
     let other = table-read number h asof tables.right right.0 right.1 (told' ∙ ap Ok (sym is'))
-    c.in_ok-right_columns.ensures.columns in
+    (rw c.in_ok-right_columns.was at (c.shown_tables-left.ensures.right.columns)) in
     let named : c.deref.result.now ≡ name_pairs_in c.args.tables.on = c.deref.ensures.value ∙ c.in_ok-on.ensures in
     let answered = rw named at c.in-Ok.ensures.answer in (
       (left, right),

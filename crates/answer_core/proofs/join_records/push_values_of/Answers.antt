@@ -3,7 +3,7 @@ use Rattle.std.specs.Prelude.{length, ◌==◌}
 use Rattle.row_core.specs.declared.value.Value.{Value}
 use Rattle.answer_core.specs.JoinedRows.{values_with}
 use Rattle.answer_core.proofs.FieldLemmas.{no_values, none_of}
-use Rattle.answer_core.proofs.join_records.push_values.Goals as goal
+use Rattle.answer_core.proofs.join_records.push_values_of.Goals as goal
 
 pub returns-then-is_empty-clause-text : goal.returns-then-is_empty-clause-text
 returns-then-is_empty-clause-text c =

@@ -1,0 +1,37 @@
+use Rattle.std.proofs.Common.{◌≡◌, ◌∙◌, ◌+◌, Global, [], ◌∷◌, ◌++◌, Vec, take, suc, sym, subst, ap, arith, take_all}
+use Rattle.std.proofs.Math.Seq.{take-suc}
+use Rattle.dip_core.specs.declared.item.Item.{Item}
+use Rattle.round_core.specs.Spans.{AreBefore}
+use Rattle.round_core.proofs.CutItems.{before_none, before_more, before_left}
+use Rattle.round_core.proofs.spans.items_before.Goals as goal
+use Rattle.round_core.proofs.spans.items_before.Goals.{in-Some+in_ok-push, in_default}
+
+pub loop-i-init : goal.loop-i-init
+loop-i-init c = subst (AreBefore c.args.at []) (sym c.new-early.ensures.items) (before_none c.args.at)
+
+pub loop-i-preserved : goal.loop-i-preserved
+loop-i-preserved c =
+    let i = c.loop-i.i in
+    let items = c.args.items.now in
+    let x = c.index-items-i.result in
+    let done = take i items in
+    let one : i + 1 ≡ suc i = omega arith in
+    let more : take (i + 1) items ≡ done ++ x ∷ [] =
+    ap (λ n. take n items) one ∙ take-suc items i x c.loop-i-test.true
+    ∙ ap (λ y. done ++ y ∷ []) (sym c.index-items-i.is) in
+    subst (λ xs. AreBefore c.args.at xs c.match-ended.early.items) (sym more)
+    (elim c.match-ended.branch [
+      | in-Some+in_ok-push w ↦
+          subst (AreBefore c.args.at (done ++ x ∷ []))
+          (sym (ap (λ (l : Vec Item Global). l.items) w.early-is ∙ w.in_ok-push.ensures.items))
+          (before_more c.args.at done c.loop-i.early.items x w.in-Some.cut w.in-Some.ensures c.loop-i.invariant)
+      | in_default w ↦
+          subst (AreBefore c.args.at (done ++ x ∷ []))
+          (sym (ap (λ (l : Vec Item Global). l.items) w.early-is))
+          (before_left c.args.at done c.loop-i.early.items x w.in_default.ensures c.loop-i.invariant)
+    ])
+
+pub returns : goal.returns
+returns c =
+    subst (λ xs. AreBefore c.args.at xs c.loop-i.early.items)
+    (take_all c.loop-i.i c.args.items.now c.loop-i-test.false) c.loop-i.invariant

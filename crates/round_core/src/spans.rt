@@ -1,0 +1,238 @@
+//! Items of one class, cut at an instant: half of the workers find the plateaus of what the items hold before it, and the
+//! others those of what they hold from it on.
+
+ghost use Rattle.std.specs.Prelude.{◌<◌, ◌≤◌, ◌≤ℤ◌, IfOk, IfSome, MatchOption, length};
+ghost use Rattle.std.specs.Thread.{IsSync};
+ghost use Rattle.dip_core.specs.Item.{item_limit};
+ghost use Rattle.grid_core.specs.Bundles.{ClassesRise};
+ghost use Rattle.work_core.specs.Limits.{worker_limit};
+ghost use Rattle.round_core.specs.Plateaus.{ArePlateaus};
+ghost use Rattle.round_core.specs.Spans.{AreBefore, AreFrom, AreOfOneClass, ArePlateausBefore, ArePlateausFrom, AreSpliced, HaveNoJoint, IsBegun, IsEnded, IsJoint};
+
+use crate::closing::joined;
+use crate::measure::Measure;
+use crate::plateau::Plateau;
+use crate::plateaus::plateaus_by_rounds;
+use dip_core::Item;
+use period_core::{NoMemory, Period, Point};
+use std::alloc::Global;
+use std::thread::{Threads, join};
+use work_core::Gate;
+
+/// Of fewer items one span would be over before the other span's thread has started.
+const ITEMS_FOR_SPANS: usize = 16_384;
+
+/// By so many items a middle instant is told.
+const SAMPLE: usize = 255;
+
+/// What an item holds before an instant.
+fn ended(item: &Item, at: Point) -> Option<Item>
+    ensures { MatchOption result (at ≤ℤ item.now.period.from) (IsEnded at item.now) }
+{
+    if at <= item.period.from {
+        return None;
+    }
+    let from = item.period.from;
+    let to = item.period.to.min(at);
+    Some(Item {
+        period: Period { from, to },
+        id: item.id,
+        class: item.class,
+        amount: item.amount,
+    })
+}
+
+/// What an item holds from an instant on.
+fn begun(item: &Item, at: Point) -> Option<Item>
+    ensures { MatchOption result (item.now.period.to ≤ℤ at) (IsBegun at item.now) }
+{
+    if item.period.to <= at {
+        return None;
+    }
+    let from = item.period.from.max(at);
+    let to = item.period.to;
+    Some(Item {
+        period: Period { from, to },
+        id: item.id,
+        class: item.class,
+        amount: item.amount,
+    })
+}
+
+/// What items hold before an instant.
+fn items_before(alloc: Global, items: &[Item], at: Point) -> Result<Vec<Item>, NoMemory>
+    ensures { IfOk result (λ early. AreBefore at items.now early.items) }
+{
+    let mut early = Vec::new(alloc);
+    for i in 0..items.len() {
+        if let Some(cut) = ended(&items[i], at) {
+            early.push(cut)?;
+        }
+    }
+    Ok(early)
+}
+
+/// What items hold from an instant on.
+fn items_from(alloc: Global, items: &[Item], at: Point) -> Result<Vec<Item>, NoMemory>
+    ensures { IfOk result (λ late. AreFrom at items.now late.items) }
+{
+    let mut late = Vec::new(alloc);
+    for i in 0..items.len() {
+        if let Some(cut) = begun(&items[i], at) {
+            late.push(cut)?;
+        }
+    }
+    Ok(late)
+}
+
+/// The last of one list and the first of another as one, where this continues that.
+fn joint(early: &[Plateau], late: &[Plateau]) -> Option<Plateau>
+    ensures { MatchOption result (HaveNoJoint early.now late.now) (IsJoint early.now late.now) }
+{
+    let Some((last, _)) = early.split_last() else {
+        return None;
+    };
+    let Some((first, _)) = late.split_first() else {
+        return None;
+    };
+    joined(last, first)
+}
+
+/// One list behind the other: where the second begins with what continues the last of the first, both are one.
+fn spliced(early: Vec<Plateau>, late: Vec<Plateau>) -> Result<Vec<Plateau>, NoMemory>
+    ensures { IfOk result (λ rows. AreSpliced early.items late.items rows.items) }
+{
+    let mut rows = early;
+    let mut later = late;
+    if let Some(both) = joint(&rows, &later) {
+        later[0] = both;
+        rows.pop();
+    }
+    rows.append(&mut later)?;
+    Ok(rows)
+}
+
+/// About the middle one of the items' starts.
+fn middle_start(items: &[Item], first: &Item) -> Point {
+    let step = items.len() / SAMPLE;
+    let mut sample = [first.period.from; SAMPLE];
+    for i in 0..SAMPLE {
+        if let Some(item) = items.get(i * step) {
+            sample[i] = item.period.from;
+        }
+    }
+    sample.sort_unstable();
+    sample[SAMPLE / 2]
+}
+
+/// Whether a cut leaves neither side with most of the items: of those that hold the instant both sides have a part.
+fn parts_well(items: &[Item], at: Point) -> bool {
+    let step = items.len() / SAMPLE;
+    let mut before = 0;
+    let mut behind = 0;
+    for i in 0..SAMPLE {
+        if let Some(item) = items.get(i * step) {
+            before += (item.period.from < at) as usize;
+            behind += (at < item.period.to) as usize;
+        }
+    }
+    before.max(behind) <= SAMPLE / 4 * 3
+}
+
+/// The instant at which items are cut, so that half of the workers take each side. None for one worker, and where items
+/// are few, of several classes, or most of them would be on both sides.
+fn middle_instant(items: &[Item], workers: u32) -> Option<Point>
+    requires { ClassesRise items.now }
+    ensures { IfSome result (λ _. (2 ≤ workers) × AreOfOneClass items.now) }
+{
+    let (first, _) = items.split_first()?;
+    let (last, _) = items.split_last()?;
+    if workers < 2 || items.len() < ITEMS_FOR_SPANS || first.class < last.class {
+        return None;
+    }
+    let at = middle_start(items, first);
+    if parts_well(items, at) {
+        Some(at)
+    } else {
+        None
+    }
+}
+
+/// The plateaus of what items of one class hold before an instant.
+#[cycle(spans)]
+fn plateaus_before<R: Threads + Sync, G: Gate>(
+    rt: &R,
+    alloc: Global,
+    measure: Measure,
+    items: &[Item],
+    at: Point,
+    workers: u32,
+    gate: &G,
+) -> Result<Vec<Plateau>, NoMemory>
+    requires workers { (0 < workers) × (workers ≤ worker_limit) }
+    requires few { length items.now ≤ item_limit }
+    requires class { AreOfOneClass items.now }
+    ensures { IfOk result (λ plateaus. ArePlateausBefore at measure items.now plateaus.items) }
+{
+    let early = items_before(alloc, items, at)?;
+    plateaus_of_spans(rt, alloc, measure, &early, workers, gate)
+}
+
+/// The plateaus of what items of one class hold from an instant on.
+#[cycle(spans)]
+fn plateaus_from<R: Threads + Sync, G: Gate>(
+    rt: &R,
+    alloc: Global,
+    measure: Measure,
+    items: &[Item],
+    at: Point,
+    workers: u32,
+    gate: &G,
+) -> Result<Vec<Plateau>, NoMemory>
+    requires workers { (0 < workers) × (workers ≤ worker_limit) }
+    requires few { length items.now ≤ item_limit }
+    requires class { AreOfOneClass items.now }
+    ensures { IfOk result (λ plateaus. ArePlateausFrom at measure items.now plateaus.items) }
+{
+    let late = items_from(alloc, items, at)?;
+    plateaus_of_spans(rt, alloc, measure, &late, workers, gate)
+}
+
+/// The plateaus of all classes. Where all items are of one class, and many, half of the workers find those before an
+/// instant.
+#[cycle(spans)]
+pub(crate) fn plateaus_of_spans<R: Threads + Sync, G: Gate>(
+    rt: &R,
+    alloc: Global,
+    measure: Measure,
+    items: &[Item],
+    workers: u32,
+    gate: &G,
+) -> Result<Vec<Plateau>, NoMemory>
+    requires workers { (0 < workers) × (workers ≤ worker_limit) }
+    requires few { length items.now ≤ item_limit }
+    requires rise { ClassesRise items.now }
+    ensures { IfOk result (λ plateaus. ArePlateaus measure items.now plateaus.items) }
+{
+    let Some(at) = middle_instant(items, workers) else {
+        return plateaus_by_rounds(rt, alloc, measure, items, workers, gate);
+    };
+    let few = workers / 2;
+    let others = workers - few;
+    let (early, late) = join(
+        rt,
+        || -> Result<Vec<Plateau>, NoMemory>
+            requires { IsSync R.row × IsSync G.row × (0 < few) × (few ≤ worker_limit) × (length items.now ≤ item_limit)
+                × AreOfOneClass items.now }
+            ensures { IfOk result (λ plateaus. ArePlateausBefore at measure items.entry.now plateaus.items) }
+        { plateaus_before(rt, alloc, measure, items, at, few, gate) },
+        || -> Result<Vec<Plateau>, NoMemory>
+            requires { IsSync R.row × IsSync G.row × (0 < others) × (others ≤ worker_limit)
+                × (length items.now ≤ item_limit) × AreOfOneClass items.now }
+            ensures { IfOk result (λ plateaus. ArePlateausFrom at measure items.entry.now plateaus.items) }
+        { plateaus_from(rt, alloc, measure, items, at, others, gate) },
+    );
+    let early = early?;
+    let late = late?;
+    spliced(early, late)
+}
