@@ -6,9 +6,9 @@ use Rattle.std.specs.List.{AllZip}
 use Rattle.std.specs.List.Sorted.{IsStableByKey, ties}
 use Rattle.std.specs.Ordering.{is_lt}
 use Rattle.std.proofs.lemmas.Bool.Decides.{same_from_decides}
-use Rattle.std.proofs.lemmas.List.{take_more}
-use Rattle.std.proofs.lemmas.List.Elements.{All-cons, All-head, All-tail, All-nil, All-contains}
-use Rattle.std.proofs.lemmas.List.Sorted.{All-permutation, IsPermutation-map, ranks_by, sorted_far}
+use Rattle.std.proofs.lemmas.List.{length-map, take_more}
+use Rattle.std.proofs.lemmas.List.Elements.{All-cons, All-head, All-tail, All-nil}
+use Rattle.std.proofs.lemmas.List.Sorted.{All-permutation, ranks_by, sorted_far}
 use Rattle.std.proofs.lemmas.Slice.Zip.{all_zipped_more}
 use Rattle.row_core.specs.ValueOrder.{same_maybe, value_cmp}
 use Rattle.row_core.specs.declared.row.Row.{Row}
@@ -16,7 +16,7 @@ use Rattle.row_core.specs.declared.value.Value.{Value}
 use Rattle.row_core.proofs.ValueLemmas.{maybe_decides, value_total}
 use Rattle.agg_core.specs.declared.entries.Entry.{Entry}
 use Rattle.agg_core.specs.Groups.{rows_of_group}
-use Rattle.agg_core.specs.Entries.{AreEntries, AreSortedEntries, entry_row, sort_value, value_at_place}
+use Rattle.agg_core.specs.Entries.{AreEntries, AreEntriesSorted, AreInGroups, AreKeyed, entry_row, sort_value, value_at_place}
 use Rattle.agg_core.proofs.OrderLemmas.{not_after, not_after-from, value_lt}
 
 -- ---- lists side by side
@@ -47,7 +47,7 @@ entries_kept place (r ∷ rows) (e ∷ es) all =
     (entries_kept place rows es all.1)
 
 -- the rows of the entries are the rows
-rows_in_entries : (place : ℕ) (rows : List Row) (es : List Entry) → AreEntries place rows es → map entry_row es ≡ rows
+pub rows_in_entries : (place : ℕ) (rows : List Row) (es : List Entry) → AreEntries place rows es → map entry_row es ≡ rows
 rows_in_entries place [] [] all = refl
 rows_in_entries place [] (e ∷ es) all = absurd all
 rows_in_entries place (r ∷ rows) [] all = absurd all
@@ -138,34 +138,48 @@ group_stable old new stable group = elim (filter_first (in_group group) new) [
     by x e = tied x new e ∙ stable x ∙ sym (tied x old e)
 
 -- a group's rows are those of its entries
-group_rows : (place : ℕ) (group : Option Value) (es : List Entry) → All (IsKept place) es
-    → rows_of_group (value_at_place (Some place)) group (map entry_row es) ≡ map entry_row (filter (in_group group) es)
-group_rows place group es kept =
-    filter-map entry_row (λ (r : Row). same_maybe (value_at_place (Some place) r) group) es
+group_rows : (group_of : Row → Option Value) (group : Option Value) (es : List Entry) → AreInGroups group_of es
+    → AreKeyed es
+    → rows_of_group group_of group (map entry_row es) ≡ map entry_row (filter (in_group group) es)
+group_rows group_of group es grouped keyed =
+    filter-map entry_row (λ (r : Row). same_maybe (group_of r) group) es
     ∙ ap (map entry_row)
-    (filter_alike (λ (e : Entry). same_maybe (value_at_place (Some place) (entry_row e)) group) (in_group group) es
-    (λ k d h. let at : IsKept place (get_or es k d) = kept k d h in
-    ap (λ (v : Option Value). same_maybe v group) (at.0 ∙ ap Some (sym at.1))))
+    (filter_alike (λ (e : Entry). same_maybe (group_of (entry_row e)) group) (in_group group) es
+    (λ k d h. ap (λ (v : Option Value). same_maybe v group) (grouped k d h ∙ ap Some (sym (keyed k d h)))))
+
+-- ---- what is known of the entries of rows
+
+-- their keys are their values'
+pub keyed_entries : (place : ℕ) (rows : List Row) (es : List Entry) → AreEntries place rows es → AreKeyed es
+keyed_entries place rows es all = λ k d h. (entries_kept place rows es all k d h).1
+
+-- their rows are of their values' groups
+pub grouped_entries : (place : ℕ) (rows : List Row) (es : List Entry) → AreEntries place rows es
+    → AreInGroups (value_at_place (Some place)) es
+grouped_entries place rows es all = λ k d h. (entries_kept place rows es all k d h).0
+
+-- there are as many as rows
+pub length-entries : (place : ℕ) (rows : List Row) (es : List Entry) → AreEntries place rows es
+    → length es ≡ length rows
+length-entries place rows es all =
+    sym (length-map es entry_row) ∙ ap length (rows_in_entries place rows es all)
 
 -- ---- sorted entries
 
 -- entries that a stable sort has moved
-pub sorted_are : (place : ℕ) (rows : List Row) (old new : List Entry) → AreEntries place rows old
-    → IsPermutation old new → IsSortedByKey sort_value value_cmp new → IsStableByKey sort_value value_cmp old new
-    → AreSortedEntries place rows new
-sorted_are place rows old new entries moved sorted stable =
-    let was : All (IsKept place) old = entries_kept place rows old entries in
-    let is : All (IsKept place) new = All-permutation (IsKept place) old new moved was in
-    let all : map entry_row old ≡ rows = rows_in_entries place rows old entries in
+pub entries_sorted : (old new : List Entry) → AreKeyed old → IsPermutation old new
+    → IsSortedByKey sort_value value_cmp new → IsStableByKey sort_value value_cmp old new → AreEntriesSorted old new
+entries_sorted old new keyed moved sorted stable =
+    let is : AreKeyed new = All-permutation (λ (e : Entry). sort_value e ≡ e.value.now) old new moved keyed in
     record {
-      each = λ e h. (All-contains (IsKept place) new e is h).0;
       rise = λ i j d below inside.
-          ap (λ (v : Value). is_lt (value_cmp v (get_or new i d).value.now)) (sym (is j d inside).1)
-          ∙ ap (λ (v : Value). is_lt (value_cmp (sort_value (get_or new j d)) v)) (sym (is i d (omega arith)).1)
+          ap (λ (v : Value). is_lt (value_cmp v (get_or new i d).value.now)) (sym (is j d inside))
+          ∙ ap (λ (v : Value). is_lt (value_cmp (sort_value (get_or new j d)) v)) (sym (is i d (omega arith)))
           ∙ sorted_far value_lt (ranks_by value_total sort_value) new sorted i j d (omega arith) inside;
-      moved = subst (λ (l : List Row). IsPermutation l (map entry_row new)) all
-          (IsPermutation-map entry_row old new moved);
-      kept = λ group.
-          group_rows place group new is ∙ ap (map entry_row) (group_stable old new stable group)
-          ∙ sym (group_rows place group old was) ∙ ap (rows_of_group (value_at_place (Some place)) group) all;
+      moved = moved;
+      kept = λ group_of grouped group.
+          group_rows group_of group new
+          (All-permutation (λ (e : Entry). group_of e.row.now ≡ Some e.value.now) old new moved grouped) is
+          ∙ ap (map entry_row) (group_stable old new stable group)
+          ∙ sym (group_rows group_of group old grouped keyed);
     }

@@ -1,14 +1,13 @@
 -- What entries come to, from what two shares of them come to that have no group in common.
-use Rattle.std.proofs.Common.{◌≡◌, ◌⊎◌, ◌<◌, ◌≤◌, ◌+◌, ℕ, ℤ, Bool, true, false, cond, List, [], ◌∷◌, ◌++◌, length, map, take, drop, get_or, All, Option, Some, inl, inr, refl, sym, ap, subst, ◌∙◌, arith, append-nil}
+use Rattle.std.proofs.Common.{◌≡◌, ◌⊎◌, ℤ, Bool, true, false, cond, not, List, [], ◌∷◌, ◌++◌, ◌≤◌, length, map, Option, None, Some, inl, inr, refl, sym, ap, subst, ◌∙◌, arith, append-nil}
 use Rattle.std.specs.Prelude.{filter, unwrap_or, Contains}
 use Rattle.std.specs.declared.cmp.Ordering.{Ordering}
 use Rattle.std.specs.declared.cmp.Ordering.TheVariants.{Less, Equal, Greater}
-use Rattle.std.specs.List.Sorted.{IsPartitionedBy, IsPartitionPoint}
-use Rattle.std.specs.Ordering.{int_cmp, is_le, is_lt, ordering_reverse, ordering_then}
+use Rattle.std.specs.Ordering.{int_cmp, is_le, ordering_reverse, ordering_then}
 use Rattle.std.proofs.lemmas.Cmp.{tied_itself}
-use Rattle.std.proofs.lemmas.List.{get_or-take, get_or-drop, length-drop, length-map, length-take, map-append, take-append-drop}
-use Rattle.std.proofs.lemmas.List.Elements.{All-contains, Contains-append_cases, Contains-append_left, Contains-append_right, Contains-get_or, filter-append}
-use Rattle.std.proofs.lemmas.List.Sorted.{length_permutation}
+use Rattle.std.proofs.lemmas.List.Elements.{All-contains, All-filter, Contains-append_cases, filter-append, filter_passes}
+use Rattle.std.proofs.lemmas.List.Filters.{length-filter_both}
+use Rattle.std.proofs.lemmas.List.Sorted.{All-permutation}
 use Rattle.row_core.specs.ValueOrder.{maybe_cmp, same_maybe, value_cmp}
 use Rattle.row_core.specs.declared.row.Row.{Row}
 use Rattle.row_core.specs.declared.value.Value.{Value}
@@ -24,17 +23,11 @@ use Rattle.agg_core.specs.declared.entries.Entry.{Entry}
 use Rattle.agg_core.specs.declared.rows.AggRow.{AggRow}
 use Rattle.agg_core.specs.Agg.{AreAggRows, IsAggRow, amount_item}
 use Rattle.agg_core.specs.Groups.{AggRowBefore, rows_of_group}
-use Rattle.agg_core.specs.Entries.{AreApart, AreInGroups, AreRising, AreRowsOfEntries, AreSortedEntries, IsSplit, entry_row, value_at_place}
+use Rattle.agg_core.specs.Entries.{AreApart, AreEntriesSorted, AreInGroups, AreKeyed, AreRowsOfEntries, entry_row, is_above, is_upto, sort_value}
 use Rattle.agg_core.specs.Grouping.{AreItemsByGroup, ArePlateauRows}
-use Rattle.agg_core.proofs.OrderLemmas.{not_after}
+use Rattle.agg_core.proofs.EntryLemmas.{filter-map}
 use Rattle.agg_core.proofs.GroupLemmas.{grouping_of}
 use Rattle.agg_core.proofs.PlateauLemmas.{answer_of, row_of_group}
-
--- ---- lists
-
--- what holds of each thing in a list holds of all
-All-contained : {X : Type 0} (P : X → Type 0) (xs : List X) → ((x : X) → Contains xs x → P x) → All P xs
-All-contained P xs each i d h = each (get_or xs i d) (Contains-get_or xs i d h)
 
 -- ---- rows of a group
 
@@ -187,63 +180,14 @@ module _ (measure : Measure) (amount_of : Row → ℤ) (group_of : Row → Optio
       (IsAggRow measure amount_of group_of (map entry_row low ++ map entry_row high)) rows more one other shares_before
       wanted_of_low wanted_of_high wanted_of_one
 
--- what the entries on both sides of a split come to
-pub AreRowsOfEntries-split : (measure : Measure) (amount_of : Row → ℤ) (es low high : List Entry) (n : ℕ)
-    (rows more : List AggRow) → IsSplit es n → low ≡ take n es → high ≡ drop n es
-    → AreRowsOfEntries measure amount_of low rows → AreRowsOfEntries measure amount_of high more
-    → AreRowsOfEntries measure amount_of es (rows ++ more)
-AreRowsOfEntries-split measure amount_of es low high n rows more split front back one other group_of grouped =
-    subst (λ (l : List Row). AreAggRows measure amount_of group_of l (rows ++ more))
-    (sym (map-append entry_row low high) ∙ ap (map entry_row) (sym whole))
-    (both_shares measure amount_of group_of low high apart lows highs rows more (one group_of lows)
-    (other group_of highs))
-  where
-    whole : es ≡ low ++ high
-    whole = sym (take-append-drop n es) ∙ ap (λ l. l ++ drop n es) (sym front) ∙ ap (λ l. low ++ l) (sym back)
+-- ---- shares by value
 
-    apart : AreApart low high
-    apart =
-        subst (AreApart low) (sym back) (subst (λ (l : List Entry). AreApart l (drop n es)) (sym front) split.1)
-
-    all : AreInGroups group_of (low ++ high)
-    all = subst (AreInGroups group_of) whole grouped
-
-    lows : AreInGroups group_of low
-    lows = All-contained (λ (b : Entry). group_of b.row.now ≡ Some b.value.now) low
-        (λ e h. All-contains (λ (b : Entry). group_of b.row.now ≡ Some b.value.now) (low ++ high) e all
-        (Contains-append_left low high e h))
-
-    highs : AreInGroups group_of high
-    highs = All-contained (λ (b : Entry). group_of b.row.now ≡ Some b.value.now) high
-        (λ e h. All-contains (λ (b : Entry). group_of b.row.now ≡ Some b.value.now) (low ++ high) e all
-        (Contains-append_right low high e h))
-
--- ---- where entries are split
-
--- a value that comes after no other comes before it, or is it
-upto : (a b : Value) → is_lt (value_cmp b a) ≡ false → (value_cmp a b ≡ Less) ⊎ (a ≡ b)
-upto a b h = elim (not_after (Some a) (Some b) h) [
-  | inl less ↦ inl less
-  | inr same ↦ inr (ap (λ (o : Option Value). unwrap_or o a) same)
-]
-
--- what comes before a value that comes before another, or is it, comes before that
-before_upto : (a b c : Value) → value_cmp a b ≡ Less → (value_cmp b c ≡ Less) ⊎ (b ≡ c) → value_cmp a c ≡ Less
-before_upto a b c less (inl rest) = value_total.trans a b c less rest
-before_upto a b c less (inr same) = subst (λ (v : Value). value_cmp a v ≡ Less) same less
-
--- so does what comes before a value, or is it, where that comes before the other
+-- what comes before a value, or is it, comes before another that comes behind that
 upto_before : (a b c : Value) → (value_cmp a b ≡ Less) ⊎ (a ≡ b) → value_cmp b c ≡ Less → value_cmp a c ≡ Less
 upto_before a b c (inl less) rest = value_total.trans a b c less rest
 upto_before a b c (inr same) rest = subst (λ (v : Value). value_cmp v c ≡ Less) (sym same) rest
 
--- what the test for less tells
-told_before : (o : Ordering) → is_lt o ≡ true → o ≡ Less
-told_before Less e = refl
-told_before Equal e = cc
-told_before Greater e = cc
-
--- what that for less or equal tells where it passes
+-- what the test for less or equal tells where it passes
 told_upto : (a b : Value) → is_le (value_cmp a b) ≡ true → (value_cmp a b ≡ Less) ⊎ (a ≡ b)
 told_upto a b e = by_cmp (value_cmp a b) refl e where
   by_cmp : (o : Ordering) → value_cmp a b ≡ o → is_le o ≡ true → (value_cmp a b ≡ Less) ⊎ (a ≡ b)
@@ -259,86 +203,143 @@ told_after a b e = value_total.antisymm b a ∙ by_cmp (value_cmp a b) e where
   by_cmp Equal t = cc
   by_cmp Greater t = refl
 
--- when it passes
-upto_told : (a b : Value) → (value_cmp a b ≡ Less) ⊎ (a ≡ b) → is_le (value_cmp a b) ≡ true
-upto_told a b (inl less) = ap is_le less
-upto_told a b (inr same) = ap (λ (v : Value). is_le (value_cmp v b)) same ∙ ap is_le (tied_itself value_total b)
-
--- whether an entry's value is before that one
-abbrev pub is_before : Value → Entry → Bool
-is_before v e = is_lt (value_cmp e.value.now v)
-
--- whether it is not after it
-abbrev pub is_upto : Value → Entry → Bool
-is_upto v e = is_le (value_cmp e.value.now v)
-
--- a test that each earlier entry passes too
-partitioned : (p : Entry → Bool) (es : List Entry) → AreRising es
-    → ((a b : Entry) → (value_cmp a.value.now b.value.now ≡ Less) ⊎ (a.value.now ≡ b.value.now) → p b ≡ true
-    → p a ≡ true)
-    → IsPartitionedBy p es
-partitioned p es rising earlier i j d below inside passes = elim (equal_or_less i j below) [
-  | inl e ↦ subst (λ k. p (get_or es k d) ≡ true) (sym e) passes
-  | inr less ↦ earlier (get_or es i d) (get_or es j d)
-      (upto (get_or es i d).value.now (get_or es j d).value.now (rising i j d less inside)) passes
-]
+-- what passes one test passes another that lets nothing else pass
+keep_all : {A : Type 0} (p t : A → Bool) (xs : List A) → ((x : A) → Contains xs x → t x ≡ true → p x ≡ true)
+    → filter t (filter p xs) ≡ filter t xs
+keep_all p t [] all = refl
+keep_all p t (x ∷ xs) all = split (p x) (t x) refl refl (keep_all p t xs (λ y h. all y (Contains-cons x xs y h)))
   where
-    equal_or_less : (m n : ℕ) → m ≤ n → (m ≡ n) ⊎ (m < n)
-    equal_or_less m n h = grind arith
+    split : (b c : Bool) → p x ≡ b → t x ≡ c → filter t (filter p xs) ≡ filter t xs
+        → filter t (cond b (x ∷ filter p xs) (filter p xs)) ≡ cond c (x ∷ filter t xs) (filter t xs)
+    split true true e f rest =
+        ap (λ z. cond z (x ∷ filter t (filter p xs)) (filter t (filter p xs))) f ∙ ap (λ l. x ∷ l) rest
+    split true false e f rest =
+        ap (λ z. cond z (x ∷ filter t (filter p xs)) (filter t (filter p xs))) f ∙ rest
+    split false true e f rest =
+        absurd (let bad : true ≡ false = sym (all x (Contains-head x xs) f) ∙ e in cc)
+    split false false e f rest = rest
 
--- the test for values before one is such a test
-pub before_partitioned : (v : Value) (es : List Entry) → AreRising es → IsPartitionedBy (is_before v) es
-before_partitioned v es rising =
-    partitioned (is_before v) es rising
-    (λ a b h passes. ap is_lt
-    (upto_before a.value.now b.value.now v h (told_before (value_cmp b.value.now v) passes)))
-
--- and that for values not after one
-pub upto_partitioned : (v : Value) (es : List Entry) → AreRising es → IsPartitionedBy (is_upto v) es
-upto_partitioned v es rising = partitioned (is_upto v) es rising earlier where
-  earlier : (a b : Entry) → (value_cmp a.value.now b.value.now ≡ Less) ⊎ (a.value.now ≡ b.value.now)
-      → is_upto v b ≡ true → is_upto v a ≡ true
-  earlier a b (inl less) passes =
-      upto_told a.value.now v (inl (before_upto a.value.now b.value.now v less (told_upto b.value.now v passes)))
-  earlier a b (inr same) passes = ap (λ (w : Value). is_le (value_cmp w v)) same ∙ passes
-
--- entries are split where a test fails whose passing values are before the failing ones
-split_at_point : (p : Entry → Bool) (es : List Entry) (n : ℕ) → n ≤ length es
-    → IsPartitionPoint (λ y. p y ≡ true) (λ y. p y ≡ false) es n
-    → ((a b : Entry) → p a ≡ true → p b ≡ false → value_cmp a.value.now b.value.now ≡ Less) → IsSplit es n
-split_at_point p es n inside point apart = (
-  inside,
-  λ a b h k. apart a b (passes a h) (fails b k),
-)
+-- where a test fails for all that passes another, nothing passes both
+keep_none : {A : Type 0} (p t : A → Bool) (xs : List A) → ((x : A) → Contains xs x → t x ≡ true → p x ≡ false)
+    → filter t (filter p xs) ≡ []
+keep_none p t [] none = refl
+keep_none p t (x ∷ xs) none =
+    split (p x) (t x) refl refl (keep_none p t xs (λ y h. none y (Contains-cons x xs y h)))
   where
-    passes : (a : Entry) → Contains (take n es) a → p a ≡ true
-    passes a (i, h, e) =
-        let within : i < n = omega (arith, h, inside, length-take n es) in
-        subst (λ (x : Entry). p x ≡ true) (sym (get_or-take n es i a within) ∙ e)
-        (point.0 i a (omega arith) within)
+    split : (b c : Bool) → p x ≡ b → t x ≡ c → filter t (filter p xs) ≡ []
+        → filter t (cond b (x ∷ filter p xs) (filter p xs)) ≡ []
+    split true true e f rest =
+        absurd (let bad : true ≡ false = sym e ∙ none x (Contains-head x xs) f in cc)
+    split true false e f rest =
+        ap (λ z. cond z (x ∷ filter t (filter p xs)) (filter t (filter p xs))) f ∙ rest
+    split false c e f rest = rest
 
-    fails : (b : Entry) → Contains (drop n es) b → p b ≡ false
-    fails b (j, h, e) =
-        let within : n + j < length es = omega (arith, h, inside, length-drop n es) in
-        subst (λ (x : Entry). p x ≡ false) (sym (get_or-drop n es j b) ∙ e)
-        (point.1 (n + j) b (omega arith) within)
+-- the share that has a group
+side : Value → Option Value → Bool
+side v None = true
+side v (Some w) = is_le (value_cmp w v)
 
--- where a value's entries begin
-pub split_before : (v : Value) (es : List Entry) (n : ℕ) → n ≤ length es
-    → IsPartitionPoint (λ y. is_before v y ≡ true) (λ y. is_before v y ≡ false) es n → IsSplit es n
-split_before v es n inside point =
-    split_at_point (is_before v) es n inside point
-    (λ a b passes fails.
-    before_upto a.value.now v b.value.now (told_before (value_cmp a.value.now v) passes)
-    (upto v b.value.now fails))
+module _ (group_of : Row → Option Value) (es : List Entry) (v : Value) (grouped : AreInGroups group_of es)
+    (keyed : AreKeyed es) where
+  low : List Entry
+  low = filter (is_upto v) es
 
--- and where they end
-pub split_behind : (v : Value) (es : List Entry) (n : ℕ) → n ≤ length es
-    → IsPartitionPoint (λ y. is_upto v y ≡ true) (λ y. is_upto v y ≡ false) es n → IsSplit es n
-split_behind v es n inside point =
-    split_at_point (is_upto v) es n inside point
-    (λ a b passes fails.
-    upto_before a.value.now v b.value.now (told_upto a.value.now v passes) (told_after b.value.now v fails))
+  high : List Entry
+  high = filter (is_above v) es
+
+  -- an entry of a group is in the group's share
+  on_side : (g : Option Value) (e : Entry) → Contains es e → same_maybe (group_of e.row.now) g ≡ true
+      → is_upto v e ≡ side v g
+  unfolding side
+  on_side g e here same =
+      let own : group_of e.row.now ≡ Some e.value.now =
+      All-contains (λ (b : Entry). group_of b.row.now ≡ Some b.value.now) es e grouped here in
+      let key : sort_value e ≡ e.value.now =
+      All-contains (λ (b : Entry). sort_value b ≡ b.value.now) es e keyed here in
+      ap (λ (w : Value). is_le (value_cmp w v)) key
+      ∙ ap (side v) (sym own ∙ (maybe_decides (group_of e.row.now) g).0 same)
+
+  -- a group's rows are the same ones, share by share
+  same_group : (g : Option Value)
+      → rows_of_group group_of g (map entry_row low ++ map entry_row high) ≡ rows_of_group group_of g (map entry_row es)
+  unfolding low high
+  same_group g =
+      filter-append (λ (r : Row). same_maybe (group_of r) g) (map entry_row low) (map entry_row high)
+      ∙ ap (λ l. l ++ rows_of_group group_of g (map entry_row high)) (filter-map entry_row test low)
+      ∙ ap (λ l. map entry_row (filter mine low) ++ l) (filter-map entry_row test high)
+      ∙ split (side v g) refl
+      ∙ sym (filter-map entry_row test es)
+    where
+      test : Row → Bool
+      test r = same_maybe (group_of r) g
+
+      mine : Entry → Bool
+      mine e = same_maybe (group_of (entry_row e)) g
+
+      split : (b : Bool) → side v g ≡ b
+          → map entry_row (filter mine low) ++ map entry_row (filter mine high) ≡ map entry_row (filter mine es)
+      split true is =
+          ap (λ l. map entry_row l ++ map entry_row (filter mine high))
+          (keep_all (is_upto v) mine es (λ e h same. on_side g e h same ∙ is))
+          ∙ ap (λ l. map entry_row (filter mine es) ++ map entry_row l)
+          (keep_none (is_above v) mine es (λ e h same. ap not (on_side g e h same ∙ is)))
+          ∙ append-nil (map entry_row (filter mine es))
+      split false is =
+          ap (λ l. map entry_row l ++ map entry_row (filter mine high))
+          (keep_none (is_upto v) mine es (λ e h same. on_side g e h same ∙ is))
+          ∙ ap (map entry_row) (keep_all (is_above v) mine es (λ e h same. ap not (on_side g e h same ∙ is)))
+
+-- what is denied is false
+denied : (t : Bool) → not t ≡ true → t ≡ false
+denied true e = cc
+denied false e = refl
+
+-- of entries no more are in a share than there are
+pub share_few : (v : Value) (es : List Entry) → (length (filter (is_upto v) es) ≤ length es)
+    × (length (filter (is_above v) es) ≤ length es)
+share_few v es =
+    let both = length-filter_both (is_upto v) (is_above v) (λ e. refl) es in (omega (arith, both), omega (arith, both))
+
+-- and their keys are their values' too
+pub share_keyed : (p : Entry → Bool) (es : List Entry) → AreKeyed es → AreKeyed (filter p es)
+share_keyed p es keyed = All-filter p (λ (e : Entry). sort_value e ≡ e.value.now) es keyed
+
+-- what entries of lower values and entries of higher ones come to
+pub AreRowsOfEntries-shares : (measure : Measure) (amount_of : Row → ℤ) (es : List Entry) (v : Value)
+    (rows more : List AggRow) → AreKeyed es
+    → AreRowsOfEntries measure amount_of (filter (is_upto v) es) rows
+    → AreRowsOfEntries measure amount_of (filter (is_above v) es) more
+    → AreRowsOfEntries measure amount_of es (rows ++ more)
+unfolding low high
+AreRowsOfEntries-shares measure amount_of es v rows more keyed one other group_of grouped =
+    let lows : AreInGroups group_of (filter (is_upto v) es) =
+    All-filter (is_upto v) (λ (e : Entry). group_of e.row.now ≡ Some e.value.now) es grouped in
+    let highs : AreInGroups group_of (filter (is_above v) es) =
+    All-filter (is_above v) (λ (e : Entry). group_of e.row.now ≡ Some e.value.now) es grouped in
+    let all = map entry_row (filter (is_upto v) es) ++ map entry_row (filter (is_above v) es) in
+    IsListOf-same AggRowBefore (IsAggRow measure amount_of group_of all)
+    (IsAggRow measure amount_of group_of (map entry_row es)) (rows ++ more)
+    (λ row. same_rows measure amount_of group_of all (map entry_row es) row (same_group group_of es v grouped keyed row.group))
+    (λ row. same_rows measure amount_of group_of (map entry_row es) all row
+    (sym (same_group group_of es v grouped keyed row.group)))
+    (both_shares measure amount_of group_of (filter (is_upto v) es) (filter (is_above v) es) apart lows highs rows more
+    (one group_of lows) (other group_of highs))
+  where
+    key_of : (e : Entry) (p : Entry → Bool) → Contains (filter p es) e → sort_value e ≡ e.value.now
+    key_of e p h =
+        All-contains (λ (b : Entry). sort_value b ≡ b.value.now) (filter p es) e
+        (All-filter p (λ (b : Entry). sort_value b ≡ b.value.now) es keyed) h
+
+    apart : AreApart (filter (is_upto v) es) (filter (is_above v) es)
+    apart a b h k =
+        let p : is_upto v a ≡ true =
+        All-contains (λ (x : Entry). is_upto v x ≡ true) (filter (is_upto v) es) a (filter_passes (is_upto v) es) h in
+        let q : is_upto v b ≡ false =
+        denied (is_upto v b)
+        (All-contains (λ (x : Entry). is_above v x ≡ true) (filter (is_above v) es) b (filter_passes (is_above v) es) k) in
+        subst (λ (w : Value). value_cmp w b.value.now ≡ Less) (key_of a (is_upto v) h)
+        (subst (λ (w : Value). value_cmp (sort_value a) w ≡ Less) (key_of b (is_above v) k)
+        (upto_before (sort_value a) v (sort_value b) (told_upto (sort_value a) v p) (told_after (sort_value b) v q)))
 
 -- ---- what rows come to, sorted or not
 
@@ -350,22 +351,16 @@ rows_of_numbered measure amount_of es items groups answer numbered made group_of
     answer_of measure amount_of group_of (map entry_row es) items groups
     (grouping_of amount_of group_of es items groups grouped numbered) answer made
 
--- there are as many entries as rows
-pub length-entries : (place : ℕ) (rows : List Row) (es : List Entry) → AreSortedEntries place rows es
-    → length es ≡ length rows
-length-entries place rows es sorted =
-    sym (length-map es entry_row) ∙ length_permutation rows (map entry_row es) sorted.moved
-
--- what sorted entries come to is what their rows do
-pub rows_of_sorted : (measure : Measure) (amount_of : Row → ℤ) (place : ℕ) (rows : List Row) (es : List Entry)
-    (answer : List AggRow) → AreSortedEntries place rows es → AreRowsOfEntries measure amount_of es answer
-    → AreAggRows measure amount_of (value_at_place (Some place)) rows answer
-rows_of_sorted measure amount_of place rows es answer sorted all =
-    IsListOf-same AggRowBefore (IsAggRow measure amount_of (value_at_place (Some place)) (map entry_row es))
-    (IsAggRow measure amount_of (value_at_place (Some place)) rows) answer
-    (λ row. same_rows measure amount_of (value_at_place (Some place)) (map entry_row es) rows row
-    (sorted.kept row.group))
-    (λ row. same_rows measure amount_of (value_at_place (Some place)) rows (map entry_row es) row
-    (sym (sorted.kept row.group)))
-    (all (value_at_place (Some place))
-    (All-contained (λ (e : Entry). value_at_place (Some place) e.row.now ≡ Some e.value.now) es sorted.each))
+-- what sorted entries come to is what they came to before
+pub rows_of_sorted : (measure : Measure) (amount_of : Row → ℤ) (old new : List Entry) (answer : List AggRow)
+    → AreEntriesSorted old new → AreRowsOfEntries measure amount_of new answer
+    → AreRowsOfEntries measure amount_of old answer
+rows_of_sorted measure amount_of old new answer sorted all group_of grouped =
+    IsListOf-same AggRowBefore (IsAggRow measure amount_of group_of (map entry_row new))
+    (IsAggRow measure amount_of group_of (map entry_row old)) answer
+    (λ row. same_rows measure amount_of group_of (map entry_row new) (map entry_row old) row
+    (sorted.kept group_of grouped row.group))
+    (λ row. same_rows measure amount_of group_of (map entry_row old) (map entry_row new) row
+    (sym (sorted.kept group_of grouped row.group)))
+    (all group_of
+    (All-permutation (λ (e : Entry). group_of e.row.now ≡ Some e.value.now) old new sorted.moved grouped))

@@ -1,8 +1,8 @@
 -- Rows sorted by the values that they are grouped by.
-use Rattle.std.specs.Prelude.{◌≡◌, ◌≤◌, ℕ, ℤ, List, length, map, take, drop, All, AllPairs, Contains, false, Option, Some, option_and_then, slice_get, IsPermutation}
+use Rattle.std.specs.Prelude.{◌≡◌, ℕ, ℤ, List, map, All, AllPairs, Bool, Contains, false, not, Option, Some, option_and_then, slice_get, IsPermutation}
 use Rattle.std.specs.List.{AllZip}
 use Rattle.std.specs.declared.cmp.Ordering.TheVariants.{Less}
-use Rattle.std.specs.Ordering.{is_lt}
+use Rattle.std.specs.Ordering.{is_le, is_lt}
 use Rattle.row_core.specs.Schema.{column_of}
 use Rattle.row_core.specs.ValueOrder.{value_cmp}
 use Rattle.row_core.specs.declared.row.Row.{Row}
@@ -56,13 +56,9 @@ AreEntries place rows entries = AllZip (IsEntry place) rows entries
 abbrev pub AreRising : List Entry → Type 0
 AreRising entries = AllPairs (λ (a b : Entry). is_lt (value_cmp b.value.now a.value.now) ≡ false) entries
 
--- the entries of rows, by rising value, those of one value in the order of the rows
-pub record AreSortedEntries (place : ℕ) (rows : List Row) (entries : List Entry) : Type 0 where
-  pub each : (entry : Entry) → Contains entries entry → slice_get entry.row.now.values place ≡ Some entry.value.now
-  pub rise : AreRising entries
-  pub moved : IsPermutation rows (map entry_row entries)
-  pub kept : (group : Option Value) → rows_of_group (value_at_place (Some place)) group (map entry_row entries)
-      ≡ rows_of_group (value_at_place (Some place)) group rows
+-- the key of each entry is its value's
+abbrev pub AreKeyed : List Entry → Type 0
+AreKeyed entries = All (λ (e : Entry). sort_value e ≡ e.value.now) entries
 
 -- each entry's row is of the group of the entry's value
 abbrev pub AreInGroups : (Row → Option Value) → List Entry → Type 0
@@ -74,11 +70,22 @@ AreRowsOfEntries measure amount_of entries answer =
     (group_of : Row → Option Value) → AreInGroups group_of entries
     → AreAggRows measure amount_of group_of (map entry_row entries) answer
 
+-- the entries by rising value, so that each group's rows stand in the order in which they stood
+pub record AreEntriesSorted (old new : List Entry) : Type 0 where
+  pub rise : AreRising new
+  pub moved : IsPermutation old new
+  pub kept : (group_of : Row → Option Value) → AreInGroups group_of old → (group : Option Value)
+      → rows_of_group group_of group (map entry_row new) ≡ rows_of_group group_of group (map entry_row old)
+
 -- each value of some entries is before each value of others
 abbrev pub AreApart : List Entry → List Entry → Type 0
 AreApart low high =
     (a b : Entry) → Contains low a → Contains high b → value_cmp a.value.now b.value.now ≡ Less
 
--- the values of the first so many entries are before those of the others, so no group is on both sides
-abbrev pub IsSplit : List Entry → ℕ → Type 0
-IsSplit entries split = (split ≤ length entries) × AreApart (take split entries) (drop split entries)
+-- whether an entry is of that value, or of one before it
+abbrev pub is_upto : Value → Entry → Bool
+is_upto value entry = is_le (value_cmp (sort_value entry) value)
+
+-- whether it is of a higher one
+abbrev pub is_above : Value → Entry → Bool
+is_above value entry = not (is_upto value entry)

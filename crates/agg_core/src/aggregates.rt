@@ -8,7 +8,7 @@ ghost use Rattle.agg_core.specs.Agg.{AreAggRows, IsAgg, agg_refusal};
 ghost use Rattle.agg_core.specs.Entries.{amount_at, place_in, value_at_place};
 ghost use Rattle.agg_core.specs.Grouping.{HaveValues};
 
-use crate::entries::sorted_entries;
+use crate::entries::entries_of;
 use crate::func::{Func, agg_refusal, measure_of, number_column};
 use crate::groups::one_group;
 use crate::rows::{AggRow, AggRows, rows_of_groups};
@@ -25,8 +25,8 @@ use work_core::Gate;
 /// some of its rows hold and come to one value, with that value, by group and start: the same rows for every number
 /// of workers. Numbers are ordered by value, texts by their bytes. Where no column is named all rows are one group.
 ///
-/// Rows are sorted once, by their groups, so many small groups cost no more than a large one, and then the groups are
-/// shared out among the workers. The gate is called before and after each piece of work, as `plateaus_of` tells.
+/// Rows are sorted once, by their groups, so many small groups cost no more than a large one: those of lower values by half
+/// of the workers, and so on. The gate is called before and after each piece of work, as `plateaus_of` tells.
 ///
 /// # Errors
 ///
@@ -88,8 +88,8 @@ fn agg_rows<R: Threads + Sync, G: Gate>(
             rows_of_groups(rt, alloc, measure, &grouped, workers, gate)
         }
         Some(place) => {
-            let entries = sorted_entries(rt, alloc, rows, place, workers)?;
-            rows_of_entries(rt, alloc, measure, &entries, amount, workers, gate)
+            let entries = entries_of(alloc, rows, place)?;
+            rows_of_entries(rt, alloc, measure, entries, amount, workers, gate)
         }
     }
 }

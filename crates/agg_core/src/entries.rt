@@ -1,9 +1,9 @@
 //! Rows sorted by the values that they are grouped by.
 
-ghost use Rattle.std.specs.Prelude.{◌≡◌, ◌<◌, All, IfOk, IsPermutation, IsSortedByKey, OnOk, Some, length};
+ghost use Rattle.std.specs.Prelude.{◌≡◌, ◌<◌, All, IfOk, IsPermutation, IsSortedByKey, OnOk, Some, filter, length};
 ghost use Rattle.std.specs.List.Sorted.{IsStableByKey};
 ghost use Rattle.row_core.specs.ValueOrder.{value_cmp};
-ghost use Rattle.agg_core.specs.Entries.{AreEntries, AreSortedEntries, sort_value, value_at_place, value_of_key};
+ghost use Rattle.agg_core.specs.Entries.{AreEntries, AreEntriesSorted, AreKeyed, is_above, is_upto, sort_value, value_at_place, value_of_key};
 
 use period_core::NoMemory;
 use row_core::{Row, Value};
@@ -26,24 +26,12 @@ pub(crate) struct Entry<'a> {
     pub row: &'a Row,
 }
 
-/// An entry for each row, by rising value at that place.
-pub(crate) fn sorted_entries<'a, R: Threads + Sync>(
-    rt: &R,
+/// An entry for each row, in their order.
+pub(crate) fn entries_of<'a>(
     alloc: Global,
     rows: &'a [Row],
     place: u32,
-    workers: u32,
 ) -> Result<Vec<Entry<'a>>, NoMemory>
-    requires { All (λ row. place < length row.values) rows.now }
-    ensures { IfOk result (λ entries. AreSortedEntries place rows.entry.now entries.items) }
-{
-    let mut entries = entries_of(alloc, rows, place)?;
-    sort_entries(rt, alloc, &mut entries, workers)?;
-    Ok(entries)
-}
-
-// An entry for each row, in their order.
-fn entries_of<'a>(alloc: Global, rows: &'a [Row], place: u32) -> Result<Vec<Entry<'a>>, NoMemory>
     requires { All (λ row. place < length row.values) rows.now }
     ensures { IfOk result (λ entries. AreEntries place rows.entry.now entries.items) }
 {
@@ -88,4 +76,63 @@ fn sort_entries<R: Threads + Sync>(
     ensures stable { IsStableByKey sort_value value_cmp entries.old.items entries.new.items }
 {
     sort_by_key(rt, alloc, entries, |entry| entry.key, workers)
+}
+
+/// The entries by rising value, those of one value in the order in which they stood.
+pub(crate) fn sorted<'a, R: Threads + Sync>(
+    rt: &R,
+    alloc: Global,
+    mut entries: Vec<Entry<'a>>,
+    workers: u32,
+) -> Result<Vec<Entry<'a>>, NoMemory>
+    requires { AreKeyed entries.items }
+    ensures { IfOk result (λ sorted. AreEntriesSorted entries.entry.items sorted.items) }
+{
+    sort_entries(rt, alloc, &mut entries, workers)?;
+    Ok(entries)
+}
+
+/// Whether the entry's value is that of the key, or before it.
+fn is_upto(entry: &Entry<'_>, key: &Key<'_>) -> bool
+    ensures { result ≡ is_upto (value_of_key key.now) entry.now }
+{
+    entry.key <= *key
+}
+
+/// The entries of values up to that of the key, in their order.
+pub(crate) fn entries_upto<'a>(
+    alloc: Global,
+    entries: &[Entry<'a>],
+    key: &Key<'_>,
+) -> Result<Vec<Entry<'a>>, NoMemory>
+    ensures { IfOk result (λ low. low.items ≡ filter (is_upto (value_of_key key.now)) entries.now) }
+{
+    let mut low = Vec::new(alloc);
+    for i in 0..entries.len() {
+        if is_upto(&entries[i], key) {
+            if let Err(_) = low.push(entries[i]) {
+                return Err(AllocError);
+            }
+        }
+    }
+    Ok(low)
+}
+
+/// The entries of higher values, in their order.
+pub(crate) fn entries_above<'a>(
+    alloc: Global,
+    entries: &[Entry<'a>],
+    key: &Key<'_>,
+) -> Result<Vec<Entry<'a>>, NoMemory>
+    ensures { IfOk result (λ high. high.items ≡ filter (is_above (value_of_key key.now)) entries.now) }
+{
+    let mut high = Vec::new(alloc);
+    for i in 0..entries.len() {
+        if !is_upto(&entries[i], key) {
+            if let Err(_) = high.push(entries[i]) {
+                return Err(AllocError);
+            }
+        }
+    }
+    Ok(high)
 }

@@ -1,21 +1,49 @@
-use Rattle.std.proofs.Common.{rules, Global, Vec, subst, sym}
+use Rattle.std.proofs.Common.{◌≤◌, Global, Vec, ap, arith, length, rules, subst, sym}
+use Rattle.std.specs.Prelude.{filter}
 use Rattle.std.proofs.lemmas.Result.{IfOk-at_ok}
+use Rattle.dip_core.specs.Item.{item_limit}
 use Rattle.agg_core.specs.declared.rows.AggRow.{AggRow}
-use Rattle.agg_core.specs.Entries.{AreRowsOfEntries, amount_at}
-use Rattle.agg_core.proofs.ShareLemmas.{AreRowsOfEntries-split}
+use Rattle.agg_core.specs.Entries.{AreKeyed, AreRowsOfEntries, amount_at, is_above, is_upto, value_of_key}
+use Rattle.agg_core.proofs.ShareLemmas.{AreRowsOfEntries-shares, share_few, share_keyed}
 use Rattle.agg_core.proofs.shares.+shares.Goals as goal
 
-pub returns : goal.returns
-returns g t c =
+pub rows_of_low-rows_of_entries-requires-clause-few : goal.rows_of_low-rows_of_entries-requires-clause-few
+rows_of_low-rows_of_entries-requires-clause-few g t c κs within =
+    let few : length c.args.entries.now ≤ item_limit = c.requires.few in
+    let fewer = (share_few (value_of_key c.args.key.now) c.args.entries.now).0 in
+    let same = ap length c.in_ok-low.ensures in
+    omega (arith, few, fewer, same)
+
+pub rows_of_low-rows_of_entries-requires-clause-keyed : goal.rows_of_low-rows_of_entries-requires-clause-keyed
+rows_of_low-rows_of_entries-requires-clause-keyed g t c κs within =
+    subst AreKeyed (sym c.in_ok-low.ensures)
+    (share_keyed (is_upto (value_of_key c.args.key.now)) c.args.entries.now c.requires.keyed)
+
+pub rows_of_high-rows_of_entries-requires-clause-few : goal.rows_of_high-rows_of_entries-requires-clause-few
+rows_of_high-rows_of_entries-requires-clause-few g t c κs within =
+    let few : length c.args.entries.now ≤ item_limit = c.requires.few in
+    let fewer = (share_few (value_of_key c.args.key.now) c.args.entries.now).1 in
+    let same = ap length c.in_ok-high.ensures in
+    omega (arith, few, fewer, same)
+
+pub rows_of_high-rows_of_entries-requires-clause-keyed : goal.rows_of_high-rows_of_entries-requires-clause-keyed
+rows_of_high-rows_of_entries-requires-clause-keyed g t c κs within =
+    subst AreKeyed (sym c.in_ok-high.ensures)
+    (share_keyed (is_above (value_of_key c.args.key.now)) c.args.entries.now c.requires.keyed)
+
+pub rows_of_entries-returns : goal.rows_of_entries-returns
+rows_of_entries-returns g t c =
     let measure = c.args.measure in
     let amount_of = amount_at c.args.amount in
-    let entries = c.args.entries.now in
-    let low = c.split_at.result.0.now in
-    let high = c.split_at.result.1.now in
-    subst (AreRowsOfEntries measure amount_of entries) (sym c.in_ok-append.ensures.items)
-    (AreRowsOfEntries-split measure amount_of entries low high c.in-Some.split c.in_ok-rows.rows.items
-    c.in_ok-later.later.items c.in-Some.ensures.1 c.split_at.ensures.front c.split_at.ensures.back
-    (IfOk-at_ok (λ (rows : Vec AggRow Global). AreRowsOfEntries measure amount_of low rows.items) c.in_ok-rows.was
-    (search rules))
-    (IfOk-at_ok (λ (rows : Vec AggRow Global). AreRowsOfEntries measure amount_of high rows.items) c.in_ok-later.was
-    (search rules)))
+    let entries = c.as_slice-all.result.now in
+    let value = value_of_key c.in-Some.key in
+    let keyed : AreKeyed entries = subst AreKeyed (sym c.as_slice-all.ensures.value) c.requires.keyed in
+    subst (λ l. AreRowsOfEntries measure amount_of l c.append.new.self.items) c.as_slice-all.ensures.value
+    (subst (AreRowsOfEntries measure amount_of entries) (sym c.in_ok-append.ensures.items)
+    (AreRowsOfEntries-shares measure amount_of entries value c.in_ok-rows.rows.items c.in_ok-later.later.items keyed
+    (IfOk-at_ok
+    (λ (rows : Vec AggRow Global). AreRowsOfEntries measure amount_of (filter (is_upto value) entries) rows.items)
+    c.in_ok-rows.was (search rules))
+    (IfOk-at_ok
+    (λ (rows : Vec AggRow Global). AreRowsOfEntries measure amount_of (filter (is_above value) entries) rows.items)
+    c.in_ok-later.was (search rules))))
