@@ -1,5 +1,5 @@
 -- The rows of an aggregate are those of the plateaus of its groups' numbers.
-use Rattle.std.proofs.Common.{◌≡◌, ◌<◌, ◌==◌, ℕ, ℤ, Bool, true, List, [], ◌∷◌, length, map, get_or, All, Option, Some, None, inl, inr, refl, sym, ap, subst, ◌∙◌, arith}
+use Rattle.std.proofs.Common.{◌≡◌, ◌<◌, ◌==◌, ℕ, ℤ, Bool, true, List, [], ◌∷◌, length, map, All, Option, Some, None, inl, inr, refl, sym, ap, subst, ◌∙◌, arith}
 use Rattle.std.specs.Prelude.{filter, slice_get, slice_index_or, ◌<ℤ◌, Contains}
 use Rattle.std.specs.declared.cmp.Ordering.{Ordering}
 use Rattle.std.specs.declared.cmp.Ordering.TheVariants.{Less}
@@ -8,7 +8,7 @@ use Rattle.std.proofs.lemmas.Bool.Decides.{Decides-eqb}
 use Rattle.std.proofs.lemmas.Cmp.{tied_itself}
 use Rattle.std.proofs.lemmas.Int.{ints}
 use Rattle.std.proofs.lemmas.List.{length-map}
-use Rattle.std.proofs.lemmas.List.Elements.{All-contains, All-contains_itself, All-filter, Contains-get_or, filter_passes}
+use Rattle.std.proofs.lemmas.List.Elements.{All-contains, All-contains_itself, All-filter, filter_passes}
 use Rattle.std.proofs.lemmas.Option.{get_or_from_slice_get, slice_get-get_or}
 use Rattle.period_core.specs.declared.period.Period.{Period}
 use Rattle.period_core.specs.Period.{holds_at}
@@ -26,7 +26,7 @@ use Rattle.merge_core.proofs.SharedLemmas.{first_held}
 use Rattle.merge_core.proofs.SweepLemmas.{IsMaximal-same}
 use Rattle.round_core.specs.declared.measure.Measure.{Measure}
 use Rattle.round_core.specs.declared.plateau.Plateau.{Plateau}
-use Rattle.round_core.specs.Plateaus.{ArePlateaus, HasValue, IsPlateau, PlateauBefore, of_class}
+use Rattle.round_core.specs.Plateaus.{HasValue, IsPlateau, PlateauBefore, of_class}
 use Rattle.agg_core.specs.declared.rows.AggRow.{AggRow}
 use Rattle.agg_core.specs.declared.func.Func.{Func}
 use Rattle.agg_core.specs.Agg.{AreAggRows, IsAgg, IsAggRow, amount_in, amount_item, measure_of, number_column, amount_of_value, value_in}
@@ -140,13 +140,6 @@ plateau_within measure items n p within is =
     subst (λ k. k < n) ((Decides-eqb x.class p.class).0 test)
     (All-contains (λ (y : Item). y.class < n) items x within
     (filtered_in (λ (y : Item). y.class == p.class) items x there))
-
--- so are those of all plateaus
-pub classes_within : (measure : Measure) (items : List Item) (n : ℕ) (ps : List Plateau)
-    → All (λ (x : Item). x.class < n) items → ArePlateaus measure items ps → All (λ (p : Plateau). p.class < n) ps
-classes_within measure items n ps within all i d h =
-    plateau_within measure items n (get_or ps i d) within
-    ((all.exactly (get_or ps i d)).0 (Contains-get_or ps i d h))
 
 module _ (measure : Measure) (amount_of : Row → ℤ) (group_of : Row → Option Value) (rows : List Row) (items : List Item)
     (groups : List (Option Value)) (grouping : IsGrouping amount_of group_of rows items groups) where

@@ -2,3 +2,4 @@ pub mod Groups
 pub mod Agg
 pub mod Entries
 pub mod Grouping
+pub mod Shares

@@ -11,7 +11,7 @@ ghost use Rattle.agg_core.specs.Grouping.{HaveValues};
 use crate::entries::entries_of;
 use crate::func::{Func, agg_refusal, measure_of, number_column};
 use crate::groups::one_group;
-use crate::rows::{AggRow, AggRows, rows_of_groups};
+use crate::rows::{AggRows, rows_of_groups};
 use crate::shares::rows_of_entries;
 use match_core::{QueryRefused, Side};
 use period_core::NoMemory;
@@ -52,17 +52,8 @@ pub fn agg<R: Threads + Sync, G: Gate>(
     let amount = place_in(side.schema, number_column(&func));
     let by = place_in(side.schema, group);
     let rows = side.rows.as_slice();
-    let answer = agg_rows(
-        rt,
-        alloc,
-        measure_of(&func),
-        rows,
-        amount,
-        by,
-        workers,
-        gate,
-    )?;
-    Ok(AggRows::from(answer))
+    let measure = measure_of(&func);
+    Ok(agg_rows(rt, alloc, measure, rows, amount, by, workers, gate)?)
 }
 
 // The aggregate of rows by the values at one place, or as one group where there is none, with the numbers that they
@@ -76,11 +67,11 @@ fn agg_rows<R: Threads + Sync, G: Gate>(
     by: Option<u32>,
     workers: u32,
     gate: &G,
-) -> Result<Vec<AggRow>, NoMemory>
+) -> Result<AggRows, NoMemory>
     requires workers { (0 < workers) × (workers ≤ worker_limit) }
     requires few { length rows.now ≤ item_limit }
     requires values { HaveValues by rows.now }
-    ensures { IfOk result (λ answer. AreAggRows measure (amount_at amount) (value_at_place by) rows.now answer.items) }
+    ensures { IfOk result (λ answer. AreAggRows measure (amount_at amount) (value_at_place by) rows.now answer) }
 {
     match by {
         None => {

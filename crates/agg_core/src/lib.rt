@@ -14,4 +14,5 @@ mod shares;
 pub use aggregates::agg;
 pub use func::Func;
 pub use laws::agg_has_one_list;
-pub use rows::{AggRow, AggRows};
+pub use round_core::{Plateau, Plateaus};
+pub use rows::{AggRow, AggRows, AggShare};

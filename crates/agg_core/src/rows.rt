@@ -1,17 +1,19 @@
 //! The rows of an aggregate.
 
-ghost use Rattle.std.specs.Prelude.{◌≡◌, ◌<◌, ◌≤◌, All, AllPairs, IfOk, length, map};
+ghost use Rattle.std.specs.Prelude.{◌≡◌, ◌<◌, ◌≤◌, ◌++◌, AllPairs, IfOk, OnOk, length, map};
 ghost use Rattle.std.specs.Option.{option_copied};
 ghost use Rattle.dip_core.specs.Item.{item_limit};
 ghost use Rattle.work_core.specs.Limits.{worker_limit};
 ghost use Rattle.agg_core.specs.Grouping.{ArePlateauRows, agg_row_of, copied_groups};
+ghost use Rattle.agg_core.specs.Shares.{rows_in, rows_in_shares};
 
 use crate::groups::GroupedRows;
-use list_core::{DeepCopy, List};
+use list_core::DeepCopy;
 use period_core::{NoMemory, Period};
-use round_core::{Measure, Plateau, plateaus_of};
+use round_core::{Measure, Plateau, Plateaus, plateaus_of};
 use row_core::Value;
-use std::alloc::Global;
+use std::alloc::{AllocError, Global};
+use std::marker::Model;
 use std::thread::Threads;
 use work_core::Gate;
 
@@ -26,8 +28,132 @@ pub struct AggRow {
     pub value: i128,
 }
 
-/// The rows of an aggregate, by group and start.
-pub type AggRows = List<AggRow>;
+/// The rows of some groups, as what they are made of: each group's value stands once, however many rows it has.
+#[derive(Debug, Drop)]
+pub struct AggShare {
+    /// The groups by number: the value of each one's rows in the column that they are grouped by, or None where all rows
+    /// are one group.
+    pub groups: Vec<Option<Value>>,
+    /// The plateaus of the groups' numbers, by group and start: the class of each is the number of its group.
+    pub plateaus: Plateaus,
+}
+
+impl AggShare {
+    /// The value of the group of a plateau.
+    pub fn group(&self, plateau: &Plateau) -> Option<&Value>
+        ensures { option_copied result ≡ (agg_row_of self.now.groups.items plateau.now).group }
+    {
+        match self.groups.get(plateau.class as usize) {
+            Some(Some(value)) => Some(value),
+            Some(None) => None,
+            None => None,
+        }
+    }
+}
+
+/// The rows of an aggregate, by group and start, in shares that were answered apart and stand behind one another.
+/// Contracts see the list of all.
+#[derive(Debug, Drop)]
+pub struct AggRows {
+    shares: Vec<AggShare>,
+    len: usize,
+}
+
+impl Model for AggRows {
+    ghost use Rattle.std.specs.Prelude.{List};
+    ghost use Rattle.agg_core.specs.Shares.{AreShares, rows_in_shares};
+    ghost use Rattle.agg_core.specs.declared.rows.AggRow.{AggRow};
+
+    ghost Value = { List AggRow };
+
+    ghost view = { λ r. rows_in_shares r.shares.items };
+
+    ghost invariant = { λ r. AreShares r.shares.items r.len };
+}
+
+impl AggRows {
+    /// The rows of one share.
+    pub(crate) fn of(alloc: Global, share: AggShare) -> Result<AggRows, NoMemory>
+        ensures { IfOk result (λ rows. rows ≡ rows_in share) }
+    {
+        let len = share.plateaus.len();
+        let mut shares = Vec::new(alloc);
+        shares.push(share)?;
+        Ok(AggRows { shares, len })
+    }
+
+    /// How many they are.
+    pub fn len(&self) -> usize
+        ensures { result ≡ length self.now }
+    {
+        self.len
+    }
+
+    /// The shares, which have the rows of one group after the other.
+    pub fn shares(&self) -> &[AggShare]
+        ensures { rows_in_shares result.now ≡ self.now }
+    {
+        &self.shares
+    }
+
+    /// These, and others behind them.
+    pub(crate) fn followed_by(self, later: AggRows) -> Result<AggRows, NoMemory>
+        ensures { IfOk result (λ rows. rows ≡ self ++ later) }
+    {
+        let mut shares = self.shares;
+        let mut others = later.shares;
+        let Some(len) = self.len.checked_add(later.len) else {
+            return Err(AllocError);
+        };
+        shares.append(&mut others)?;
+        Ok(AggRows { shares, len })
+    }
+
+    /// All rows, each with a value of its group of its own.
+    ///
+    /// # Errors
+    ///
+    /// `NoMemory` where a growth is refused.
+    pub fn to_vec(&self, alloc: Global) -> Result<Vec<AggRow>, NoMemory>
+        ensures { IfOk result (λ rows. rows.items ≡ self.now) }
+    {
+        let mut rows = Vec::with_capacity(alloc, self.len)?;
+        for share in &self.shares {
+            push_share(alloc, share, &mut rows)?;
+        }
+        Ok(rows)
+    }
+}
+
+// Adds the rows of a share.
+fn push_share(alloc: Global, share: &AggShare, rows: &mut Vec<AggRow>) -> Result<(), NoMemory>
+    ensures { OnOk result (rows.new.items ≡ rows.old.items ++ rows_in share.now) }
+{
+    for piece in share.plateaus.pieces() {
+        push_piece(alloc, share, piece, rows)?;
+    }
+    Ok(())
+}
+
+// Adds the rows of some plateaus of a share.
+fn push_piece(
+    alloc: Global,
+    share: &AggShare,
+    plateaus: &[Plateau],
+    rows: &mut Vec<AggRow>,
+) -> Result<(), NoMemory>
+    ensures { OnOk result (rows.new.items
+        ≡ rows.old.items ++ map (agg_row_of share.now.groups.items) plateaus.now) }
+{
+    for plateau in plateaus {
+        rows.push(AggRow {
+            group: copy_group(alloc, share.group(plateau))?,
+            period: plateau.period,
+            value: plateau.value,
+        })?;
+    }
+    Ok(())
+}
 
 /// The rows of grouped rows: one for each plateau of their items.
 pub(crate) fn rows_of_groups<R: Threads + Sync, G: Gate>(
@@ -37,37 +163,27 @@ pub(crate) fn rows_of_groups<R: Threads + Sync, G: Gate>(
     grouped: &GroupedRows<'_>,
     workers: u32,
     gate: &G,
-) -> Result<Vec<AggRow>, NoMemory>
+) -> Result<AggRows, NoMemory>
     requires workers { (0 < workers) × (workers ≤ worker_limit) }
     requires few { length grouped.now.items.items ≤ item_limit }
     requires classes { AllPairs (λ a b. a.class ≤ b.class) grouped.now.items.items }
-    requires within { All (λ x. x.class < length grouped.now.groups.items) grouped.now.items.items }
     ensures { IfOk result (λ rows. ArePlateauRows measure grouped.now.items.items
-        (copied_groups grouped.now.groups.items) rows.items) }
+        (copied_groups grouped.now.groups.items) rows) }
 {
     let plateaus = plateaus_of(rt, alloc, measure, &grouped.items, workers, gate)?;
-    rows_of_plateaus(alloc, &grouped.groups, &plateaus)
+    let groups = copy_groups(alloc, &grouped.groups)?;
+    AggRows::of(alloc, AggShare { groups, plateaus })
 }
 
-// A row for each plateau, in their order: its class is the number of its group.
-fn rows_of_plateaus(
-    alloc: Global,
-    groups: &[Option<&Value>],
-    plateaus: &[Plateau],
-) -> Result<Vec<AggRow>, NoMemory>
-    requires { All (λ plateau. plateau.class < length groups.now) plateaus.now }
-    ensures { IfOk result (λ rows. rows.items ≡ map (agg_row_of (copied_groups groups.now)) plateaus.now) }
+// The groups with values of their own.
+fn copy_groups(alloc: Global, groups: &[Option<&Value>]) -> Result<Vec<Option<Value>>, NoMemory>
+    ensures { IfOk result (λ copies. copies.items ≡ copied_groups groups.now) }
 {
-    let mut rows = Vec::with_capacity(alloc, plateaus.len())?;
-    for plateau in plateaus {
-        let group = groups[plateau.class as usize];
-        rows.push(AggRow {
-            group: copy_group(alloc, group)?,
-            period: plateau.period,
-            value: plateau.value,
-        })?;
+    let mut copies = Vec::with_capacity(alloc, groups.len())?;
+    for group in groups {
+        copies.push(copy_group(alloc, *group)?)?;
     }
-    Ok(rows)
+    Ok(copies)
 }
 
 // The group with a value of its own.

@@ -8,7 +8,7 @@ ghost use Rattle.agg_core.specs.Entries.{AreKeyed, AreRowsOfEntries, amount_at, 
 
 use crate::entries::{Entry, Key, entries_above, entries_upto, sorted};
 use crate::groups::group_entries;
-use crate::rows::{AggRow, rows_of_groups};
+use crate::rows::{AggRows, rows_of_groups};
 use period_core::NoMemory;
 use round_core::Measure;
 use std::alloc::Global;
@@ -52,11 +52,11 @@ fn rows_of_share<R: Threads + Sync, G: Gate>(
     amount: Option<u32>,
     workers: u32,
     gate: &G,
-) -> Result<Vec<AggRow>, NoMemory>
+) -> Result<AggRows, NoMemory>
     requires workers { (0 < workers) × (workers ≤ worker_limit) }
     requires few { length entries.items ≤ item_limit }
     requires keyed { AreKeyed entries.items }
-    ensures { IfOk result (λ rows. AreRowsOfEntries measure (amount_at amount) entries.entry.items rows.items) }
+    ensures { IfOk result (λ rows. AreRowsOfEntries measure (amount_at amount) entries.entry.items rows) }
 {
     let entries = sorted(rt, alloc, entries, workers)?;
     let grouped = group_entries(alloc, &entries, amount)?;
@@ -74,12 +74,12 @@ fn rows_of_low<R: Threads + Sync, G: Gate>(
     amount: Option<u32>,
     workers: u32,
     gate: &G,
-) -> Result<Vec<AggRow>, NoMemory>
+) -> Result<AggRows, NoMemory>
     requires workers { (0 < workers) × (workers ≤ worker_limit) }
     requires few { length entries.now ≤ item_limit }
     requires keyed { AreKeyed entries.now }
     ensures { IfOk result (λ rows. AreRowsOfEntries measure (amount_at amount)
-        (filter (is_upto (value_of_key key.entry.now)) entries.entry.now) rows.items) }
+        (filter (is_upto (value_of_key key.entry.now)) entries.entry.now) rows) }
 {
     let low = entries_upto(alloc, entries, key)?;
     rows_of_entries(rt, alloc, measure, low, amount, workers, gate)
@@ -96,12 +96,12 @@ fn rows_of_high<R: Threads + Sync, G: Gate>(
     amount: Option<u32>,
     workers: u32,
     gate: &G,
-) -> Result<Vec<AggRow>, NoMemory>
+) -> Result<AggRows, NoMemory>
     requires workers { (0 < workers) × (workers ≤ worker_limit) }
     requires few { length entries.now ≤ item_limit }
     requires keyed { AreKeyed entries.now }
     ensures { IfOk result (λ rows. AreRowsOfEntries measure (amount_at amount)
-        (filter (is_above (value_of_key key.entry.now)) entries.entry.now) rows.items) }
+        (filter (is_above (value_of_key key.entry.now)) entries.entry.now) rows) }
 {
     let high = entries_above(alloc, entries, key)?;
     rows_of_entries(rt, alloc, measure, high, amount, workers, gate)
@@ -118,11 +118,11 @@ pub(crate) fn rows_of_entries<R: Threads + Sync, G: Gate>(
     amount: Option<u32>,
     workers: u32,
     gate: &G,
-) -> Result<Vec<AggRow>, NoMemory>
+) -> Result<AggRows, NoMemory>
     requires workers { (0 < workers) × (workers ≤ worker_limit) }
     requires few { length entries.items ≤ item_limit }
     requires keyed { AreKeyed entries.items }
-    ensures { IfOk result (λ rows. AreRowsOfEntries measure (amount_at amount) entries.entry.items rows.items) }
+    ensures { IfOk result (λ rows. AreRowsOfEntries measure (amount_at amount) entries.entry.items rows) }
 {
     let Some(key) = key_between(&entries, workers) else {
         return rows_of_share(rt, alloc, measure, entries, amount, workers, gate);
@@ -133,21 +133,20 @@ pub(crate) fn rows_of_entries<R: Threads + Sync, G: Gate>(
     // The closures are lent, since `join` tells its caller nothing of closures that hold types with lifetimes.
     let (low, high) = join_mut(
         rt,
-        &mut || -> Result<Vec<AggRow>, NoMemory>
+        &mut || -> Result<AggRows, NoMemory>
             requires { IsSync R.row × IsSync G.row × (0 < few) × (few ≤ worker_limit) × (length all.now ≤ item_limit)
                 × AreKeyed all.now }
             ensures { IfOk result (λ rows. AreRowsOfEntries measure (amount_at amount)
-                (filter (is_upto (value_of_key key.entry)) all.entry.now) rows.items) }
+                (filter (is_upto (value_of_key key.entry)) all.entry.now) rows) }
         { rows_of_low(rt, alloc, measure, all, &key, amount, few, gate) },
-        &mut || -> Result<Vec<AggRow>, NoMemory>
+        &mut || -> Result<AggRows, NoMemory>
             requires { IsSync R.row × IsSync G.row × (0 < others) × (others ≤ worker_limit)
                 × (length all.now ≤ item_limit) × AreKeyed all.now }
             ensures { IfOk result (λ rows. AreRowsOfEntries measure (amount_at amount)
-                (filter (is_above (value_of_key key.entry)) all.entry.now) rows.items) }
+                (filter (is_above (value_of_key key.entry)) all.entry.now) rows) }
         { rows_of_high(rt, alloc, measure, all, &key, amount, others, gate) },
     );
-    let mut rows = low?;
-    let mut later = high?;
-    rows.append(&mut later)?;
-    Ok(rows)
+    let rows = low?;
+    let later = high?;
+    rows.followed_by(later)
 }

@@ -1,10 +1,13 @@
 //! Prints what the rows of a table come to.
 ghost use Rattle.std.specs.Prelude.{◌≡◌, ◌++◌, ◌∷◌, [], OnOk, map};
+ghost use Rattle.std.specs.Option.{option_copied};
+ghost use Rattle.agg_core.specs.Grouping.{agg_row_of};
+ghost use Rattle.agg_core.specs.Shares.{rows_in, rows_in_shares};
 ghost use Rattle.answer_core.specs.PrintedRecords.{agg_record, agg_records, group_fields};
 ghost use Rattle.answer_core.specs.Unwritten.{Adds};
 
 use crate::writer::AnswerWriter;
-use agg_core::{AggRow, AggRows};
+use agg_core::{AggRows, AggShare, Plateau};
 use period_core::NoMemory;
 use row_core::Value;
 
@@ -14,34 +17,61 @@ impl AnswerWriter {
         requires { self.old.fields ≡ [] }
         ensures { OnOk result (Adds self.old self.new (agg_records rows.now)) }
     {
-        self.agg_rows(rows.as_slice())?;
+        self.agg_shares(rows.shares())?;
         self.end(rows.len() as u64)
     }
 
-    fn agg_rows(&mut self, rows: &[AggRow]) -> Result<(), NoMemory>
+    fn agg_shares(&mut self, shares: &[AggShare]) -> Result<(), NoMemory>
         requires { self.old.fields ≡ [] }
-        ensures { OnOk result (Adds self.old self.new (map agg_record rows.now)) }
+        ensures { OnOk result (Adds self.old self.new (map agg_record (rows_in_shares shares.now))) }
     {
-        for row in rows {
-            self.agg_row(row)?;
+        for share in shares {
+            self.agg_share(share)?;
         }
         Ok(())
     }
 
-    fn agg_row(&mut self, row: &AggRow) -> Result<(), NoMemory>
+    fn agg_share(&mut self, share: &AggShare) -> Result<(), NoMemory>
         requires { self.old.fields ≡ [] }
-        ensures { OnOk result (Adds self.old self.new (agg_record row.now ∷ [])) }
+        ensures { OnOk result (Adds self.old self.new (map agg_record (rows_in share.now))) }
+    {
+        for piece in share.plateaus.pieces() {
+            self.agg_rows(share, piece)?;
+        }
+        Ok(())
+    }
+
+    /// The rows of some plateaus of a share.
+    fn agg_rows(&mut self, share: &AggShare, plateaus: &[Plateau]) -> Result<(), NoMemory>
+        requires { self.old.fields ≡ [] }
+        ensures { OnOk result (Adds self.old self.new
+            (map agg_record (map (agg_row_of share.now.groups.items) plateaus.now))) }
+    {
+        for plateau in plateaus {
+            self.agg_row(share.group(plateau), plateau)?;
+        }
+        Ok(())
+    }
+
+    fn agg_row(&mut self, group: Option<&Value>, plateau: &Plateau) -> Result<(), NoMemory>
+        requires { self.old.fields ≡ [] }
+        ensures { OnOk result (Adds self.old self.new (agg_record record {
+            group = option_copied group.entry;
+            period = plateau.now.period;
+            value = plateau.now.value;
+        } ∷ [])) }
     {
         self.field(b"row")?;
-        self.group(&row.group)?;
-        self.period(&row.period)?;
-        self.wide(row.value)?;
+        self.group(group)?;
+        self.period(&plateau.period)?;
+        self.wide(plateau.value)?;
         self.end_record()
     }
 
     /// The value of a group; nothing where all rows are one group.
-    fn group(&mut self, group: &Option<Value>) -> Result<(), NoMemory>
-        ensures { OnOk result (self.new ≡ record self.old { fields = self.old.fields ++ group_fields group.now }) }
+    fn group(&mut self, group: Option<&Value>) -> Result<(), NoMemory>
+        ensures { OnOk result (self.new
+            ≡ record self.old { fields = self.old.fields ++ group_fields (option_copied group.entry) }) }
     {
         match group {
             Some(value) => self.value(value),

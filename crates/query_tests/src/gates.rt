@@ -201,7 +201,7 @@ fn aggregates_while_a_pair_is_held(rt: HostRuntime) -> Result<(), Fail> {
     for gate in &both_ways((0, 1), (2, 3)) {
         let one = side(&rt, &table);
         let rows = agg(&rt, rt.alloc(), one, Func::Count, None, 2, gate)?;
-        assert_eq!(rt; rows.as_slice(), want.as_slice());
+        assert_eq!(rt; rows.to_vec(rt.alloc())?.as_slice(), want.as_slice());
         check_left(&rt, gate);
     }
     Ok(())

@@ -128,7 +128,7 @@ fn check_agg(
             workers,
             &OpenGate,
         )?;
-        assert_eq!(rt; rows.as_slice(), want.as_slice(), "with {workers} workers");
+        assert_eq!(rt; rows.to_vec(rt.alloc())?.as_slice(), want.as_slice(), "with {workers} workers");
     }
     Ok(want.len())
 }
@@ -199,7 +199,7 @@ fn sums_are_wider_than_numbers(rt: HostRuntime) -> Result<(), Fail> {
             value: -27_670_116_110_564_327_424,
         },
     ];
-    assert_eq!(rt; rows.as_slice(), want.as_slice());
+    assert_eq!(rt; rows.to_vec(rt.alloc())?.as_slice(), want.as_slice());
     Ok(())
 }
 
@@ -222,7 +222,7 @@ fn sums_reach_their_bounds(rt: HostRuntime) -> Result<(), Fail> {
             period: january(&rt, 1, 2),
             value,
         }];
-        assert_eq!(rt; rows.as_slice(), want.as_slice());
+        assert_eq!(rt; rows.to_vec(rt.alloc())?.as_slice(), want.as_slice());
     }
     Ok(())
 }

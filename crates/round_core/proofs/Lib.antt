@@ -12,3 +12,4 @@ pub mod ShareLemmas
 pub mod ClosingLemmas
 pub mod CollectLemmas
 pub mod PlateauExistence
+pub mod PieceLemmas

@@ -1,7 +1,7 @@
 -- The plateaus of items of one class, from those of what they hold before an instant and of what they hold from it on.
-use Rattle.std.proofs.Common.{◌≡◌, ◌⊎◌, ℕ, ◌<◌, ◌≤◌, ◌+◌, ◌-◌, cond, List, [], ◌∷◌, ◌++◌, Option, Some, None, get_or, length, length-append, take, inl, inr, refl, sym, subst, ap, ◌∙◌, arith}
+use Rattle.std.proofs.Common.{◌≡◌, ◌⊎◌, ℕ, ◌<◌, ◌≤◌, ◌+◌, cond, List, [], ◌∷◌, ◌++◌, Option, Some, None, get_or, length, length-append, inl, inr, refl, sym, subst, ap, ◌∙◌, arith}
 use Rattle.std.specs.Prelude.{ℤ, pos, ◌-ℤ◌, ◌≤ℤ◌, ◌<ℤ◌, All, AllPairs, Contains, MatchOption}
-use Rattle.std.proofs.Math.Seq.{get_or-append_seam, take-append_seam}
+use Rattle.std.proofs.Math.Seq.{get_or-append_seam}
 use Rattle.std.proofs.lemmas.Bool.{eq-eqb}
 use Rattle.std.proofs.lemmas.Int.{ints}
 use Rattle.std.proofs.lemmas.List.{length-map}
@@ -593,22 +593,6 @@ joint_told early late front back last first e l (Some both) h = record {
   continues = h.0;
   joined = h.1;
 }
-
--- one list behind the other, where both have a joint
-pub spliced_joined : (early late first_rows later rows : List Plateau) (both : Plateau) (n : ℕ)
-    (j : IsJoint early late both) → n ≡ length early → first_rows ≡ take (n - 1) early → later ≡ both ∷ j.back
-    → rows ≡ first_rows ++ later → AreSpliced early late rows
-spliced_joined early late first_rows later rows both n j len popped set e =
-    let count : length early ≡ length j.front + 1 = ap length j.early_is ∙ length-append j.front (j.last ∷ []) in
-    let less : n - 1 ≡ length j.front = omega (arith, count, len) in
-    let front : first_rows ≡ j.front =
-    popped ∙ ap (λ k. take k early) less ∙ ap (take (length j.front)) j.early_is
-    ∙ take-append_seam j.front (j.last ∷ []) in
-    inl (record {
-      both = both;
-      joint = j;
-      rows_are = e ∙ ap (λ l. l ++ later) front ∙ ap (λ l. j.front ++ l) set;
-    })
 
 -- ---- one class
 

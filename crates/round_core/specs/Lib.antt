@@ -6,3 +6,4 @@ pub mod TwoLaws
 pub mod ClassLists
 pub mod Rounds
 pub mod Closing
+pub mod Pieces

@@ -9,7 +9,7 @@ ghost use Rattle.round_core.specs.Plateaus.{ArePlateaus};
 
 use crate::closing::plateaus_in;
 use crate::measure::Measure;
-use crate::plateau::Plateau;
+use crate::pieces::Plateaus;
 use crate::rounds::combine_all;
 use crate::runs::shared_lists;
 use crate::spans::plateaus_of_spans;
@@ -28,15 +28,16 @@ pub(crate) fn plateaus_by_rounds<R: Threads + Sync, G: Gate>(
     items: &[Item],
     workers: u32,
     gate: &G,
-) -> Result<Vec<Plateau>, NoMemory>
+) -> Result<Plateaus, NoMemory>
     requires workers { (0 < workers) × (workers ≤ worker_limit) }
     requires few { length items.now ≤ item_limit }
     requires rise { ClassesRise items.now }
-    ensures { IfOk result (λ plateaus. ArePlateaus measure items.now plateaus.items) }
+    ensures { IfOk result (λ plateaus. ArePlateaus measure items.now plateaus) }
 {
     let lists = shared_lists(rt, alloc, items, workers)?;
     let all = combine_all(rt, alloc, lists, workers, gate)?;
-    plateaus_in(alloc, measure, all)
+    let plateaus = plateaus_in(alloc, measure, all)?;
+    Plateaus::of(alloc, plateaus)
 }
 
 /// The plateaus of all classes. Half of the workers find those of the lower classes, where there are enough of both.
@@ -48,11 +49,11 @@ fn plateaus_of_halves<R: Threads + Sync, G: Gate>(
     items: &[Item],
     workers: u32,
     gate: &G,
-) -> Result<Vec<Plateau>, NoMemory>
+) -> Result<Plateaus, NoMemory>
     requires workers { (0 < workers) × (workers ≤ worker_limit) }
     requires few { length items.now ≤ item_limit }
     requires rise { ClassesRise items.now }
-    ensures { IfOk result (λ plateaus. ArePlateaus measure items.now plateaus.items) }
+    ensures { IfOk result (λ plateaus. ArePlateaus measure items.now plateaus) }
 {
     let Some(class) = middle_class(items, &[], workers) else {
         return plateaus_of_spans(rt, alloc, measure, items, workers, gate);
@@ -62,21 +63,20 @@ fn plateaus_of_halves<R: Threads + Sync, G: Gate>(
     let others = workers - few;
     let (low, high) = join(
         rt,
-        || -> Result<Vec<Plateau>, NoMemory>
+        || -> Result<Plateaus, NoMemory>
             requires { IsSync R.row × IsSync G.row × (0 < few) × (few ≤ worker_limit)
                 × (length low_items.now ≤ item_limit) × ClassesRise low_items.now }
-            ensures { IfOk result (λ plateaus. ArePlateaus measure low_items.entry.now plateaus.items) }
+            ensures { IfOk result (λ plateaus. ArePlateaus measure low_items.entry.now plateaus) }
         { plateaus_of_halves(rt, alloc, measure, low_items, few, gate) },
-        || -> Result<Vec<Plateau>, NoMemory>
+        || -> Result<Plateaus, NoMemory>
             requires { IsSync R.row × IsSync G.row × (0 < others) × (others ≤ worker_limit)
                 × (length high_items.now ≤ item_limit) × ClassesRise high_items.now }
-            ensures { IfOk result (λ plateaus. ArePlateaus measure high_items.entry.now plateaus.items) }
+            ensures { IfOk result (λ plateaus. ArePlateaus measure high_items.entry.now plateaus) }
         { plateaus_of_halves(rt, alloc, measure, high_items, others, gate) },
     );
-    let mut plateaus = low?;
-    let mut high = high?;
-    plateaus.append(&mut high)?;
-    Ok(plateaus)
+    let plateaus = low?;
+    let high = high?;
+    plateaus.followed_by(high)
 }
 
 /// The plateaus of all classes, by class and start: the same for every number of workers. The items of a class
@@ -93,11 +93,11 @@ pub fn plateaus_of<R: Threads + Sync, G: Gate>(
     items: &[Item],
     workers: u32,
     gate: &G,
-) -> Result<Vec<Plateau>, NoMemory>
+) -> Result<Plateaus, NoMemory>
     requires workers { (0 < workers) × (workers ≤ worker_limit) }
     requires few { length items.now ≤ item_limit }
     requires grouped { AllPairs (λ a b. a.class ≤ b.class) items.now }
-    ensures { IfOk result (λ plateaus. ArePlateaus measure items.now plateaus.items) }
+    ensures { IfOk result (λ plateaus. ArePlateaus measure items.now plateaus) }
 {
     plateaus_of_halves(rt, alloc, measure, items, workers, gate)
 }

@@ -11,6 +11,7 @@ ghost use Rattle.round_core.specs.Spans.{AreBefore, AreFrom, AreOfOneClass, AreP
 
 use crate::closing::joined;
 use crate::measure::Measure;
+use crate::pieces::Plateaus;
 use crate::plateau::Plateau;
 use crate::plateaus::plateaus_by_rounds;
 use dip_core::Item;
@@ -86,30 +87,22 @@ fn items_from(alloc: Global, items: &[Item], at: Point) -> Result<Vec<Item>, NoM
 }
 
 /// The last of one list and the first of another as one, where this continues that.
-fn joint(early: &[Plateau], late: &[Plateau]) -> Option<Plateau>
+fn joint(early: &Plateaus, late: &Plateaus) -> Option<Plateau>
     ensures { MatchOption result (HaveNoJoint early.now late.now) (IsJoint early.now late.now) }
 {
-    let Some((last, _)) = early.split_last() else {
-        return None;
-    };
-    let Some((first, _)) = late.split_first() else {
-        return None;
-    };
+    let last = early.last()?;
+    let first = late.first()?;
     joined(last, first)
 }
 
 /// One list behind the other: where the second begins with what continues the last of the first, both are one.
-fn spliced(early: Vec<Plateau>, late: Vec<Plateau>) -> Result<Vec<Plateau>, NoMemory>
-    ensures { IfOk result (λ rows. AreSpliced early.items late.items rows.items) }
+fn spliced(early: Plateaus, late: Plateaus) -> Result<Plateaus, NoMemory>
+    ensures { IfOk result (λ rows. AreSpliced early late rows) }
 {
-    let mut rows = early;
-    let mut later = late;
-    if let Some(both) = joint(&rows, &later) {
-        later[0] = both;
-        rows.pop();
-    }
-    rows.append(&mut later)?;
-    Ok(rows)
+    let Some(both) = joint(&early, &late) else {
+        return early.followed_by(late);
+    };
+    early.without_last()?.followed_by(late.with_first(both))
 }
 
 /// About the middle one of the items' starts.
@@ -168,11 +161,11 @@ fn plateaus_before<R: Threads + Sync, G: Gate>(
     at: Point,
     workers: u32,
     gate: &G,
-) -> Result<Vec<Plateau>, NoMemory>
+) -> Result<Plateaus, NoMemory>
     requires workers { (0 < workers) × (workers ≤ worker_limit) }
     requires few { length items.now ≤ item_limit }
     requires class { AreOfOneClass items.now }
-    ensures { IfOk result (λ plateaus. ArePlateausBefore at measure items.now plateaus.items) }
+    ensures { IfOk result (λ plateaus. ArePlateausBefore at measure items.now plateaus) }
 {
     let early = items_before(alloc, items, at)?;
     plateaus_of_spans(rt, alloc, measure, &early, workers, gate)
@@ -188,11 +181,11 @@ fn plateaus_from<R: Threads + Sync, G: Gate>(
     at: Point,
     workers: u32,
     gate: &G,
-) -> Result<Vec<Plateau>, NoMemory>
+) -> Result<Plateaus, NoMemory>
     requires workers { (0 < workers) × (workers ≤ worker_limit) }
     requires few { length items.now ≤ item_limit }
     requires class { AreOfOneClass items.now }
-    ensures { IfOk result (λ plateaus. ArePlateausFrom at measure items.now plateaus.items) }
+    ensures { IfOk result (λ plateaus. ArePlateausFrom at measure items.now plateaus) }
 {
     let late = items_from(alloc, items, at)?;
     plateaus_of_spans(rt, alloc, measure, &late, workers, gate)
@@ -208,11 +201,11 @@ pub(crate) fn plateaus_of_spans<R: Threads + Sync, G: Gate>(
     items: &[Item],
     workers: u32,
     gate: &G,
-) -> Result<Vec<Plateau>, NoMemory>
+) -> Result<Plateaus, NoMemory>
     requires workers { (0 < workers) × (workers ≤ worker_limit) }
     requires few { length items.now ≤ item_limit }
     requires rise { ClassesRise items.now }
-    ensures { IfOk result (λ plateaus. ArePlateaus measure items.now plateaus.items) }
+    ensures { IfOk result (λ plateaus. ArePlateaus measure items.now plateaus) }
 {
     let Some(at) = middle_instant(items, workers) else {
         return plateaus_by_rounds(rt, alloc, measure, items, workers, gate);
@@ -221,15 +214,15 @@ pub(crate) fn plateaus_of_spans<R: Threads + Sync, G: Gate>(
     let others = workers - few;
     let (early, late) = join(
         rt,
-        || -> Result<Vec<Plateau>, NoMemory>
+        || -> Result<Plateaus, NoMemory>
             requires { IsSync R.row × IsSync G.row × (0 < few) × (few ≤ worker_limit) × (length items.now ≤ item_limit)
                 × AreOfOneClass items.now }
-            ensures { IfOk result (λ plateaus. ArePlateausBefore at measure items.entry.now plateaus.items) }
+            ensures { IfOk result (λ plateaus. ArePlateausBefore at measure items.entry.now plateaus) }
         { plateaus_before(rt, alloc, measure, items, at, few, gate) },
-        || -> Result<Vec<Plateau>, NoMemory>
+        || -> Result<Plateaus, NoMemory>
             requires { IsSync R.row × IsSync G.row × (0 < others) × (others ≤ worker_limit)
                 × (length items.now ≤ item_limit) × AreOfOneClass items.now }
-            ensures { IfOk result (λ plateaus. ArePlateausFrom at measure items.entry.now plateaus.items) }
+            ensures { IfOk result (λ plateaus. ArePlateausFrom at measure items.entry.now plateaus) }
         { plateaus_from(rt, alloc, measure, items, at, others, gate) },
     );
     let early = early?;

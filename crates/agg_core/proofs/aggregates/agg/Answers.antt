@@ -1,5 +1,4 @@
-use Rattle.std.proofs.Common.{sym, subst, ap, ◌∙◌}
-use Rattle.agg_core.specs.Agg.{IsAgg}
+use Rattle.std.proofs.Common.{sym, ap, ◌∙◌}
 use Rattle.agg_core.specs.Entries.{place_in}
 use Rattle.agg_core.proofs.PlateauLemmas.{agg_by_names}
 use Rattle.agg_core.proofs.aggregates.agg.Goals as goal
@@ -7,9 +6,8 @@ use Rattle.agg_core.proofs.aggregates.agg.Goals as goal
 pub returns : goal.returns
 returns g c = (
   sym c.agg_refusal.ensures ∙ c.in_default.is,
-  subst (IsAgg c.args.side.schema.now c.args.func c.args.group c.args.side.rows.now) (sym c.from.ensures)
-      (agg_by_names c.args.side.schema.now c.args.func c.args.group c.args.side.rows.now c.measure_of.result
-      c.place_in-amount.result c.place_in-by.result c.in_ok-answer.answer.items c.measure_of.ensures
+  agg_by_names c.args.side.schema.now c.args.func c.args.group c.args.side.rows.now c.measure_of-measure.result
+      c.place_in-amount.result c.place_in-by.result c.in_ok-agg_rows.field-0 c.measure_of-measure.ensures
       (c.place_in-amount.ensures ∙ ap (place_in c.args.side.schema.now) c.number_column.ensures) c.place_in-by.ensures
-      (rw c.as_slice-rows.ensures at c.in_ok-answer.ensures)),
+      (rw c.as_slice-rows.ensures at c.in_ok-agg_rows.ensures),
 )

@@ -28,10 +28,10 @@ returns-in_ok-grouped-in-None g c =
     (λ answer made.
     subst
     (λ (by : Option ℕ).
-    AreAggRows c.args.measure (amount_at c.args.amount) (value_at_place by) c.args.rows.now answer.items)
+    AreAggRows c.args.measure (amount_at c.args.amount) (value_at_place by) c.args.rows.now answer)
     (sym c.in-None.is)
     (answer_of c.args.measure (amount_at c.args.amount) (value_at_place None) c.args.rows.now grouped.items.items
-    (copied_groups grouped.groups.items) c.in_ok-grouped-in-None.ensures answer.items made))
+    (copied_groups grouped.groups.items) c.in_ok-grouped-in-None.ensures answer made))
     c.rows_of_groups.ensures
 
 pub returns-in_ok-entries-in-Some : goal.returns-in_ok-entries-in-Some
@@ -43,11 +43,11 @@ returns-in_ok-entries-in-Some g c =
     (λ answer all.
     subst
     (λ (by : Option ℕ).
-    AreAggRows c.args.measure (amount_at c.args.amount) (value_at_place by) c.args.rows.now answer.items)
+    AreAggRows c.args.measure (amount_at c.args.amount) (value_at_place by) c.args.rows.now answer)
     (sym c.in-Some.is)
     (subst
     (λ (rows : List Row).
-    AreAggRows c.args.measure (amount_at c.args.amount) (value_at_place (Some place)) rows answer.items)
+    AreAggRows c.args.measure (amount_at c.args.amount) (value_at_place (Some place)) rows answer)
     (rows_in_entries place c.args.rows.now entries are)
     (all (value_at_place (Some place)) (grouped_entries place c.args.rows.now entries are))))
     c.rows_of_entries.ensures

@@ -1,6 +1,6 @@
-use Rattle.std.proofs.Common.{◌≤◌, Global, Vec, ap, arith, length, rules, subst, sym}
+use Rattle.std.proofs.Common.{◌≤◌, List, ap, arith, length, rules, subst, sym}
 use Rattle.std.specs.Prelude.{filter}
-use Rattle.std.proofs.lemmas.Result.{IfOk-at_ok}
+use Rattle.std.proofs.lemmas.Result.{IfOk-at_ok, IfOk-weaker}
 use Rattle.dip_core.specs.Item.{item_limit}
 use Rattle.agg_core.specs.declared.rows.AggRow.{AggRow}
 use Rattle.agg_core.specs.Entries.{AreKeyed, AreRowsOfEntries, amount_at, is_above, is_upto, value_of_key}
@@ -38,12 +38,17 @@ rows_of_entries-returns g t c =
     let entries = c.as_slice-all.result.now in
     let value = value_of_key c.in-Some.key in
     let keyed : AreKeyed entries = subst AreKeyed (sym c.as_slice-all.ensures.value) c.requires.keyed in
-    subst (λ l. AreRowsOfEntries measure amount_of l c.append.new.self.items) c.as_slice-all.ensures.value
-    (subst (AreRowsOfEntries measure amount_of entries) (sym c.in_ok-append.ensures.items)
-    (AreRowsOfEntries-shares measure amount_of entries value c.in_ok-rows.rows.items c.in_ok-later.later.items keyed
-    (IfOk-at_ok
-    (λ (rows : Vec AggRow Global). AreRowsOfEntries measure amount_of (filter (is_upto value) entries) rows.items)
-    c.in_ok-rows.was (search rules))
-    (IfOk-at_ok
-    (λ (rows : Vec AggRow Global). AreRowsOfEntries measure amount_of (filter (is_above value) entries) rows.items)
-    c.in_ok-later.was (search rules))))
+    let low =
+    IfOk-at_ok
+    (λ (rows : List AggRow). AreRowsOfEntries measure amount_of (filter (is_upto value) entries) rows)
+    c.in_ok-rows.was (search rules) in
+    let high =
+    IfOk-at_ok
+    (λ (rows : List AggRow). AreRowsOfEntries measure amount_of (filter (is_above value) entries) rows)
+    c.in_ok-later.was (search rules) in
+    IfOk-weaker c.followed_by.result _ _
+    (λ rows e.
+    subst (λ l. AreRowsOfEntries measure amount_of l rows) c.as_slice-all.ensures.value
+    (subst (AreRowsOfEntries measure amount_of entries) (sym e)
+    (AreRowsOfEntries-shares measure amount_of entries value c.in_ok-rows.rows c.in_ok-later.later keyed low high)))
+    c.followed_by.ensures

@@ -1,5 +1,5 @@
-use Rattle.std.proofs.Common.{rules, ◌≤◌, Global, Vec, length, refl, sym, subst, arith}
-use Rattle.std.proofs.lemmas.Result.{IfOk-at_ok}
+use Rattle.std.proofs.Common.{rules, ◌≤◌, List, length, refl, sym, subst, arith}
+use Rattle.std.proofs.lemmas.Result.{IfOk-at_ok, IfOk-weaker}
 use Rattle.dip_core.specs.Item.{item_limit}
 use Rattle.grid_core.proofs.BundleLemmas.{low-few, low-rise, high-few, high-rise}
 use Rattle.work_core.specs.Limits.{worker_limit}
@@ -65,14 +65,15 @@ join-low-requires-after_bounds g t c κs within =
 pub returns : goal.returns
 returns g t c =
     let measure = c.args.measure in
-    let low = c.in_ok-plateaus.plateaus.items in
-    let high = c.in_ok-high.high.items in
-    subst (ArePlateaus measure c.args.items.now) (sym c.in_ok-append.ensures.items)
+    let low = c.in_ok-plateaus.plateaus in
+    let high = c.in_ok-high.high in
+    IfOk-weaker c.followed_by.result _ _
+    (λ all e.
+    subst (ArePlateaus measure c.args.items.now) (sym e)
     (ArePlateaus-parted measure c.in-Some.class c.args.items.now c.parted_behind.result.0.now
     c.parted_behind.result.1.now c.parted_behind.ensures low high
-    (IfOk-at_ok
-    (λ (plateaus : Vec Plateau Global). ArePlateaus measure c.parted_behind.result.0.now plateaus.items)
+    (IfOk-at_ok (λ (plateaus : List Plateau). ArePlateaus measure c.parted_behind.result.0.now plateaus)
     c.in_ok-plateaus.was c.join-low.ensures.first)
-    (IfOk-at_ok
-    (λ (plateaus : Vec Plateau Global). ArePlateaus measure c.parted_behind.result.1.now plateaus.items)
-    c.in_ok-high.was c.join-low.ensures.second))
+    (IfOk-at_ok (λ (plateaus : List Plateau). ArePlateaus measure c.parted_behind.result.1.now plateaus)
+    c.in_ok-high.was c.join-low.ensures.second)))
+    c.followed_by.ensures

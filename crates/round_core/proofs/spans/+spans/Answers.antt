@@ -1,4 +1,4 @@
-use Rattle.std.proofs.Common.{Global, Vec, sym, subst}
+use Rattle.std.proofs.Common.{List, sym, subst}
 use Rattle.std.proofs.lemmas.Result.{IfOk-at_ok, IfOk-weaker}
 use Rattle.grid_core.specs.Bundles.{ClassesRise}
 use Rattle.round_core.specs.declared.plateau.Plateau.{Plateau}
@@ -29,13 +29,13 @@ plateaus_of_spans-returns g t c =
     let at = c.in-Some.at in
     let one = c.in-Some.ensures.1 in
     let early =
-    IfOk-at_ok (λ (plateaus : Vec Plateau Global). ArePlateausBefore at measure items plateaus.items)
+    IfOk-at_ok (λ (plateaus : List Plateau). ArePlateausBefore at measure items plateaus)
     c.in_ok-early.was c.join-early.ensures.first in
     let late =
-    IfOk-at_ok (λ (plateaus : Vec Plateau Global). ArePlateausFrom at measure items plateaus.items)
+    IfOk-at_ok (λ (plateaus : List Plateau). ArePlateausFrom at measure items plateaus)
     c.in_ok-late.was c.join-early.ensures.second in
     IfOk-weaker c.spliced.result _ _
     (λ rows s.
     ArePlateaus-spliced measure one.class at items early.early late.late one.own early.cut late.cut
-    c.in_ok-early.early.items c.in_ok-late.late.items early.all late.all rows.items s)
+    c.in_ok-early.early c.in_ok-late.late early.all late.all rows s)
     c.spliced.ensures

@@ -1,8 +1,10 @@
 -- The rows so far are printed.
 use Rattle.std.proofs.Common.{map, take}
+use Rattle.agg_core.specs.Grouping.{agg_row_of}
 use Rattle.answer_core.specs.PrintedRecords.{agg_record}
 use Rattle.answer_core.specs.Unwritten.{Adds}
 use Rattle.answer_core.proofs.writer.AnswerWriter.agg_rows.Given as goal
 
-abbrev pub invariant-loop-row : goal.invariant-loop-row
-invariant-loop-row l = Adds l.fn.self l.self (map agg_record (take l.row-index l.rows))
+abbrev pub invariant-loop-plateau : goal.invariant-loop-plateau
+invariant-loop-plateau l =
+    Adds l.fn.self l.self (map agg_record (map (agg_row_of l.share.groups.items) (take l.plateau-index l.plateaus)))
