@@ -75,7 +75,7 @@ fn agg_rows<R: Threads + Sync, G: Gate>(
 {
     match by {
         None => {
-            let grouped = one_group(alloc, rows, amount)?;
+            let grouped = one_group(rt, alloc, rows, amount, workers)?;
             rows_of_groups(rt, alloc, measure, &grouped, workers, gate)
         }
         Some(place) => {

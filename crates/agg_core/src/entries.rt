@@ -92,6 +92,11 @@ pub(crate) fn sorted<'a, R: Threads + Sync>(
     Ok(entries)
 }
 
+/// Room for the entries on one side of a middle value: somewhat more than half of them.
+fn room_for_share(entries: usize) -> usize {
+    entries / 8 * 5
+}
+
 /// Whether the entry's value is that of the key, or before it.
 fn is_upto(entry: &Entry<'_>, key: &Key<'_>) -> bool
     ensures { result ≡ is_upto (value_of_key key.now) entry.now }
@@ -107,7 +112,7 @@ pub(crate) fn entries_upto<'a>(
 ) -> Result<Vec<Entry<'a>>, NoMemory>
     ensures { IfOk result (λ low. low.items ≡ filter (is_upto (value_of_key key.now)) entries.now) }
 {
-    let mut low = Vec::new(alloc);
+    let mut low = Vec::with_capacity(alloc, room_for_share(entries.len()))?;
     for i in 0..entries.len() {
         if is_upto(&entries[i], key) {
             if let Err(_) = low.push(entries[i]) {
@@ -126,7 +131,7 @@ pub(crate) fn entries_above<'a>(
 ) -> Result<Vec<Entry<'a>>, NoMemory>
     ensures { IfOk result (λ high. high.items ≡ filter (is_above (value_of_key key.now)) entries.now) }
 {
-    let mut high = Vec::new(alloc);
+    let mut high = Vec::with_capacity(alloc, room_for_share(entries.len()))?;
     for i in 0..entries.len() {
         if !is_upto(&entries[i], key) {
             if let Err(_) = high.push(entries[i]) {

@@ -1,6 +1,7 @@
 //! Rows by group: each is an item whose class is the number of its group.
 
-ghost use Rattle.std.specs.Prelude.{◌≡◌, ◌≢◌, IfOk, MatchBool, None, Some};
+ghost use Rattle.std.specs.Prelude.{◌≡◌, ◌≢◌, IfOk, MatchBool, None, Some, map};
+ghost use Rattle.std.specs.Thread.{IsSync};
 ghost use Rattle.agg_core.specs.Agg.{amount_item};
 ghost use Rattle.agg_core.specs.Entries.{AreRising, amount_at, value_at_place};
 ghost use Rattle.agg_core.specs.Grouping.{
@@ -18,6 +19,7 @@ use dip_core::Item;
 use period_core::NoMemory;
 use row_core::{Row, Value};
 use std::alloc::{AllocError, Global};
+use std::thread::{Threads, join};
 
 /// Rows by group.
 #[derive(Drop)]
@@ -29,19 +31,66 @@ pub(crate) struct GroupedRows<'a> {
     pub groups: Vec<Option<&'a Value>>,
 }
 
-/// All rows as one group, with the numbers that they have at the place.
-pub(crate) fn one_group<'a>(
-    alloc: Global,
-    rows: &'a [Row],
-    amount: Option<u32>,
-) -> Result<GroupedRows<'a>, NoMemory>
-    ensures { IfOk result (λ grouped. IsGrouping (amount_at amount) (value_at_place None) rows.entry.now
-        grouped.items.items (copied_groups grouped.groups.items)) }
+/// Of fewer rows half would be over before the other half's thread has started.
+const ROWS_FOR_HALVES: usize = 16_384;
+
+// Each row as an item of one class, with the number that it has at the place.
+fn amount_items(alloc: Global, rows: &[Row], amount: Option<u32>) -> Result<Vec<Item>, NoMemory>
+    ensures { IfOk result (λ items. items.items ≡ map (amount_item (amount_at amount) 0) rows.now) }
 {
     let mut items = Vec::with_capacity(alloc, rows.len())?;
     for row in rows {
         items.push(amount_item(row, amount, 0))?;
     }
+    Ok(items)
+}
+
+// The same, those of the first half of the rows by half of the workers, where there are enough.
+#[cycle(halves)]
+fn items_by_halves<R: Threads + Sync>(
+    rt: &R,
+    alloc: Global,
+    rows: &[Row],
+    amount: Option<u32>,
+    workers: u32,
+) -> Result<Vec<Item>, NoMemory>
+    ensures { IfOk result (λ items. items.items ≡ map (amount_item (amount_at amount) 0) rows.now) }
+{
+    if workers < 2 || rows.len() < ROWS_FOR_HALVES {
+        return amount_items(alloc, rows, amount);
+    }
+    let (front, back) = rows.split_at(rows.len() / 2);
+    let few = workers / 2;
+    let others = workers - few;
+    let (first, second) = join(
+        rt,
+        || -> Result<Vec<Item>, NoMemory>
+            requires { IsSync R.row }
+            ensures { IfOk result (λ items. items.items ≡ map (amount_item (amount_at amount) 0) front.entry.now) }
+        { items_by_halves(rt, alloc, front, amount, few) },
+        || -> Result<Vec<Item>, NoMemory>
+            requires { IsSync R.row }
+            ensures { IfOk result (λ items. items.items ≡ map (amount_item (amount_at amount) 0) back.entry.now) }
+        { items_by_halves(rt, alloc, back, amount, others) },
+    );
+    let mut items = first?;
+    let mut second = second?;
+    items.append(&mut second)?;
+    Ok(items)
+}
+
+/// All rows as one group, with the numbers that they have at the place.
+pub(crate) fn one_group<'a, R: Threads + Sync>(
+    rt: &R,
+    alloc: Global,
+    rows: &'a [Row],
+    amount: Option<u32>,
+    workers: u32,
+) -> Result<GroupedRows<'a>, NoMemory>
+    ensures { IfOk result (λ grouped. IsGrouping (amount_at amount) (value_at_place None) rows.entry.now
+        grouped.items.items (copied_groups grouped.groups.items)) }
+{
+    let items = items_by_halves(rt, alloc, rows, amount, workers)?;
     let mut groups = Vec::new(alloc);
     groups.push(None)?;
     Ok(GroupedRows { items, groups })

@@ -56,9 +56,9 @@ impl AnswerWriter {
     fn agg_row(&mut self, group: Option<&Value>, plateau: &Plateau) -> Result<(), NoMemory>
         requires { self.old.fields ≡ [] }
         ensures { OnOk result (Adds self.old self.new (agg_record record {
-            group = option_copied group.entry;
-            period = plateau.now.period;
-            value = plateau.now.value;
+          group = option_copied group.entry;
+          period = plateau.now.period;
+          value = plateau.now.value;
         } ∷ [])) }
     {
         self.field(b"row")?;

@@ -128,7 +128,11 @@ fn check_agg(
             workers,
             &OpenGate,
         )?;
-        assert_eq!(rt; rows.to_vec(rt.alloc())?.as_slice(), want.as_slice(), "with {workers} workers");
+        assert_eq!(rt;
+            rows.to_vec(rt.alloc())?.as_slice(),
+            want.as_slice(),
+            "with {workers} workers"
+        );
     }
     Ok(want.len())
 }

@@ -98,7 +98,10 @@ pub(crate) fn plateaus_in(
     let mut lists = lists;
     let mut plateaus = Vec::new(alloc);
     'lists: while let Some(list) = lists.pop_front() {
-        close(measure, list.class, list.steps.steps(), &mut plateaus)?;
+        let steps = list.steps.steps();
+        // Each step begins at most one plateau.
+        plateaus.reserve(steps.len())?;
+        close(measure, list.class, steps, &mut plateaus)?;
     }
     Ok(plateaus)
 }

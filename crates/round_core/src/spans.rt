@@ -26,6 +26,11 @@ const ITEMS_FOR_SPANS: usize = 16_384;
 /// By so many items a middle instant is told.
 const SAMPLE: usize = 255;
 
+/// Room for what so many items hold on one side of a middle instant: somewhat more than half of them.
+fn room_for_span(items: usize) -> usize {
+    items / 8 * 5
+}
+
 /// What an item holds before an instant.
 fn ended(item: &Item, at: Point) -> Option<Item>
     ensures { MatchOption result (at ≤ℤ item.now.period.from) (IsEnded at item.now) }
@@ -64,7 +69,7 @@ fn begun(item: &Item, at: Point) -> Option<Item>
 fn items_before(alloc: Global, items: &[Item], at: Point) -> Result<Vec<Item>, NoMemory>
     ensures { IfOk result (λ early. AreBefore at items.now early.items) }
 {
-    let mut early = Vec::new(alloc);
+    let mut early = Vec::with_capacity(alloc, room_for_span(items.len()))?;
     for i in 0..items.len() {
         if let Some(cut) = ended(&items[i], at) {
             early.push(cut)?;
@@ -77,7 +82,7 @@ fn items_before(alloc: Global, items: &[Item], at: Point) -> Result<Vec<Item>, N
 fn items_from(alloc: Global, items: &[Item], at: Point) -> Result<Vec<Item>, NoMemory>
     ensures { IfOk result (λ late. AreFrom at items.now late.items) }
 {
-    let mut late = Vec::new(alloc);
+    let mut late = Vec::with_capacity(alloc, room_for_span(items.len()))?;
     for i in 0..items.len() {
         if let Some(cut) = begun(&items[i], at) {
             late.push(cut)?;

@@ -13,10 +13,13 @@ lists-init c =
 pub lists-preserved : goal.lists-preserved
 lists-preserved c =
     let list = c.in-Some.list in
+    let added =
+    subst (λ z. AddsAll PlateauBefore (IsStepPlateau c.args.measure list.class z) c.reserve.new.self.items
+    c.close.new.plateaus.items) c.steps-steps.ensures.value c.in_ok-close.ensures in
     collecting_more c.args.measure c.args.lists.items c.lists.lists.items c.pop_front.new.self.items list
     c.lists.plateaus.items c.close.new.plateaus.items c.in-Some.ensures.items
-    (subst (λ z. AddsAll PlateauBefore (IsStepPlateau c.args.measure list.class z) c.lists.plateaus.items
-    c.close.new.plateaus.items) c.steps.ensures.value c.in_ok-close.ensures)
+    (subst (λ l. AddsAll PlateauBefore (IsStepPlateau c.args.measure list.class list.steps.steps) l
+    c.close.new.plateaus.items) c.in_ok-reserve.ensures.items added)
     c.lists.invariant
 
 pub returns : goal.returns

@@ -7,7 +7,7 @@ use Rattle.round_core.proofs.spans.items_before.Goals as goal
 use Rattle.round_core.proofs.spans.items_before.Goals.{in-Some+in_ok-push, in_default}
 
 pub loop-i-init : goal.loop-i-init
-loop-i-init c = subst (AreBefore c.args.at []) (sym c.new-early.ensures.items) (before_none c.args.at)
+loop-i-init c = subst (AreBefore c.args.at []) (sym c.in_ok-early.ensures.items) (before_none c.args.at)
 
 pub loop-i-preserved : goal.loop-i-preserved
 loop-i-preserved c =
