@@ -9,6 +9,8 @@ use Rattle.std.specs.Int.{int_max}
 use Rattle.std.proofs.lemmas.Int.{ints, clamps}
 use Rattle.std.proofs.lemmas.Bool.Decides.{nat_tests}
 use Rattle.std.proofs.lemmas.Cmp.{then_total, on_total, int_cmp_total, nat_cmp_total, ranked}
+use Rattle.std.proofs.lemmas.List.{length-append}
+use Rattle.std.proofs.lemmas.List.Elements.{Contains-append_left, Contains-append_right, Contains-append_cases}
 use Rattle.std.proofs.lemmas.List.Sorted.{Contains-permutation, IsPermutation-sym, sorted_far, ranks_by, length_permutation}
 use Rattle.period_core.specs.declared.period.Period.{Period}
 use Rattle.period_core.specs.Period.{Holds}
@@ -460,6 +462,46 @@ pub union_moved : (items moved united : List Item) → IsPermutation items moved
 union_moved items moved united p u =
     union_same moved items united (covered_moved items moved p)
     (let e = length_permutation items moved p in omega (arith, e)) u
+
+-- ---- united apart, and then together
+
+-- what covers in one of two lists does so in both together
+covered_front : (xs ys : List Item) (x : Item) (t : ℤ) → IsCovered xs x t → IsCovered (xs ++ ys) x t
+covered_front xs ys x t c = record {
+  by = c.by;
+  by_in = Contains-append_left xs ys c.by c.by_in;
+  matches = c.matches;
+  holds = c.holds;
+}
+
+covered_back : (xs ys : List Item) (x : Item) (t : ℤ) → IsCovered ys x t → IsCovered (xs ++ ys) x t
+covered_back xs ys x t c = record {
+  by = c.by;
+  by_in = Contains-append_right xs ys c.by c.by_in;
+  matches = c.matches;
+  holds = c.holds;
+}
+
+-- so lists that cover alike do so together
+covered_together : (xs ys us vs : List Item) (x : Item) (t : ℤ) → (IsCovered xs x t → IsCovered us x t)
+    → (IsCovered ys x t → IsCovered vs x t) → IsCovered (xs ++ ys) x t → IsCovered (us ++ vs) x t
+covered_together xs ys us vs x t front back c = elim (Contains-append_cases xs ys c.by c.by_in) [
+  | inl h ↦ covered_front us vs x t (front (record { by = c.by; by_in = h; matches = c.matches; holds = c.holds }))
+  | inr h ↦ covered_back us vs x t (back (record { by = c.by; by_in = h; matches = c.matches; holds = c.holds }))
+]
+
+-- and what two lists are united to, united once more, is what both together are united to
+pub union_together : (xs ys us vs united : List Item) → IsUnion xs us → IsUnion ys vs → IsUnion (us ++ vs) united
+    → IsUnion (xs ++ ys) united
+union_together xs ys us vs united u v both =
+    union_same (us ++ vs) (xs ++ ys) united
+    (λ x t. (
+      covered_together us vs xs ys x t (u.alike x t).1 (v.alike x t).1,
+      covered_together xs ys us vs x t (u.alike x t).0 (v.alike x t).0,
+    ))
+    (let few = length-append us vs in let all = length-append xs ys in
+    let front = u.fewer in let back = v.fewer in omega (arith, few, all, front, back))
+    both
 
 -- ---- the anti-join
 

@@ -12,7 +12,7 @@ ghost use Rattle.anti_core.specs.United.{IsUnion};
 
 use crate::bundles::rows_of_halves;
 use crate::rows::{AntiRow, AntiRows};
-use crate::united::united_items;
+use crate::united::united_rows;
 use dip_core::Item;
 use grid_core::order_by_class;
 use match_core::{Share, items_of_share};
@@ -71,25 +71,8 @@ fn left_items(
     Ok(items)
 }
 
-/// The right items of a share, united.
-fn right_items<R: Threads + Sync>(
-    rt: &R,
-    alloc: Global,
-    rows: &[Row],
-    classes: &[u64],
-    share: Share,
-    workers: u32,
-) -> Result<Vec<Item>, NoMemory>
-    requires { length rows.now ≤ length classes.now }
-    ensures { IfOk result (λ united.
-        IsUnion (items_of_share share rows.now classes.now) united.items) }
-{
-    let items = items_of_share(alloc, rows, classes, share)?;
-    united_items(rt, alloc, items, workers)
-}
-
-/// The left items of a share by class, and the right ones united, by two workers at once, where rows are many; the others
-/// help to sort the right items, which takes longer.
+/// The left items of a share by class, and the right ones united: where rows are many, by one worker the left ones, and
+/// the right ones, which take longer, by all others.
 fn prepared<R: Threads + Sync>(
     rt: &R,
     alloc: Global,
@@ -110,7 +93,7 @@ fn prepared<R: Threads + Sync>(
 {
     if workers < 2 || left.len().min(right.len()) < ROWS_FOR_THREAD {
         let lefts = left_items(alloc, left, left_classes, share)?;
-        let united = right_items(rt, alloc, right, right_classes, share, 1)?;
+        let united = united_rows(rt, alloc, right, right_classes, share, 1)?;
         return Ok((lefts, united));
     }
     let others = workers - 1;
@@ -120,7 +103,7 @@ fn prepared<R: Threads + Sync>(
             requires { IsSync R.row × (length right.now ≤ length right_classes.now) }
             ensures { IfOk result (λ united.
                 IsUnion (items_of_share share right.entry.now right_classes.entry.now) united.items) }
-        { right_items(rt, alloc, right, right_classes, share, others) },
+        { united_rows(rt, alloc, right, right_classes, share, others) },
         || -> Result<Vec<Item>, NoMemory>
             requires { length left.now ≤ length left_classes.now }
             ensures { IfOk result (λ items.

@@ -1,49 +1,88 @@
 //! The right items of each class united, before they are divided: all that counts is which instants they hold.
 
-ghost use Rattle.std.specs.Prelude.{IfOk, IsPermutation, MatchOption, OnOk};
+ghost use Rattle.std.specs.Prelude.{◌++◌, ◌<◌, ◌≤◌, length, IfOk, MatchOption};
+ghost use Rattle.std.specs.Thread.{IsSync};
+ghost use Rattle.match_core.specs.Items.{items_of_share};
 ghost use Rattle.anti_core.specs.United.{RunsInto, IsMerged, IsPlain, IsUnion, StandByClass};
 
 use dip_core::Item;
+use match_core::{Share, items_of_share};
 use period_core::{NoMemory, Period};
-use sort_core::sort_by_key;
+use row_core::Row;
 use std::alloc::Global;
-use std::thread::Threads;
+use std::thread::{Threads, join};
 
-/// The longest periods in which some item of each class holds, as items of their class, by class and start. They have
-/// no ids: each has the id 0, and the amount 0.
-pub(crate) fn united_items<R: Threads + Sync>(
+/// Of fewer rows half would be united before the other half's thread has started.
+const ROWS_FOR_HALVES: usize = 16_384;
+
+/// The longest periods in which some row of each class of a share holds, as items of their class, by class and start.
+/// They have no ids: each has the id 0, and the amount 0. Where rows are many, half of the workers unite their part of
+/// them and the others the rest, and what both find is united again: the more rows hold at once, the less that is.
+#[cycle(halves)]
+pub(crate) fn united_rows<R: Threads + Sync>(
     rt: &R,
     alloc: Global,
-    mut items: Vec<Item>,
+    rows: &[Row],
+    classes: &[u64],
+    share: Share,
     workers: u32,
 ) -> Result<Vec<Item>, NoMemory>
+    requires { length rows.now ≤ length classes.now }
+    ensures { IfOk result (λ united. IsUnion (items_of_share share rows.now classes.now) united.items) }
+{
+    if workers < 2 || rows.len() < ROWS_FOR_HALVES {
+        let items = items_of_share(alloc, rows, classes, share)?;
+        return united_items(alloc, items);
+    }
+    let few = workers / 2;
+    let others = workers - few;
+    let middle = rows_for(rows.len(), few, workers);
+    let (front, back) = rows.split_at(middle);
+    let (front_classes, back_classes) = classes.split_at(middle);
+    let (first, second) = join(
+        rt,
+        || -> Result<Vec<Item>, NoMemory>
+            requires { IsSync R.row × (length front.now ≤ length front_classes.now) }
+            ensures { IfOk result (λ united.
+                IsUnion (items_of_share share front.entry.now front_classes.entry.now) united.items) }
+        { united_rows(rt, alloc, front, front_classes, share, few) },
+        || -> Result<Vec<Item>, NoMemory>
+            requires { IsSync R.row × (length back.now ≤ length back_classes.now) }
+            ensures { IfOk result (λ united.
+                IsUnion (items_of_share share back.entry.now back_classes.entry.now) united.items) }
+        { united_rows(rt, alloc, back, back_classes, share, others) },
+    );
+    united_again(alloc, first?, second?)
+}
+
+/// How many of the rows `few` of the workers take.
+fn rows_for(rows: usize, few: u32, workers: u32) -> usize
+    requires some { 0 < workers }
+    requires few { few ≤ workers }
+    ensures { result ≤ rows }
+{
+    rows / workers as usize * few as usize
+}
+
+/// The union of items. The sort needs no memory.
+fn united_items(alloc: Global, mut items: Vec<Item>) -> Result<Vec<Item>, NoMemory>
     ensures { IfOk result (λ united. IsUnion items.items united.items) }
 {
-    sort_by_class(rt, alloc, &mut items, workers)?;
+    items.sort_unstable_by_key(|item| (item.class, item.period.from));
     unite(alloc, &items)
 }
 
-/// Puts the items by class, and those of one class by start. One worker takes the sort that needs no memory.
-fn sort_by_class<R: Threads + Sync>(
-    rt: &R,
+/// The union of two unions. Each is in order, so the sort, which finds that, only merges them.
+fn united_again(
     alloc: Global,
-    items: &mut Vec<Item>,
-    workers: u32,
-) -> Result<(), NoMemory>
-    ensures permutation { IsPermutation items.old.items items.new.items }
-    ensures sorted { OnOk result (StandByClass items.new.items) }
+    mut first: Vec<Item>,
+    mut second: Vec<Item>,
+) -> Result<Vec<Item>, NoMemory>
+    ensures { IfOk result (λ united. IsUnion (first.items ++ second.items) united.items) }
 {
-    if workers < 2 {
-        items.sort_unstable_by_key(|item| (item.class, item.period.from));
-        return Ok(());
-    }
-    sort_by_key(
-        rt,
-        alloc,
-        items,
-        |item| (item.class, item.period.from),
-        workers,
-    )
+    first.append(&mut second)?;
+    first.sort_by_key(|item| (item.class, item.period.from))?;
+    unite(alloc, &first)
 }
 
 /// The items without ids and amounts, each as one with those behind it that continue it.

@@ -1,5 +1,5 @@
 -- Rows and their items.
-use Rattle.std.proofs.Common.{◌≡◌, ◌<◌, ◌≤◌, ℕ, zero, suc, ◌+◌, false, cond, List, length, [], ◌∷◌, get_or, take, ◌++◌, Some, refl, subst, ap, ◌∙◌, inl, inr, arith, append-nil}
+use Rattle.std.proofs.Common.{◌≡◌, ◌<◌, ◌≤◌, ℕ, zero, suc, ◌+◌, false, cond, List, length, [], ◌∷◌, get_or, take, drop, ◌++◌, Some, refl, sym, subst, ap, ◌∙◌, inl, inr, arith, append-nil}
 use Rattle.std.specs.Prelude.{slice_get, AllPairs, Contains}
 use Rattle.std.proofs.lemmas.List.Elements.{filter-append}
 use Rattle.row_core.specs.Rows.{RowsRise}
@@ -118,6 +118,24 @@ items_with-front (r ∷ rows) [] n h enough = absurd (omega arith)
 items_with-front (r ∷ rows) (c ∷ classes) zero h enough = absurd (omega arith)
 items_with-front (r ∷ rows) (c ∷ classes) (suc n) h enough =
     ap (λ l. item_with r c ∷ l) (items_with-front rows classes n (omega arith) (omega arith))
+
+-- the items of the first rows, and then those of the rows behind them
+items_with-cut : (n : ℕ) (rows : List Row) (classes : List ℕ) → length rows ≤ length classes
+    → items_with (take n rows) (take n classes) ++ items_with (drop n rows) (drop n classes) ≡ items_with rows classes
+items_with-cut zero rows classes enough = refl
+items_with-cut (suc n) [] classes enough = refl
+items_with-cut (suc n) (r ∷ rows) [] enough = absurd (omega arith)
+items_with-cut (suc n) (r ∷ rows) (c ∷ classes) enough =
+    ap (λ l. item_with r c ∷ l) (items_with-cut n rows classes (omega arith))
+
+-- and those of a share
+pub items_of_share-cut : (share : Share) (n : ℕ) (rows : List Row) (classes : List ℕ) → length rows ≤ length classes
+    → items_of_share share (take n rows) (take n classes) ++ items_of_share share (drop n rows) (drop n classes)
+    ≡ items_of_share share rows classes
+items_of_share-cut share n rows classes enough =
+    sym (filter-append (λ (x : Item). has_class share x.class) (items_with (take n rows) (take n classes))
+    (items_with (drop n rows) (drop n classes)))
+    ∙ ap (share_of share) (items_with-cut n rows classes enough)
 
 -- one more row, and its item, if that is of the share
 pub items_of_share-more : (share : Share) (rows : List Row) (classes : List ℕ) (i : ℕ) (r : Row) → i < length rows

@@ -13,6 +13,7 @@ ghost use Rattle.std.specs.Prelude.{
   drop,
   slice_get,
 };
+ghost use Rattle.std.specs.Thread.{IsSync};
 ghost use Rattle.match_core.specs.declared.cells.Cell.{Cell};
 ghost use Rattle.match_core.specs.Cells.{
   IsCell,
@@ -28,6 +29,7 @@ ghost use Rattle.match_core.specs.Cells.{
 use crate::NoMemory;
 use crate::numbering::number_classes;
 use row_core::{Row, Value};
+use sort_core::sort_unstable;
 use std::alloc::Global;
 use std::hash::{FoldHasher, Hasher};
 use std::thread::{Threads, join};
@@ -79,7 +81,7 @@ pub(crate) fn refine<R: Threads + Sync>(
     Ok(())
 }
 
-// The sorted cells of the left rows, and those of the right ones: by two workers at once, where rows are many.
+// The sorted cells of the left rows, and those of the right ones: both at once by two threads, where rows are many.
 fn sorted_sides<'a, R: Threads + Sync>(
     rt: &R,
     alloc: Global,
@@ -101,24 +103,42 @@ fn sorted_sides<'a, R: Threads + Sync>(
     let before = lefts.len();
     let (left_classes, right_classes) = classes.split_at(before);
     if workers < 2 || before.min(rights.len()) < ROWS_FOR_THREAD {
-        let left_cells = sorted_cells(alloc, 0, left_classes, lefts, left_place)?;
-        let right_cells = sorted_cells(alloc, before, right_classes, rights, right_place)?;
+        let left_cells = sorted_cells(rt, alloc, 0, left_classes, lefts, left_place, workers)?;
+        let right_cells = sorted_cells(
+            rt,
+            alloc,
+            before,
+            right_classes,
+            rights,
+            right_place,
+            workers,
+        )?;
         return Ok((left_cells, right_cells));
     }
     let (left_cells, right_cells) = join(
         rt,
         || -> Result<Vec<Cell>, NoMemory>
-            requires { (length left_classes.now ≡ length lefts.now) × (length lefts.now < 2 ^ 63)
+            requires { IsSync R.row × (length left_classes.now ≡ length lefts.now) × (length lefts.now < 2 ^ 63)
                 × AreOneKind (column_at left_place lefts.now) }
             ensures { IfOk result (λ cells. AreSorted 0 left_classes.entry.now
                 (column_at left_place lefts.entry.now) cells.items) }
-        { sorted_cells(alloc, 0, left_classes, lefts, left_place) },
+        { sorted_cells(rt, alloc, 0, left_classes, lefts, left_place, workers) },
         || -> Result<Vec<Cell>, NoMemory>
-            requires { (length right_classes.now ≡ length rights.now) × (before + length rights.now < 2 ^ 63)
+            requires { IsSync R.row × (length right_classes.now ≡ length rights.now) × (before + length rights.now < 2 ^ 63)
                 × AreOneKind (column_at right_place rights.now) }
             ensures { IfOk result (λ cells. AreSorted before right_classes.entry.now
                 (column_at right_place rights.entry.now) cells.items) }
-        { sorted_cells(alloc, before, right_classes, rights, right_place) },
+        {
+            sorted_cells(
+                rt,
+                alloc,
+                before,
+                right_classes,
+                rights,
+                right_place,
+                workers,
+            )
+        },
     );
     let left_cells = left_cells?;
     let right_cells = right_cells?;
@@ -126,12 +146,14 @@ fn sorted_sides<'a, R: Threads + Sync>(
 }
 
 // The sorted cells of a side's rows, which stand behind so many of the other side.
-fn sorted_cells<'a>(
+fn sorted_cells<'a, R: Threads + Sync>(
+    rt: &R,
     alloc: Global,
     before: usize,
     classes: &[u64],
     rows: &'a [Row],
     place: usize,
+    workers: u32,
 ) -> Result<Vec<Cell<'a>>, NoMemory>
     requires count { length classes.now ≡ length rows.now }
     requires room { before + length rows.now < 2 ^ 63 }
@@ -139,7 +161,7 @@ fn sorted_cells<'a>(
     ensures { IfOk result (λ cells. AreSorted before classes.now (column_at place rows.now) cells.items) }
 {
     let mut cells = cells_of(alloc, before, classes, rows, place)?;
-    cells.sort_unstable();
+    sort_unstable(rt, &mut cells, workers);
     Ok(cells)
 }
 

@@ -15,8 +15,8 @@ use std::thread::Threads;
 
 /// A class for each left row, and then for each right one: two rows, of whichever sides, have one class
 /// exactly where they are equal in each named pair of columns. Without names all rows have one. It takes
-/// time of the order n log n in the rows for each pair of names, whatever their values are. The rows of the two sides
-/// are sorted on two threads, where they are many, but by one worker on one.
+/// time of the order n log n in the rows for each pair of names, whatever their values are. Where rows are many,
+/// the two sides are sorted at once, on as many threads as there are processors, but by one worker on one.
 ///
 /// # Errors
 ///
