@@ -151,6 +151,12 @@ fn start_of(lefts: &[Step], rights: &[Step]) -> Option<Point>
     Some(earlier(x.period.from, y.period.from))
 }
 
+/// Room for what two lists of so many steps come to. Each start of a step begins at most one, and so does each end that
+/// no step of its list touches: that of the list that ends first, and those before gaps, for which an eighth is left.
+fn room_for_both(steps: usize) -> usize {
+    steps.saturating_add(steps / 8).saturating_add(1)
+}
+
 /// The steps that give at each instant both tallies together.
 pub(crate) fn combine_steps(
     alloc: Global,
@@ -165,8 +171,7 @@ pub(crate) fn combine_steps(
     let Some(start) = start_of(one, other) else {
         return Ok(Vec::new(alloc));
     };
-    // Where steps of one list touch, each begins at most one of the result.
-    let mut steps = Vec::with_capacity(alloc, one.len() + other.len())?;
+    let mut steps = Vec::with_capacity(alloc, room_for_both(one.len() + other.len()))?;
     let mut at = start;
     let mut lefts = one;
     let mut rights = other;
