@@ -1,5 +1,5 @@
 -- Entries of rows, in the order of the rows and sorted.
-use Rattle.std.proofs.Common.{◌≡◌, ◌⊎◌, ◌&&◌, ◌<◌, ◌+◌, ℕ, Bool, true, false, cond, not, List, [], ◌∷◌, ◌++◌, length, map, take, get_or, All, Option, Some, inl, inr, refl, sym, ap, subst, ◌∙◌, arith}
+use Rattle.std.proofs.Common.{◌≡◌, ◌⊎◌, ◌&&◌, ◌<◌, ◌+◌, ℕ, Bool, true, false, cond, not, List, [], ◌∷◌, ◌++◌, length, map, take, get_or, All, Option, Some, inl, inr, refl, sym, ap, subst, ◌∙◌, arith, append-nil}
 use Rattle.std.specs.Prelude.{filter, slice_get, IsPermutation, IsSortedByKey}
 use Rattle.std.specs.Bool.{Decides}
 use Rattle.std.specs.List.{AllZip}
@@ -7,7 +7,7 @@ use Rattle.std.specs.List.Sorted.{IsStableByKey, ties}
 use Rattle.std.specs.Ordering.{is_lt}
 use Rattle.std.proofs.lemmas.Bool.Decides.{same_from_decides}
 use Rattle.std.proofs.lemmas.List.{length-map, take_more}
-use Rattle.std.proofs.lemmas.List.Elements.{All-cons, All-head, All-tail, All-nil}
+use Rattle.std.proofs.lemmas.List.Elements.{All-cons, All-head, All-tail, All-nil, filter-append}
 use Rattle.std.proofs.lemmas.List.Sorted.{All-permutation, ranks_by, sorted_far}
 use Rattle.std.proofs.lemmas.Slice.Zip.{all_zipped_more}
 use Rattle.row_core.specs.ValueOrder.{same_maybe, value_cmp}
@@ -15,8 +15,10 @@ use Rattle.row_core.specs.declared.row.Row.{Row}
 use Rattle.row_core.specs.declared.value.Value.{Value}
 use Rattle.row_core.proofs.ValueLemmas.{maybe_decides, value_total}
 use Rattle.agg_core.specs.declared.entries.Entry.{Entry}
+use Rattle.agg_core.specs.declared.ranges.KeyRange.{KeyRange}
 use Rattle.agg_core.specs.Groups.{rows_of_group}
-use Rattle.agg_core.specs.Entries.{AreEntries, AreEntriesSorted, AreInGroups, AreKeyed, entry_row, sort_value, value_at_place}
+use Rattle.agg_core.specs.Entries.{AreEntries, AreEntriesSorted, AreInGroups, AreKeyed, IsEntry, entry_row, sort_value, value_at_place}
+use Rattle.agg_core.specs.Ranges.{in_range, rows_in_range}
 use Rattle.agg_core.proofs.OrderLemmas.{not_after, not_after-from, value_lt}
 
 -- ---- lists side by side
@@ -53,6 +55,39 @@ rows_in_entries place [] (e ∷ es) all = absurd all
 rows_in_entries place (r ∷ rows) [] all = absurd all
 rows_in_entries place (r ∷ rows) (e ∷ es) all =
     ap (λ (x : Row). x ∷ map entry_row es) all.0.row_is ∙ ap (λ l. r ∷ l) (rows_in_entries place rows es all.1)
+
+-- one more row, and its entry, if its value is in the range
+rows_in_range-more : (group_of : Row → Option Value) (range : KeyRange) (rows : List Row) (i : ℕ) (row : Row)
+    → i < length rows → row ≡ get_or rows i row
+    → rows_in_range group_of range (take (i + 1) rows)
+    ≡ rows_in_range group_of range (take i rows) ++ cond (in_range range (group_of row)) (row ∷ []) []
+rows_in_range-more group_of range rows i row inside at =
+    ap (rows_in_range group_of range) (take_more rows i row inside ∙ ap (λ (z : Row). take i rows ++ z ∷ []) (sym at))
+    ∙ filter-append (λ (r : Row). in_range range (group_of r)) (take i rows) (row ∷ [])
+
+-- one more entry, of a row of the range
+pub entry_more : (place : ℕ) (range : KeyRange) (rows : List Row) (i : ℕ) (row : Row) (es new : List Entry) (e : Entry)
+    → i < length rows → row ≡ get_or rows i row → in_range range (value_at_place (Some place) row) ≡ true
+    → new ≡ es ++ e ∷ [] → IsEntry place row e
+    → AreEntries place (rows_in_range (value_at_place (Some place)) range (take i rows)) es
+    → AreEntries place (rows_in_range (value_at_place (Some place)) range (take (i + 1) rows)) new
+entry_more place range rows i row es new e inside at within put is all =
+    let before = rows_in_range (value_at_place (Some place)) range (take i rows) in
+    subst (λ (l : List Row). AreEntries place l new)
+    (sym (rows_in_range-more (value_at_place (Some place)) range rows i row inside at
+    ∙ ap (λ b. before ++ cond b (row ∷ []) []) within))
+    (subst (AreEntries place (before ++ row ∷ [])) (sym put) (all_zipped_more (IsEntry place) before es row e all is))
+
+-- and none, of a row of other values
+pub entry_same : (place : ℕ) (range : KeyRange) (rows : List Row) (i : ℕ) (row : Row) (es : List Entry)
+    → i < length rows → row ≡ get_or rows i row → in_range range (value_at_place (Some place) row) ≡ false
+    → AreEntries place (rows_in_range (value_at_place (Some place)) range (take i rows)) es
+    → AreEntries place (rows_in_range (value_at_place (Some place)) range (take (i + 1) rows)) es
+entry_same place range rows i row es inside at without all =
+    let before = rows_in_range (value_at_place (Some place)) range (take i rows) in
+    subst (λ (l : List Row). AreEntries place l es)
+    (sym (rows_in_range-more (value_at_place (Some place)) range rows i row inside at
+    ∙ ap (λ b. before ++ cond b (row ∷ []) []) without ∙ append-nil before)) all
 
 -- ---- filters
 

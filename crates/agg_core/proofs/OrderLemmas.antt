@@ -11,10 +11,10 @@ use Rattle.row_core.proofs.ValueLemmas.{maybe_exact, maybe_total}
 use Rattle.list_core.proofs.RisingLemmas.{IsListOf-unique}
 use Rattle.list_core.proofs.OrderedLemmas.{before-asym}
 use Rattle.agg_core.specs.declared.entries.Entry.{Entry}
-use Rattle.agg_core.specs.declared.entries.Key.{Key}
-use Rattle.agg_core.specs.declared.entries.Key.TheVariants as key
+use Rattle.agg_core.specs.declared.ranges.Key.{Key}
+use Rattle.agg_core.specs.declared.ranges.Key.TheVariants as key
 use Rattle.agg_core.specs.declared.rows.AggRow.{AggRow}
-use Rattle.agg_core.specs.contracts.entries.KeyOrd.TheImpl.{ghosts}
+use Rattle.agg_core.specs.contracts.ranges.KeyOrd.TheImpl.{ghosts}
 use Rattle.agg_core.specs.Agg.{AggHasOneList, IsAggRow, amount_in, measure_of, value_in}
 use Rattle.agg_core.specs.Groups.{AggRowBefore, agg_row_cmp}
 use Rattle.agg_core.specs.Entries.{sort_value, value_of_key}

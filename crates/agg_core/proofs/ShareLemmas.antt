@@ -1,31 +1,32 @@
--- What entries come to, from what two shares of them come to that have no group in common.
-use Rattle.std.proofs.Common.{◌≡◌, ◌⊎◌, ℤ, Bool, true, false, cond, not, List, [], ◌∷◌, ◌++◌, ◌≤◌, length, map, Option, None, Some, inl, inr, refl, sym, ap, subst, ◌∙◌, arith, append-nil}
-use Rattle.std.specs.Prelude.{filter, unwrap_or, Contains}
+-- What rows come to, from what two shares of them come to that have no group in common.
+use Rattle.std.proofs.Common.{◌≡◌, ◌⊎◌, ℕ, ℤ, Bool, true, false, cond, not, ◌&&◌, List, [], ◌∷◌, ◌++◌, map, Option, None, Some, inl, inr, refl, sym, ap, subst, ◌∙◌, append-nil}
+use Rattle.std.specs.Prelude.{filter, Contains}
 use Rattle.std.specs.declared.cmp.Ordering.{Ordering}
 use Rattle.std.specs.declared.cmp.Ordering.TheVariants.{Less, Equal, Greater}
 use Rattle.std.specs.Ordering.{int_cmp, is_le, ordering_reverse, ordering_then}
 use Rattle.std.proofs.lemmas.Cmp.{tied_itself}
-use Rattle.std.proofs.lemmas.List.Elements.{All-contains, All-filter, Contains-append_cases, filter-append, filter_passes}
-use Rattle.std.proofs.lemmas.List.Filters.{length-filter_both}
+use Rattle.std.proofs.lemmas.List.Elements.{All-contains, Contains-append_cases, filter-append, filter_passes}
 use Rattle.std.proofs.lemmas.List.Sorted.{All-permutation}
-use Rattle.row_core.specs.ValueOrder.{maybe_cmp, same_maybe, value_cmp}
+use Rattle.row_core.specs.ValueOrder.{maybe_cmp, same_maybe}
 use Rattle.row_core.specs.declared.row.Row.{Row}
 use Rattle.row_core.specs.declared.value.Value.{Value}
-use Rattle.row_core.proofs.ValueLemmas.{maybe_decides, maybe_exact, value_total}
+use Rattle.row_core.proofs.ValueLemmas.{maybe_decides, maybe_exact, maybe_total}
 use Rattle.dip_core.specs.declared.item.Item.{Item}
-use Rattle.list_core.proofs.MadeLemmas.{Contains-map_source}
 use Rattle.list_core.proofs.RisingLemmas.{Contains-cons, Contains-head}
 use Rattle.list_core.proofs.WantedLemmas.{IsListOf-append, IsListOf-same}
 use Rattle.merge_core.specs.Gaps.{IsMaximal}
 use Rattle.round_core.specs.Plateaus.{HasValue}
 use Rattle.round_core.specs.declared.measure.Measure.{Measure}
 use Rattle.agg_core.specs.declared.entries.Entry.{Entry}
+use Rattle.agg_core.specs.declared.ranges.Key.{Key}
+use Rattle.agg_core.specs.declared.ranges.KeyRange.{KeyRange}
 use Rattle.agg_core.specs.declared.rows.AggRow.{AggRow}
 use Rattle.agg_core.specs.Agg.{AreAggRows, IsAggRow, amount_item}
 use Rattle.agg_core.specs.Groups.{AggRowBefore, rows_of_group}
-use Rattle.agg_core.specs.Entries.{AreApart, AreEntriesSorted, AreInGroups, AreKeyed, AreRowsOfEntries, entry_row, is_above, is_upto, sort_value}
-use Rattle.agg_core.specs.Grouping.{AreItemsByGroup, ArePlateauRows}
-use Rattle.agg_core.proofs.EntryLemmas.{filter-map}
+use Rattle.agg_core.specs.Entries.{AreEntries, AreEntriesSorted, AreInGroups, entry_row, value_at_place, value_of_key}
+use Rattle.agg_core.specs.Grouping.{AreItemsByGroup, ArePlateauRows, GroupBefore}
+use Rattle.agg_core.specs.Ranges.{in_range, is_behind, is_upto, is_within, rows_in_range}
+use Rattle.agg_core.proofs.EntryLemmas.{grouped_entries, rows_in_entries}
 use Rattle.agg_core.proofs.GroupLemmas.{grouping_of}
 use Rattle.agg_core.proofs.PlateauLemmas.{answer_of, row_of_group}
 
@@ -48,15 +49,15 @@ same_rows measure amount_of group_of some other row same is = record {
       is.maximal;
 }
 
--- a row of entries is of the group of an entry
-group_of_share : (group_of : Row → Option Value) (es : List Entry) → AreInGroups group_of es → (r : Row)
-    → Contains (map entry_row es) r → (e : Entry) × Contains es e × (Some e.value.now ≡ group_of r)
-group_of_share group_of es grouped r there =
-    let (e, within, is) = Contains-map_source entry_row es r there in (
-      e,
-      within,
-      sym (All-contains (λ (b : Entry). group_of b.row.now ≡ Some b.value.now) es e grouped within) ∙ ap group_of is,
-    )
+-- what some rows come to is what others do that are the same ones, group by group
+same_answer : (measure : Measure) (amount_of : Row → ℤ) (group_of : Row → Option Value) (some other : List Row)
+    (answer : List AggRow)
+    → ((group : Option Value) → rows_of_group group_of group some ≡ rows_of_group group_of group other)
+    → AreAggRows measure amount_of group_of some answer → AreAggRows measure amount_of group_of other answer
+same_answer measure amount_of group_of some other answer same all =
+    IsListOf-same AggRowBefore (IsAggRow measure amount_of group_of some) (IsAggRow measure amount_of group_of other) answer
+    (λ row. same_rows measure amount_of group_of some other row (same row.group))
+    (λ row. same_rows measure amount_of group_of other some row (sym (same row.group))) all
 
 -- ---- two shares
 
@@ -67,141 +68,145 @@ other_group a b other = by_test (same_maybe a b) refl where
   by_test true e = absurd (other ((maybe_decides a b).0 e))
   by_test false e = e
 
--- no value comes before itself
-before_itself : (a b : Value) → value_cmp a b ≡ Less → a ≡ b → ⊥
+-- no group comes before itself
+before_itself : (a b : Option Value) → GroupBefore a b → a ≡ b → ⊥
 before_itself a b less e =
-    let bad : Less ≡ Equal = sym less ∙ ap (λ (v : Value). value_cmp v b) e ∙ tied_itself value_total b in cc
+    let bad : Less ≡ Equal = sym less ∙ ap (λ (v : Option Value). maybe_cmp v b) e ∙ tied_itself maybe_total b in cc
 
-module _ (measure : Measure) (amount_of : Row → ℤ) (group_of : Row → Option Value) (low high : List Entry)
-    (apart : AreApart low high) (lows : AreInGroups group_of low) (highs : AreInGroups group_of high) where
-  -- a group of the lower entries has no row of a higher one
-  low_alone : (e : Entry) → Contains low e → rows_of_group group_of (Some e.value.now) (map entry_row high) ≡ []
-  low_alone e here =
-      none_pass (λ (r : Row). same_maybe (group_of r) (Some e.value.now)) (map entry_row high)
+-- each group of some rows comes before each group of others
+abbrev AreApart : (Row → Option Value) → List Row → List Row → Type 0
+AreApart group_of low high =
+    (a b : Row) → Contains low a → Contains high b → GroupBefore (group_of a) (group_of b)
+
+module _ (measure : Measure) (amount_of : Row → ℤ) (group_of : Row → Option Value) (low high : List Row)
+    (apart : AreApart group_of low high) where
+  -- a group of the lower rows has no row among the higher ones
+  low_alone : (a : Row) → Contains low a → rows_of_group group_of (group_of a) high ≡ []
+  low_alone a here =
+      none_pass (λ (r : Row). same_maybe (group_of r) (group_of a)) high
       (λ r there.
-      let (f, within, is) = Contains-map_source entry_row high r there in
-      let own : group_of f.row.now ≡ Some f.value.now =
-      All-contains (λ (b : Entry). group_of b.row.now ≡ Some b.value.now) high f highs within in
-      other_group (group_of r) (Some e.value.now) (λ same. before_itself e.value.now f.value.now (apart e f here within)
-      (ap (λ (o : Option Value). unwrap_or o e.value.now) (sym same ∙ ap group_of (sym is) ∙ own))))
+      other_group (group_of r) (group_of a) (λ same. before_itself (group_of a) (group_of r) (apart a r here there)
+      (sym same)))
 
-  -- nor has a group of the higher entries one of a lower one
-  high_alone : (f : Entry) → Contains high f → rows_of_group group_of (Some f.value.now) (map entry_row low) ≡ []
-  high_alone f here =
-      none_pass (λ (r : Row). same_maybe (group_of r) (Some f.value.now)) (map entry_row low)
+  -- nor has a group of the higher rows one among the lower ones
+  high_alone : (b : Row) → Contains high b → rows_of_group group_of (group_of b) low ≡ []
+  high_alone b here =
+      none_pass (λ (r : Row). same_maybe (group_of r) (group_of b)) low
       (λ r there.
-      let (e, within, is) = Contains-map_source entry_row low r there in
-      let own : group_of e.row.now ≡ Some e.value.now =
-      All-contains (λ (b : Entry). group_of b.row.now ≡ Some b.value.now) low e lows within in
-      other_group (group_of r) (Some f.value.now) (λ same. before_itself e.value.now f.value.now (apart e f within here)
-      (ap (λ (o : Option Value). unwrap_or o e.value.now) (sym own ∙ ap group_of is ∙ same))))
+      other_group (group_of r) (group_of b) (λ same. before_itself (group_of r) (group_of b) (apart r b there here)
+      same))
 
-  -- all rows of a group of the lower entries are rows of these
-  low_rows : (e : Entry) → Contains low e
-      → rows_of_group group_of (Some e.value.now) (map entry_row low ++ map entry_row high)
-      ≡ rows_of_group group_of (Some e.value.now) (map entry_row low)
-  low_rows e here =
-      filter-append (λ (r : Row). same_maybe (group_of r) (Some e.value.now)) (map entry_row low) (map entry_row high)
-      ∙ ap (λ l. rows_of_group group_of (Some e.value.now) (map entry_row low) ++ l) (low_alone e here)
-      ∙ append-nil (rows_of_group group_of (Some e.value.now) (map entry_row low))
+  -- all rows of a group of the lower rows are among these
+  low_rows : (a : Row) → Contains low a
+      → rows_of_group group_of (group_of a) (low ++ high) ≡ rows_of_group group_of (group_of a) low
+  low_rows a here =
+      filter-append (λ (r : Row). same_maybe (group_of r) (group_of a)) low high
+      ∙ ap (λ l. rows_of_group group_of (group_of a) low ++ l) (low_alone a here)
+      ∙ append-nil (rows_of_group group_of (group_of a) low)
 
-  -- and all of a group of the higher ones, of those
-  high_rows : (f : Entry) → Contains high f
-      → rows_of_group group_of (Some f.value.now) (map entry_row low ++ map entry_row high)
-      ≡ rows_of_group group_of (Some f.value.now) (map entry_row high)
-  high_rows f here =
-      filter-append (λ (r : Row). same_maybe (group_of r) (Some f.value.now)) (map entry_row low) (map entry_row high)
-      ∙ ap (λ l. l ++ rows_of_group group_of (Some f.value.now) (map entry_row high)) (high_alone f here)
+  -- and all of a group of the higher ones, among those
+  high_rows : (b : Row) → Contains high b
+      → rows_of_group group_of (group_of b) (low ++ high) ≡ rows_of_group group_of (group_of b) high
+  high_rows b here =
+      filter-append (λ (r : Row). same_maybe (group_of r) (group_of b)) low high
+      ∙ ap (λ l. l ++ rows_of_group group_of (group_of b) high) (high_alone b here)
 
   -- what is wanted of all rows is wanted of one share's
-  wanted_of_one : (row : AggRow) → IsAggRow measure amount_of group_of (map entry_row low ++ map entry_row high) row
-      → IsAggRow measure amount_of group_of (map entry_row low) row
-      ⊎ IsAggRow measure amount_of group_of (map entry_row high) row
+  wanted_of_one : (row : AggRow) → IsAggRow measure amount_of group_of (low ++ high) row
+      → IsAggRow measure amount_of group_of low row ⊎ IsAggRow measure amount_of group_of high row
   wanted_of_one row is =
-      let all = map entry_row low ++ map entry_row high in
-      let (r, there, same) = row_of_group measure amount_of group_of all row is in
-      elim (Contains-append_cases (map entry_row low) (map entry_row high) r there) [
+      let (r, there, same) = row_of_group measure amount_of group_of (low ++ high) row is in
+      elim (Contains-append_cases low high r there) [
         | inl first ↦
-            let (e, within, own) = group_of_share group_of low lows r first in
-            inl (same_rows measure amount_of group_of all (map entry_row low) row
-            (subst
-            (λ (g : Option Value). rows_of_group group_of g all ≡ rows_of_group group_of g (map entry_row low))
-            (own ∙ same) (low_rows e within)) is)
+            inl (same_rows measure amount_of group_of (low ++ high) low row
+            (subst (λ (g : Option Value). rows_of_group group_of g (low ++ high) ≡ rows_of_group group_of g low) same
+            (low_rows r first)) is)
         | inr later ↦
-            let (f, within, own) = group_of_share group_of high highs r later in
-            inr (same_rows measure amount_of group_of all (map entry_row high) row
-            (subst
-            (λ (g : Option Value). rows_of_group group_of g all ≡ rows_of_group group_of g (map entry_row high))
-            (own ∙ same) (high_rows f within)) is)
+            inr (same_rows measure amount_of group_of (low ++ high) high row
+            (subst (λ (g : Option Value). rows_of_group group_of g (low ++ high) ≡ rows_of_group group_of g high) same
+            (high_rows r later)) is)
       ]
 
   -- and what is wanted of the lower share's rows is wanted of all
-  wanted_of_low : (row : AggRow) → IsAggRow measure amount_of group_of (map entry_row low) row
-      → IsAggRow measure amount_of group_of (map entry_row low ++ map entry_row high) row
+  wanted_of_low : (row : AggRow) → IsAggRow measure amount_of group_of low row
+      → IsAggRow measure amount_of group_of (low ++ high) row
   wanted_of_low row is =
-      let all = map entry_row low ++ map entry_row high in
-      let (r, there, same) = row_of_group measure amount_of group_of (map entry_row low) row is in
-      let (e, within, own) = group_of_share group_of low lows r there in
-      same_rows measure amount_of group_of (map entry_row low) all row
-      (subst (λ (g : Option Value). rows_of_group group_of g (map entry_row low) ≡ rows_of_group group_of g all)
-      (own ∙ same) (sym (low_rows e within))) is
+      let (r, there, same) = row_of_group measure amount_of group_of low row is in
+      same_rows measure amount_of group_of low (low ++ high) row
+      (subst (λ (g : Option Value). rows_of_group group_of g low ≡ rows_of_group group_of g (low ++ high)) same
+      (sym (low_rows r there))) is
 
   -- of the higher share's too
-  wanted_of_high : (row : AggRow) → IsAggRow measure amount_of group_of (map entry_row high) row
-      → IsAggRow measure amount_of group_of (map entry_row low ++ map entry_row high) row
+  wanted_of_high : (row : AggRow) → IsAggRow measure amount_of group_of high row
+      → IsAggRow measure amount_of group_of (low ++ high) row
   wanted_of_high row is =
-      let all = map entry_row low ++ map entry_row high in
-      let (r, there, same) = row_of_group measure amount_of group_of (map entry_row high) row is in
-      let (f, within, own) = group_of_share group_of high highs r there in
-      same_rows measure amount_of group_of (map entry_row high) all row
-      (subst (λ (g : Option Value). rows_of_group group_of g (map entry_row high) ≡ rows_of_group group_of g all)
-      (own ∙ same) (sym (high_rows f within))) is
+      let (r, there, same) = row_of_group measure amount_of group_of high row is in
+      same_rows measure amount_of group_of high (low ++ high) row
+      (subst (λ (g : Option Value). rows_of_group group_of g high ≡ rows_of_group group_of g (low ++ high)) same
+      (sym (high_rows r there))) is
 
   -- the lower share's rows stand before the others
-  shares_before : (x y : AggRow) → IsAggRow measure amount_of group_of (map entry_row low) x
-      → IsAggRow measure amount_of group_of (map entry_row high) y → AggRowBefore x y
+  shares_before : (x y : AggRow) → IsAggRow measure amount_of group_of low x
+      → IsAggRow measure amount_of group_of high y → AggRowBefore x y
   shares_before x y is is' =
-      let (r, there, same) = row_of_group measure amount_of group_of (map entry_row low) x is in
-      let (e, within, own) = group_of_share group_of low lows r there in
-      let (r', there', same') = row_of_group measure amount_of group_of (map entry_row high) y is' in
-      let (f, within', own') = group_of_share group_of high highs r' there' in
+      let (r, there, same) = row_of_group measure amount_of group_of low x is in
+      let (r', there', same') = row_of_group measure amount_of group_of high y is' in
       ap (λ (o : Ordering). ordering_then o (int_cmp x.period.from y.period.from))
-      (subst (λ (g : Option Value). maybe_cmp g y.group ≡ Less) (own ∙ same)
-      (subst (λ (g : Option Value). maybe_cmp (Some e.value.now) g ≡ Less) (own' ∙ same')
-      (apart e f within within')))
+      (subst (λ (g : Option Value). maybe_cmp g y.group ≡ Less) same
+      (subst (λ (g : Option Value). maybe_cmp (group_of r) g ≡ Less) same' (apart r r' there there')))
 
   -- what both shares come to
-  both_shares : (rows more : List AggRow) → AreAggRows measure amount_of group_of (map entry_row low) rows
-      → AreAggRows measure amount_of group_of (map entry_row high) more
-      → AreAggRows measure amount_of group_of (map entry_row low ++ map entry_row high) (rows ++ more)
+  both_shares : (rows more : List AggRow) → AreAggRows measure amount_of group_of low rows
+      → AreAggRows measure amount_of group_of high more
+      → AreAggRows measure amount_of group_of (low ++ high) (rows ++ more)
   both_shares rows more one other =
-      IsListOf-append AggRowBefore (IsAggRow measure amount_of group_of (map entry_row low))
-      (IsAggRow measure amount_of group_of (map entry_row high))
-      (IsAggRow measure amount_of group_of (map entry_row low ++ map entry_row high)) rows more one other shares_before
-      wanted_of_low wanted_of_high wanted_of_one
+      IsListOf-append AggRowBefore (IsAggRow measure amount_of group_of low) (IsAggRow measure amount_of group_of high)
+      (IsAggRow measure amount_of group_of (low ++ high)) rows more one other shares_before wanted_of_low wanted_of_high
+      wanted_of_one
 
--- ---- shares by value
-
--- what comes before a value, or is it, comes before another that comes behind that
-upto_before : (a b c : Value) → (value_cmp a b ≡ Less) ⊎ (a ≡ b) → value_cmp b c ≡ Less → value_cmp a c ≡ Less
-upto_before a b c (inl less) rest = value_total.trans a b c less rest
-upto_before a b c (inr same) rest = subst (λ (v : Value). value_cmp v c ≡ Less) (sym same) rest
+-- ---- the order of groups
 
 -- what the test for less or equal tells where it passes
-told_upto : (a b : Value) → is_le (value_cmp a b) ≡ true → (value_cmp a b ≡ Less) ⊎ (a ≡ b)
-told_upto a b e = by_cmp (value_cmp a b) refl e where
-  by_cmp : (o : Ordering) → value_cmp a b ≡ o → is_le o ≡ true → (value_cmp a b ≡ Less) ⊎ (a ≡ b)
+told_upto : (a b : Option Value) → is_le (maybe_cmp a b) ≡ true → GroupBefore a b ⊎ (a ≡ b)
+told_upto a b e = by_cmp (maybe_cmp a b) refl e where
+  by_cmp : (o : Ordering) → maybe_cmp a b ≡ o → is_le o ≡ true → GroupBefore a b ⊎ (a ≡ b)
   by_cmp Less c t = inl c
-  by_cmp Equal c t = inr (ap (λ (v : Option Value). unwrap_or v a) (maybe_exact (Some a) (Some b) c))
+  by_cmp Equal c t = inr (maybe_exact a b c)
   by_cmp Greater c t = cc
 
 -- and where it fails
-told_after : (a b : Value) → is_le (value_cmp a b) ≡ false → value_cmp b a ≡ Less
-told_after a b e = value_total.antisymm b a ∙ by_cmp (value_cmp a b) e where
+told_after : (a b : Option Value) → is_le (maybe_cmp a b) ≡ false → GroupBefore b a
+told_after a b e = maybe_total.antisymm b a ∙ by_cmp (maybe_cmp a b) e where
   by_cmp : (o : Ordering) → is_le o ≡ false → ordering_reverse o ≡ Less
   by_cmp Less t = cc
   by_cmp Equal t = cc
   by_cmp Greater t = refl
+
+-- what comes before a group, or is it, comes before another that comes behind that
+upto_before : (a b c : Option Value) → GroupBefore a b ⊎ (a ≡ b) → GroupBefore b c → GroupBefore a c
+upto_before a b c (inl less) rest = maybe_total.trans a b c less rest
+upto_before a b c (inr same) rest = subst (λ (v : Option Value). maybe_cmp v c ≡ Less) (sym same) rest
+
+-- a group is that of a value, or comes before it, where it is that of a lower value, or comes before that
+upto_more : (v w : Value) (group : Option Value) → is_upto w (Some v) ≡ true → is_upto v group ≡ true
+    → is_upto w group ≡ true
+upto_more v w group low here = elim (told_upto (Some v) (Some w) low) [
+  | inl less ↦ ap is_le (upto_before group (Some v) (Some w) (told_upto group (Some v) here) less)
+  | inr same ↦ subst (λ (o : Option Value). is_le (maybe_cmp group o) ≡ true) same here
+]
+
+-- and comes after a lower value where it comes after a value
+after_more : (v w : Value) (group : Option Value) → is_upto w (Some v) ≡ false → is_upto v group ≡ false
+    → is_upto w group ≡ false
+after_more v w group high here = by_test (is_upto w group) refl where
+  by_test : (t : Bool) → is_upto w group ≡ t → is_upto w group ≡ false
+  by_test false e = e
+  by_test true e = absurd (
+      let less : GroupBefore group (Some v) =
+      upto_before group (Some w) (Some v) (told_upto group (Some w) e) (told_after (Some v) (Some w) high) in
+      let bad : true ≡ false = ap is_le (sym less) ∙ here in cc)
+
+-- ---- shares by value
 
 -- what passes one test passes another that lets nothing else pass
 keep_all : {A : Type 0} (p t : A → Bool) (xs : List A) → ((x : A) → Contains xs x → t x ≡ true → p x ≡ true)
@@ -234,133 +239,178 @@ keep_none p t (x ∷ xs) none =
         ap (λ z. cond z (x ∷ filter t (filter p xs)) (filter t (filter p xs))) f ∙ rest
     split false c e f rest = rest
 
--- the share that has a group
-side : Value → Option Value → Bool
-side v None = true
-side v (Some w) = is_le (value_cmp w v)
-
-module _ (group_of : Row → Option Value) (es : List Entry) (v : Value) (grouped : AreInGroups group_of es)
-    (keyed : AreKeyed es) where
-  low : List Entry
-  low = filter (is_upto v) es
-
-  high : List Entry
-  high = filter (is_above v) es
-
-  -- an entry of a group is in the group's share
-  on_side : (g : Option Value) (e : Entry) → Contains es e → same_maybe (group_of e.row.now) g ≡ true
-      → is_upto v e ≡ side v g
-  unfolding side
-  on_side g e here same =
-      let own : group_of e.row.now ≡ Some e.value.now =
-      All-contains (λ (b : Entry). group_of b.row.now ≡ Some b.value.now) es e grouped here in
-      let key : sort_value e ≡ e.value.now =
-      All-contains (λ (b : Entry). sort_value b ≡ b.value.now) es e keyed here in
-      ap (λ (w : Value). is_le (value_cmp w v)) key
-      ∙ ap (side v) (sym own ∙ (maybe_decides (group_of e.row.now) g).0 same)
-
-  -- a group's rows are the same ones, share by share
-  same_group : (g : Option Value)
-      → rows_of_group group_of g (map entry_row low ++ map entry_row high) ≡ rows_of_group group_of g (map entry_row es)
-  unfolding low high
-  same_group g =
-      filter-append (λ (r : Row). same_maybe (group_of r) g) (map entry_row low) (map entry_row high)
-      ∙ ap (λ l. l ++ rows_of_group group_of g (map entry_row high)) (filter-map entry_row test low)
-      ∙ ap (λ l. map entry_row (filter mine low) ++ l) (filter-map entry_row test high)
-      ∙ split (side v g) refl
-      ∙ sym (filter-map entry_row test es)
-    where
-      test : Row → Bool
-      test r = same_maybe (group_of r) g
-
-      mine : Entry → Bool
-      mine e = same_maybe (group_of (entry_row e)) g
-
-      split : (b : Bool) → side v g ≡ b
-          → map entry_row (filter mine low) ++ map entry_row (filter mine high) ≡ map entry_row (filter mine es)
-      split true is =
-          ap (λ l. map entry_row l ++ map entry_row (filter mine high))
-          (keep_all (is_upto v) mine es (λ e h same. on_side g e h same ∙ is))
-          ∙ ap (λ l. map entry_row (filter mine es) ++ map entry_row l)
-          (keep_none (is_above v) mine es (λ e h same. ap not (on_side g e h same ∙ is)))
-          ∙ append-nil (map entry_row (filter mine es))
-      split false is =
-          ap (λ l. map entry_row l ++ map entry_row (filter mine high))
-          (keep_none (is_upto v) mine es (λ e h same. on_side g e h same ∙ is))
-          ∙ ap (map entry_row) (keep_all (is_above v) mine es (λ e h same. ap not (on_side g e h same ∙ is)))
-
 -- what is denied is false
 denied : (t : Bool) → not t ≡ true → t ≡ false
 denied true e = cc
 denied false e = refl
 
--- of entries no more are in a share than there are
-pub share_few : (v : Value) (es : List Entry) → (length (filter (is_upto v) es) ≤ length es)
-    × (length (filter (is_above v) es) ≤ length es)
-share_few v es =
-    let both = length-filter_both (is_upto v) (is_above v) (λ e. refl) es in (omega (arith, both), omega (arith, both))
+module _ (group_of : Row → Option Value) (rows : List Row) (v : Value) where
+  low_of : Row → Bool
+  low_of row = is_upto v (group_of row)
 
--- and their keys are their values' too
-pub share_keyed : (p : Entry → Bool) (es : List Entry) → AreKeyed es → AreKeyed (filter p es)
-share_keyed p es keyed = All-filter p (λ (e : Entry). sort_value e ≡ e.value.now) es keyed
+  high_of : Row → Bool
+  high_of row = not (is_upto v (group_of row))
 
--- what entries of lower values and entries of higher ones come to
-pub AreRowsOfEntries-shares : (measure : Measure) (amount_of : Row → ℤ) (es : List Entry) (v : Value)
-    (rows more : List AggRow) → AreKeyed es
-    → AreRowsOfEntries measure amount_of (filter (is_upto v) es) rows
-    → AreRowsOfEntries measure amount_of (filter (is_above v) es) more
-    → AreRowsOfEntries measure amount_of es (rows ++ more)
-unfolding low high
-AreRowsOfEntries-shares measure amount_of es v rows more keyed one other group_of grouped =
-    let lows : AreInGroups group_of (filter (is_upto v) es) =
-    All-filter (is_upto v) (λ (e : Entry). group_of e.row.now ≡ Some e.value.now) es grouped in
-    let highs : AreInGroups group_of (filter (is_above v) es) =
-    All-filter (is_above v) (λ (e : Entry). group_of e.row.now ≡ Some e.value.now) es grouped in
-    let all = map entry_row (filter (is_upto v) es) ++ map entry_row (filter (is_above v) es) in
-    IsListOf-same AggRowBefore (IsAggRow measure amount_of group_of all)
-    (IsAggRow measure amount_of group_of (map entry_row es)) (rows ++ more)
-    (λ row. same_rows measure amount_of group_of all (map entry_row es) row (same_group group_of es v grouped keyed row.group))
-    (λ row. same_rows measure amount_of group_of (map entry_row es) all row
-    (sym (same_group group_of es v grouped keyed row.group)))
-    (both_shares measure amount_of group_of (filter (is_upto v) es) (filter (is_above v) es) apart lows highs rows more
-    (one group_of lows) (other group_of highs))
+  -- a row of a group is in the group's share
+  on_side : (group : Option Value) (row : Row) → same_maybe (group_of row) group ≡ true
+      → is_upto v (group_of row) ≡ is_upto v group
+  on_side group row same = ap (is_upto v) ((maybe_decides (group_of row) group).0 same)
+
+  -- a group's rows are the same ones, share by share
+  same_group : (group : Option Value)
+      → rows_of_group group_of group (filter low_of rows ++ filter high_of rows) ≡ rows_of_group group_of group rows
+  unfolding low_of high_of
+  same_group group = filter-append mine (filter low_of rows) (filter high_of rows) ∙ split (is_upto v group) refl
+    where
+      mine : Row → Bool
+      mine row = same_maybe (group_of row) group
+
+      split : (b : Bool) → is_upto v group ≡ b
+          → filter mine (filter low_of rows) ++ filter mine (filter high_of rows) ≡ filter mine rows
+      split true is =
+          ap (λ l. l ++ filter mine (filter high_of rows))
+          (keep_all low_of mine rows (λ r h same. on_side group r same ∙ is))
+          ∙ ap (λ l. filter mine rows ++ l)
+          (keep_none high_of mine rows (λ r h same. ap not (on_side group r same ∙ is)))
+          ∙ append-nil (filter mine rows)
+      split false is =
+          ap (λ l. l ++ filter mine (filter high_of rows))
+          (keep_none low_of mine rows (λ r h same. on_side group r same ∙ is))
+          ∙ keep_all high_of mine rows (λ r h same. ap not (on_side group r same ∙ is))
+
+  -- the groups of both shares are apart
+  values_apart : AreApart group_of (filter low_of rows) (filter high_of rows)
+  unfolding low_of high_of
+  values_apart a b here there =
+      let p : is_upto v (group_of a) ≡ true =
+      All-contains (λ (r : Row). low_of r ≡ true) (filter low_of rows) a (filter_passes low_of rows) here in
+      let q : is_upto v (group_of b) ≡ false =
+      denied (is_upto v (group_of b))
+      (All-contains (λ (r : Row). high_of r ≡ true) (filter high_of rows) b (filter_passes high_of rows) there) in
+      upto_before (group_of a) (Some v) (group_of b) (told_upto (group_of a) (Some v) p)
+      (told_after (group_of b) (Some v) q)
+
+-- ---- shares by range
+
+-- where both are true, each is
+both_true : (a b : Bool) → a && b ≡ true → (a ≡ true) × (b ≡ true)
+both_true true b e = (refl, e)
+both_true false b e = cc
+
+-- nothing holds with what is false
+and_false : (a : Bool) → a && false ≡ false
+and_false true = refl
+and_false false = refl
+
+-- what is true changes nothing
+and_true : (a : Bool) → a && true ≡ a
+and_true true = refl
+and_true false = refl
+
+-- a group up to a range's value is within the range's end
+within_more : (end : Option Key) (v : Value) (group : Option Value) → is_within end (Some v) ≡ true
+    → is_upto v group ≡ true → is_within end group ≡ true
+within_more None v group low here = refl
+within_more (Some key) v group low here = upto_more v (value_of_key key) group low here
+
+-- a group after a range's value is behind the range's beginning
+behind_more : (first : Option Key) (v : Value) (group : Option Value) → is_behind first (Some v) ≡ true
+    → is_upto v group ≡ false → is_behind first group ≡ true
+behind_more None v group high here = refl
+behind_more (Some key) v group high here =
+    ap not (after_more v (value_of_key key) group (denied (is_upto (value_of_key key) (Some v)) high) here)
+
+module _ (range : KeyRange) (key : Key) (within : in_range range (Some (value_of_key key)) ≡ true) where
+  -- the lower values of a range
+  abbrev lower : KeyRange
+  lower = record { above = range.above; upto = Some key }
+
+  -- and the higher ones
+  abbrev higher : KeyRange
+  higher = record { above = Some key; upto = range.upto }
+
+  ends : (is_behind range.above (Some (value_of_key key)) ≡ true) × (is_within range.upto (Some (value_of_key key)) ≡ true)
+  ends = both_true (is_behind range.above (Some (value_of_key key))) (is_within range.upto (Some (value_of_key key))) within
+
+  -- a group is one of the lower values where it is one of the range and not after the key
+  in_lower : (group : Option Value) → in_range range group && is_upto (value_of_key key) group ≡ in_range lower group
+  in_lower group = by_test (is_upto (value_of_key key) group) refl where
+    by_test : (t : Bool) → is_upto (value_of_key key) group ≡ t
+        → (is_behind range.above group && is_within range.upto group) && t ≡ is_behind range.above group && t
+    by_test true e =
+        and_true (is_behind range.above group && is_within range.upto group)
+        ∙ ap (λ b. is_behind range.above group && b) (within_more range.upto (value_of_key key) group ends.1 e)
+    by_test false e =
+        and_false (is_behind range.above group && is_within range.upto group) ∙ sym (and_false (is_behind range.above group))
+
+  -- and one of the higher values where it is after the key
+  in_higher : (group : Option Value)
+      → in_range range group && not (is_upto (value_of_key key) group) ≡ in_range higher group
+  in_higher group = by_test (is_upto (value_of_key key) group) refl where
+    by_test : (t : Bool) → is_upto (value_of_key key) group ≡ t
+        → (is_behind range.above group && is_within range.upto group) && not t ≡ not t && is_within range.upto group
+    by_test true e = and_false (is_behind range.above group && is_within range.upto group)
+    by_test false e =
+        and_true (is_behind range.above group && is_within range.upto group)
+        ∙ ap (λ b. b && is_within range.upto group) (behind_more range.above (value_of_key key) group ends.0 e)
+
+-- what passes one test and then another passes both
+filter_twice : {A : Type 0} (p q : A → Bool) (xs : List A) → filter q (filter p xs) ≡ filter (λ x. p x && q x) xs
+filter_twice p q [] = refl
+filter_twice p q (x ∷ xs) = split (p x) (filter_twice p q xs)
   where
-    key_of : (e : Entry) (p : Entry → Bool) → Contains (filter p es) e → sort_value e ≡ e.value.now
-    key_of e p h =
-        All-contains (λ (b : Entry). sort_value b ≡ b.value.now) (filter p es) e
-        (All-filter p (λ (b : Entry). sort_value b ≡ b.value.now) es keyed) h
+    split : (b : Bool) → filter q (filter p xs) ≡ filter (λ x. p x && q x) xs
+        → filter q (cond b (x ∷ filter p xs) (filter p xs))
+        ≡ cond (b && q x) (x ∷ filter (λ x. p x && q x) xs) (filter (λ x. p x && q x) xs)
+    split true rest = ap (λ l. cond (q x) (x ∷ l) l) rest
+    split false rest = rest
 
-    apart : AreApart (filter (is_upto v) es) (filter (is_above v) es)
-    apart a b h k =
-        let p : is_upto v a ≡ true =
-        All-contains (λ (x : Entry). is_upto v x ≡ true) (filter (is_upto v) es) a (filter_passes (is_upto v) es) h in
-        let q : is_upto v b ≡ false =
-        denied (is_upto v b)
-        (All-contains (λ (x : Entry). is_above v x ≡ true) (filter (is_above v) es) b (filter_passes (is_above v) es) k) in
-        subst (λ (w : Value). value_cmp w b.value.now ≡ Less) (key_of a (is_upto v) h)
-        (subst (λ (w : Value). value_cmp (sort_value a) w ≡ Less) (key_of b (is_above v) k)
-        (upto_before (sort_value a) v (sort_value b) (told_upto (sort_value a) v p) (told_after (sort_value b) v q)))
+-- what the rows of a range come to, from those of its lower values and those of its higher ones
+pub AreAggRows-ranges : (measure : Measure) (amount_of : Row → ℤ) (group_of : Row → Option Value) (range : KeyRange)
+    (key : Key) (rows : List Row) (answer more : List AggRow) → in_range range (Some (value_of_key key)) ≡ true
+    → AreAggRows measure amount_of group_of
+    (rows_in_range group_of (record { above = range.above; upto = Some key }) rows) answer
+    → AreAggRows measure amount_of group_of
+    (rows_in_range group_of (record { above = Some key; upto = range.upto }) rows) more
+    → AreAggRows measure amount_of group_of (rows_in_range group_of range rows) (answer ++ more)
+unfolding low_of high_of
+AreAggRows-ranges measure amount_of group_of range key rows answer more within one other =
+    let some = rows_in_range group_of range rows in
+    let v = value_of_key key in
+    let low : filter (low_of group_of some v) some ≡ rows_in_range group_of (lower range key within) rows =
+    filter_twice (λ (r : Row). in_range range (group_of r)) (low_of group_of some v) rows
+    ∙ (λ i. filter (λ r. in_lower range key within (group_of r) i) rows) in
+    let high : filter (high_of group_of some v) some ≡ rows_in_range group_of (higher range key within) rows =
+    filter_twice (λ (r : Row). in_range range (group_of r)) (high_of group_of some v) rows
+    ∙ (λ i. filter (λ r. in_higher range key within (group_of r) i) rows) in
+    same_answer measure amount_of group_of (filter (low_of group_of some v) some ++ filter (high_of group_of some v) some)
+    some (answer ++ more) (same_group group_of some v)
+    (both_shares measure amount_of group_of (filter (low_of group_of some v) some)
+    (filter (high_of group_of some v) some) (values_apart group_of some v) answer more
+    (subst (λ (l : List Row). AreAggRows measure amount_of group_of l answer) (sym low) one)
+    (subst (λ (l : List Row). AreAggRows measure amount_of group_of l more) (sym high) other))
 
--- ---- what rows come to, sorted or not
+-- a range without ends has all rows
+pub rows_in_range-all : (group_of : Row → Option Value) (rows : List Row)
+    → rows_in_range group_of (record { above = None; upto = None }) rows ≡ rows
+rows_in_range-all group_of [] = refl
+rows_in_range-all group_of (row ∷ rows) = ap (λ l. row ∷ l) (rows_in_range-all group_of rows)
 
--- the rows of the plateaus of numbered entries
-pub rows_of_numbered : (measure : Measure) (amount_of : Row → ℤ) (es : List Entry) (items : List Item)
-    (groups : List (Option Value)) (answer : List AggRow) → AreItemsByGroup amount_of es items groups
-    → ArePlateauRows measure items groups answer → AreRowsOfEntries measure amount_of es answer
-rows_of_numbered measure amount_of es items groups answer numbered made group_of grouped =
-    answer_of measure amount_of group_of (map entry_row es) items groups
-    (grouping_of amount_of group_of es items groups grouped numbered) answer made
+-- ---- what listed rows come to
 
--- what sorted entries come to is what they came to before
-pub rows_of_sorted : (measure : Measure) (amount_of : Row → ℤ) (old new : List Entry) (answer : List AggRow)
-    → AreEntriesSorted old new → AreRowsOfEntries measure amount_of new answer
-    → AreRowsOfEntries measure amount_of old answer
-rows_of_sorted measure amount_of old new answer sorted all group_of grouped =
-    IsListOf-same AggRowBefore (IsAggRow measure amount_of group_of (map entry_row new))
-    (IsAggRow measure amount_of group_of (map entry_row old)) answer
-    (λ row. same_rows measure amount_of group_of (map entry_row new) (map entry_row old) row
-    (sorted.kept group_of grouped row.group))
-    (λ row. same_rows measure amount_of group_of (map entry_row old) (map entry_row new) row
-    (sym (sorted.kept group_of grouped row.group)))
-    (all group_of
-    (All-permutation (λ (e : Entry). group_of e.row.now ≡ Some e.value.now) old new sorted.moved grouped))
+-- what rows come to, from the plateaus of their sorted entries
+pub answer_of_entries : (measure : Measure) (amount_of : Row → ℤ) (place : ℕ) (rows : List Row) (made sorted : List Entry)
+    (items : List Item) (groups : List (Option Value)) (answer : List AggRow) → AreEntries place rows made
+    → AreEntriesSorted made sorted → AreItemsByGroup amount_of sorted items groups
+    → ArePlateauRows measure items groups answer
+    → AreAggRows measure amount_of (value_at_place (Some place)) rows answer
+answer_of_entries measure amount_of place rows made sorted items groups answer are by_value numbered plateaus =
+    let group_of = value_at_place (Some place) in
+    let grouped : AreInGroups group_of made = grouped_entries place rows made are in
+    let moved : AreInGroups group_of sorted =
+    All-permutation (λ (e : Entry). group_of e.row.now ≡ Some e.value.now) made sorted by_value.moved grouped in
+    subst (λ (l : List Row). AreAggRows measure amount_of group_of l answer) (rows_in_entries place rows made are)
+    (same_answer measure amount_of group_of (map entry_row sorted) (map entry_row made) answer
+    (by_value.kept group_of grouped)
+    (answer_of measure amount_of group_of (map entry_row sorted) items groups
+    (grouping_of amount_of group_of sorted items groups moved numbered) answer plateaus))

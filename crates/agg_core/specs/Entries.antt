@@ -1,21 +1,18 @@
 -- Rows sorted by the values that they are grouped by.
-use Rattle.std.specs.Prelude.{◌≡◌, ℕ, ℤ, List, map, All, AllPairs, Bool, Contains, false, not, Option, Some, option_and_then, slice_get, IsPermutation}
+use Rattle.std.specs.Prelude.{◌≡◌, ℕ, ℤ, List, map, All, AllPairs, false, Option, Some, option_and_then, slice_get, IsPermutation}
 use Rattle.std.specs.List.{AllZip}
-use Rattle.std.specs.declared.cmp.Ordering.TheVariants.{Less}
-use Rattle.std.specs.Ordering.{is_le, is_lt}
+use Rattle.std.specs.Ordering.{is_lt}
 use Rattle.row_core.specs.Schema.{column_of}
 use Rattle.row_core.specs.ValueOrder.{value_cmp}
 use Rattle.row_core.specs.declared.row.Row.{Row}
 use Rattle.row_core.specs.declared.schema.Column.{Column}
 use Rattle.row_core.specs.declared.value.Value.{Value}
 use Rattle.row_core.specs.declared.value.Value.TheVariants as value
-use Rattle.round_core.specs.declared.measure.Measure.{Measure}
-use Rattle.agg_core.specs.Agg.{AreAggRows, amount_of_value}
+use Rattle.agg_core.specs.Agg.{amount_of_value}
 use Rattle.agg_core.specs.Groups.{rows_of_group}
 use Rattle.agg_core.specs.declared.entries.Entry.{Entry}
-use Rattle.agg_core.specs.declared.entries.Key.{Key}
-use Rattle.agg_core.specs.declared.entries.Key.TheVariants.{Number, Text}
-use Rattle.agg_core.specs.declared.rows.AggRow.{AggRow}
+use Rattle.agg_core.specs.declared.ranges.Key.{Key}
+use Rattle.agg_core.specs.declared.ranges.Key.TheVariants.{Number, Text}
 
 -- the place of a column, where one is named
 abbrev pub place_in : List Column → Option (List ℕ) → Option ℕ
@@ -64,28 +61,9 @@ AreKeyed entries = All (λ (e : Entry). sort_value e ≡ e.value.now) entries
 abbrev pub AreInGroups : (Row → Option Value) → List Entry → Type 0
 AreInGroups group_of entries = All (λ (e : Entry). group_of e.row.now ≡ Some e.value.now) entries
 
--- what the rows of entries come to, where they are grouped by the entries' values
-abbrev pub AreRowsOfEntries : Measure → (Row → ℤ) → List Entry → List AggRow → Type 0
-AreRowsOfEntries measure amount_of entries answer =
-    (group_of : Row → Option Value) → AreInGroups group_of entries
-    → AreAggRows measure amount_of group_of (map entry_row entries) answer
-
 -- the entries by rising value, so that each group's rows stand in the order in which they stood
 pub record AreEntriesSorted (old new : List Entry) : Type 0 where
   pub rise : AreRising new
   pub moved : IsPermutation old new
   pub kept : (group_of : Row → Option Value) → AreInGroups group_of old → (group : Option Value)
       → rows_of_group group_of group (map entry_row new) ≡ rows_of_group group_of group (map entry_row old)
-
--- each value of some entries is before each value of others
-abbrev pub AreApart : List Entry → List Entry → Type 0
-AreApart low high =
-    (a b : Entry) → Contains low a → Contains high b → value_cmp a.value.now b.value.now ≡ Less
-
--- whether an entry is of that value, or of one before it
-abbrev pub is_upto : Value → Entry → Bool
-is_upto value entry = is_le (value_cmp (sort_value entry) value)
-
--- whether it is of a higher one
-abbrev pub is_above : Value → Entry → Bool
-is_above value entry = not (is_upto value entry)

@@ -8,11 +8,11 @@ ghost use Rattle.agg_core.specs.Agg.{AreAggRows, IsAgg, agg_refusal};
 ghost use Rattle.agg_core.specs.Entries.{amount_at, place_in, value_at_place};
 ghost use Rattle.agg_core.specs.Grouping.{HaveValues};
 
-use crate::entries::entries_of;
 use crate::func::{Func, agg_refusal, measure_of, number_column};
 use crate::groups::one_group;
+use crate::ranges::KeyRange;
 use crate::rows::{AggRows, rows_of_groups};
-use crate::shares::rows_of_entries;
+use crate::shares::rows_of_range;
 use match_core::{QueryRefused, Side};
 use period_core::NoMemory;
 use round_core::Measure;
@@ -79,8 +79,11 @@ fn agg_rows<R: Threads + Sync, G: Gate>(
             rows_of_groups(rt, alloc, measure, &grouped, workers, gate)
         }
         Some(place) => {
-            let entries = entries_of(alloc, rows, place)?;
-            rows_of_entries(rt, alloc, measure, entries, amount, workers, gate)
+            let all = KeyRange {
+                above: None,
+                upto: None,
+            };
+            rows_of_range(rt, alloc, measure, rows, place, amount, &all, workers, gate)
         }
     }
 }

@@ -1,22 +1,17 @@
 //! Rows sorted by the values that they are grouped by.
 
-ghost use Rattle.std.specs.Prelude.{◌≡◌, ◌<◌, All, IfOk, IsPermutation, IsSortedByKey, OnOk, Some, filter, length};
+ghost use Rattle.std.specs.Prelude.{◌≡◌, ◌<◌, All, IfOk, IsPermutation, IsSortedByKey, OnOk, Some, length};
 ghost use Rattle.std.specs.List.Sorted.{IsStableByKey};
 ghost use Rattle.row_core.specs.ValueOrder.{value_cmp};
-ghost use Rattle.agg_core.specs.Entries.{AreEntries, AreEntriesSorted, AreKeyed, is_above, is_upto, sort_value, value_at_place, value_of_key};
+ghost use Rattle.agg_core.specs.Entries.{AreEntries, AreEntriesSorted, AreKeyed, sort_value, value_at_place, value_of_key};
+ghost use Rattle.agg_core.specs.Ranges.{in_range, rows_in_range};
 
+use crate::ranges::{Key, KeyRange, has_key};
 use period_core::NoMemory;
 use row_core::{Row, Value};
 use sort_core::sort_by_key;
 use std::alloc::{AllocError, Global};
 use std::thread::Threads;
-
-/// A value as a sort compares it: what decides is at hand, and no text is copied.
-#[derive(Clone, Copy, Debug, PartialEq, Eq, PartialOrd, Ord)]
-pub(crate) enum Key<'a> {
-    Number(i64),
-    Text(&'a str),
-}
 
 /// A row, with the value by which it is grouped, and that value's key.
 #[derive(Clone, Copy)]
@@ -26,24 +21,44 @@ pub(crate) struct Entry<'a> {
     pub row: &'a Row,
 }
 
-/// An entry for each row, in their order.
+/// Room for the entries of a range: for all rows where it has no end, else for somewhat more than half of them.
+fn room_for(range: &KeyRange<'_>, rows: usize) -> usize {
+    if range.above.is_none() && range.upto.is_none() {
+        rows
+    } else {
+        rows / 8 * 5
+    }
+}
+
+/// An entry for each row whose value is in the range, in their order.
 pub(crate) fn entries_of<'a>(
     alloc: Global,
     rows: &'a [Row],
     place: u32,
+    range: &KeyRange<'_>,
 ) -> Result<Vec<Entry<'a>>, NoMemory>
     requires { All (λ row. place < length row.values) rows.now }
-    ensures { IfOk result (λ entries. AreEntries place rows.entry.now entries.items) }
+    ensures { IfOk result (λ entries.
+        AreEntries place (rows_in_range (value_at_place (Some place)) range.entry.now rows.entry.now) entries.items) }
 {
-    let mut entries = Vec::with_capacity(alloc, rows.len())?;
+    let mut entries = Vec::with_capacity(alloc, room_for(range, rows.len()))?;
     for row in rows {
         let value = value_at_place(row, place);
         let key = key_of(value);
-        if let Err(_) = entries.push(Entry { key, value, row }) {
-            return Err(AllocError);
+        if has_key(range, &key) {
+            if let Err(_) = entries.push(Entry { key, value, row }) {
+                return Err(AllocError);
+            }
         }
     }
     Ok(entries)
+}
+
+/// The key of the row's value at that place.
+pub(crate) fn key_at_place(row: &Row, place: u32) -> Key<'_>
+    requires { place < length row.now.values }
+{
+    key_of(value_at_place(row, place))
 }
 
 // The row's value at that place.
@@ -90,54 +105,4 @@ pub(crate) fn sorted<'a, R: Threads + Sync>(
 {
     sort_entries(rt, alloc, &mut entries, workers)?;
     Ok(entries)
-}
-
-/// Room for the entries on one side of a middle value: somewhat more than half of them.
-fn room_for_share(entries: usize) -> usize {
-    entries / 8 * 5
-}
-
-/// Whether the entry's value is that of the key, or before it.
-fn is_upto(entry: &Entry<'_>, key: &Key<'_>) -> bool
-    ensures { result ≡ is_upto (value_of_key key.now) entry.now }
-{
-    entry.key <= *key
-}
-
-/// The entries of values up to that of the key, in their order.
-pub(crate) fn entries_upto<'a>(
-    alloc: Global,
-    entries: &[Entry<'a>],
-    key: &Key<'_>,
-) -> Result<Vec<Entry<'a>>, NoMemory>
-    ensures { IfOk result (λ low. low.items ≡ filter (is_upto (value_of_key key.now)) entries.now) }
-{
-    let mut low = Vec::with_capacity(alloc, room_for_share(entries.len()))?;
-    for i in 0..entries.len() {
-        if is_upto(&entries[i], key) {
-            if let Err(_) = low.push(entries[i]) {
-                return Err(AllocError);
-            }
-        }
-    }
-    Ok(low)
-}
-
-/// The entries of higher values, in their order.
-pub(crate) fn entries_above<'a>(
-    alloc: Global,
-    entries: &[Entry<'a>],
-    key: &Key<'_>,
-) -> Result<Vec<Entry<'a>>, NoMemory>
-    ensures { IfOk result (λ high. high.items ≡ filter (is_above (value_of_key key.now)) entries.now) }
-{
-    let mut high = Vec::with_capacity(alloc, room_for_share(entries.len()))?;
-    for i in 0..entries.len() {
-        if !is_upto(&entries[i], key) {
-            if let Err(_) = high.push(entries[i]) {
-                return Err(AllocError);
-            }
-        }
-    }
-    Ok(high)
 }

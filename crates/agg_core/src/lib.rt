@@ -8,6 +8,7 @@ mod entries;
 mod func;
 mod groups;
 mod laws;
+mod ranges;
 mod rows;
 mod shares;
 

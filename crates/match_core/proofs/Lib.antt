@@ -1,9 +1,10 @@
-pub mod CellRuns
+pub mod CellOrder
+pub mod CellValues
 pub mod ItemIds
 pub mod MadeCells
 pub mod Matching
-pub mod MergedLists
-pub mod NumberedCells
+pub mod RankLemmas
+pub mod NumberLemmas
 pub mod RefinedClasses
 pub mod RowItems
 pub mod SideIds

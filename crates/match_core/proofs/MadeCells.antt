@@ -1,19 +1,38 @@
--- Cells that are made of the rows of one side, and of both.
-use Rattle.std.proofs.Common.{◌≡◌, ℕ, zero, suc, ◌+◌, ◌-◌, ◌<◌, List, [], ◌∷◌, ◌++◌, length, take, drop, get_or, Option, Some, refl, sym, subst, ap, ◌∙◌, inl, inr, arith}
-use Rattle.std.specs.Prelude.{All, IsPermutation, slice_get}
+-- Cells that are made of the rows of one side.
+use Rattle.std.proofs.Common.{◌≡◌, ℕ, zero, suc, ◌+◌, ◌-◌, ◌<◌, ◌≤◌, Bool, true, false, not, List, [], ◌∷◌, ◌++◌, length, get_or, Option, Some, inl, inr, refl, sym, subst, ap, ◌∙◌, arith}
+use Rattle.std.specs.Prelude.{All, IsPermutation, IsSorted, slice_get}
+use Rattle.std.proofs.lemmas.List.{get_or_default, length-append, length-map, get_or_append_left, get_or-append_right}
 use Rattle.std.proofs.lemmas.Bool.{cases_lt}
-use Rattle.std.proofs.lemmas.List.{length-map, length-append, get_or_append_left, get_or-append_right, length-take-le, take-append-drop}
-use Rattle.std.proofs.lemmas.List.Sorted.{IsPermutation-append, length_permutation}
-use Rattle.std.proofs.lemmas.Option.{slice_get_read}
-use Rattle.list_core.proofs.PlaceLemmas.{slice_get-append_left, slice_get-append_right}
+use Rattle.std.proofs.lemmas.List.Elements.{All-append, All-push, Contains-append_left, Contains-append_right, Contains-push}
+use Rattle.std.proofs.lemmas.List.Sorted.{All-permutation, Contains-permutation}
+use Rattle.std.proofs.lemmas.Option.{slice_get_read, slice_get_within}
 use Rattle.row_core.specs.declared.row.Row.{Row}
 use Rattle.row_core.specs.declared.value.Kind.{Kind}
 use Rattle.row_core.specs.declared.value.Value.{Value}
 use Rattle.match_core.specs.declared.cells.Cell.{Cell}
-use Rattle.match_core.specs.Cells.{AreCells, AreOneKind, AreSorted, IsCell, IsCellAt, IsOfKind, column_at, values_at}
+use Rattle.match_core.specs.declared.cells.CellRange.{CellRange}
+use Rattle.match_core.specs.declared.cells.CellRange.TheVariants as part
+use Rattle.match_core.specs.Cells.{AgreeOnPlaces, AreCells, AreOneKind, AreSorted, HasPlace, IsCellAt, IsOfKind, cell_cmp, column_at, has_cell, is_before, number_in, text_in}
+use Rattle.match_core.proofs.CellOrder.{SameCell, before-trans, has_cell-same, same_cell-decides}
+use Rattle.match_core.proofs.CellValues.{cells_same, one_value}
 use Rattle.match_core.proofs.Tell.{slice_get-map}
 
 -- ---- the values of a side
+
+-- what holds of all holds of the first ones
+All-front : {X : Type 0} (P : X → Type 0) (xs ys : List X) → All P (xs ++ ys) → All P xs
+All-front P xs ys all k d lt =
+    let n : length (xs ++ ys) ≡ length xs + length ys = length-append xs ys in
+    subst P (get_or_append_left xs ys d k lt) (all k d (omega (arith, n)))
+
+-- and of those behind them
+All-behind : {X : Type 0} (P : X → Type 0) (xs ys : List X) → All P (xs ++ ys) → All P ys
+All-behind P xs ys all k d lt =
+    let n : length (xs ++ ys) ≡ length xs + length ys = length-append xs ys in
+    let back : length xs + k - length xs ≡ k = omega arith in
+    let here : get_or (xs ++ ys) (length xs + k) d ≡ get_or ys k d =
+    get_or-append_right xs ys (length xs) (length xs + k) d refl (omega arith) ∙ ap (λ m. get_or ys m d) back in
+    subst P here (all (length xs + k) d (omega (arith, n)))
 
 -- what holds of all holds of the one at a place
 All-slice_get : {X : Type 0} (P : X → Type 0) (xs : List X) (i : ℕ) (x : X) → All P xs → slice_get xs i ≡ Some x → P x
@@ -40,95 +59,219 @@ pub room_at : (column : List (Option Value)) (i place : ℕ) (values : List Valu
 room_at column i place values one h =
     has_value one.0 values place (All-slice_get (IsOfKind one.0) column i (slice_get values place) one.1 h)
 
--- ---- the cells of both sides
+-- so all rows are
+pub wide_from : (place : ℕ) (rows : List Row) → AreOneKind (column_at place rows)
+    → All (λ (row : Row). place < length row.values) rows
+wide_from place rows one k d lt =
+    room_at (column_at place rows) k place (get_or rows k d).values one
+    (column_at-row place rows k (get_or rows k d) lt (get_or_default rows k d (get_or rows k d) lt))
 
--- a cell of the left rows is one of all rows
-cell_at-left : (before : ℕ) (cl cr : List ℕ) (xs ys : List (Option Value)) (k : ℕ) (cell : Cell) → k < length cl
-    → IsCellAt before cl xs k cell → IsCellAt before (cl ++ cr) (xs ++ ys) k cell
-cell_at-left before cl cr xs ys k cell lt at = record {
-  value = at.value;
-  there = slice_get-append_left xs ys k (Some at.value) at.there;
-  made = subst (λ n. IsCell n at.value (before + k) cell) (sym (get_or_append_left cl cr 0 k lt)) at.made;
+-- the left side's values are of the kind of all
+pub kind-left : (xs ys : List (Option Value)) → AreOneKind (xs ++ ys) → AreOneKind xs
+kind-left xs ys one = (one.0, All-front (IsOfKind one.0) xs ys one.1)
+
+-- and so are the right side's
+pub kind-right : (xs ys : List (Option Value)) → AreOneKind (xs ++ ys) → AreOneKind ys
+kind-right xs ys one = (one.0, All-behind (IsOfKind one.0) xs ys one.1)
+
+-- ---- the cells of a range
+
+-- the cells of a range, of the first rows
+pub record Listed (range : CellRange) (classes : List ℕ) (column : List (Option Value)) (i : ℕ)
+    (cells : List Cell) : Type 0 where
+  pub own : All (λ (cell : Cell). IsCellAt classes column cell.place cell) cells
+  pub within : All (λ (cell : Cell). has_cell range cell ≡ true) cells
+  pub each : (k : ℕ) (cell : Cell) → k < i → IsCellAt classes column k cell → has_cell range cell ≡ true
+      → HasPlace cells k
+
+-- none is listed yet
+pub none_listed : (range : CellRange) (classes : List ℕ) (column : List (Option Value)) (cells : List Cell)
+    → cells ≡ [] → Listed range classes column 0 cells
+none_listed range classes column cells none =
+    subst (Listed range classes column 0) (sym none) (record {
+      own = λ k d lt. absurd (omega arith);
+      within = λ k d lt. absurd (omega arith);
+      each = λ k cell lt at h. absurd (omega arith);
+    })
+
+-- a cell of one more row
+pub listed_more : (range : CellRange) (classes : List ℕ) (column : List (Option Value)) (i : ℕ) (cell : Cell)
+    (cells new : List Cell) → IsCellAt classes column i cell → has_cell range cell ≡ true → new ≡ cells ++ cell ∷ []
+    → Listed range classes column i cells → Listed range classes column (i + 1) new
+listed_more range classes column i cell cells new at test put was =
+    subst (Listed range classes column (i + 1)) (sym put) (record {
+      own = All-push (λ (c : Cell). IsCellAt classes column c.place c) cells cell was.own
+          (subst (λ n. IsCellAt classes column n cell) (sym at.made.place_is) at);
+      within = All-push (λ (c : Cell). has_cell range c ≡ true) cells cell was.within test;
+      each = λ k c lt here passes. elim (cases_lt k i) [
+        | inl less ↦ (let (x, has, place) = was.each k c less here passes in
+            (x, Contains-append_left cells (cell ∷ []) x has, place))
+        | inr le ↦ (let e : i ≡ k = omega arith in (cell, Contains-push cells cell, at.made.place_is ∙ e))
+      ];
+    })
+
+-- two cells of one row are the same
+cells_of_place : (classes : List ℕ) (column : List (Option Value)) (i : ℕ) (x y : Cell) → IsCellAt classes column i x
+    → IsCellAt classes column i y → SameCell x y
+cells_of_place classes column i x y a b =
+    cells_same (get_or classes i 0) a.value b.value i i x y a.made b.made
+    (one_value column i a.value b.value a.there b.there)
+
+-- and of a row whose cell isn't of the range, none
+pub listed_same : (range : CellRange) (classes : List ℕ) (column : List (Option Value)) (i : ℕ) (cell : Cell)
+    (cells : List Cell) → IsCellAt classes column i cell → has_cell range cell ≡ false
+    → Listed range classes column i cells → Listed range classes column (i + 1) cells
+listed_same range classes column i cell cells at test was = record {
+  own = was.own;
+  within = was.within;
+  each = λ k c lt here passes. elim (cases_lt k i) [
+    | inl less ↦ was.each k c less here passes
+    | inr le ↦ absurd (
+        let e : k ≡ i = omega arith in
+        let same : SameCell c cell =
+        cells_of_place classes column i c cell (subst (λ n. IsCellAt classes column n c) e here) at in
+        let bad : true ≡ false = sym passes ∙ has_cell-same range c cell same ∙ test in cc)
+  ];
 }
 
--- and so is one of the right rows
-cell_at-right : (cl cr : List ℕ) (xs ys : List (Option Value)) (n k : ℕ) (cell : Cell) → length cl ≡ n
-    → length xs ≡ n → IsCellAt n cr ys k cell → IsCellAt 0 (cl ++ cr) (xs ++ ys) (n + k) cell
-cell_at-right cl cr xs ys n k cell e f at =
-    let p : n + k ≡ 0 + (n + k) = omega arith in
-    let back : n + k - n ≡ k = omega arith in
-    let class_is : get_or cr k 0 ≡ get_or (cl ++ cr) (n + k) 0 =
-    sym (get_or-append_right cl cr n (n + k) 0 e (omega arith) ∙ ap (λ m. get_or cr m 0) back) in
-    record {
-      value = at.value;
-      there = ap (λ m. slice_get (xs ++ ys) (m + k)) (sym f)
-          ∙ slice_get-append_right xs ys k ∙ at.there;
-      made = subst (λ m. IsCell (get_or (cl ++ cr) (n + k) 0) at.value m cell) p
-          (subst (λ m. IsCell m at.value (n + k) cell) class_is at.made);
-    }
+-- those of all rows are listed
+pub all_listed : (range : CellRange) (classes : List ℕ) (column : List (Option Value)) (i : ℕ) (cells : List Cell)
+    → length column ≤ i → Listed range classes column i cells → AreCells range classes column cells
+all_listed range classes column i cells end was = record {
+  own = was.own;
+  within = was.within;
+  each = λ k c lt here passes. was.each k c (omega (arith, end, lt)) here passes;
+}
 
--- the cells of the left rows and then those of the right ones are those of all rows
-cells-append : (cl cr : List ℕ) (xs ys : List (Option Value)) (ls rs : List Cell) (n : ℕ) → length cl ≡ n
-    → length xs ≡ n → length ls ≡ n → AreCells 0 cl xs ls → AreCells n cr ys rs
-    → AreCells 0 (cl ++ cr) (xs ++ ys) (ls ++ rs)
-cells-append cl cr xs ys ls rs n e f g a b k d lt = elim (cases_lt k n) [
-  | inl low ↦ (
-      let here : get_or (ls ++ rs) k d ≡ get_or ls k d = get_or_append_left ls rs d k (omega (arith, g)) in
-      subst (IsCellAt 0 (cl ++ cr) (xs ++ ys) k) (sym here)
-      (cell_at-left 0 cl cr xs ys k (get_or ls k d) (omega (arith, e)) (a k d (omega (arith, g)))))
-  | inr high ↦ (
-      let m : ℕ = k - n in
-      let back : n + m ≡ k = omega arith in
-      let all : length (ls ++ rs) ≡ length ls + length rs = length-append ls rs in
-      let here : get_or (ls ++ rs) k d ≡ get_or rs m d = get_or-append_right ls rs n k d g high in
-      subst (IsCellAt 0 (cl ++ cr) (xs ++ ys) k) (sym here)
-      (subst (λ l. IsCellAt 0 (cl ++ cr) (xs ++ ys) l (get_or rs m d)) back
-      (cell_at-right cl cr xs ys n m (get_or rs m d) e f (b m d (omega (arith, g, all))))))
+-- in another order they are the same ones
+pub cells_moved : (range : CellRange) (classes : List ℕ) (column : List (Option Value)) (made sorted : List Cell)
+    → IsPermutation made sorted → AreCells range classes column made → AreCells range classes column sorted
+cells_moved range classes column made sorted moved are = record {
+  own = All-permutation (λ (c : Cell). IsCellAt classes column c.place c) made sorted moved are.own;
+  within = All-permutation (λ (c : Cell). has_cell range c ≡ true) made sorted moved are.within;
+  each = λ i c lt here passes.
+      (let (x, has, place) = are.each i c lt here passes in
+      (x, Contains-permutation made sorted x moved has, place));
+}
+
+-- ---- sorted cells
+
+-- a row's value at a place that it has
+value_from : (values : List Value) (place : ℕ) → place < length values
+    → (v : Value) × (slice_get values place ≡ Some v)
+value_from [] place lt = absurd (omega arith)
+value_from (v ∷ values) zero lt = (v, refl)
+value_from (v ∷ values) (suc place) lt = value_from values place (omega arith)
+
+-- the first row, where there is one
+some_row : (rows : List Row) → 0 < length rows → Row
+some_row [] some = absurd (omega arith)
+some_row (row ∷ rows) some = row
+
+-- each row has a cell
+pub cell_there : (classes : List ℕ) (place : ℕ) (rows : List Row) → All (λ (row : Row). place < length row.values) rows
+    → (i : ℕ) → i < length (column_at place rows) → (cell : Cell) × IsCellAt classes (column_at place rows) i cell
+cell_there classes place rows wide i within =
+    let len : length (column_at place rows) ≡ length rows = length-map rows (λ (row : Row). slice_get row.values place) in
+    let lt : i < length rows = omega (arith, within, len) in
+    let d = some_row rows (omega (arith, lt)) in
+    let row = get_or rows i d in
+    let (v, at) = value_from row.values place (wide i d lt) in (
+      record {
+        class = get_or classes i 0;
+        number = number_in v;
+        text = record { ref_ptr = (0, 0); now = text_in v };
+        place = i;
+      },
+      record {
+        value = v;
+        there = column_at-row place rows i row lt (get_or_default rows i d row lt) ∙ ap Some at;
+        made = record { class_is = refl; number_is = refl; text_is = refl; place_is = refl };
+      },
+    )
+
+-- the cells of all rows, in rising order
+pub sorted_whole : (classes : List ℕ) (column : List (Option Value)) (cells : List Cell)
+    → ((i : ℕ) → i < length column → (cell : Cell) × IsCellAt classes column i cell)
+    → AreCells part.All classes column cells → IsSorted cell_cmp cells → AreSorted classes column cells
+sorted_whole classes column cells there are rise = record {
+  own = are.own;
+  each = λ i lt. (let (c, at) = there i lt in are.each i c lt at refl);
+  rise = rise;
+}
+
+-- lists of which the one has nothing that comes after the other's are sorted behind each other
+sorted-append : (low high : List Cell) (middle : Cell) → All (λ c. not (is_before middle c) ≡ true) low
+    → All (λ c. is_before middle c ≡ true) high → IsSorted cell_cmp low → IsSorted cell_cmp high
+    → IsSorted cell_cmp (low ++ high)
+sorted-append low high middle upto above up down k d lt inside = elim (cases_lt (k + 1) (length low)) [
+  | inl less ↦
+      subst (λ x. is_before x (get_or (low ++ high) k d) ≡ false) (sym (get_or_append_left low high d (k + 1) less))
+      (subst (λ x. is_before (get_or low (k + 1) d) x ≡ false)
+      (sym (get_or_append_left low high d k (omega (arith, less)))) (up k d (omega (arith, less)) less))
+  | inr le ↦ (
+      let n : length (low ++ high) ≡ length low + length high = length-append low high in
+      let next : get_or (low ++ high) (k + 1) d ≡ get_or high (k + 1 - length low) d =
+      get_or-append_right low high (length low) (k + 1) d refl le in
+      elim (cases_lt k (length low)) [
+        | inl last ↦ (
+            let here : get_or (low ++ high) k d ≡ get_or low k d = get_or_append_left low high d k last in
+            let none : k + 1 - length low ≡ 0 = omega arith in
+            let after : is_before middle (get_or high 0 d) ≡ true = above 0 d (omega (arith, n, inside, last)) in
+            subst (λ x. is_before x (get_or (low ++ high) k d) ≡ false)
+            (sym (next ∙ ap (λ m. get_or high m d) none))
+            (subst (λ x. is_before (get_or high 0 d) x ≡ false) (sym here)
+            (not_before (get_or high 0 d) (get_or low k d) after (upto k d last))))
+        | inr behind ↦ (
+            let m = k - length low in
+            let here : get_or (low ++ high) k d ≡ get_or high m d =
+            get_or-append_right low high (length low) k d refl behind in
+            let one : k + 1 - length low ≡ m + 1 = omega arith in
+            subst (λ x. is_before x (get_or (low ++ high) k d) ≡ false)
+            (sym (next ∙ ap (λ l. get_or high l d) one))
+            (subst (λ x. is_before (get_or high (m + 1) d) x ≡ false) (sym here)
+            (down m d (omega (arith, n, inside, behind)) (omega (arith, n, inside, behind)))))
+      ])
 ]
+  where
+    not_before : (x y : Cell) → is_before middle x ≡ true → not (is_before middle y) ≡ true → is_before x y ≡ false
+    not_before x y after upto = by_test (is_before x y) refl where
+      by_test : (t : Bool) → is_before x y ≡ t → is_before x y ≡ false
+      by_test false e = e
+      by_test true e = absurd (
+          let bad : false ≡ true = ap not (sym (before-trans middle x y after e)) ∙ upto in cc)
 
--- the cells of all rows, sorted side by side
-pub record AreBoth (classes : List ℕ) (column : List (Option Value)) (cells : List Cell) : Type 0 where
-  pub made : List Cell
-  pub count : length made ≡ length classes
-  pub are : AreCells 0 classes column made
-  pub moved : IsPermutation made cells
+-- the cells up to a middle one, and those above it, each in rising order
+pub sorted_halves : (classes : List ℕ) (column : List (Option Value)) (middle : Cell) (low high : List Cell)
+    → ((i : ℕ) → i < length column → (cell : Cell) × IsCellAt classes column i cell)
+    → AreCells (part.UpTo middle) classes column low → IsSorted cell_cmp low
+    → AreCells (part.Above middle) classes column high → IsSorted cell_cmp high
+    → AreSorted classes column (low ++ high)
+sorted_halves classes column middle low high there lows up highs down = record {
+  own = All-append (λ (c : Cell). IsCellAt classes column c.place c) low high lows.own highs.own;
+  each = λ i lt. (let (c, at) = there i lt in by_test i c lt at (is_before middle c) refl);
+  rise = sorted-append low high middle lows.within highs.within up down;
+}
+  where
+    by_test : (i : ℕ) (c : Cell) → i < length column → IsCellAt classes column i c → (t : Bool)
+        → is_before middle c ≡ t → HasPlace (low ++ high) i
+    by_test i c lt at true e =
+        let (x, has, place) = highs.each i c lt at e in (x, Contains-append_right low high x has, place)
+    by_test i c lt at false e =
+        let (x, has, place) = lows.each i c lt at (ap not e) in (x, Contains-append_left low high x has, place)
 
--- the sorted cells of both sides are the cells of all rows
-pub both_sides : (classes : List ℕ) (l r : ℕ) (lefts rights : List Row) (ls rs : List Cell)
-    → length classes ≡ length lefts + length rights
-    → AreSorted 0 (take (length lefts) classes) (column_at l lefts) ls
-    → AreSorted (length lefts) (drop (length lefts) classes) (column_at r rights) rs
-    → AreBoth classes (values_at l r lefts rights) (ls ++ rs)
-both_sides classes l r lefts rights ls rs count a b =
-    let n = length lefts in
-    let xs : length (column_at l lefts) ≡ n = length-map lefts (λ (row : Row). slice_get row.values l) in
-    let ys : length (column_at r rights) ≡ length rights =
-    length-map rights (λ (row : Row). slice_get row.values r) in
-    let front : length (take n classes) ≡ n = length-take-le n classes (omega (arith, count)) in
-    let whole : take n classes ++ drop n classes ≡ classes = take-append-drop n classes in
-    let some : length (a.made ++ b.made) ≡ length a.made + length b.made = length-append a.made b.made in
-    let i = a.count in
-    let j = b.count in
-    record {
-      made = a.made ++ b.made;
-      count = omega (arith, some, i, j, xs, ys, count);
-      are = subst (λ cs. AreCells 0 cs (values_at l r lefts rights) (a.made ++ b.made)) whole
-          (cells-append (take n classes) (drop n classes) (column_at l lefts) (column_at r rights) a.made b.made n
-          front xs (i ∙ xs) a.are b.are);
-      moved = IsPermutation-append a.made ls b.made rs a.moved b.moved;
-    }
+-- sorted cells of one place are the same
+pub agree_on_places : (classes : List ℕ) (column : List (Option Value)) (cells : List Cell)
+    → AreSorted classes column cells → AgreeOnPlaces cells
+agree_on_places classes column cells sorted i j d hi hj e =
+    let x = get_or cells i d in
+    let y = get_or cells j d in
+    (same_cell-decides x y).1
+    (cells_of_place classes column x.place x y (sorted.own i d hi)
+    (subst (λ n. IsCellAt classes column n y) (sym e) (sorted.own j d hj)))
 
--- both sides have as many cells as there are rows
-pub count_both : (classes : List ℕ) (column : List (Option Value)) (ls rs : List Cell)
-    → AreBoth classes column (ls ++ rs) → length ls + length rs ≡ length classes
-count_both classes column ls rs both =
-    sym (length-append ls rs) ∙ length_permutation both.made (ls ++ rs) both.moved ∙ both.count
-
--- what holds of all holds of those behind the first ones
-pub All-behind : {X : Type 0} (P : X → Type 0) (xs ys : List X) → All P (xs ++ ys) → All P ys
-All-behind P xs ys all k d lt =
-    let n : length (xs ++ ys) ≡ length xs + length ys = length-append xs ys in
-    let back : length xs + k - length xs ≡ k = omega arith in
-    let here : get_or (xs ++ ys) (length xs + k) d ≡ get_or ys k d =
-    get_or-append_right xs ys (length xs) (length xs + k) d refl (omega arith) ∙ ap (λ m. get_or ys m d) back in
-    subst P here (all (length xs + k) d (omega (arith, n)))
+-- and their places are within
+pub places_within : (classes : List ℕ) (column : List (Option Value)) (cells : List Cell)
+    → AreSorted classes column cells → All (λ (cell : Cell). cell.place < length column) cells
+places_within classes column cells sorted k d lt =
+    let at = sorted.own k d lt in slice_get_within column (get_or cells k d).place (Some at.value) at.there

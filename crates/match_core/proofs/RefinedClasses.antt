@@ -1,138 +1,201 @@
--- Classes that are told by cells.
-use Rattle.std.proofs.Common.{◌≡◌, ℕ, zero, suc, ◌+◌, ◌<◌, List, [], ◌∷◌, length, get_or, Option, Some, refl, sym, subst, ap, ◌∙◌, arith}
-use Rattle.std.specs.Prelude.{All, Contains, IsPermutation, slice_get}
-use Rattle.std.proofs.lemmas.List.{get_or_default}
-use Rattle.std.proofs.lemmas.List.Elements.{Contains-get_or}
-use Rattle.std.proofs.lemmas.List.Sorted.{All-permutation, Contains-permutation}
-use Rattle.row_core.specs.Value.{kind_of}
-use Rattle.row_core.specs.declared.value.Kind.{Kind}
+-- Classes that both sides' ranks give split the classes so far by the values.
+use Rattle.std.proofs.Common.{◌≡◌, ◌↔◌, ℕ, ◌+◌, ◌-◌, ◌<◌, Bool, true, false, cond, List, ◌++◌, length, take, drop, get_or, Option, Some, refl, sym, subst, ap, ◌∙◌, inl, inr, arith, get_or-take, get_or-drop}
+use Rattle.std.specs.Prelude.{nat_lt, slice_get}
+use Rattle.std.proofs.lemmas.Bool.{cases_eq, cases_lt, le-ltb, lt-ltb}
+use Rattle.list_core.proofs.PlaceLemmas.{slice_get-append_left, slice_get-append_right}
 use Rattle.row_core.specs.declared.value.Value.{Value}
-use Rattle.row_core.specs.declared.value.Value.TheVariants.{Int, Text}
 use Rattle.match_core.specs.declared.cells.Cell.{Cell}
-use Rattle.match_core.specs.Cells.{IsCell, IsCellAt, AreCells, AreOneKind, IsOfKind, AgreeOnPlaces, AreTold, Refines, number_in, text_in}
-use Rattle.match_core.proofs.CellRuns.{SameCell, same_cell-decides}
+use Rattle.match_core.specs.Cells.{AreMatched, AreNumbered, AreOneKind, AreRanked, AreRising, IsCell, IsNumberOf, Refines, class_at, same_cell}
+use Rattle.match_core.proofs.CellOrder.{SameCell, SameCell-sym, SameCell-trans, before-differs, same_cell-decides}
+use Rattle.match_core.proofs.CellValues.{cells_same, kind_at, one_value, value_from_cell}
 
--- a cell is that of its own place
-abbrev pub IsOwn : List ℕ → List (Option Value) → Cell → Type 0
-IsOwn classes column cell = (cell.place < length classes) × IsCellAt 0 classes column cell.place cell
+-- ---- numbers of cells
 
--- cells in the order of the rows are of their own places
-own_from_cells : (classes : List ℕ) (column : List (Option Value)) (cells : List Cell)
-    → length cells ≡ length classes → AreCells 0 classes column cells → All (IsOwn classes column) cells
-own_from_cells classes column cells len are k d lt =
-    let at : IsCellAt 0 classes column k (get_or cells k d) = are k d lt in
-    let behind = at.made.place_is in
-    let place : (get_or cells k d).place ≡ k = omega (arith, behind) in (
-      omega (arith, place, len),
-      subst (λ n. IsCellAt 0 classes column n (get_or cells k d)) (sym place) at,
-    )
+-- the number of a cell of either side: the place of the left cell that is the same, or the place of the right one behind
+-- all left ones, where no left one is the same
+pub data Numbers (lefts rights : List Cell) (cell : Cell) (number : ℕ) : Type 0 where
+  left : number < length lefts → ((d : Cell) → SameCell (get_or lefts number d) cell)
+      → Numbers lefts rights cell number
+  right : (at : ℕ) → at < length rights → number ≡ length lefts + at
+      → ((d : Cell) → SameCell (get_or rights at d) cell)
+      → ((d : Cell) (l : ℕ) → l < length lefts → SameCell (get_or lefts l d) cell → ⊥)
+      → Numbers lefts rights cell number
 
--- cells in any order are of their own places
-pub all_own : (classes : List ℕ) (column : List (Option Value)) (cells sorted : List Cell)
-    → length cells ≡ length classes → AreCells 0 classes column cells → IsPermutation cells sorted
-    → All (IsOwn classes column) sorted
-all_own classes column cells sorted len are moved =
-    All-permutation (IsOwn classes column) cells sorted moved (own_from_cells classes column cells len are)
+-- cells at two places of rising ones that are the same stand at one place
+one_place : (cells : List Cell) → AreRising cells → (i j : ℕ) (d : Cell) → i < length cells → j < length cells
+    → SameCell (get_or cells i d) (get_or cells j d) → i ≡ j
+one_place cells rise i j d hi hj same = elim (cases_eq i j) [
+  | inl e ↦ e
+  | inr ne ↦ elim (cases_lt i j) [
+    | inl less ↦ absurd (apart i j less hj same)
+    | inr le ↦ absurd (apart j i (omega arith) hi (SameCell-sym (get_or cells i d) (get_or cells j d) same))
+  ]
+]
+  where
+    apart : (a b : ℕ) → a < b → b < length cells → SameCell (get_or cells a d) (get_or cells b d) → ⊥
+    apart a b less inside alike =
+        let told : same_cell (get_or cells a d) (get_or cells b d) ≡ true =
+        (same_cell-decides (get_or cells a d) (get_or cells b d)).1 alike in
+        let bad : true ≡ false =
+        sym told ∙ before-differs (get_or cells a d) (get_or cells b d) (rise a b d less inside) in
+        cc
 
--- at one place stands one value
-one_value : (column : List (Option Value)) (i : ℕ) (v w : Value) → slice_get column i ≡ Some (Some v)
-    → slice_get column i ≡ Some (Some w) → v ≡ w
-one_value column i v w h k = let e : ◌≡◌ {A = Option (Option Value)} (Some (Some v)) (Some (Some w)) = sym h ∙ k in cc
-
--- two cells of one class and value are the same
-cells_same : (c d : ℕ) (v w : Value) (i j : ℕ) (x y : Cell) → IsCell c v i x → IsCell d w j y → c ≡ d → v ≡ w
-    → SameCell x y
-cells_same c d v w i j x y a b e f = (
-  a.class_is ∙ e ∙ sym b.class_is,
-  (a.number_is ∙ ap number_in f ∙ sym b.number_is, a.text_is ∙ ap text_in f ∙ sym b.text_is),
+-- two cells have one number exactly where they are the same
+numbers_tell : (lefts rights : List Cell) (a b : Cell) (m n : ℕ) → AreRising lefts → AreRising rights
+    → Numbers lefts rights a m → Numbers lefts rights b n → (m ≡ n) ↔ SameCell a b
+numbers_tell lefts rights a b m n up down (left inside is) (left inside' is') = (
+  λ e. SameCell-trans a (get_or lefts m a) b (SameCell-sym (get_or lefts m a) a (is a))
+      (subst (λ k. SameCell (get_or lefts k a) b) (sym e) (is' a)),
+  λ same. one_place lefts up m n a inside inside'
+      (SameCell-trans (get_or lefts m a) a (get_or lefts n a) (is a)
+      (SameCell-trans a b (get_or lefts n a) same (SameCell-sym (get_or lefts n a) b (is' a)))),
+)
+numbers_tell lefts rights a b m n up down (left inside is) (right at within e is' none) = (
+  λ f. absurd (omega (arith, f, e, inside)),
+  λ same. absurd (none a m inside (SameCell-trans (get_or lefts m a) a b (is a) same)),
+)
+numbers_tell lefts rights a b m n up down (right at within e is none) (left inside is') = (
+  λ f. absurd (omega (arith, f, e, inside)),
+  λ same. absurd (none a n inside (SameCell-trans (get_or lefts n a) b a (is' a) (SameCell-sym a b same))),
+)
+numbers_tell lefts rights a b m n up down (right at within e is none) (right at' within' e' is' none') = (
+  λ f. (let g : at ≡ at' = omega (arith, e, e', f) in
+      SameCell-trans a (get_or rights at a) b (SameCell-sym (get_or rights at a) a (is a))
+      (subst (λ k. SameCell (get_or rights k a) b) (sym g) (is' a))),
+  λ same. (let g : at ≡ at' = one_place rights down at at' a within within'
+      (SameCell-trans (get_or rights at a) a (get_or rights at' a) (is a)
+      (SameCell-trans a b (get_or rights at' a) same (SameCell-sym (get_or rights at' a) b (is' a)))) in
+      e ∙ ap (λ k. length lefts + k) g ∙ sym e'),
 )
 
--- values of one kind that have one number and one text are one
-value_from_cell : (v w : Value) → kind_of v ≡ kind_of w → number_in v ≡ number_in w → text_in v ≡ text_in w → v ≡ w
-value_from_cell (Int a) (Int b) k n t = ap Int n
-value_from_cell (Int a) (Text b) k n t = absurd (cc)
-value_from_cell (Text a) (Int b) k n t = absurd (cc)
-value_from_cell (Text a) (Text b) k n t = ap Text t
+-- ---- the rows of both sides
 
--- where all values are of a kind, each is
-kind_at : (kind : Kind) (column : List (Option Value)) (i : ℕ) (v : Value) → All (IsOfKind kind) column
-    → slice_get column i ≡ Some (Some v) → kind_of v ≡ kind
-kind_at kind [] i v all h = cc
-kind_at kind (o ∷ column) zero v all h = let e : o ≡ Some v = cc in subst (IsOfKind kind) e (all 0 o (omega arith))
-kind_at kind (o ∷ column) (suc i) v all h = kind_at kind column i v (λ k d lt. all (suc k) d (omega arith)) h
+-- a row's class is the number of its cell
+record IsTold (classes : List ℕ) (column : List (Option Value)) (lefts rights : List Cell) (i class : ℕ) : Type 0 where
+  pub cell : Cell
+  pub value : Value
+  pub there : slice_get column i ≡ Some (Some value)
+  pub made : (p : ℕ) × IsCell (get_or classes i 0) value p cell
+  pub number : Numbers lefts rights cell class
 
--- cells of their own places are the same where they are of one place
-pub agree_on_places : (classes : List ℕ) (column : List (Option Value)) (cells : List Cell)
-    → All (IsOwn classes column) cells → AgreeOnPlaces cells
-agree_on_places classes column cells own i j d hi hj e =
-    let x = get_or cells i d in
-    let y = get_or cells j d in
-    let a : IsCellAt 0 classes column x.place x = (own i d hi).1 in
-    let b : IsCellAt 0 classes column y.place y = (own j d hj).1 in
-    let c : IsCellAt 0 classes column x.place y = subst (λ n. IsCellAt 0 classes column n y) (sym e) b in
-    (same_cell-decides x y).1
-    (cells_same _ _ a.value c.value _ _ x y a.made c.made refl
-    (one_value column x.place a.value c.value a.there c.there))
+-- what the test tells
+same_from : (a b : Cell) → same_cell a b ≡ true → SameCell a b
+same_from a b = (same_cell-decides a b).0
 
--- where the place's cell stands among the sorted ones
-record StandsAt (classes : List ℕ) (column : List (Option Value)) (sorted : List Cell) (i : ℕ)
-    (d : Cell) : Type 0 where
-  pub at : ℕ
-  pub within : at < length sorted
-  pub place : (get_or sorted at d).place ≡ i
-  pub own : IsCellAt 0 classes column i (get_or sorted at d)
+-- the number of a right cell is that of any cell that is the same
+number_of_right : (lefts rights : List Cell) (r number : ℕ) (cell : Cell) → r < length rights
+    → ((d : Cell) → SameCell (get_or rights r d) cell) → IsNumberOf lefts rights r number
+    → Numbers lefts rights cell number
+number_of_right lefts rights r number cell inside same (inl at) =
+    left at.0
+    (λ d. SameCell-trans (get_or lefts number d) (get_or rights r d) cell
+    (same_from (get_or lefts number d) (get_or rights r d) (at.1 d)) (same d))
+number_of_right lefts rights r number cell inside same (inr behind) =
+    right r inside behind.0 same
+    (λ d l within alike.
+    let told : same_cell (get_or lefts l d) (get_or rights r d) ≡ true =
+    (same_cell-decides (get_or lefts l d) (get_or rights r d)).1
+    (SameCell-trans (get_or lefts l d) cell (get_or rights r d) alike
+    (SameCell-sym (get_or rights r d) cell (same d))) in
+    let bad : true ≡ false = sym told ∙ behind.1 d l d within in cc)
 
--- the cell of each place stands among the sorted ones
-stands_at : (classes : List ℕ) (column : List (Option Value)) (cells sorted : List Cell)
-    → length cells ≡ length classes → AreCells 0 classes column cells → IsPermutation cells sorted
-    → (i : ℕ) (d : Cell) → i < length classes → StandsAt classes column sorted i d
-stands_at classes column cells sorted len are moved i d lt =
-    let within : i < length cells = omega (arith, len) in
-    let x = get_or cells i d in
-    let own : IsCellAt 0 classes column i x = are i d within in
-    let has : Contains sorted x = Contains-permutation cells sorted x moved (Contains-get_or cells i d within) in
-    let none : 0 + i ≡ i = omega arith in
-    let here : get_or sorted has.0 d ≡ x = get_or_default sorted has.0 d x has.1 ∙ has.2 in
-    record {
-      at = has.0;
-      within = has.1;
-      place = ap (λ (e : Cell). e.place) here ∙ own.made.place_is ∙ none;
-      own = subst (IsCellAt 0 classes column i) (sym here) own;
-    }
+-- what `if` gives
+then_is : (t : Bool) (a b : ℕ) → t ≡ true → cond t a b ≡ a
+then_is true a b e = refl
+then_is false a b e = cc
 
--- the first cell, where there is one
-some_cell : (cells : List Cell) → 0 < length cells → Cell
-some_cell [] h = absurd (omega arith)
-some_cell (x ∷ cells) h = x
+else_is : (t : Bool) (a b : ℕ) → t ≡ false → cond t a b ≡ b
+else_is true a b e = cc
+else_is false a b e = refl
 
--- classes that tell of the cells of all rows, in any order, split the classes by the values
-pub refined : (classes : List ℕ) (column : List (Option Value)) (cells sorted : List Cell) (new : List ℕ)
-    → length cells ≡ length classes → AreOneKind column → AreCells 0 classes column cells
-    → IsPermutation cells sorted → AreTold sorted new → Refines classes column new
-refined classes column cells sorted new len one are moved told i j hi hj =
-    let some : 0 < length cells = omega (arith, len) in
-    let d = some_cell cells some in
-    let a = stands_at classes column cells sorted len are moved i d hi in
-    let b = stands_at classes column cells sorted len are moved j d hj in
-    let x = get_or sorted a.at d in
-    let y = get_or sorted b.at d in
-    let new_i : get_or new i 0 ≡ get_or new x.place 0 = ap (λ n. get_or new n 0) (sym a.place) in
-    let new_j : get_or new j 0 ≡ get_or new y.place 0 = ap (λ n. get_or new n 0) (sym b.place) in
-    let tell = told a.at b.at d a.within b.within in
-    let decides = same_cell-decides x y in
-    let v = a.own.value in
-    let w = b.own.value in
-    let p = a.own.made in
-    let q = b.own.made in (
-      λ e. (
-          let s : SameCell x y = decides.0 (tell.0 (sym new_i ∙ e ∙ new_j)) in
-          let kinds : kind_of v ≡ kind_of w = kind_at one.0 column i v one.1 a.own.there
-          ∙ sym (kind_at one.0 column j w one.1 b.own.there) in
-          let same : v ≡ w = value_from_cell v w kinds (sym p.number_is ∙ s.1.0 ∙ q.number_is)
-          (sym p.text_is ∙ s.1.1 ∙ q.text_is) in
-          (sym p.class_is ∙ s.0 ∙ q.class_is, a.own.there ∙ ap (λ (z : Value). Some (Some z)) same ∙ sym b.own.there)),
-      λ e. (
-          let there : slice_get column i ≡ Some (Some w) = e.1 ∙ b.own.there in
-          let same : v ≡ w = one_value column i v w a.own.there there in
-          new_i ∙ tell.1 (decides.1 (cells_same _ _ v w _ _ x y p q e.0 same)) ∙ sym new_j),
-    )
+-- both sides' ranks, matched
+pub record AreSides (classes : List ℕ) (xs ys : List (Option Value)) (lefts rights numbers : List ℕ)
+    (firsts others : List Cell) : Type 0 where
+  pub count : length classes ≡ length xs + length ys
+  pub left : AreRanked (take (length xs) classes) xs lefts firsts
+  pub right : AreRanked (drop (length xs) classes) ys rights others
+  pub matched : AreMatched firsts others numbers
+
+module _ (classes : List ℕ) (xs ys : List (Option Value)) (lefts rights numbers : List ℕ) (firsts others : List Cell)
+    (sides : AreSides classes xs ys lefts rights numbers firsts others) where
+  told_left : (i : ℕ) → i < length xs → IsTold classes (xs ++ ys) firsts others i (class_at lefts rights numbers i)
+  told_left i inside =
+      let rank = sides.left.each i inside in
+      let n = sides.left.count in
+      let less : nat_lt i (length lefts) ≡ true = lt-ltb i (length lefts) (omega (arith, n, inside)) in
+      record {
+        cell = rank.cell;
+        value = rank.at.value;
+        there = slice_get-append_left xs ys i (Some rank.at.value) rank.at.there;
+        made = (
+          i,
+          subst (λ c. IsCell c rank.at.value i rank.cell) (get_or-take (length xs) classes i 0 inside) rank.at.made,
+        );
+        number = subst (Numbers firsts others rank.cell)
+            (sym (then_is (nat_lt i (length lefts)) (get_or lefts i 0)
+            (get_or numbers (get_or rights (i - length lefts) 0) 0) less))
+            (left rank.within (λ d. same_from (get_or firsts (get_or lefts i 0) d) rank.cell (rank.same d)));
+      }
+
+  told_right : (j : ℕ) → j < length ys
+      → IsTold classes (xs ++ ys) firsts others (length xs + j) (class_at lefts rights numbers (length xs + j))
+  told_right j inside =
+      let rank = sides.right.each j inside in
+      let n = sides.left.count in
+      let more : nat_lt (length xs + j) (length lefts) ≡ false =
+      le-ltb (length xs + j) (length lefts) (omega (arith, n)) in
+      let back : length xs + j - length lefts ≡ j = omega (arith, n) in
+      record {
+        cell = rank.cell;
+        value = rank.at.value;
+        there = slice_get-append_right xs ys j ∙ rank.at.there;
+        made = (
+          j,
+          subst (λ c. IsCell c rank.at.value j rank.cell) (get_or-drop (length xs) classes j 0) rank.at.made,
+        );
+        number = subst (Numbers firsts others rank.cell)
+            (sym (else_is (nat_lt (length xs + j) (length lefts)) (get_or lefts (length xs + j) 0)
+            (get_or numbers (get_or rights (length xs + j - length lefts) 0) 0) more
+            ∙ ap (λ k. get_or numbers (get_or rights k 0) 0) back))
+            (number_of_right firsts others (get_or rights j 0) (get_or numbers (get_or rights j 0) 0) rank.cell
+            rank.within (λ d. same_from (get_or others (get_or rights j 0) d) rank.cell (rank.same d))
+            (sides.matched.each (get_or rights j 0) rank.within));
+      }
+
+  told_at : (i : ℕ) → i < length classes → IsTold classes (xs ++ ys) firsts others i (class_at lefts rights numbers i)
+  told_at i inside = elim (cases_lt i (length xs)) [
+    | inl less ↦ told_left i less
+    | inr le ↦ (
+        let n = sides.count in
+        let e : length xs + (i - length xs) ≡ i = omega arith in
+        subst (λ k. IsTold classes (xs ++ ys) firsts others k (class_at lefts rights numbers k)) e
+        (told_right (i - length xs) (omega (arith, n, inside))))
+  ]
+
+  -- the classes that the ranks give split the classes so far
+  pub refined : (new : List ℕ) → AreOneKind (xs ++ ys) → length new ≡ length classes
+      → AreNumbered lefts rights numbers new → Refines classes (xs ++ ys) new
+  refined new one len given i j hi hj =
+      let a = told_at i hi in
+      let b = told_at j hj in
+      let at_i = given i (omega (arith, len, hi)) in
+      let at_j = given j (omega (arith, len, hj)) in
+      let tell = numbers_tell firsts others a.cell b.cell (class_at lefts rights numbers i) (class_at lefts rights numbers j)
+      sides.left.rise sides.right.rise a.number b.number in
+      let p = a.made.1 in
+      let q = b.made.1 in (
+        λ e. (
+            let s : SameCell a.cell b.cell = tell.0 (sym at_i ∙ e ∙ at_j) in
+            let kinds = kind_at one.0 (xs ++ ys) i a.value one.1 a.there
+            ∙ sym (kind_at one.0 (xs ++ ys) j b.value one.1 b.there) in
+            let same : a.value ≡ b.value = value_from_cell a.value b.value kinds (sym p.number_is ∙ s.1.0 ∙ q.number_is)
+            (sym p.text_is ∙ s.1.1 ∙ q.text_is) in
+            (sym p.class_is ∙ s.0 ∙ q.class_is, a.there ∙ ap (λ (z : Value). Some (Some z)) same ∙ sym b.there)),
+        λ e. (
+            let same : a.value ≡ b.value =
+            one_value (xs ++ ys) i a.value b.value a.there (e.1 ∙ b.there) in
+            at_i
+            ∙ tell.1 (cells_same (get_or classes i 0) a.value b.value a.made.0 b.made.0 a.cell b.cell p
+            (subst (λ c. IsCell c b.value b.made.0 b.cell) (sym e.0) q) same)
+            ∙ sym at_j),
+      )

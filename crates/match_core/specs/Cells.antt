@@ -1,8 +1,9 @@
 -- The values of a column of two tables, with the classes of their rows so far.
-use Rattle.std.specs.Prelude.{◌≡◌, ◌↔◌, ℕ, ◌+◌, ◌/◌, ◌<◌, ℤ, pos, List, [], ◌++◌, length, map, All, Bool, true, false, not, ◌&&◌, Option, Some, None, IsPermutation, IsSorted, nat_eq, slice_get, slice_index, slice_index_or}
+use Rattle.std.specs.Prelude.{◌≡◌, ◌↔◌, ◌⊎◌, ℕ, ◌+◌, ◌-◌, ◌/◌, ◌<◌, ℤ, pos, List, [], ◌++◌, length, map, All, AllPairs, Bool, true, false, not, if◌then◌else◌, ◌&&◌, Contains, Option, Some, None, IsSorted, nat_eq, nat_lt, slice_get, slice_index, slice_index_or, take}
+use Rattle.std.specs.List.{dedup}
 use Rattle.std.specs.Cmp.Lexicographic.{pointwise, slice_cmp}
 use Rattle.std.specs.Hash.FoldHasher.{initial, write, finish}
-use Rattle.std.specs.Ordering.{int_eq, ordering_then, nat_cmp, int_cmp}
+use Rattle.std.specs.Ordering.{int_eq, is_lt, ordering_then, nat_cmp, int_cmp}
 use Rattle.std.specs.declared.cmp.Ordering.{Ordering}
 use Rattle.row_core.specs.Value.{kind_of}
 use Rattle.row_core.specs.declared.row.Row.{Row}
@@ -10,6 +11,8 @@ use Rattle.row_core.specs.declared.value.Kind.{Kind}
 use Rattle.row_core.specs.declared.value.Value.{Value}
 use Rattle.row_core.specs.declared.value.Value.TheVariants.{Int, Text}
 use Rattle.match_core.specs.declared.cells.Cell.{Cell}
+use Rattle.match_core.specs.declared.cells.CellRange.{CellRange}
+use Rattle.match_core.specs.declared.cells.CellRange.TheVariants as range
 
 -- the values at that place of the rows
 abbrev pub column_at : ℕ → List Row → List (Option Value)
@@ -49,37 +52,44 @@ pub record IsCell (class : ℕ) (value : Value) (place : ℕ) (cell : Cell) : Ty
   pub text_is : cell.text.now ≡ text_in value
   pub place_is : cell.place ≡ place
 
--- the cell of a side's row at that place, of its class so far and its value in the column, where so many rows of the
--- other side stand before the side's rows
-pub record IsCellAt (before : ℕ) (classes : List ℕ) (column : List (Option Value)) (place : ℕ)
-    (cell : Cell) : Type 0 where
+-- the cell of a row at that place, of its class so far and its value in the column
+pub record IsCellAt (classes : List ℕ) (column : List (Option Value)) (place : ℕ) (cell : Cell) : Type 0 where
   pub value : Value
   pub there : slice_get column place ≡ Some (Some value)
-  pub made : IsCell (slice_index classes place) value (before + place) cell
-
--- the cells of a side's first rows, in their order
-abbrev pub AreCells : ℕ → List ℕ → List (Option Value) → List Cell → Type 0
-AreCells before classes column cells =
-    (k : ℕ) (d : Cell) → k < length cells → IsCellAt before classes column k (slice_index_or cells k d)
+  pub made : IsCell (slice_index classes place) value place cell
 
 -- the order of cells: by class, number and text
 abbrev pub cell_cmp : Cell → Cell → Ordering
 cell_cmp a b = ordering_then (nat_cmp a.class b.class)
     (ordering_then (int_cmp a.number b.number) (slice_cmp nat_cmp a.text.now b.text.now))
 
--- the cells of all rows of a side, by rising order
-pub record AreSorted (before : ℕ) (classes : List ℕ) (column : List (Option Value)) (cells : List Cell) : Type 0 where
-  pub made : List Cell
-  pub count : length made ≡ length column
-  pub are : AreCells before classes column made
-  pub moved : IsPermutation made cells
-  pub rise : IsSorted cell_cmp cells
+-- a cell comes before another one
+abbrev pub is_before : Cell → Cell → Bool
+is_before a b = is_lt (cell_cmp a b)
 
--- of the next ones of two sorted lists, whether the first list's comes first: it does where they tie
-abbrev pub first_is_next : {X : Type 0} → (X → X → Bool) → Option X → Option X → Bool
-first_is_next lt None b = false
-first_is_next lt (Some x) None = true
-first_is_next lt (Some x) (Some y) = not (lt y x)
+-- a range has a cell: all do, or those that aren't after one, or those that are
+abbrev pub has_cell : CellRange → Cell → Bool
+has_cell range.All cell = true
+has_cell (range.UpTo last) cell = not (is_before last cell)
+has_cell (range.Above last) cell = is_before last cell
+
+-- there is a cell of the row at that place
+abbrev pub HasPlace : List Cell → ℕ → Type 0
+HasPlace cells i = (cell : Cell) × Contains cells cell × (cell.place ≡ i)
+
+-- the cells of a range of a side's rows: each is that of its place, and each place whose cell is of the range has one
+pub record AreCells (range : CellRange) (classes : List ℕ) (column : List (Option Value)) (cells : List Cell)
+    : Type 0 where
+  pub own : All (λ (cell : Cell). IsCellAt classes column cell.place cell) cells
+  pub within : All (λ (cell : Cell). has_cell range cell ≡ true) cells
+  pub each : (i : ℕ) (cell : Cell) → i < length column → IsCellAt classes column i cell → has_cell range cell ≡ true
+      → HasPlace cells i
+
+-- the cells of all rows of a side, by rising order: each is that of its place, and each place has one
+pub record AreSorted (classes : List ℕ) (column : List (Option Value)) (cells : List Cell) : Type 0 where
+  pub own : All (λ (cell : Cell). IsCellAt classes column cell.place cell) cells
+  pub each : (i : ℕ) → i < length column → HasPlace cells i
+  pub rise : IsSorted cell_cmp cells
 
 -- the rows of both cells have one class so far, and one value
 abbrev pub same_cell : Cell → Cell → Bool
@@ -91,11 +101,63 @@ AgreeOnPlaces cells = (i j : ℕ) (d : Cell) → i < length cells → j < length
     → (slice_index_or cells i d).place ≡ (slice_index_or cells j d).place
     → same_cell (slice_index_or cells i d) (slice_index_or cells j d) ≡ true
 
--- the rows of two cells have one class exactly where the cells are the same
-abbrev pub AreTold : List Cell → List ℕ → Type 0
-AreTold cells classes = (i j : ℕ) (d : Cell) → i < length cells → j < length cells
-    → (slice_index classes (slice_index_or cells i d).place ≡ slice_index classes (slice_index_or cells j d).place)
-    ↔ (same_cell (slice_index_or cells i d) (slice_index_or cells j d) ≡ true)
+-- the row of a cell has the rank at which the same cell stands among those that differ
+pub record HasRank (ranks : List ℕ) (firsts : List Cell) (cell : Cell) : Type 0 where
+  pub within : slice_index ranks cell.place < length firsts
+  pub same : (d : Cell) → same_cell (slice_index_or firsts (slice_index ranks cell.place) d) cell ≡ true
+
+-- the rows of sorted cells have ranks
+abbrev pub AreRanksOf : List Cell → List ℕ → Type 0
+AreRanksOf cells ranks = All (HasRank ranks (dedup same_cell cells)) cells
+
+-- each cell comes before all later ones
+abbrev pub AreRising : List Cell → Type 0
+AreRising cells = AllPairs (λ (a b : Cell). is_before a b ≡ true) cells
+
+-- a row's class so far and its value are those of the cell of its rank
+pub record IsRankAt (classes : List ℕ) (column : List (Option Value)) (ranks : List ℕ) (firsts : List Cell)
+    (i : ℕ) : Type 0 where
+  pub cell : Cell
+  pub at : IsCellAt classes column i cell
+  pub within : slice_index ranks i < length firsts
+  pub same : (d : Cell) → same_cell (slice_index_or firsts (slice_index ranks i) d) cell ≡ true
+
+-- the ranks of a side's rows, and by rank a cell of the rows that have it, in rising order
+pub record AreRanked (classes : List ℕ) (column : List (Option Value)) (ranks : List ℕ)
+    (firsts : List Cell) : Type 0 where
+  pub count : length ranks ≡ length column
+  pub each : (i : ℕ) → i < length column → IsRankAt classes column ranks firsts i
+  pub rise : AreRising firsts
+
+-- the left cells up to a place come before a right one, and that at the place doesn't
+pub record IsNextTo (lefts rights : List Cell) (right left : ℕ) : Type 0 where
+  pub before : (d : Cell) → All (λ cell. is_before cell (slice_index_or rights right d) ≡ true) (take left lefts)
+  pub next : (d : Cell) → left < length lefts
+      → is_before (slice_index_or lefts left d) (slice_index_or rights right d) ≡ false
+
+-- a right cell's number is the place of the left one that is the same, or is its own place behind all left ones, where
+-- none is the same
+abbrev pub IsNumberOf : List Cell → List Cell → ℕ → ℕ → Type 0
+IsNumberOf lefts rights right number =
+    ((number < length lefts)
+    × ((d : Cell) → same_cell (slice_index_or lefts number d) (slice_index_or rights right d) ≡ true))
+    ⊎ ((number ≡ length lefts + right)
+    × ((d : Cell) → All (λ cell. same_cell cell (slice_index_or rights right d) ≡ false) lefts))
+
+-- the numbers of all right cells
+pub record AreMatched (lefts rights : List Cell) (numbers : List ℕ) : Type 0 where
+  pub count : length numbers ≡ length rights
+  pub each : (i : ℕ) → i < length rights → IsNumberOf lefts rights i (slice_index numbers i)
+
+-- the class of a row: its rank on the left side, the number of its rank on the right one
+abbrev pub class_at : List ℕ → List ℕ → List ℕ → ℕ → ℕ
+class_at lefts rights numbers i =
+    if nat_lt i (length lefts) then slice_index lefts i else slice_index numbers (slice_index rights (i - length lefts))
+
+-- each row has its class
+abbrev pub AreNumbered : List ℕ → List ℕ → List ℕ → List ℕ → Type 0
+AreNumbered lefts rights numbers classes =
+    (i : ℕ) → i < length classes → slice_index classes i ≡ class_at lefts rights numbers i
 
 -- two rows have one class exactly where they had one before and have one value
 abbrev pub Refines : List ℕ → List (Option Value) → List ℕ → Type 0

@@ -1,41 +1,26 @@
-//! Splits classes of rows by the values of a column: equal values are brought side by side by a sort of each side.
+//! The rows of one side with their values in the column that they are compared by, sorted by these.
 
-ghost use Rattle.std.specs.Prelude.{
-  ◌≡◌,
-  ◌+◌,
-  ◌<◌,
-  ◌^◌,
-  Some,
-  IfOk,
-  OnOk,
-  length,
-  take,
-  drop,
-  slice_get,
-};
+ghost use Rattle.std.specs.Prelude.{◌≡◌, ◌<◌, All, Some, IfOk, IsSorted, length, slice_get};
 ghost use Rattle.std.specs.Thread.{IsSync};
-ghost use Rattle.match_core.specs.declared.cells.Cell.{Cell};
 ghost use Rattle.match_core.specs.Cells.{
-  IsCell,
   AreCells,
-  AreOneKind,
   AreSorted,
-  Refines,
+  IsCell,
+  IsCellAt,
+  cell_cmp,
   column_at,
+  has_cell,
   hash_of,
-  values_at,
+  is_before,
 };
+ghost use Rattle.match_core.specs.declared.cells.CellRange.TheVariants.{UpTo, Above};
 
 use crate::NoMemory;
-use crate::numbering::number_classes;
 use row_core::{Row, Value};
 use sort_core::sort_unstable;
 use std::alloc::Global;
 use std::hash::{FoldHasher, Hasher};
-use std::thread::{Threads, join};
-
-/// Of fewer rows one side's cells would be sorted before the other side's thread has started.
-const ROWS_FOR_THREAD: usize = 4_096;
+use std::thread::{Threads, join_mut};
 
 /// A row's value in a column, with the class of the row so far, so that no value is looked up while they are
 /// sorted, and none is copied. Numbers have the empty text. Texts have a hash as their number, which mostly
@@ -51,146 +36,149 @@ pub(crate) struct Cell<'a> {
     pub(crate) place: usize,
 }
 
-/// Splits the classes, those of the left rows before those of the right ones: two rows have one class
-/// exactly where they had, and their values at those places are equal.
-pub(crate) fn refine<R: Threads + Sync>(
-    rt: &R,
-    alloc: Global,
-    classes: &mut [u64],
-    lefts: &[Row],
-    rights: &[Row],
-    left_place: usize,
-    right_place: usize,
-    workers: u32,
-) -> Result<(), NoMemory>
-    requires count { length classes.old ≡ length lefts.now + length rights.now }
-    requires kind { AreOneKind (values_at left_place right_place lefts.now rights.now) }
-    ensures { OnOk result (Refines classes.old (values_at left_place right_place lefts.now rights.now) classes.new) }
-{
-    let (left_cells, right_cells) = sorted_sides(
-        rt,
-        alloc,
-        classes,
-        lefts,
-        rights,
-        left_place,
-        right_place,
-        workers,
-    )?;
-    number_classes(&left_cells, &right_cells, classes);
-    Ok(())
+/// The rows of a side with their classes so far, and the place of the column that they are compared by.
+#[derive(Clone, Copy)]
+pub(crate) struct SideColumn<'a, 'c> {
+    pub rows: &'a [Row],
+    pub classes: &'c [u64],
+    pub place: usize,
+    pub ghost count: { length classes.now ≡ length rows.now },
+    pub ghost wide: { All (λ row. place < length row.values) rows.now },
 }
 
-// The sorted cells of the left rows, and those of the right ones: both at once by two threads, where rows are many.
-fn sorted_sides<'a, R: Threads + Sync>(
-    rt: &R,
-    alloc: Global,
-    classes: &[u64],
-    lefts: &'a [Row],
-    rights: &'a [Row],
-    left_place: usize,
-    right_place: usize,
-    workers: u32,
-) -> Result<(Vec<Cell<'a>>, Vec<Cell<'a>>), NoMemory>
-    requires count { length classes.now ≡ length lefts.now + length rights.now }
-    requires left { AreOneKind (column_at left_place lefts.now) }
-    requires right { AreOneKind (column_at right_place rights.now) }
-    ensures left { IfOk result (λ both. AreSorted 0 (take (length lefts.now) classes.now)
-        (column_at left_place lefts.now) both.0.items) }
-    ensures right { IfOk result (λ both. AreSorted (length lefts.now) (drop (length lefts.now) classes.now)
-        (column_at right_place rights.now) both.1.items) }
-{
-    let before = lefts.len();
-    let (left_classes, right_classes) = classes.split_at(before);
-    if workers < 2 || before.min(rights.len()) < ROWS_FOR_THREAD {
-        let left_cells = sorted_cells(rt, alloc, 0, left_classes, lefts, left_place, workers)?;
-        let right_cells = sorted_cells(
-            rt,
-            alloc,
-            before,
-            right_classes,
-            rights,
-            right_place,
-            workers,
-        )?;
-        return Ok((left_cells, right_cells));
-    }
-    let (left_cells, right_cells) = join(
-        rt,
-        || -> Result<Vec<Cell>, NoMemory>
-            requires { IsSync R.row × (length left_classes.now ≡ length lefts.now) × (length lefts.now < 2 ^ 63)
-                × AreOneKind (column_at left_place lefts.now) }
-            ensures { IfOk result (λ cells. AreSorted 0 left_classes.entry.now
-                (column_at left_place lefts.entry.now) cells.items) }
-        { sorted_cells(rt, alloc, 0, left_classes, lefts, left_place, workers) },
-        || -> Result<Vec<Cell>, NoMemory>
-            requires { IsSync R.row × (length right_classes.now ≡ length rights.now) × (before + length rights.now < 2 ^ 63)
-                × AreOneKind (column_at right_place rights.now) }
-            ensures { IfOk result (λ cells. AreSorted before right_classes.entry.now
-                (column_at right_place rights.entry.now) cells.items) }
-        {
-            sorted_cells(
-                rt,
-                alloc,
-                before,
-                right_classes,
-                rights,
-                right_place,
-                workers,
-            )
-        },
-    );
-    let left_cells = left_cells?;
-    let right_cells = right_cells?;
-    Ok((left_cells, right_cells))
+/// Some of the cells of a side: what one thread lists and sorts.
+#[derive(Clone, Copy)]
+pub(crate) enum CellRange<'a> {
+    /// All cells.
+    All,
+    /// Those that don't come after one.
+    UpTo(Cell<'a>),
+    /// Those that do.
+    Above(Cell<'a>),
 }
 
-// The sorted cells of a side's rows, which stand behind so many of the other side.
-fn sorted_cells<'a, R: Threads + Sync>(
+/// Of fewer rows half would be sorted before the other half's thread has started.
+const ROWS_FOR_HALVES: usize = 16_384;
+
+/// By so many rows the middle cell is told.
+const SAMPLE: usize = 255;
+
+/// A cell for each row of a side, in rising order. Where rows are many, one thread lists and sorts those up to about the
+/// middle one, and another those above it.
+pub(crate) fn sorted_cells<'a, R: Threads + Sync>(
     rt: &R,
     alloc: Global,
-    before: usize,
-    classes: &[u64],
-    rows: &'a [Row],
-    place: usize,
+    side: SideColumn<'a, '_>,
     workers: u32,
 ) -> Result<Vec<Cell<'a>>, NoMemory>
-    requires count { length classes.now ≡ length rows.now }
-    requires room { before + length rows.now < 2 ^ 63 }
-    requires kind { AreOneKind (column_at place rows.now) }
-    ensures { IfOk result (λ cells. AreSorted before classes.now (column_at place rows.now) cells.items) }
+    ensures { IfOk result (λ cells.
+        AreSorted side.entry.classes.now (column_at side.entry.place side.entry.rows.now) cells.items) }
 {
-    let mut cells = cells_of(alloc, before, classes, rows, place)?;
+    let Some(middle) = middle_cell(side, workers) else {
+        return sorted_range(rt, alloc, side, CellRange::All, workers);
+    };
+    let (low, high) = join_mut(
+        rt,
+        &mut move || -> Result<Vec<Cell>, NoMemory>
+            requires { IsSync R.row }
+            ensures range { IfOk result (λ cells. AreCells (UpTo middle.entry) side.entry.classes.now
+                (column_at side.entry.place side.entry.rows.now) cells.items) }
+            ensures rise { IfOk result (λ cells. IsSorted cell_cmp cells.items) }
+        { sorted_range(rt, alloc, side, CellRange::UpTo(middle), workers / 2) },
+        &mut move || -> Result<Vec<Cell>, NoMemory>
+            requires { IsSync R.row }
+            ensures range { IfOk result (λ cells. AreCells (Above middle.entry) side.entry.classes.now
+                (column_at side.entry.place side.entry.rows.now) cells.items) }
+            ensures rise { IfOk result (λ cells. IsSorted cell_cmp cells.items) }
+        { sorted_range(rt, alloc, side, CellRange::Above(middle), workers / 2) },
+    );
+    let mut cells = low?;
+    let mut high = high?;
+    cells.append(&mut high)?;
+    Ok(cells)
+}
+
+// About the middle one of the cells of some rows. None for one worker, and where rows are few.
+fn middle_cell<'a>(side: SideColumn<'a, '_>, workers: u32) -> Option<Cell<'a>> {
+    let count = side.rows.len();
+    if workers < 2 || count < ROWS_FOR_HALVES {
+        return None;
+    }
+    let step = count / SAMPLE;
+    let mut sample = [cell_at(side, 0); SAMPLE];
+    for i in 0..SAMPLE {
+        sample[i] = cell_at(side, i * step);
+    }
+    sample.sort_unstable();
+    Some(sample[SAMPLE / 2])
+}
+
+// The cells of a range, in rising order.
+fn sorted_range<'a, R: Threads + Sync>(
+    rt: &R,
+    alloc: Global,
+    side: SideColumn<'a, '_>,
+    range: CellRange<'_>,
+    workers: u32,
+) -> Result<Vec<Cell<'a>>, NoMemory>
+    ensures range { IfOk result (λ cells. AreCells range.entry side.entry.classes.now
+        (column_at side.entry.place side.entry.rows.now) cells.items) }
+    ensures rise { IfOk result (λ cells. IsSorted cell_cmp cells.items) }
+{
+    let mut cells = cells_of(alloc, side, range)?;
     sort_unstable(rt, &mut cells, workers);
     Ok(cells)
 }
 
-// A cell for each row of a side, in their order.
+// Whether a range has the cell.
+fn has_cell(range: &CellRange<'_>, cell: &Cell<'_>) -> bool
+    ensures { result ≡ has_cell range.now cell.now }
+{
+    match range {
+        CellRange::All => true,
+        CellRange::UpTo(last) => !is_before(last, cell),
+        CellRange::Above(last) => is_before(last, cell),
+    }
+}
+
+/// Whether the one cell comes before the other.
+pub(crate) fn is_before(a: &Cell, b: &Cell) -> bool
+    ensures { result ≡ is_before a.now b.now }
+{
+    a < b
+}
+
+// The cells of a range, in the order of the rows.
 fn cells_of<'a>(
     alloc: Global,
-    before: usize,
-    classes: &[u64],
-    rows: &'a [Row],
-    place: usize,
+    side: SideColumn<'a, '_>,
+    range: CellRange<'_>,
 ) -> Result<Vec<Cell<'a>>, NoMemory>
-    requires count { length classes.now ≡ length rows.now }
-    requires room { before + length rows.now < 2 ^ 63 }
-    requires kind { AreOneKind (column_at place rows.now) }
-    ensures count { IfOk result (λ cells. length cells.items ≡ length rows.now) }
-    ensures cells { IfOk result (λ cells. AreCells before classes.now (column_at place rows.now) cells.items) }
+    ensures { IfOk result (λ cells. AreCells range.entry side.entry.classes.now
+        (column_at side.entry.place side.entry.rows.now) cells.items) }
 {
-    let mut cells = Vec::with_capacity(alloc, rows.len())?;
-    for i in 0..rows.len() {
-        let value = value_at(rows, place, i);
-        cells.push(cell_of(classes[i], value, before + i))?;
+    let mut cells = Vec::with_capacity(alloc, side.rows.len())?;
+    for i in 0..side.rows.len() {
+        let cell = cell_at(side, i);
+        if has_cell(&range, &cell) {
+            cells.push(cell)?;
+        }
     }
     Ok(cells)
+}
+
+// The cell of the row at that place.
+fn cell_at<'a>(side: SideColumn<'a, '_>, i: usize) -> Cell<'a>
+    requires { i < length side.rows.now }
+    ensures { IsCellAt side.entry.classes.now (column_at side.entry.place side.entry.rows.now) i result }
+{
+    cell_of(side.classes[i], value_at(side.rows, side.place, i), i)
 }
 
 // The value of row i at that place.
 fn value_at(rows: &[Row], place: usize, i: usize) -> &Value
     requires within { i < length rows.now }
-    requires kind { AreOneKind (column_at place rows.now) }
+    requires wide { All (λ row. place < length row.values) rows.now }
     ensures { slice_get (column_at place rows.now) i ≡ Some (Some result.now) }
 {
     value_in(&rows[i], place)

@@ -7,8 +7,8 @@ ghost use Rattle.match_core.specs.Classes.{AreClasses, values_under};
 ghost use Rattle.match_core.specs.Cells.{Refines};
 
 use crate::NoMemory;
-use crate::cells::refine;
 use crate::side::Side;
+use crate::split::refine;
 use row_core::Name;
 use std::alloc::Global;
 use std::thread::Threads;
@@ -16,7 +16,7 @@ use std::thread::Threads;
 /// A class for each left row, and then for each right one: two rows, of whichever sides, have one class
 /// exactly where they are equal in each named pair of columns. Without names all rows have one. It takes
 /// time of the order n log n in the rows for each pair of names, whatever their values are. Where rows are many,
-/// the two sides are sorted at once, on as many threads as there are processors, but by one worker on one.
+/// half of the workers sort the values of the left side and the others those of the right one, each in two halves at once.
 ///
 /// # Errors
 ///

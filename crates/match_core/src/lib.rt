@@ -7,9 +7,11 @@ mod cells;
 mod classes;
 mod columns;
 mod numbering;
+mod ranks;
 mod row_items;
 mod share;
 mod side;
+mod split;
 
 pub use classes::classes_of;
 pub use columns::{QueryRefused, refusal_of_pairs};

@@ -1,103 +1,74 @@
-//! Numbers the classes by the sorted cells of both sides, which are gone through together.
+//! Numbers the classes of both sides by the ranks of each.
 
-ghost use Rattle.std.specs.Prelude.{
-  ◌≡◌,
-  ◌+◌,
-  ◌<◌,
-  ◌^◌,
-  ◌++◌,
-  if◌then◌else◌,
-  All,
-  Some,
-  IsSorted,
-  length,
-  slice_get,
-  true,
-  false,
-};
-ghost use Rattle.std.specs.Ordering.{is_lt};
-ghost use Rattle.match_core.specs.declared.cells.Cell.{Cell};
-ghost use Rattle.match_core.specs.Cells.{AgreeOnPlaces, AreTold, cell_cmp, first_is_next, same_cell};
+ghost use Rattle.std.specs.Prelude.{◌≡◌, ◌+◌, ◌<◌, ◌≤◌, All, IfOk, IfSome, length, slice_get, take, true, false};
+ghost use Rattle.match_core.specs.Cells.{AreMatched, AreNumbered, AreRising, IsNextTo, IsNumberOf, is_before};
 
-use crate::cells::Cell;
+use crate::NoMemory;
+use crate::cells::{Cell, is_before};
+use crate::ranks::is_same_cell;
+use std::alloc::Global;
 
-/// Numbers the classes in the order of the cells of both sides, a new one wherever they change.
-pub(crate) fn number_classes<'c, 'a>(
-    lefts: &'c [Cell<'a>],
-    rights: &'c [Cell<'a>],
-    classes: &mut [u64],
-)
-    requires count { length lefts.now + length rights.now ≡ length classes.old }
-    requires within { All (λ cell. cell.place < length classes.old) (lefts.now ++ rights.now) }
-    requires agree { AgreeOnPlaces (lefts.now ++ rights.now) }
-    requires left { IsSorted cell_cmp lefts.now }
-    requires right { IsSorted cell_cmp rights.now }
-    ensures { AreTold (lefts.now ++ rights.now) classes.new }
+/// A number for each right cell: the place of the left cell that is the same, or one behind those of all left cells.
+pub(crate) fn numbers_of(
+    alloc: Global,
+    lefts: &[Cell],
+    rights: &[Cell],
+) -> Result<Vec<u64>, NoMemory>
+    requires left { AreRising lefts.now }
+    requires right { AreRising rights.now }
+    ensures { IfOk result (λ numbers. AreMatched lefts.now rights.now numbers.items) }
 {
-    if classes.is_empty() {
-        return;
-    }
-    let mut last = cell_of_side(lefts, 0, rights, 0, is_left_next(lefts, 0, rights, 0));
-    let mut class = 0;
+    let mut numbers = Vec::with_capacity(alloc, rights.len())?;
     let mut left = 0;
-    for done in 0..classes.len() {
-        let is_left = is_left_next(lefts, left, rights, done - left);
-        let cell = cell_of_side(lefts, left, rights, done - left, is_left);
-        class = class_after(last, class, cell);
-        classes[cell.place] = class;
-        last = cell;
-        left += usize::from(is_left);
+    for right in 0..rights.len() {
+        left = first_from(lefts, left, &rights[right]);
+        numbers.push(number_of(lefts, left, rights, right))?;
     }
+    Ok(numbers)
 }
 
-// Whether the left cell at its place comes before the right one at its own.
-fn is_left_next(lefts: &[Cell], left: usize, rights: &[Cell], right: usize) -> bool
-    ensures { result ≡ first_is_next (λ a b. is_lt (cell_cmp a b)) (slice_get lefts.now left)
-        (slice_get rights.now right) }
+// The first place from there on at which the left cell doesn't come before the other.
+fn first_from(lefts: &[Cell], from: usize, cell: &Cell) -> usize
+    requires from { from ≤ length lefts.now }
+    requires before { All (λ x. is_before x cell.now ≡ true) (take from lefts.now) }
+    ensures within { result ≤ length lefts.now }
+    ensures before { All (λ x. is_before x cell.now ≡ true) (take result lefts.now) }
+    ensures next { IfSome (slice_get lefts.now result) (λ x. is_before x cell.now ≡ false) }
 {
-    let Some(a) = lefts.get(left) else {
-        return false;
-    };
-    let Some(b) = rights.get(right) else {
-        return true;
-    };
-    b.cmp(a).is_ge()
+    for at in from..lefts.len() {
+        if !is_before(&lefts[at], cell) {
+            return at;
+        }
+    }
+    lefts.len()
 }
 
-// The left cell at its place, or the right one at its own.
-fn cell_of_side<'c, 'a>(
-    lefts: &'c [Cell<'a>],
-    left: usize,
-    rights: &'c [Cell<'a>],
-    right: usize,
-    is_left: bool,
-) -> &'c Cell<'a>
-    requires left { is_left ≡ true → left < length lefts.now }
-    requires right { is_left ≡ false → right < length rights.now }
-    ensures left { is_left ≡ true → slice_get lefts.now left ≡ Some result.now }
-    ensures right { is_left ≡ false → slice_get rights.now right ≡ Some result.now }
+// The number of the right cell at its place, where that left one is the first that doesn't come before it.
+fn number_of(lefts: &[Cell], left: usize, rights: &[Cell], right: usize) -> u64
+    requires right { right < length rights.now }
+    requires within { left ≤ length lefts.now }
+    requires rise { AreRising lefts.now }
+    requires before { IsNextTo lefts.now rights.now right left }
+    ensures { IsNumberOf lefts.now rights.now right result }
 {
-    if is_left {
-        &lefts[left]
+    if left < lefts.len() && is_same_cell(&lefts[left], &rights[right]) {
+        left as u64
     } else {
-        &rights[right]
+        (lefts.len() + right) as u64
     }
 }
 
-// The class of the cell, given the cell before it and the class of that.
-fn class_after(last: &Cell, class: u64, cell: &Cell) -> u64
-    requires { class < 2 ^ 63 }
-    ensures { result ≡ class + (if same_cell last.now cell.now then 0 else 1) }
+/// Gives each left row its rank as its class, and each right row the number of its rank.
+pub(crate) fn number_rows(lefts: &[u64], rights: &[u64], numbers: &[u64], classes: &mut [u64])
+    requires count { length classes.old ≡ length lefts.now + length rights.now }
+    requires within { All (λ rank. rank < length numbers.now) rights.now }
+    ensures { AreNumbered lefts.now rights.now numbers.now classes.new }
 {
-    if is_same_cell(last, cell) {
-        class
-    } else {
-        class + 1
+    for i in 0..classes.len() {
+        classes[i] = if i < lefts.len() {
+            lefts[i]
+        } else {
+            numbers[rights[i - lefts.len()] as usize]
+        };
     }
-}
-
-fn is_same_cell(a: &Cell, b: &Cell) -> bool
-    ensures { result ≡ same_cell a.now b.now }
-{
-    a.class == b.class && a.number == b.number && a.text == b.text
 }

@@ -1,6 +1,9 @@
-use Rattle.std.proofs.Common.{take}
-use Rattle.agg_core.specs.Entries.{AreEntries}
+-- The entries so far, those of the range.
+use Rattle.std.proofs.Common.{Some, take}
+use Rattle.agg_core.specs.Entries.{AreEntries, value_at_place}
+use Rattle.agg_core.specs.Ranges.{rows_in_range}
 use Rattle.agg_core.proofs.entries.entries_of.Given as goal
 
 abbrev pub invariant-loop-row : goal.invariant-loop-row
-invariant-loop-row l = AreEntries l.place (take l.row-index l.rows) l.entries.items
+invariant-loop-row l =
+    AreEntries l.place (rows_in_range (value_at_place (Some l.place)) l.range (take l.row-index l.rows)) l.entries.items

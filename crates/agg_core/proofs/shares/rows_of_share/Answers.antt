@@ -1,35 +1,51 @@
-use Rattle.std.proofs.Common.{◌≤◌, ap, arith, length, subst, sym}
+use Rattle.std.proofs.Common.{◌≤◌, Some, ap, arith, length, not, refl, subst, sym}
 use Rattle.std.proofs.lemmas.List.Sorted.{length_permutation}
+use Rattle.std.proofs.lemmas.List.Filters.{length-filter_both}
 use Rattle.std.proofs.lemmas.Result.{IfOk-weaker}
 use Rattle.std.proofs.lemmas.Slice.Zip.{AllZip-long}
 use Rattle.dip_core.specs.Item.{item_limit}
-use Rattle.agg_core.specs.Entries.{AreRising, AreRowsOfEntries, amount_at}
-use Rattle.agg_core.specs.Grouping.{IsNumberedItem, copied_groups}
-use Rattle.agg_core.proofs.ShareLemmas.{rows_of_numbered, rows_of_sorted}
+use Rattle.row_core.specs.declared.row.Row.{Row}
+use Rattle.agg_core.specs.Entries.{AreRising, amount_at, value_at_place}
+use Rattle.agg_core.specs.Grouping.{AreItemsByGroup, IsNumberedItem, copied_groups}
+use Rattle.agg_core.specs.Ranges.{in_range, rows_in_range}
+use Rattle.agg_core.proofs.EntryLemmas.{keyed_entries, length-entries}
+use Rattle.agg_core.proofs.ShareLemmas.{answer_of_entries}
 use Rattle.agg_core.proofs.shares.rows_of_share.Goals as goal
 
+pub sorted-requires-after_bounds : goal.sorted-requires-after_bounds
+sorted-requires-after_bounds g c κs within =
+    keyed_entries c.args.place (rows_in_range (value_at_place (Some c.args.place)) c.args.range.now c.args.rows.now)
+    c.in_ok-entries.entries.items c.in_ok-entries.ensures
+
 pub group_entries-requires : goal.group_entries-requires
-group_entries-requires g c = subst AreRising (sym c.deref.ensures.value) c.in_ok-entries.ensures.rise
+group_entries-requires g c = subst AreRising (sym c.deref.ensures.value) c.in_ok-entries-2.ensures.rise
 
 pub rows_of_groups-requires-clause-few : goal.rows_of_groups-requires-clause-few
 rows_of_groups-requires-clause-few g c κs within =
+    let rows = rows_in_range (value_at_place (Some c.args.place)) c.args.range.now c.args.rows.now in
     let items = c.in_ok-grouped.grouped.items.items in
-    let few : length c.args.entries.items ≤ item_limit = c.requires.few in
+    let few : length c.args.rows.now ≤ item_limit = c.requires.few in
+    let both =
+    length-filter_both (λ (r : Row). in_range c.args.range.now (value_at_place (Some c.args.place) r))
+    (λ (r : Row). not (in_range c.args.range.now (value_at_place (Some c.args.place) r))) (λ r. refl) c.args.rows.now in
+    let listed = length-entries c.args.place rows c.in_ok-entries.entries.items c.in_ok-entries.ensures in
     let moved =
-    length_permutation c.args.entries.items c.in_ok-entries.entries.items c.in_ok-entries.ensures.moved in
+    length_permutation c.in_ok-entries.entries.items c.in_ok-entries-2.entries.items c.in_ok-entries-2.ensures.moved in
     let value = ap length c.deref.ensures.value in
     let same =
     AllZip-long (IsNumberedItem (amount_at c.args.amount) (copied_groups c.in_ok-grouped.grouped.groups.items))
     c.deref.result.now items c.in_ok-grouped.ensures.each in
-    omega (arith, few, moved, value, same)
+    omega (arith, few, both, listed, moved, value, same)
 
 pub returns : goal.returns
 returns g c =
+    let rows = rows_in_range (value_at_place (Some c.args.place)) c.args.range.now c.args.rows.now in
+    let items = c.in_ok-grouped.grouped.items.items in
+    let groups = copied_groups c.in_ok-grouped.grouped.groups.items in
     IfOk-weaker c.rows_of_groups.result _ _
-    (λ rows made.
-    rows_of_sorted c.args.measure (amount_at c.args.amount) c.args.entries.items c.in_ok-entries.entries.items rows
-    c.in_ok-entries.ensures
-    (subst (λ l. AreRowsOfEntries c.args.measure (amount_at c.args.amount) l rows) c.deref.ensures.value
-    (rows_of_numbered c.args.measure (amount_at c.args.amount) c.deref.result.now c.in_ok-grouped.grouped.items.items
-    (copied_groups c.in_ok-grouped.grouped.groups.items) rows c.in_ok-grouped.ensures made)))
+    (λ answer made.
+    answer_of_entries c.args.measure (amount_at c.args.amount) c.args.place rows c.in_ok-entries.entries.items
+    c.in_ok-entries-2.entries.items items groups answer c.in_ok-entries.ensures c.in_ok-entries-2.ensures
+    (subst (λ l. AreItemsByGroup (amount_at c.args.amount) l items groups) c.deref.ensures.value c.in_ok-grouped.ensures)
+    made)
     c.rows_of_groups.ensures

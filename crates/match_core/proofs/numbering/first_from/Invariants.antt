@@ -1,0 +1,10 @@
+-- the left cells so far come before the other
+use Rattle.std.proofs.Common.{◌≡◌, ◌≤◌, All, length, take, true}
+use Rattle.match_core.specs.Cells.{is_before}
+use Rattle.match_core.proofs.numbering.first_from.Given as goal
+
+abbrev pub invariant-loop-at : goal.invariant-loop-at
+invariant-loop-at l = record {
+  within : l.at ≤ length l.lefts;
+  before : All (λ x. is_before x l.cell ≡ true) (take l.at l.lefts);
+}

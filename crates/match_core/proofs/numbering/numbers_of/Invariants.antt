@@ -1,0 +1,6 @@
+-- the right cells so far have numbers
+use Rattle.match_core.proofs.NumberLemmas.{Numbering}
+use Rattle.match_core.proofs.numbering.numbers_of.Given as goal
+
+abbrev pub invariant-loop-right : goal.invariant-loop-right
+invariant-loop-right l = Numbering l.lefts l.rights l.right l.left l.numbers.items
