@@ -26,8 +26,8 @@ const ROWS_FOR_SHARES: usize = 16_384;
 /// By so many rows the middle value is told.
 const SAMPLE: usize = 255;
 
-/// By fewer of them it isn't told. Each halving of a range leaves half of them, so there are eight shares at most: who lists
-/// one goes through all rows.
+/// By fewer of them it isn't told: a share of less than about a fifth of the rows isn't parted again, since who lists one
+/// goes through all rows.
 const SAMPLE_LEAST: usize = 48;
 
 /// The key in the range up to whose value half of the workers take the rows: about the middle one of some of them. None for

@@ -1,5 +1,5 @@
 -- The rows of items, part by part, and from the items of parts to the items that were divided.
-use Rattle.std.proofs.Common.{◌≡◌, ◌≢◌, ℕ, ◌+◌, ◌<◌, ℤ, List, [], ◌++◌, length, map, take, drop, refl, sym, subst, ap, ◌∙◌, inl, inr, arith, length-append}
+use Rattle.std.proofs.Common.{◌≡◌, ◌≢◌, ℕ, ◌+◌, ◌<◌, ℤ, List, [], ◌++◌, length, map, take, drop, get_or, refl, sym, subst, ap, ◌∙◌, inl, inr, arith, length-append}
 use Rattle.std.specs.Prelude.{◌<ℤ◌, Contains, IsPermutation, IsSorted}
 use Rattle.std.proofs.lemmas.Int.{ints}
 use Rattle.std.proofs.lemmas.List.{take-append-drop}
@@ -19,7 +19,7 @@ use Rattle.anti_core.specs.Anti.{anti_cmp}
 use Rattle.anti_core.specs.ItemAnti.{row_of_gap, IsItemsAntiRow, AreItemsRows, IsItemsAnti}
 use Rattle.list_core.proofs.MadeLemmas.{Contains-map, Contains-map_source, AllPairs-map}
 use Rattle.dip_core.proofs.PartedLemmas.{all_of-more, distinct-earlier, distinct-later, ids-apart}
-use Rattle.anti_core.proofs.OrderLemmas.{AntiRow-same_fields, sorted_rows}
+use Rattle.anti_core.proofs.OrderLemmas.{AntiRow-same_fields, before-apart, sorted_rows}
 use Rattle.anti_core.proofs.PartLemmas.{parts-apart}
 
 -- ---- part by part
@@ -126,6 +126,15 @@ IsItemsAnti-sorted left right found rows all moved sorted = record {
     λ h. (all.exactly row).0 (Contains-permutation rows found row (IsPermutation-sym found rows moved) h),
     λ is. Contains-permutation found rows row moved ((all.exactly row).1 is),
   );
+}
+
+-- rows in order are all rows
+pub AreItemsRows-ordered : (left right : List Item) (rows : List AntiRow) → IsItemsAnti left right rows
+    → AreItemsRows left right rows
+AreItemsRows-ordered left right rows lists = record {
+  ordered = λ i j d less within.
+      before-apart (get_or rows i d) (get_or rows j d) (lists.ordered i j d less within);
+  exactly = lists.exactly;
 }
 
 -- ---- of the items that were divided

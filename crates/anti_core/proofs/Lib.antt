@@ -5,6 +5,7 @@ pub mod ItemLemmas
 pub mod MaximalLemmas
 pub mod OrderLemmas
 pub mod PartLemmas
+pub mod ResultLemmas
 pub mod RowLemmas
 pub mod ShareLemmas
 pub mod SupplyLemmas

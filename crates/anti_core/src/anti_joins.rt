@@ -61,16 +61,15 @@ fn anti_rows<R: Threads + Sync, G: Gate>(
         left.entry.rows.now right.entry.rows.now) }
 {
     let classes = classes_of(rt, alloc, left, right, on, workers)?;
-    let (left_classes, right_classes) = classes.split_at(left.rows.len());
     let lefts = left.rows.as_slice();
     let rights = right.rows.as_slice();
     anti_sides(
         rt,
         alloc,
         lefts,
-        left_classes,
+        &classes.left,
         rights,
-        right_classes,
+        &classes.right,
         workers,
         gate,
     )

@@ -6,13 +6,14 @@ ghost use Rattle.std.specs.Thread.{IsSync};
 ghost use Rattle.dip_core.specs.Item.{item_limit, HasDistinctIds};
 ghost use Rattle.grid_core.specs.Bundles.{ClassesRise};
 ghost use Rattle.work_core.specs.Limits.{worker_limit};
-ghost use Rattle.anti_core.specs.ItemAnti.{AreItemsRows};
+ghost use Rattle.anti_core.specs.ItemAnti.{IsItemsAnti};
 
 use crate::parted::rows_of_items;
-use crate::rows::AntiRow;
+use crate::rows::{AntiRow, merged};
 use dip_core::Item;
 use grid_core::{last_class, middle_class, parted_behind};
 use period_core::NoMemory;
+use sort_core::sort_unstable;
 use std::alloc::Global;
 use std::thread::{Threads, join};
 use work_core::Gate;
@@ -32,7 +33,7 @@ fn bundle_items(left: &[Item], right: &[Item]) -> usize {
     share.clamp(BUNDLE_LEAST, BUNDLE_MOST)
 }
 
-/// The rows of all left items, bundle by bundle.
+/// The rows of all left items, which are found bundle by bundle, in order.
 fn rows_of_bundles<R: Threads + Sync, G: Gate>(
     rt: &R,
     alloc: Global,
@@ -47,10 +48,10 @@ fn rows_of_bundles<R: Threads + Sync, G: Gate>(
     requires left_rise { ClassesRise left.now }
     requires right_rise { ClassesRise right.now }
     requires ids { HasDistinctIds left.now }
-    ensures { IfOk result (λ rows. AreItemsRows left.now right.now rows.items) }
+    ensures { IfOk result (λ rows. IsItemsAnti left.now right.now rows.items) }
 {
     let enough = bundle_items(left, right);
-    let mut rows = Vec::new(alloc);
+    let mut rows = Vec::with_capacity(alloc, left.len())?;
     let mut lefts = left;
     let mut rights = right;
     'bundles: while let Some(first) = lefts.first() {
@@ -62,10 +63,12 @@ fn rows_of_bundles<R: Threads + Sync, G: Gate>(
         lefts = high_lefts;
         rights = high_rights;
     }
+    sort_unstable(rt, &mut rows, workers);
     Ok(rows)
 }
 
-/// The rows of all left items. Half of the workers find those of the lower classes, where there are enough of both.
+/// The rows of all left items, in order. Half of the workers find those of the lower classes, where there are enough of
+/// both.
 #[cycle(halves)]
 pub(crate) fn rows_of_halves<R: Threads + Sync, G: Gate>(
     rt: &R,
@@ -81,7 +84,7 @@ pub(crate) fn rows_of_halves<R: Threads + Sync, G: Gate>(
     requires left_rise { ClassesRise left.now }
     requires right_rise { ClassesRise right.now }
     requires ids { HasDistinctIds left.now }
-    ensures { IfOk result (λ rows. AreItemsRows left.now right.now rows.items) }
+    ensures { IfOk result (λ rows. IsItemsAnti left.now right.now rows.items) }
 {
     let Some(class) = middle_class(left, right, workers) else {
         return rows_of_bundles(rt, alloc, left, right, workers, gate);
@@ -96,17 +99,16 @@ pub(crate) fn rows_of_halves<R: Threads + Sync, G: Gate>(
             requires { IsSync R.row × IsSync G.row × (0 < few) × (few ≤ worker_limit) × (length low_lefts.now ≤ item_limit)
                 × (length low_rights.now ≤ item_limit) × ClassesRise low_lefts.now × ClassesRise low_rights.now
                 × HasDistinctIds low_lefts.now }
-            ensures { IfOk result (λ rows. AreItemsRows low_lefts.entry.now low_rights.entry.now rows.items) }
+            ensures { IfOk result (λ rows. IsItemsAnti low_lefts.entry.now low_rights.entry.now rows.items) }
         { rows_of_halves(rt, alloc, low_lefts, low_rights, few, gate) },
         || -> Result<Vec<AntiRow>, NoMemory>
             requires { IsSync R.row × IsSync G.row × (0 < others) × (others ≤ worker_limit)
                 × (length high_lefts.now ≤ item_limit) × (length high_rights.now ≤ item_limit)
                 × ClassesRise high_lefts.now × ClassesRise high_rights.now × HasDistinctIds high_lefts.now }
-            ensures { IfOk result (λ rows. AreItemsRows high_lefts.entry.now high_rights.entry.now rows.items) }
+            ensures { IfOk result (λ rows. IsItemsAnti high_lefts.entry.now high_rights.entry.now rows.items) }
         { rows_of_halves(rt, alloc, high_lefts, high_rights, others, gate) },
     );
-    let mut rows = low?;
-    let mut high = high?;
-    rows.append(&mut high)?;
-    Ok(rows)
+    let rows = low?;
+    let high = high?;
+    merged(rows, high)
 }

@@ -1,6 +1,7 @@
 //! The rows of an anti-join.
 
-ghost use Rattle.std.specs.Prelude.{◌≡◌, ◌++◌, map, OnOk};
+ghost use Rattle.std.specs.Prelude.{◌≡◌, ◌++◌, map, IfOk, IsPermutation, IsSorted, OnOk};
+ghost use Rattle.anti_core.specs.Anti.{anti_cmp};
 ghost use Rattle.anti_core.specs.ItemAnti.{row_of_gap};
 
 use list_core::List;
@@ -31,4 +32,18 @@ pub(crate) fn add_rows(gaps: &[Gap], rows: &mut Vec<AntiRow>) -> Result<(), NoMe
         })?;
     }
     Ok(())
+}
+
+/// The rows of two lists, in order. A list that is in order is left so by the sort, which finds that: two such lists are
+/// only merged.
+pub(crate) fn merged(
+    mut rows: Vec<AntiRow>,
+    mut more: Vec<AntiRow>,
+) -> Result<Vec<AntiRow>, NoMemory>
+    ensures permutation { IfOk result (λ all. IsPermutation (rows.items ++ more.items) all.items) }
+    ensures sorted { IfOk result (λ all. IsSorted anti_cmp all.items) }
+{
+    rows.append(&mut more)?;
+    rows.sort()?;
+    Ok(rows)
 }

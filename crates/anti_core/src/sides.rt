@@ -7,18 +7,17 @@ ghost use Rattle.dip_core.specs.Item.{item_limit, HasDistinctIds};
 ghost use Rattle.grid_core.specs.Bundles.{ClassesRise};
 ghost use Rattle.match_core.specs.Items.{items_of_share, items_with};
 ghost use Rattle.work_core.specs.Limits.{worker_limit};
-ghost use Rattle.anti_core.specs.ItemAnti.{AreItemsRows, IsItemsAnti};
+ghost use Rattle.anti_core.specs.ItemAnti.{IsItemsAnti};
 ghost use Rattle.anti_core.specs.United.{IsUnion};
 
 use crate::bundles::rows_of_halves;
-use crate::rows::{AntiRow, AntiRows};
+use crate::rows::{AntiRow, AntiRows, merged};
 use crate::united::united_rows;
 use dip_core::Item;
 use grid_core::order_by_class;
 use match_core::{Share, items_of_share};
 use period_core::NoMemory;
 use row_core::Row;
-use sort_core::sort_unstable;
 use std::alloc::Global;
 use std::thread::{Threads, join};
 use work_core::Gate;
@@ -116,7 +115,7 @@ fn prepared<R: Threads + Sync>(
     Ok((lefts, united))
 }
 
-/// The rows of the left items of a share.
+/// The rows of the left items of a share, in order.
 fn rows_of_share<R: Threads + Sync, G: Gate>(
     rt: &R,
     alloc: Global,
@@ -134,7 +133,7 @@ fn rows_of_share<R: Threads + Sync, G: Gate>(
     requires left_few { length left.now ≤ item_limit }
     requires right_few { length right.now ≤ item_limit }
     requires ids { HasDistinctIds (items_with left.now left_classes.now) }
-    ensures { IfOk result (λ rows. AreItemsRows (items_of_share share left.now left_classes.now)
+    ensures { IfOk result (λ rows. IsItemsAnti (items_of_share share left.now left_classes.now)
         (items_of_share share right.now right_classes.now) rows.items) }
 {
     let (lefts, united) = prepared(
@@ -150,8 +149,8 @@ fn rows_of_share<R: Threads + Sync, G: Gate>(
     rows_of_halves(rt, alloc, &lefts, &united, workers, gate)
 }
 
-/// The rows of all left items. Half of the workers find those of the lower classes, where rows are many and of more
-/// classes than one.
+/// The rows of all left items, in order. Half of the workers find those of the lower classes, where rows are many and of
+/// more classes than one.
 fn rows_of_sides<R: Threads + Sync, G: Gate>(
     rt: &R,
     alloc: Global,
@@ -168,7 +167,7 @@ fn rows_of_sides<R: Threads + Sync, G: Gate>(
     requires left_few { length left.now ≤ item_limit }
     requires right_few { length right.now ≤ item_limit }
     requires ids { HasDistinctIds (items_with left.now left_classes.now) }
-    ensures { IfOk result (λ rows. AreItemsRows (items_with left.now left_classes.now)
+    ensures { IfOk result (λ rows. IsItemsAnti (items_with left.now left_classes.now)
         (items_with right.now right_classes.now) rows.items) }
 {
     let Some(class) = class_between(left_classes, workers) else {
@@ -193,7 +192,7 @@ fn rows_of_sides<R: Threads + Sync, G: Gate>(
                 × (length left.now ≤ length left_classes.now) × (length right.now ≤ length right_classes.now)
                 × (length left.now ≤ item_limit) × (length right.now ≤ item_limit)
                 × HasDistinctIds (items_with left.now left_classes.now) }
-            ensures { IfOk result (λ rows. AreItemsRows
+            ensures { IfOk result (λ rows. IsItemsAnti
                 (items_of_share (Share.UpTo class) left.entry.now left_classes.entry.now)
                 (items_of_share (Share.UpTo class) right.entry.now right_classes.entry.now) rows.items) }
         {
@@ -214,7 +213,7 @@ fn rows_of_sides<R: Threads + Sync, G: Gate>(
                 × (length left.now ≤ length left_classes.now) × (length right.now ≤ length right_classes.now)
                 × (length left.now ≤ item_limit) × (length right.now ≤ item_limit)
                 × HasDistinctIds (items_with left.now left_classes.now) }
-            ensures { IfOk result (λ rows. AreItemsRows
+            ensures { IfOk result (λ rows. IsItemsAnti
                 (items_of_share (Share.Above class) left.entry.now left_classes.entry.now)
                 (items_of_share (Share.Above class) right.entry.now right_classes.entry.now) rows.items) }
         {
@@ -231,10 +230,9 @@ fn rows_of_sides<R: Threads + Sync, G: Gate>(
             )
         },
     );
-    let mut rows = low?;
-    let mut high = high?;
-    rows.append(&mut high)?;
-    Ok(rows)
+    let rows = low?;
+    let high = high?;
+    merged(rows, high)
 }
 
 /// The anti-join of two sides, whose rows match where their classes are equal. The right items are united before they
@@ -258,7 +256,7 @@ pub(crate) fn anti_sides<R: Threads + Sync, G: Gate>(
     ensures { IfOk result (IsItemsAnti (items_with left.now left_classes.now)
         (items_with right.now right_classes.now)) }
 {
-    let mut rows = rows_of_sides(
+    let rows = rows_of_sides(
         rt,
         alloc,
         left,
@@ -268,6 +266,5 @@ pub(crate) fn anti_sides<R: Threads + Sync, G: Gate>(
         workers,
         gate,
     )?;
-    sort_unstable(rt, &mut rows, workers);
     Ok(AntiRows::from(rows))
 }

@@ -71,8 +71,7 @@ fn join_rows<R: Threads + Sync, G: Gate>(
         → IsWithin k m (length left.entry.rows.now) (length right.entry.rows.now) answer.turns) }
 {
     let classes = classes_of(rt, alloc, left, right, on, workers)?;
-    let (left_classes, right_classes) = classes.split_at(left.rows.len());
-    let lefts = items_with(alloc, left.rows.as_slice(), left_classes)?;
-    let rights = items_with(alloc, right.rows.as_slice(), right_classes)?;
+    let lefts = items_with(alloc, left.rows.as_slice(), &classes.left)?;
+    let rights = items_with(alloc, right.rows.as_slice(), &classes.right)?;
     join_items(rt, alloc, lefts, rights, workers, gate)
 }

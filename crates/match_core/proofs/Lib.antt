@@ -11,3 +11,4 @@ pub mod SideIds
 pub mod Sided
 pub mod SplitClasses
 pub mod Tell
+pub mod VecLemmas

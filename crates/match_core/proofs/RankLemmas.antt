@@ -1,210 +1,203 @@
 -- The ranks of sorted cells: each different cell has one.
-use Rattle.std.proofs.Common.{◌≡◌, ◌≢◌, ℕ, suc, ◌+◌, ◌-◌, ◌<◌, ◌≤◌, Bool, true, false, cond, List, [], ◌∷◌, ◌++◌, length, drop, set, get_or, refl, sym, subst, ap, ◌∙◌, inl, inr, arith, get_or-set_same, get_or-set_other}
-use Rattle.std.specs.Prelude.{Option}
-use Rattle.std.specs.List.{dedup, dedup_from}
-use Rattle.std.specs.List.Sorted.{IsStrictlySortedBy}
-use Rattle.std.specs.Ordering.{is_lt}
-use Rattle.std.specs.declared.cmp.Ordering.TheVariants.{Less}
-use Rattle.std.proofs.Math.Seq.{drop-cons}
+use Rattle.std.proofs.Common.{◌≡◌, ◌≢◌, ℕ, ◌+◌, ◌-◌, ◌<◌, true, List, [], ◌∷◌, ◌++◌, length, set, get_or, refl, sym, subst, ap, ◌∙◌, inl, inr, arith, get_or-set_same, get_or-set_other}
+use Rattle.std.specs.Prelude.{IsSorted, Option, slice_get}
 use Rattle.std.proofs.lemmas.Bool.{cases_eq}
-use Rattle.std.proofs.lemmas.List.{get_or-append_right, get_or_read, length-append, length_push}
-use Rattle.std.proofs.lemmas.List.Elements.{All-contains, All-from_recursion}
-use Rattle.std.proofs.lemmas.List.Kept.{IsStrictlySortedBy-dedup}
-use Rattle.list_core.proofs.WantedLemmas.{AllPairs-before}
+use Rattle.std.proofs.lemmas.List.{get_or_append_left, get_or-append_right, get_or_read, length_push}
+use Rattle.std.proofs.lemmas.List.Elements.{All-contains}
+use Rattle.std.proofs.lemmas.List.Quantifiers.{all_pairs_push}
+use Rattle.std.proofs.lemmas.Option.{get_or_from_slice_get, slice_get-get_or}
 use Rattle.row_core.specs.declared.value.Value.{Value}
 use Rattle.match_core.specs.declared.cells.Cell.{Cell}
-use Rattle.match_core.specs.Cells.{AgreeOnPlaces, AreRanked, AreRanksOf, AreRising, AreSorted, HasRank, IsCellAt, IsRankAt, cell_cmp, is_before, same_cell}
-use Rattle.match_core.proofs.CellOrder.{SameCell, SameCell-itself, SameCell-sym, SameCell-trans, cell_total, same-tied, same_cell-decides, told_apart}
+use Rattle.match_core.specs.Cells.{AgreeOnPlaces, AreRanked, AreRanksOf, AreRising, AreSorted, HasLast, HasRank, IsCellAt, IsEntered, IsFromLast, IsRankAt, cell_cmp, is_before, same_cell}
+use Rattle.match_core.proofs.CellOrder.{SameCell, SameCell-sym, SameCell-trans, SameCell-itself, after-from, before-same, before-trans, same_cell-decides, told_apart}
 
--- ---- what differs
+-- ---- a cell enters those that differ
 
--- the last one that was kept stands first
-kept_first : (x : Cell) (xs : List Cell) → (ys : List Cell) × (dedup_from same_cell x xs ≡ x ∷ ys)
-kept_first x [] = ([], refl)
-kept_first x (y ∷ ys) = by_test (same_cell y x) (kept_first x ys)
+-- the last one is the same already
+pub entered_same : (old : List Cell) (cell : Cell) (rank : ℕ) → AreRising old → HasLast old cell
+    → rank + 1 ≡ length old → IsEntered old cell old rank
+entered_same old cell rank rise (last, (at, same)) count =
+    let place : rank ≡ length old - 1 = omega (arith, count) in
+    record {
+      kept = λ k d lt. refl;
+      more = omega arith;
+      last = count;
+      same = λ d.
+          ap (λ k. same_cell (get_or old k d) cell) place
+          ∙ ap (λ x. same_cell x cell) (get_or_from_slice_get old (length old - 1) last d at) ∙ same;
+      rise = rise;
+    }
+
+-- it stands behind those that come before it
+pub entered_other : (old new : List Cell) (cell : Cell) (rank : ℕ) → AreRising old → IsFromLast old cell
+    → (HasLast old cell → ⊥) → new ≡ old ++ cell ∷ [] → rank + 1 ≡ length new → IsEntered old cell new rank
+entered_other old new cell rank rise upto other put count =
+    let one : length new ≡ length old + 1 = ap length put ∙ length_push old cell in
+    let place : rank ≡ length old = omega (arith, one, count) in
+    let none : rank - length old ≡ 0 = omega (arith, place) in
+    record {
+      kept = λ k d lt. ap (λ l. get_or l k d) put ∙ get_or_append_left old (cell ∷ []) d k lt;
+      more = omega (arith, one);
+      last = count;
+      same = λ d.
+          ap (λ l. same_cell (get_or l rank d) cell) put
+          ∙ ap (λ x. same_cell x cell)
+          (get_or-append_right old (cell ∷ []) (length old) rank d refl (omega (arith, place))
+          ∙ ap (λ m. get_or (cell ∷ []) m d) none)
+          ∙ (same_cell-decides cell cell).1 (SameCell-itself cell);
+      rise = subst AreRising (sym put)
+          (all_pairs_push (λ (a b : Cell). is_before a b ≡ true) old cell rise (λ k d lt. before k d lt));
+    }
   where
-    by_test : (t : Bool) → (zs : List Cell) × (dedup_from same_cell x ys ≡ x ∷ zs)
-        → (zs : List Cell) × (cond t (dedup_from same_cell x ys) (x ∷ dedup_from same_cell y ys) ≡ x ∷ zs)
-    by_test true rest = rest
-    by_test false rest = (dedup_from same_cell y ys, refl)
+    -- the last one does
+    last_before : (k : ℕ) (d : Cell) → k + 1 ≡ length old → is_before (get_or old k d) cell ≡ true
+    last_before k d e =
+        let last = get_or old k d in
+        let place : k ≡ length old - 1 = omega (arith, e) in
+        after-from cell last (upto k d e)
+        (told_apart cell last (λ s. other (
+          last,
+          (
+            ap (λ m. slice_get old m) (sym place) ∙ slice_get-get_or old k d (omega (arith, e)),
+            (same_cell-decides last cell).1 (SameCell-sym cell last s),
+          ),
+        )))
 
--- each of strictly rising cells comes before all later ones
-rising_from : (cells : List Cell) → IsStrictlySortedBy cell_cmp cells → AreRising cells
-unfolding IsStrictlySortedBy
-rising_from [] up = λ i j d less within. absurd (omega arith)
-rising_from (x ∷ cells) up =
-    AllPairs-before (λ (a b : Cell). is_before a b ≡ true) x cells
-    (λ z h. ap is_lt (All-contains (λ (y : Cell). cell_cmp x y ≡ Less) cells z
-    (All-from_recursion (λ (y : Cell). cell_cmp x y ≡ Less) cells up.0) h))
-    (rising_from cells up.1)
+    -- and so do all before it
+    before : (k : ℕ) (d : Cell) → k < length old → is_before (get_or old k d) cell ≡ true
+    before k d lt =
+        let end : length old - 1 + 1 ≡ length old = omega (arith, lt) in
+        elim (cases_eq k (length old - 1)) [
+          | inl e ↦ last_before k d (omega (arith, e, end))
+          | inr ne ↦
+              before-trans (get_or old k d) (get_or old (length old - 1) d) cell
+              (rise k (length old - 1) d (omega (arith, lt, ne)) (omega (arith, lt)))
+              (last_before (length old - 1) d end)
+        ]
 
 -- ---- the loop
 
--- the rows of the first cells have ranks, and what differs behind them is counted on from the last one that did, which
--- is the same as the last cell
-pub record Ranking (cells : List Cell) (i rank : ℕ) (last : Cell) (ranks : List ℕ) : Type 0 where
-  pub before : List Cell
-  pub first : Cell
-  pub alike : SameCell first last
-  pub whole : dedup same_cell cells ≡ before ++ dedup_from same_cell first (drop i cells)
-  pub count : length before ≡ rank
-  pub few : rank ≤ i
-  pub told : (k : ℕ) (d : Cell) → k < i → HasRank ranks (dedup same_cell cells) (get_or cells k d)
+-- the rows of the first cells have ranks among those that differ, the last of which is the same as the last cell
+pub record Ranking (cells : List Cell) (i : ℕ) (firsts : List Cell) (ranks : List ℕ) : Type 0 where
+  pub rise : AreRising firsts
+  pub none : i ≡ 0 → length firsts ≡ 0
+  pub last : (k j : ℕ) (d : Cell) → k + 1 ≡ length firsts → j + 1 ≡ i → SameCell (get_or firsts k d) (get_or cells j d)
+  pub told : (k : ℕ) (d : Cell) → k < i → HasRank ranks firsts (get_or cells k d)
 
 -- none has one yet
-pub none_ranked : (cells : List Cell) (ranks : List ℕ) (d : Cell) → 0 < length cells
-    → Ranking cells 0 0 (get_or cells 0 d) ranks
-none_ranked [] ranks d some = absurd (omega arith)
-none_ranked (x ∷ cells) ranks d some = record {
-  before = [];
-  first = x;
-  alike = SameCell-itself x;
-  whole = sym (ap (λ t. cond t (dedup_from same_cell x cells) (x ∷ dedup_from same_cell x cells))
-      ((same_cell-decides x x).1 (SameCell-itself x)));
-  count = refl;
-  few = omega arith;
-  told = λ k e lt. absurd (omega arith);
+pub none_ranked : (cells firsts : List Cell) (ranks : List ℕ) → firsts ≡ [] → Ranking cells 0 firsts ranks
+none_ranked cells firsts ranks none = record {
+  rise = λ i j d less within. absurd (let zero : length firsts ≡ 0 = ap length none in omega (arith, within, zero));
+  none = λ e. ap length none;
+  last = λ k j d e f. absurd (omega (arith, f));
+  told = λ k d lt. absurd (omega (arith, lt));
 }
 
--- the rank of a cell's row, told where what differs is told as far as the last one that did
-rank_now : (cells before rest : List Cell) (rank : ℕ) (first cell : Cell) (ranks : List ℕ)
-    → dedup same_cell cells ≡ before ++ dedup_from same_cell first rest → length before ≡ rank
-    → get_or ranks cell.place 0 ≡ rank → same_cell first cell ≡ true → HasRank ranks (dedup same_cell cells) cell
-rank_now cells before rest rank first cell ranks whole count at same =
-    let (ys, e) = kept_first first rest in
-    let all : dedup same_cell cells ≡ before ++ first ∷ ys = whole ∙ ap (λ l. before ++ l) e in
-    let some : length (before ++ first ∷ ys) ≡ length before + length (first ∷ ys) = length-append before (first ∷ ys) in
-    let n : length (dedup same_cell cells) ≡ length (before ++ first ∷ ys) = ap length all in
-    let back : rank - rank ≡ 0 = omega arith in
-    record {
-      within = omega (arith, at, n, some, count);
-      same = λ d.
-          ap (λ r. same_cell (get_or (dedup same_cell cells) r d) cell) at
-          ∙ ap (λ l. same_cell (get_or l rank d) cell) all
-          ∙ ap (λ x. same_cell x cell)
-          (get_or-append_right before (first ∷ ys) rank rank d count (omega arith) ∙ ap (λ m. get_or (first ∷ ys) m d) back)
-          ∙ same;
-    }
+-- the next cell doesn't come before the last of those that differ
+pub next_from_last : (cells : List Cell) (i : ℕ) (firsts : List Cell) (ranks : List ℕ) (cell : Cell)
+    → IsSorted cell_cmp cells → i < length cells
+    → cell ≡ get_or cells i cell → Ranking cells i firsts ranks → IsFromLast firsts cell
+next_from_last cells i firsts ranks cell sorted inside here was k d e = elim (cases_eq i 0) [
+  | inl zero ↦ absurd (let no = was.none zero in omega (arith, no, e))
+  | inr some ↦ (
+      let j = i - 1 in
+      let next : j + 1 ≡ i = omega (arith, some) in
+      before-same cell (get_or firsts k d) (get_or cells j d) (was.last k j d e next)
+      ∙ ap (λ x. is_before x (get_or cells j d))
+      (get_or_read cells i cell inside here d ∙ ap (λ m. get_or cells m d) (sym next))
+      ∙ sorted j d (omega (arith, next, inside)) (omega (arith, next, inside)))
+]
 
 -- one more row has its rank
-rank_more : (cells before : List Cell) (i rank : ℕ) (first cell : Cell) (ranks : List ℕ) → i < length cells
-    → cell ≡ get_or cells i cell → cell.place < length ranks → AgreeOnPlaces cells
-    → dedup same_cell cells ≡ before ++ dedup_from same_cell first (drop (i + 1) cells) → length before ≡ rank
-    → rank ≤ i + 1 → same_cell first cell ≡ true
-    → ((k : ℕ) (d : Cell) → k < i → HasRank ranks (dedup same_cell cells) (get_or cells k d))
-    → Ranking cells (i + 1) rank cell (set ranks cell.place rank)
-rank_more cells before i rank first cell ranks inside here room agree whole count few same told = record {
-  before = before;
-  first = first;
-  alike = (same_cell-decides first cell).0 same;
-  whole = whole;
-  count = count;
-  few = few;
+pub ranked_more : (cells : List Cell) (i : ℕ) (firsts new : List Cell) (rank : ℕ) (cell : Cell) (ranks : List ℕ)
+    → i < length cells → cell ≡ get_or cells i cell → cell.place < length ranks → AgreeOnPlaces cells
+    → Ranking cells i firsts ranks → IsEntered firsts cell new rank
+    → Ranking cells (i + 1) new (set ranks cell.place rank)
+ranked_more cells i firsts new rank cell ranks inside here room agree was entered = record {
+  rise = entered.rise;
+  none = λ e. absurd (omega (arith, e));
+  last = last_now;
   told = told_now;
 }
   where
-    -- a row of the same place has it
-    placed : (y : Cell) → y.place ≡ cell.place → same_cell y cell ≡ true
-        → HasRank (set ranks cell.place rank) (dedup same_cell cells) y
-    placed y e alike =
-        rank_now cells before (drop (i + 1) cells) rank first y (set ranks cell.place rank) whole count
-        (ap (λ n. get_or (set ranks cell.place rank) n 0) e ∙ get_or-set_same ranks cell.place rank 0 room)
-        ((same_cell-decides first y).1
-        (SameCell-trans first cell y ((same_cell-decides first cell).0 same)
-        (SameCell-sym y cell ((same_cell-decides y cell).0 alike))))
+    last_now : (k j : ℕ) (d : Cell) → k + 1 ≡ length new → j + 1 ≡ i + 1 → SameCell (get_or new k d) (get_or cells j d)
+    last_now k j d e f =
+        let own = entered.last in
+        let k_is : rank ≡ k = omega (arith, own, e) in
+        let j_is : i ≡ j = omega (arith, f) in
+        let same : SameCell (get_or new rank d) cell =
+        (same_cell-decides (get_or new rank d) cell).0 (entered.same d) in
+        subst (λ m. SameCell (get_or new m d) (get_or cells j d)) k_is
+        (subst (λ m. SameCell (get_or new rank d) (get_or cells m d)) j_is
+        (subst (SameCell (get_or new rank d)) (get_or_read cells i cell inside here d) same))
 
-    told_now : (k : ℕ) (d : Cell) → k < i + 1
-        → HasRank (set ranks cell.place rank) (dedup same_cell cells) (get_or cells k d)
+    -- a row of the same place has it
+    placed : (y : Cell) → y.place ≡ cell.place → SameCell cell y → HasRank (set ranks cell.place rank) new y
+    placed y e alike =
+        let own = entered.last in
+        let at : get_or (set ranks cell.place rank) y.place 0 ≡ rank =
+        ap (λ n. get_or (set ranks cell.place rank) n 0) e ∙ get_or-set_same ranks cell.place rank 0 room in
+        record {
+          within = omega (arith, at, own);
+          same = λ d.
+              ap (λ r. same_cell (get_or new r d) y) at
+              ∙ (same_cell-decides (get_or new rank d) y).1
+              (SameCell-trans (get_or new rank d) cell y
+              ((same_cell-decides (get_or new rank d) cell).0 (entered.same d)) alike);
+        }
+
+    told_now : (k : ℕ) (d : Cell) → k < i + 1 → HasRank (set ranks cell.place rank) new (get_or cells k d)
     told_now k d lt =
         let y = get_or cells k d in
         let there : cell ≡ get_or cells i d = get_or_read cells i cell inside here d in
         elim (cases_eq y.place cell.place) [
           | inl e ↦
               placed y e
+              (SameCell-sym y cell
+              ((same_cell-decides y cell).0
               (ap (λ z. same_cell y z) there
-              ∙ agree k i d (omega arith) inside (e ∙ ap (λ (z : Cell). z.place) there))
+              ∙ agree k i d (omega (arith, lt, inside)) inside (e ∙ ap (λ (z : Cell). z.place) there))))
           | inr ne ↦ (
               let other : k ≢ i = λ f. ne (ap (λ n. (get_or cells n d).place) f ∙ ap (λ (z : Cell). z.place) (sym there)) in
-              let was : HasRank ranks (dedup same_cell cells) y = told k d (omega (arith, other)) in
+              let had : HasRank ranks firsts y = was.told k d (omega (arith, lt, other)) in
+              let more = entered.more in
+              let within = had.within in
               let kept : get_or (set ranks cell.place rank) y.place 0 ≡ get_or ranks y.place 0 =
               get_or-set_other ranks cell.place y.place rank 0 ne in
               record {
-                within = subst (λ r. r < length (dedup same_cell cells)) (sym kept) was.within;
-                same = λ e. ap (λ r. same_cell (get_or (dedup same_cell cells) r e) y) kept ∙ was.same e;
+                within = omega (arith, kept, within, more);
+                same = λ e.
+                    ap (λ r. same_cell (get_or new r e) y) kept
+                    ∙ ap (λ x. same_cell x y) (entered.kept (get_or ranks y.place 0) e within) ∙ had.same e;
               })
         ]
 
--- what is left, its first one apart
-left_from : (cells : List Cell) (i : ℕ) (cell : Cell) → i < length cells → cell ≡ get_or cells i cell
-    → drop i cells ≡ cell ∷ drop (i + 1) cells
-left_from cells i cell inside here =
-    let one : suc i ≡ i + 1 = omega arith in
-    drop-cons cells i cell inside ∙ ap (λ z. z ∷ drop (suc i) cells) (sym here)
-    ∙ ap (λ n. cell ∷ drop n cells) one
-
--- a row of the same cell has the same rank
-pub ranked_same : (cells : List Cell) (i rank : ℕ) (last cell : Cell) (ranks : List ℕ) → i < length cells
-    → cell ≡ get_or cells i cell → cell.place < length ranks → AgreeOnPlaces cells → same_cell cell last ≡ true
-    → Ranking cells i rank last ranks → Ranking cells (i + 1) rank cell (set ranks cell.place rank)
-ranked_same cells i rank last cell ranks inside here room agree same was =
-    let few = was.few in
-    let first = was.first in
-    let alike : SameCell cell first =
-    SameCell-trans cell last first ((same_cell-decides cell last).0 same) (SameCell-sym first last was.alike) in
-    rank_more cells was.before i rank first cell ranks inside here room agree
-    (was.whole ∙ ap (λ l. was.before ++ dedup_from same_cell first l) (left_from cells i cell inside here)
-    ∙ ap (λ t. was.before ++ cond t (dedup_from same_cell first (drop (i + 1) cells))
-    (first ∷ dedup_from same_cell cell (drop (i + 1) cells))) ((same_cell-decides cell first).1 alike))
-    was.count (omega (arith, few)) ((same_cell-decides first cell).1 (SameCell-sym cell first alike)) was.told
-
--- a row of another cell has the next rank
-pub ranked_other : (cells : List Cell) (i rank : ℕ) (last cell : Cell) (ranks : List ℕ) → i < length cells
-    → cell ≡ get_or cells i cell → cell.place < length ranks → AgreeOnPlaces cells → same_cell cell last ≡ false
-    → Ranking cells i rank last ranks → Ranking cells (i + 1) (rank + 1) cell (set ranks cell.place (rank + 1))
-ranked_other cells i rank last cell ranks inside here room agree other was =
-    let few = was.few in
-    let count = was.count in
-    let first = was.first in
-    let differs : same_cell cell first ≡ false =
-    told_apart cell first (λ s.
-    let told : same_cell cell last ≡ true =
-    (same_cell-decides cell last).1 (SameCell-trans cell first last s was.alike) in
-    let bad : true ≡ false = sym told ∙ other in cc) in
-    let rest = dedup_from same_cell cell (drop (i + 1) cells) in
-    let more : length (was.before ++ first ∷ []) ≡ length was.before + 1 = length_push was.before first in
-    rank_more cells (was.before ++ first ∷ []) i (rank + 1) cell cell ranks inside here room agree
-    (was.whole ∙ ap (λ l. was.before ++ dedup_from same_cell first l) (left_from cells i cell inside here)
-    ∙ ap (λ t. was.before ++ cond t (dedup_from same_cell first (drop (i + 1) cells)) (first ∷ rest)) differs
-    ∙ behind was.before first rest)
-    (omega (arith, more, count)) (omega (arith, few)) ((same_cell-decides cell cell).1 (SameCell-itself cell)) was.told
-  where
-    behind : (xs : List Cell) (x : Cell) (ys : List Cell) → xs ++ x ∷ ys ≡ (xs ++ x ∷ []) ++ ys
-    behind [] x ys = refl
-    behind (z ∷ xs) x ys = ap (λ l. z ∷ l) (behind xs x ys)
+-- all rows have theirs
+pub all_ranked : (cells : List Cell) (i : ℕ) (firsts : List Cell) (ranks : List ℕ) → length cells ≡ i
+    → Ranking cells i firsts ranks → AreRanksOf cells ranks firsts
+all_ranked cells i firsts ranks end was k d lt = was.told k d (omega (arith, end, lt))
 
 -- ---- a side's ranks
 
 -- the rows of a side by rank
-pub ranked_from : (classes : List ℕ) (column : List (Option Value)) (cells : List Cell) (ranks : List ℕ)
-    → length ranks ≡ length column → AreSorted classes column cells → AreRanksOf cells ranks
-    → AreRanked classes column ranks (dedup same_cell cells)
-ranked_from classes column cells ranks count sorted told = record {
+pub ranked_from : (classes : List ℕ) (column : List (Option Value)) (cells firsts : List Cell) (ranks : List ℕ)
+    → length ranks ≡ length column → AreSorted classes column cells → AreRanksOf cells ranks firsts → AreRising firsts
+    → AreRanked classes column ranks firsts
+ranked_from classes column cells firsts ranks count sorted told rise = record {
   count = count;
   each = each;
-  rise = rising_from (dedup same_cell cells) (IsStrictlySortedBy-dedup cell_total same-tied cells sorted.rise);
+  rise = rise;
 }
   where
-    each : (i : ℕ) → i < length column → IsRankAt classes column ranks (dedup same_cell cells) i
+    each : (i : ℕ) → i < length column → IsRankAt classes column ranks firsts i
     each i h =
         let (cell, has, place) = sorted.each i h in
         let own : IsCellAt classes column cell.place cell =
         All-contains (λ (x : Cell). IsCellAt classes column x.place x) cells cell sorted.own has in
-        let rank : HasRank ranks (dedup same_cell cells) cell =
-        All-contains (HasRank ranks (dedup same_cell cells)) cells cell told has in
+        let rank : HasRank ranks firsts cell = All-contains (HasRank ranks firsts) cells cell told has in
         record {
           cell = cell;
           at = subst (λ n. IsCellAt classes column n cell) place own;
-          within = subst (λ n. get_or ranks n 0 < length (dedup same_cell cells)) place rank.within;
-          same = λ d.
-              ap (λ n. same_cell (get_or (dedup same_cell cells) (get_or ranks n 0) d) cell) (sym place) ∙ rank.same d;
+          within = subst (λ n. get_or ranks n 0 < length firsts) place rank.within;
+          same = λ d. ap (λ n. same_cell (get_or firsts (get_or ranks n 0) d) cell) (sym place) ∙ rank.same d;
         }

@@ -1,11 +1,12 @@
 -- Classes that both sides' ranks give split the classes so far by the values.
-use Rattle.std.proofs.Common.{◌≡◌, ◌↔◌, ℕ, ◌+◌, ◌-◌, ◌<◌, Bool, true, false, cond, List, ◌++◌, length, take, drop, get_or, Option, Some, refl, sym, subst, ap, ◌∙◌, inl, inr, arith, get_or-take, get_or-drop}
-use Rattle.std.specs.Prelude.{nat_lt, slice_get}
-use Rattle.std.proofs.lemmas.Bool.{cases_eq, cases_lt, le-ltb, lt-ltb}
+use Rattle.std.proofs.Common.{◌≡◌, ◌↔◌, ℕ, ◌+◌, ◌-◌, ◌<◌, true, false, List, ◌++◌, length, get_or, Option, Some, refl, sym, subst, ap, ◌∙◌, inl, inr, arith, length-append}
+use Rattle.std.specs.Prelude.{slice_get}
+use Rattle.std.proofs.lemmas.Bool.{cases_eq, cases_lt}
+use Rattle.std.proofs.lemmas.List.{get_or-append_right, get_or_append_left}
 use Rattle.list_core.proofs.PlaceLemmas.{slice_get-append_left, slice_get-append_right}
 use Rattle.row_core.specs.declared.value.Value.{Value}
 use Rattle.match_core.specs.declared.cells.Cell.{Cell}
-use Rattle.match_core.specs.Cells.{AreMatched, AreNumbered, AreOneKind, AreRanked, AreRising, IsCell, IsNumberOf, Refines, class_at, same_cell}
+use Rattle.match_core.specs.Cells.{AreMatched, AreNumbered, AreOneKind, AreRanked, AreRising, IsCell, IsNumberOf, Refines, same_cell}
 use Rattle.match_core.proofs.CellOrder.{SameCell, SameCell-sym, SameCell-trans, before-differs, same_cell-decides}
 use Rattle.match_core.proofs.CellValues.{cells_same, kind_at, one_value, value_from_cell}
 
@@ -99,103 +100,98 @@ number_of_right lefts rights r number cell inside same (inr behind) =
     (SameCell-sym (get_or rights r d) cell (same d))) in
     let bad : true ≡ false = sym told ∙ behind.1 d l d within in cc)
 
--- what `if` gives
-then_is : (t : Bool) (a b : ℕ) → t ≡ true → cond t a b ≡ a
-then_is true a b e = refl
-then_is false a b e = cc
-
-else_is : (t : Bool) (a b : ℕ) → t ≡ false → cond t a b ≡ b
-else_is true a b e = cc
-else_is false a b e = refl
-
--- both sides' ranks, matched
-pub record AreSides (classes : List ℕ) (xs ys : List (Option Value)) (lefts rights numbers : List ℕ)
+-- both sides' classes so far, their ranks, these matched, and what the right ones become
+pub record AreSides (one other : List ℕ) (xs ys : List (Option Value)) (lefts rights numbers classes : List ℕ)
     (firsts others : List Cell) : Type 0 where
-  pub count : length classes ≡ length xs + length ys
-  pub left : AreRanked (take (length xs) classes) xs lefts firsts
-  pub right : AreRanked (drop (length xs) classes) ys rights others
+  pub one_count : length one ≡ length xs
+  pub other_count : length other ≡ length ys
+  pub left : AreRanked one xs lefts firsts
+  pub right : AreRanked other ys rights others
   pub matched : AreMatched firsts others numbers
+  pub numbered : AreNumbered rights numbers classes
 
-module _ (classes : List ℕ) (xs ys : List (Option Value)) (lefts rights numbers : List ℕ) (firsts others : List Cell)
-    (sides : AreSides classes xs ys lefts rights numbers firsts others) where
-  told_left : (i : ℕ) → i < length xs → IsTold classes (xs ++ ys) firsts others i (class_at lefts rights numbers i)
+module _ (one other : List ℕ) (xs ys : List (Option Value)) (lefts rights numbers classes : List ℕ)
+    (firsts others : List Cell) (sides : AreSides one other xs ys lefts rights numbers classes firsts others) where
+  told_left : (i : ℕ) → i < length xs → IsTold (one ++ other) (xs ++ ys) firsts others i (get_or (lefts ++ classes) i 0)
   told_left i inside =
       let rank = sides.left.each i inside in
       let n = sides.left.count in
-      let less : nat_lt i (length lefts) ≡ true = lt-ltb i (length lefts) (omega (arith, n, inside)) in
+      let m = sides.one_count in
+      let class : get_or (lefts ++ classes) i 0 ≡ get_or lefts i 0 =
+      get_or_append_left lefts classes 0 i (omega (arith, n, inside)) in
       record {
         cell = rank.cell;
         value = rank.at.value;
         there = slice_get-append_left xs ys i (Some rank.at.value) rank.at.there;
         made = (
           i,
-          subst (λ c. IsCell c rank.at.value i rank.cell) (get_or-take (length xs) classes i 0 inside) rank.at.made,
+          subst (λ c. IsCell c rank.at.value i rank.cell)
+              (sym (get_or_append_left one other 0 i (omega (arith, m, inside)))) rank.at.made,
         );
-        number = subst (Numbers firsts others rank.cell)
-            (sym (then_is (nat_lt i (length lefts)) (get_or lefts i 0)
-            (get_or numbers (get_or rights (i - length lefts) 0) 0) less))
+        number = subst (Numbers firsts others rank.cell) (sym class)
             (left rank.within (λ d. same_from (get_or firsts (get_or lefts i 0) d) rank.cell (rank.same d)));
       }
 
   told_right : (j : ℕ) → j < length ys
-      → IsTold classes (xs ++ ys) firsts others (length xs + j) (class_at lefts rights numbers (length xs + j))
+      → IsTold (one ++ other) (xs ++ ys) firsts others (length xs + j) (get_or (lefts ++ classes) (length xs + j) 0)
   told_right j inside =
       let rank = sides.right.each j inside in
       let n = sides.left.count in
-      let more : nat_lt (length xs + j) (length lefts) ≡ false =
-      le-ltb (length xs + j) (length lefts) (omega (arith, n)) in
+      let m = sides.one_count in
+      let k = sides.right.count in
       let back : length xs + j - length lefts ≡ j = omega (arith, n) in
+      let was : length xs + j - length one ≡ j = omega (arith, m) in
+      let class : get_or (lefts ++ classes) (length xs + j) 0 ≡ get_or numbers (get_or rights j 0) 0 =
+      get_or-append_right lefts classes (length lefts) (length xs + j) 0 refl
+      (omega (arith, n))
+      ∙ ap (λ p. get_or classes p 0) back
+      ∙ sides.numbered j (omega (arith, k, inside)) in
+      let old : get_or (one ++ other) (length xs + j) 0 ≡ get_or other j 0 =
+      get_or-append_right one other (length one) (length xs + j) 0 refl (omega (arith, m))
+      ∙ ap (λ p. get_or other p 0) was in
       record {
         cell = rank.cell;
         value = rank.at.value;
         there = slice_get-append_right xs ys j ∙ rank.at.there;
-        made = (
-          j,
-          subst (λ c. IsCell c rank.at.value j rank.cell) (get_or-drop (length xs) classes j 0) rank.at.made,
-        );
-        number = subst (Numbers firsts others rank.cell)
-            (sym (else_is (nat_lt (length xs + j) (length lefts)) (get_or lefts (length xs + j) 0)
-            (get_or numbers (get_or rights (length xs + j - length lefts) 0) 0) more
-            ∙ ap (λ k. get_or numbers (get_or rights k 0) 0) back))
+        made = (j, subst (λ c. IsCell c rank.at.value j rank.cell) (sym old) rank.at.made);
+        number = subst (Numbers firsts others rank.cell) (sym class)
             (number_of_right firsts others (get_or rights j 0) (get_or numbers (get_or rights j 0) 0) rank.cell
             rank.within (λ d. same_from (get_or others (get_or rights j 0) d) rank.cell (rank.same d))
             (sides.matched.each (get_or rights j 0) rank.within));
       }
 
-  told_at : (i : ℕ) → i < length classes → IsTold classes (xs ++ ys) firsts others i (class_at lefts rights numbers i)
+  told_at : (i : ℕ) → i < length (one ++ other)
+      → IsTold (one ++ other) (xs ++ ys) firsts others i (get_or (lefts ++ classes) i 0)
   told_at i inside = elim (cases_lt i (length xs)) [
     | inl less ↦ told_left i less
     | inr le ↦ (
-        let n = sides.count in
+        let n = sides.one_count in
+        let m = sides.other_count in
+        let all = length-append one other in
         let e : length xs + (i - length xs) ≡ i = omega arith in
-        subst (λ k. IsTold classes (xs ++ ys) firsts others k (class_at lefts rights numbers k)) e
-        (told_right (i - length xs) (omega (arith, n, inside))))
+        subst (λ k. IsTold (one ++ other) (xs ++ ys) firsts others k (get_or (lefts ++ classes) k 0)) e
+        (told_right (i - length xs) (omega (arith, n, m, all, inside))))
   ]
 
-  -- the classes that the ranks give split the classes so far
-  pub refined : (new : List ℕ) → AreOneKind (xs ++ ys) → length new ≡ length classes
-      → AreNumbered lefts rights numbers new → Refines classes (xs ++ ys) new
-  refined new one len given i j hi hj =
+  -- they split the classes so far
+  pub refined : AreOneKind (xs ++ ys) → Refines (one ++ other) (xs ++ ys) (lefts ++ classes)
+  refined kind i j hi hj =
       let a = told_at i hi in
       let b = told_at j hj in
-      let at_i = given i (omega (arith, len, hi)) in
-      let at_j = given j (omega (arith, len, hj)) in
-      let tell = numbers_tell firsts others a.cell b.cell (class_at lefts rights numbers i) (class_at lefts rights numbers j)
-      sides.left.rise sides.right.rise a.number b.number in
+      let tell = numbers_tell firsts others a.cell b.cell (get_or (lefts ++ classes) i 0) (get_or (lefts ++ classes) j 0) sides.left.rise
+      sides.right.rise a.number b.number in
       let p = a.made.1 in
       let q = b.made.1 in (
         λ e. (
-            let s : SameCell a.cell b.cell = tell.0 (sym at_i ∙ e ∙ at_j) in
-            let kinds = kind_at one.0 (xs ++ ys) i a.value one.1 a.there
-            ∙ sym (kind_at one.0 (xs ++ ys) j b.value one.1 b.there) in
+            let s : SameCell a.cell b.cell = tell.0 e in
+            let kinds = kind_at kind.0 (xs ++ ys) i a.value kind.1 a.there
+            ∙ sym (kind_at kind.0 (xs ++ ys) j b.value kind.1 b.there) in
             let same : a.value ≡ b.value = value_from_cell a.value b.value kinds (sym p.number_is ∙ s.1.0 ∙ q.number_is)
             (sym p.text_is ∙ s.1.1 ∙ q.text_is) in
             (sym p.class_is ∙ s.0 ∙ q.class_is, a.there ∙ ap (λ (z : Value). Some (Some z)) same ∙ sym b.there)),
         λ e. (
             let same : a.value ≡ b.value =
             one_value (xs ++ ys) i a.value b.value a.there (e.1 ∙ b.there) in
-            at_i
-            ∙ tell.1 (cells_same (get_or classes i 0) a.value b.value a.made.0 b.made.0 a.cell b.cell p
-            (subst (λ c. IsCell c b.value b.made.0 b.cell) (sym e.0) q) same)
-            ∙ sym at_j),
+            tell.1 (cells_same (get_or (one ++ other) i 0) a.value b.value a.made.0 b.made.0 a.cell b.cell p
+            (subst (λ c. IsCell c b.value b.made.0 b.cell) (sym e.0) q) same)),
       )

@@ -1,8 +1,8 @@
 -- Classes that are split by one pair of columns after another.
-use Rattle.std.proofs.Common.{◌≡◌, ℕ, zero, suc, ◌+◌, ◌<◌, List, [], ◌∷◌, ◌++◌, length, map, take, drop, get_or, replicate, Bool, true, false, not, Option, Some, None, refl, sym, subst, ap, ◌∙◌, arith}
+use Rattle.std.proofs.Common.{◌≡◌, ℕ, zero, suc, ◌+◌, ◌<◌, List, [], ◌∷◌, ◌++◌, length, map, get_or, replicate, Bool, true, false, not, Option, Some, None, refl, sym, subst, ap, ◌∙◌, arith, length-append}
 use Rattle.std.specs.Prelude.{All, is_none, option_map, option_and_then, slice_get, IsTrue}
-use Rattle.std.proofs.lemmas.List.{append-nil, take_all, drop_all, get_or-replicate, length-replicate, get_or_append_left, length_push, get_or_push}
-use Rattle.std.proofs.lemmas.List.Elements.{All-push, All-append, All-map}
+use Rattle.std.proofs.lemmas.List.{length-replicate, get_or_append_left, length_push, get_or_push}
+use Rattle.std.proofs.lemmas.List.Elements.{All-push, All-append, All-map, All-replicate}
 use Rattle.std.proofs.lemmas.Bool.{and_parts}
 use Rattle.row_core.specs.Refusals.{first_of}
 use Rattle.row_core.specs.Schema.{column_of, fits, kind_in}
@@ -20,18 +20,20 @@ use Rattle.match_core.specs.Cells.{AreOneKind, IsOfKind, Refines, values_at}
 -- ---- one pair more
 
 -- without columns all are of one class
-pub no_columns : (left right : List Column) (lefts rights : List Row) (n : ℕ) → n ≡ length lefts + length rights
-    → AreClasses left right lefts rights [] (replicate n 0)
-no_columns left right lefts rights n e = record {
-  count = length-replicate {A = ℕ} n 0 ∙ e;
-  tell = λ i j hi hj. (
-    (λ same k d lt. absurd (omega arith)),
-    (λ same. let len = length-replicate {A = ℕ} n 0 in
-        let a : get_or {A = ℕ} (replicate n 0) i 0 ≡ 0 = get_or-replicate {A = ℕ} n i 0 0 (omega (arith, len)) in
-        let b : get_or {A = ℕ} (replicate n 0) j 0 ≡ 0 = get_or-replicate {A = ℕ} n j 0 0 (omega (arith, len)) in
-        a ∙ sym b),
-  );
+pub no_columns : (left right : List Column) (lefts rights : List Row)
+    → AreClasses left right lefts rights [] (replicate (length lefts) 0 ++ replicate (length rights) 0)
+no_columns left right lefts rights = record {
+  count = length-append (replicate (length lefts) 0) (replicate (length rights) 0)
+      ∙ ap (λ n. n + length (replicate {A = ℕ} (length rights) 0)) (length-replicate {A = ℕ} (length lefts) 0)
+      ∙ ap (λ n. length lefts + n) (length-replicate {A = ℕ} (length rights) 0);
+  tell = λ i j hi hj. ((λ same k d lt. absurd (omega arith)), (λ same. zero i 0 hi ∙ sym (zero j 0 hj)));
 }
+  where
+    zero : All (λ (c : ℕ). c ≡ 0) (replicate (length lefts) 0 ++ replicate (length rights) 0)
+    zero =
+        All-append (λ (c : ℕ). c ≡ 0) (replicate (length lefts) 0) (replicate (length rights) 0)
+        (All-replicate (λ (c : ℕ). c ≡ 0) (length lefts) 0 refl)
+        (All-replicate (λ (c : ℕ). c ≡ 0) (length rights) 0 refl)
 
 -- one more pair of columns splits the classes
 pub one_more : (left right : List Column) (lefts rights : List Row) (on : List NamePair) (pair : NamePair)
@@ -177,11 +179,3 @@ values_under-places left right lefts rights pair l r e f =
     (value_under right pair.1) rights) e
     ∙ ap (λ o. map (λ (row : Row). slice_get row.values l) lefts ++ map
     (λ (row : Row). option_and_then (slice_get row.values) o) rights) f
-
--- a vector's items, after they were written through a slice
-pub written_back : (old new : List ℕ) (n : ℕ) → length new ≡ length old → length old ≡ n
-    → take n (new ++ drop (length new) old) ≡ new
-written_back old new n e f =
-    let rest : new ++ drop (length new) old ≡ new = ap (λ l. new ++ l) (drop_all (length new) old (omega (arith, e)))
-    ∙ append-nil new in
-    ap (take n) rest ∙ take_all n new (omega (arith, e, f))

@@ -1,6 +1,6 @@
 -- What classes tell of a left and a right row.
-use Rattle.std.proofs.Common.{◌≡◌, ◌↔◌, ℕ, zero, suc, ◌+◌, ◌<◌, List, [], ◌∷◌, length, map, take, drop, get_or, Some, sym, ap, ◌∙◌, arith, get_or-take, get_or-drop}
-use Rattle.std.proofs.lemmas.List.{length-map}
+use Rattle.std.proofs.Common.{◌≡◌, ◌↔◌, ℕ, zero, suc, ◌+◌, ◌-◌, ◌<◌, List, [], ◌∷◌, ◌++◌, length, map, get_or, Some, refl, sym, ap, ◌∙◌, arith}
+use Rattle.std.proofs.lemmas.List.{get_or-append_right, get_or_append_left, length-map}
 use Rattle.std.proofs.lemmas.Option.{same_Some, slice_get_within}
 use Rattle.std.specs.Prelude.{slice_get}
 use Rattle.list_core.proofs.PlaceLemmas.{slice_get-append_left, slice_get-append_right}
@@ -56,20 +56,22 @@ ClassesTell Matches left lefts right rights =
     (i j : ℕ) (x y : Row) → slice_get left i ≡ Some x → slice_get right j ≡ Some y
     → Matches x y ↔ (get_or lefts i 0 ≡ get_or rights j 0)
 
--- classes, split between the sides, tell which rows match
-pub classes_tell : (left right : List Column) (lefts rights : List Row) (on : List NamePair) (classes : List ℕ)
-    → AreClasses left right lefts rights on classes
-    → ClassesTell (MatchesOn left right on) lefts (take (length lefts) classes) rights (drop (length lefts) classes)
-classes_tell left right lefts rights on classes are i j x y h k =
+-- the classes of both sides tell which rows match
+pub classes_tell : (left right : List Column) (lefts rights : List Row) (on : List NamePair) (one other : List ℕ)
+    → length one ≡ length lefts → AreClasses left right lefts rights on (one ++ other)
+    → ClassesTell (MatchesOn left right on) lefts one rights other
+classes_tell left right lefts rights on one other len are i j x y h k =
     let within : i < length lefts = slice_get_within lefts i x h in
     let inside : j < length rights = slice_get_within rights j y k in
     let count = are.count in
-    let tell = are.tell i (length lefts + j) (omega (arith, count)) (omega (arith, count)) in
+    let tell = are.tell i (length lefts + j) (omega (arith, count, within)) (omega (arith, count, inside)) in
     let match = same_matches left right lefts rights on i j x y h k in
-    let one : get_or (take (length lefts) classes) i 0 ≡ get_or classes i 0 =
-    get_or-take (length lefts) classes i 0 within in
-    let other : get_or (drop (length lefts) classes) j 0 ≡ get_or classes (length lefts + j) 0 =
-    get_or-drop (length lefts) classes j 0 in (
-      λ m. one ∙ tell.1 (match.1 m) ∙ sym other,
-      λ e. match.0 (tell.0 (sym one ∙ e ∙ other)),
+    let back : length lefts + j - length one ≡ j = omega (arith, len) in
+    let a : get_or (one ++ other) i 0 ≡ get_or one i 0 =
+    get_or_append_left one other 0 i (omega (arith, within, len)) in
+    let b : get_or (one ++ other) (length lefts + j) 0 ≡ get_or other j 0 =
+    get_or-append_right one other (length one) (length lefts + j) 0 refl (omega (arith, len))
+    ∙ ap (λ p. get_or other p 0) back in (
+      λ m. sym a ∙ tell.1 (match.1 m) ∙ b,
+      λ e. match.0 (tell.0 (a ∙ e ∙ sym b)),
     )

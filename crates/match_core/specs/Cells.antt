@@ -1,6 +1,6 @@
 -- The values of a column of two tables, with the classes of their rows so far.
-use Rattle.std.specs.Prelude.{◌≡◌, ◌↔◌, ◌⊎◌, ℕ, ◌+◌, ◌-◌, ◌/◌, ◌<◌, ℤ, pos, List, [], ◌++◌, length, map, All, AllPairs, Bool, true, false, not, if◌then◌else◌, ◌&&◌, Contains, Option, Some, None, IsSorted, nat_eq, nat_lt, slice_get, slice_index, slice_index_or, take}
-use Rattle.std.specs.List.{dedup}
+use Rattle.std.specs.Prelude.{◌≡◌, ◌↔◌, ◌⊎◌, ℕ, ◌+◌, ◌-◌, ◌/◌, ◌<◌, ◌≤◌, ℤ, pos, List, [], ◌++◌, length, map, All, AllPairs, Bool, true, false, not, ◌&&◌, Contains, Option, Some, None, IsSorted, nat_eq, replicate, slice_get, slice_index, slice_index_or, take}
+use Rattle.std.specs.Borrow.{Bor}
 use Rattle.std.specs.Cmp.Lexicographic.{pointwise, slice_cmp}
 use Rattle.std.specs.Hash.FoldHasher.{initial, write, finish}
 use Rattle.std.specs.Ordering.{int_eq, is_lt, ordering_then, nat_cmp, int_cmp}
@@ -11,6 +11,7 @@ use Rattle.row_core.specs.declared.value.Kind.{Kind}
 use Rattle.row_core.specs.declared.value.Value.{Value}
 use Rattle.row_core.specs.declared.value.Value.TheVariants.{Int, Text}
 use Rattle.match_core.specs.declared.cells.Cell.{Cell}
+use Rattle.match_core.specs.declared.side_column.SideColumn.{SideColumn}
 use Rattle.match_core.specs.declared.cells.CellRange.{CellRange}
 use Rattle.match_core.specs.declared.cells.CellRange.TheVariants as range
 
@@ -26,6 +27,19 @@ values_at left_place right_place lefts rights = column_at left_place lefts ++ co
 abbrev pub IsOfKind : Kind → Option Value → Type 0
 IsOfKind kind None = ⊥
 IsOfKind kind (Some value) = kind_of value ≡ kind
+
+-- the values of the rows of a side
+abbrev pub column_in : SideColumn → List (Option Value)
+column_in side = column_at side.place side.rows.now
+
+-- the classes of rows so far: where none are given all are of class 0
+abbrev pub so_far : Option (Bor (List ℕ)) → List Row → List ℕ
+so_far None rows = replicate (length rows) 0
+so_far (Some classes) rows = classes.now
+
+-- the classes so far of the rows of a side
+abbrev pub classes_in : SideColumn → List ℕ
+classes_in side = so_far side.classes side.rows.now
 
 -- each value is there, and all are of one kind
 abbrev pub AreOneKind : List (Option Value) → Type 0
@@ -101,18 +115,36 @@ AgreeOnPlaces cells = (i j : ℕ) (d : Cell) → i < length cells → j < length
     → (slice_index_or cells i d).place ≡ (slice_index_or cells j d).place
     → same_cell (slice_index_or cells i d) (slice_index_or cells j d) ≡ true
 
+-- each cell comes before all later ones
+abbrev pub AreRising : List Cell → Type 0
+AreRising cells = AllPairs (λ (a b : Cell). is_before a b ≡ true) cells
+
 -- the row of a cell has the rank at which the same cell stands among those that differ
 pub record HasRank (ranks : List ℕ) (firsts : List Cell) (cell : Cell) : Type 0 where
   pub within : slice_index ranks cell.place < length firsts
   pub same : (d : Cell) → same_cell (slice_index_or firsts (slice_index ranks cell.place) d) cell ≡ true
 
--- the rows of sorted cells have ranks
-abbrev pub AreRanksOf : List Cell → List ℕ → Type 0
-AreRanksOf cells ranks = All (HasRank ranks (dedup same_cell cells)) cells
+-- the rows of cells have ranks among those that differ
+abbrev pub AreRanksOf : List Cell → List ℕ → List Cell → Type 0
+AreRanksOf cells ranks firsts = All (HasRank ranks firsts) cells
 
--- each cell comes before all later ones
-abbrev pub AreRising : List Cell → Type 0
-AreRising cells = AllPairs (λ (a b : Cell). is_before a b ≡ true) cells
+-- a cell doesn't come before the last one of others, if there is one
+abbrev pub IsFromLast : List Cell → Cell → Type 0
+IsFromLast others cell = (k : ℕ) (d : Cell) → k + 1 ≡ length others
+    → is_before cell (slice_index_or others k d) ≡ false
+
+-- the last one of some cells is the same as another
+abbrev pub HasLast : List Cell → Cell → Type 0
+HasLast others cell = (last : Cell) × ((slice_get others (length others - 1) ≡ Some last)
+    × (same_cell last cell ≡ true))
+
+-- the same cell as that one is the last of rising ones, and before it stand those that were there
+pub record IsEntered (old : List Cell) (cell : Cell) (new : List Cell) (rank : ℕ) : Type 0 where
+  pub kept : (k : ℕ) (d : Cell) → k < length old → slice_index_or new k d ≡ slice_index_or old k d
+  pub more : length old ≤ length new
+  pub last : rank + 1 ≡ length new
+  pub same : (d : Cell) → same_cell (slice_index_or new rank d) cell ≡ true
+  pub rise : AreRising new
 
 -- a row's class so far and its value are those of the cell of its rank
 pub record IsRankAt (classes : List ℕ) (column : List (Option Value)) (ranks : List ℕ) (firsts : List Cell)
@@ -149,15 +181,10 @@ pub record AreMatched (lefts rights : List Cell) (numbers : List ℕ) : Type 0 w
   pub count : length numbers ≡ length rights
   pub each : (i : ℕ) → i < length rights → IsNumberOf lefts rights i (slice_index numbers i)
 
--- the class of a row: its rank on the left side, the number of its rank on the right one
-abbrev pub class_at : List ℕ → List ℕ → List ℕ → ℕ → ℕ
-class_at lefts rights numbers i =
-    if nat_lt i (length lefts) then slice_index lefts i else slice_index numbers (slice_index rights (i - length lefts))
-
--- each row has its class
-abbrev pub AreNumbered : List ℕ → List ℕ → List ℕ → List ℕ → Type 0
-AreNumbered lefts rights numbers classes =
-    (i : ℕ) → i < length classes → slice_index classes i ≡ class_at lefts rights numbers i
+-- the class of each right row is the number of its rank
+abbrev pub AreNumbered : List ℕ → List ℕ → List ℕ → Type 0
+AreNumbered ranks numbers classes = (i : ℕ) → i < length ranks
+    → slice_index classes i ≡ slice_index numbers (slice_index ranks i)
 
 -- two rows have one class exactly where they had one before and have one value
 abbrev pub Refines : List ℕ → List (Option Value) → List ℕ → Type 0

@@ -1,6 +1,6 @@
 //! The rows of one side with their values in the column that they are compared by, sorted by these.
 
-ghost use Rattle.std.specs.Prelude.{◌≡◌, ◌<◌, All, Some, IfOk, IsSorted, length, slice_get};
+ghost use Rattle.std.specs.Prelude.{◌≡◌, ◌<◌, ◌++◌, All, Some, IfOk, IsSorted, length, slice_get, slice_index};
 ghost use Rattle.std.specs.Thread.{IsSync};
 ghost use Rattle.match_core.specs.Cells.{
   AreCells,
@@ -8,7 +8,9 @@ ghost use Rattle.match_core.specs.Cells.{
   IsCell,
   IsCellAt,
   cell_cmp,
+  classes_in,
   column_at,
+  column_in,
   has_cell,
   hash_of,
   is_before,
@@ -16,6 +18,7 @@ ghost use Rattle.match_core.specs.Cells.{
 ghost use Rattle.match_core.specs.declared.cells.CellRange.TheVariants.{UpTo, Above};
 
 use crate::NoMemory;
+use crate::side_column::SideColumn;
 use row_core::{Row, Value};
 use sort_core::sort_unstable;
 use std::alloc::Global;
@@ -36,16 +39,6 @@ pub(crate) struct Cell<'a> {
     pub(crate) place: usize,
 }
 
-/// The rows of a side with their classes so far, and the place of the column that they are compared by.
-#[derive(Clone, Copy)]
-pub(crate) struct SideColumn<'a, 'c> {
-    pub rows: &'a [Row],
-    pub classes: &'c [u64],
-    pub place: usize,
-    pub ghost count: { length classes.now ≡ length rows.now },
-    pub ghost wide: { All (λ row. place < length row.values) rows.now },
-}
-
 /// Some of the cells of a side: what one thread lists and sorts.
 #[derive(Clone, Copy)]
 pub(crate) enum CellRange<'a> {
@@ -63,6 +56,13 @@ const ROWS_FOR_HALVES: usize = 16_384;
 /// By so many rows the middle cell is told.
 const SAMPLE: usize = 255;
 
+/// The cells of a side in rising order: those of one thread, and behind them those of another.
+#[derive(Drop)]
+pub(crate) struct SortedCells<'a> {
+    pub low: Vec<Cell<'a>>,
+    pub high: Vec<Cell<'a>>,
+}
+
 /// A cell for each row of a side, in rising order. Where rows are many, one thread lists and sorts those up to about the
 /// middle one, and another those above it.
 pub(crate) fn sorted_cells<'a, R: Threads + Sync>(
@@ -70,32 +70,33 @@ pub(crate) fn sorted_cells<'a, R: Threads + Sync>(
     alloc: Global,
     side: SideColumn<'a, '_>,
     workers: u32,
-) -> Result<Vec<Cell<'a>>, NoMemory>
-    ensures { IfOk result (λ cells.
-        AreSorted side.entry.classes.now (column_at side.entry.place side.entry.rows.now) cells.items) }
+) -> Result<SortedCells<'a>, NoMemory>
+    ensures { IfOk result (λ cells. AreSorted (classes_in side.entry)
+        (column_in side.entry) (cells.low.items ++ cells.high.items)) }
 {
     let Some(middle) = middle_cell(side, workers) else {
-        return sorted_range(rt, alloc, side, CellRange::All, workers);
+        let low = sorted_range(rt, alloc, side, CellRange::All, workers)?;
+        let high = Vec::new(alloc);
+        return Ok(SortedCells { low, high });
     };
     let (low, high) = join_mut(
         rt,
         &mut move || -> Result<Vec<Cell>, NoMemory>
             requires { IsSync R.row }
-            ensures range { IfOk result (λ cells. AreCells (UpTo middle.entry) side.entry.classes.now
-                (column_at side.entry.place side.entry.rows.now) cells.items) }
+            ensures range { IfOk result (λ cells. AreCells (UpTo middle.entry) (classes_in side.entry)
+                (column_in side.entry) cells.items) }
             ensures rise { IfOk result (λ cells. IsSorted cell_cmp cells.items) }
         { sorted_range(rt, alloc, side, CellRange::UpTo(middle), workers / 2) },
         &mut move || -> Result<Vec<Cell>, NoMemory>
             requires { IsSync R.row }
-            ensures range { IfOk result (λ cells. AreCells (Above middle.entry) side.entry.classes.now
-                (column_at side.entry.place side.entry.rows.now) cells.items) }
+            ensures range { IfOk result (λ cells. AreCells (Above middle.entry) (classes_in side.entry)
+                (column_in side.entry) cells.items) }
             ensures rise { IfOk result (λ cells. IsSorted cell_cmp cells.items) }
         { sorted_range(rt, alloc, side, CellRange::Above(middle), workers / 2) },
     );
-    let mut cells = low?;
-    let mut high = high?;
-    cells.append(&mut high)?;
-    Ok(cells)
+    let low = low?;
+    let high = high?;
+    Ok(SortedCells { low, high })
 }
 
 // About the middle one of the cells of some rows. None for one worker, and where rows are few.
@@ -121,8 +122,8 @@ fn sorted_range<'a, R: Threads + Sync>(
     range: CellRange<'_>,
     workers: u32,
 ) -> Result<Vec<Cell<'a>>, NoMemory>
-    ensures range { IfOk result (λ cells. AreCells range.entry side.entry.classes.now
-        (column_at side.entry.place side.entry.rows.now) cells.items) }
+    ensures range { IfOk result (λ cells. AreCells range.entry (classes_in side.entry)
+        (column_in side.entry) cells.items) }
     ensures rise { IfOk result (λ cells. IsSorted cell_cmp cells.items) }
 {
     let mut cells = cells_of(alloc, side, range)?;
@@ -148,16 +149,25 @@ pub(crate) fn is_before(a: &Cell, b: &Cell) -> bool
     a < b
 }
 
+// Room for the cells of a range: for all rows where it has no end, else for somewhat more than half of them.
+fn room_for_cells(range: &CellRange<'_>, rows: usize) -> usize {
+    match range {
+        CellRange::All => rows,
+        CellRange::UpTo(_) | CellRange::Above(_) => rows / 8 * 5,
+    }
+}
+
 // The cells of a range, in the order of the rows.
 fn cells_of<'a>(
     alloc: Global,
     side: SideColumn<'a, '_>,
     range: CellRange<'_>,
 ) -> Result<Vec<Cell<'a>>, NoMemory>
-    ensures { IfOk result (λ cells. AreCells range.entry side.entry.classes.now
-        (column_at side.entry.place side.entry.rows.now) cells.items) }
+    ensures { IfOk result (λ cells. AreCells range.entry (classes_in side.entry)
+        (column_in side.entry) cells.items) }
 {
-    let mut cells = Vec::with_capacity(alloc, side.rows.len())?;
+    let room = room_for_cells(&range, side.rows.len());
+    let mut cells = Vec::with_capacity(alloc, room)?;
     for i in 0..side.rows.len() {
         let cell = cell_at(side, i);
         if has_cell(&range, &cell) {
@@ -170,9 +180,20 @@ fn cells_of<'a>(
 // The cell of the row at that place.
 fn cell_at<'a>(side: SideColumn<'a, '_>, i: usize) -> Cell<'a>
     requires { i < length side.rows.now }
-    ensures { IsCellAt side.entry.classes.now (column_at side.entry.place side.entry.rows.now) i result }
+    ensures { IsCellAt (classes_in side.entry) (column_in side.entry) i result }
 {
-    cell_of(side.classes[i], value_at(side.rows, side.place, i), i)
+    cell_of(class_at(side, i), value_at(side.rows, side.place, i), i)
+}
+
+// The class so far of the row at that place.
+fn class_at(side: SideColumn<'_, '_>, i: usize) -> u64
+    requires { i < length side.rows.now }
+    ensures { result ≡ slice_index (classes_in side.entry) i }
+{
+    match side.classes {
+        None => 0,
+        Some(classes) => classes[i],
+    }
 }
 
 // The value of row i at that place.

@@ -1,19 +1,30 @@
 //! Gives rows classes by the columns that they are compared by.
 
-ghost use Rattle.std.specs.Prelude.{◌≡◌, ◌+◌, None, IfOk, OnOk, length};
+ghost use Rattle.std.specs.Prelude.{◌≡◌, ◌++◌, None, IfOk, length, replicate};
+ghost use Rattle.std.specs.Option.{ForSome};
 ghost use Rattle.row_core.specs.Refusals.{first_of};
 ghost use Rattle.match_core.specs.Columns.{columns_refusal, tests_of_names};
 ghost use Rattle.match_core.specs.Classes.{AreClasses, values_under};
-ghost use Rattle.match_core.specs.Cells.{Refines};
+ghost use Rattle.match_core.specs.Cells.{Refines, so_far};
 
 use crate::NoMemory;
 use crate::side::Side;
+use crate::side_column::SideColumn;
 use crate::split::refine;
 use row_core::Name;
 use std::alloc::Global;
 use std::thread::Threads;
 
-/// A class for each left row, and then for each right one: two rows, of whichever sides, have one class
+/// A class for each row of two sides.
+#[derive(Debug, Drop)]
+pub struct Classes {
+    /// Those of the left rows, in their order.
+    pub left: Vec<u64>,
+    /// Those of the right rows, in theirs.
+    pub right: Vec<u64>,
+}
+
+/// A class for each left row, and one for each right row: two rows, of whichever sides, have one class
 /// exactly where they are equal in each named pair of columns. Without names all rows have one. It takes
 /// time of the order n log n in the rows for each pair of names, whatever their values are. Where rows are many,
 /// half of the workers sort the values of the left side and the others those of the right one, each in two halves at once.
@@ -28,34 +39,56 @@ pub fn classes_of<R: Threads + Sync>(
     right: Side<'_>,
     on: &[(Name, Name)],
     workers: u32,
-) -> Result<Vec<u64>, NoMemory>
+) -> Result<Classes, NoMemory>
     requires { columns_refusal left.schema.now right.schema.now on.now ≡ None }
-    ensures { IfOk result (λ classes. AreClasses left.entry.schema.now right.entry.schema.now left.entry.rows.now
-        right.entry.rows.now on.now classes.items) }
+    ensures left { IfOk result (λ classes. length classes.left.items ≡ length left.entry.rows.now) }
+    ensures right { IfOk result (λ classes. length classes.right.items ≡ length right.entry.rows.now) }
+    ensures tell { IfOk result (λ classes. AreClasses left.entry.schema.now right.entry.schema.now left.entry.rows.now
+        right.entry.rows.now on.now (classes.left.items ++ classes.right.items)) }
 {
-    let count = left.rows.len() + right.rows.len();
-    let mut classes = vec![in alloc; 0; count]?;
-    for pair in on {
-        split_by(rt, alloc, &mut classes, left, right, pair, workers)?;
+    let Some((first, others)) = on.split_first() else {
+        return one_class(alloc, left.rows.len(), right.rows.len());
+    };
+    let mut classes = split_by(rt, alloc, left, None, right, None, first, workers)?;
+    for pair in others {
+        let lefts = Some(classes.left.as_slice());
+        let rights = Some(classes.right.as_slice());
+        classes = split_by(rt, alloc, left, lefts, right, rights, pair, workers)?;
     }
     Ok(classes)
 }
 
-// Splits the classes by one pair of columns.
+// One class for so many left rows, and so many right ones.
+fn one_class(alloc: Global, lefts: usize, rights: usize) -> Result<Classes, NoMemory>
+    ensures left { IfOk result (λ classes. classes.left.items ≡ replicate lefts 0) }
+    ensures right { IfOk result (λ classes. classes.right.items ≡ replicate rights 0) }
+{
+    Ok(Classes {
+        left: vec![in alloc; 0; lefts]?,
+        right: vec![in alloc; 0; rights]?,
+    })
+}
+
+// The classes so far of both sides, split by one pair of columns; where none are given all rows are of one.
 fn split_by<R: Threads + Sync>(
     rt: &R,
     alloc: Global,
-    classes: &mut [u64],
     left: Side<'_>,
+    left_classes: Option<&[u64]>,
     right: Side<'_>,
+    right_classes: Option<&[u64]>,
     pair: &(Name, Name),
     workers: u32,
-) -> Result<(), NoMemory>
-    requires count { length classes.old ≡ length left.rows.now + length right.rows.now }
+) -> Result<Classes, NoMemory>
+    requires left { ForSome left_classes (λ c. length c.now ≡ length left.rows.now) }
+    requires right { ForSome right_classes (λ c. length c.now ≡ length right.rows.now) }
     requires allowed { first_of (tests_of_names left.schema.now right.schema.now pair.now) ≡ None }
-    ensures { OnOk result (Refines classes.old
+    ensures left { IfOk result (λ new. length new.left.items ≡ length left.entry.rows.now) }
+    ensures right { IfOk result (λ new. length new.right.items ≡ length right.entry.rows.now) }
+    ensures split { IfOk result (λ new. Refines
+        (so_far left_classes.entry left.entry.rows.now ++ so_far right_classes.entry right.entry.rows.now)
         (values_under left.entry.schema.now right.entry.schema.now left.entry.rows.now right.entry.rows.now pair.now)
-        classes.new) }
+        (new.left.items ++ new.right.items)) }
 {
     let Some(left_place) = left.schema.column(pair.0) else {
         unreachable!()
@@ -63,16 +96,15 @@ fn split_by<R: Threads + Sync>(
     let Some(right_place) = right.schema.column(pair.1) else {
         unreachable!()
     };
-    let lefts = left.rows.as_slice();
-    let rights = right.rows.as_slice();
-    refine(
-        rt,
-        alloc,
-        classes,
-        lefts,
-        rights,
-        left_place as usize,
-        right_place as usize,
-        workers,
-    )
+    let lefts = SideColumn {
+        rows: left.rows.as_slice(),
+        classes: left_classes,
+        place: left_place as usize,
+    };
+    let rights = SideColumn {
+        rows: right.rows.as_slice(),
+        classes: right_classes,
+        place: right_place as usize,
+    };
+    refine(rt, alloc, lefts, rights, workers)
 }

@@ -11,9 +11,10 @@ mod ranks;
 mod row_items;
 mod share;
 mod side;
+mod side_column;
 mod split;
 
-pub use classes::classes_of;
+pub use classes::{Classes, classes_of};
 pub use columns::{QueryRefused, refusal_of_pairs};
 pub use period_core::NoMemory;
 pub use row_items::{items, items_of_share, items_with};

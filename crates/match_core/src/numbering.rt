@@ -58,17 +58,12 @@ fn number_of(lefts: &[Cell], left: usize, rights: &[Cell], right: usize) -> u64
     }
 }
 
-/// Gives each left row its rank as its class, and each right row the number of its rank.
-pub(crate) fn number_rows(lefts: &[u64], rights: &[u64], numbers: &[u64], classes: &mut [u64])
-    requires count { length classes.old ≡ length lefts.now + length rights.now }
-    requires within { All (λ rank. rank < length numbers.now) rights.now }
-    ensures { AreNumbered lefts.now rights.now numbers.now classes.new }
+/// Gives each right row the number of its rank as its class.
+pub(crate) fn number_rows(ranks: &mut [u64], numbers: &[u64])
+    requires { All (λ rank. rank < length numbers.now) ranks.old }
+    ensures { AreNumbered ranks.old numbers.now ranks.new }
 {
-    for i in 0..classes.len() {
-        classes[i] = if i < lefts.len() {
-            lefts[i]
-        } else {
-            numbers[rights[i - lefts.len()] as usize]
-        };
+    for i in 0..ranks.len() {
+        ranks[i] = numbers[ranks[i] as usize];
     }
 }

@@ -1,18 +1,24 @@
 //! Numbers the rows of one side by their values: rows of one class so far and one value have one rank.
 
-ghost use Rattle.std.specs.Prelude.{◌≡◌, ◌<◌, All, IfOk, IsSorted, length};
+ghost use Rattle.std.specs.Prelude.{◌≡◌, ◌+◌, ◌++◌, ◌<◌, All, IfOk, IsSorted, MatchBool, Some, length, slice_get};
 ghost use Rattle.match_core.specs.Cells.{
   AgreeOnPlaces,
   AreRanked,
   AreRanksOf,
+  AreRising,
   AreSorted,
+  HasLast,
+  IsEntered,
+  IsFromLast,
   cell_cmp,
-  column_at,
+  classes_in,
+  column_in,
   same_cell,
 };
 
 use crate::NoMemory;
-use crate::cells::{Cell, SideColumn, sorted_cells};
+use crate::cells::{Cell, sorted_cells};
+use crate::side_column::SideColumn;
 use std::alloc::Global;
 use std::thread::Threads;
 
@@ -32,36 +38,67 @@ pub(crate) fn rank_side<'a, R: Threads + Sync>(
     side: SideColumn<'a, '_>,
     workers: u32,
 ) -> Result<Ranked<'a>, NoMemory>
-    ensures { IfOk result (λ ranked. AreRanked side.entry.classes.now
-        (column_at side.entry.place side.entry.rows.now) ranked.ranks.items ranked.firsts.items) }
+    ensures { IfOk result (λ ranked. AreRanked (classes_in side.entry) (column_in side.entry)
+        ranked.ranks.items ranked.firsts.items) }
 {
-    let mut cells = sorted_cells(rt, alloc, side, workers)?;
+    let cells = sorted_cells(rt, alloc, side, workers)?;
     let mut ranks = vec![in alloc; 0; side.rows.len()]?;
-    rank_cells(&cells, &mut ranks);
-    cells.dedup();
-    Ok(Ranked {
-        ranks,
-        firsts: cells,
-    })
+    let firsts = rank_cells(alloc, &cells.low, &cells.high, &mut ranks)?;
+    Ok(Ranked { ranks, firsts })
 }
 
-// Gives each cell's row the number of different cells before it.
-fn rank_cells(cells: &[Cell], ranks: &mut [u64])
-    requires within { All (λ cell. cell.place < length ranks.old) cells.now }
-    requires agree { AgreeOnPlaces cells.now }
-    ensures { AreRanksOf cells.now ranks.new }
+// Gives each cell's row the number of different cells before it, and lists those that differ.
+fn rank_cells<'a>(
+    alloc: Global,
+    low: &[Cell<'a>],
+    high: &[Cell<'a>],
+    ranks: &mut [u64],
+) -> Result<Vec<Cell<'a>>, NoMemory>
+    requires within { All (λ cell. cell.place < length ranks.old) (low.now ++ high.now) }
+    requires agree { AgreeOnPlaces (low.now ++ high.now) }
+    requires rise { IsSorted cell_cmp (low.now ++ high.now) }
+    ensures ranks { IfOk result (λ firsts. AreRanksOf (low.now ++ high.now) ranks.new firsts.items) }
+    ensures rise { IfOk result (λ firsts. AreRising firsts.items) }
 {
-    if cells.is_empty() {
-        return;
+    let mut firsts = Vec::new(alloc);
+    for i in 0..low.len() + high.len() {
+        let cell = cell_in(low, high, i);
+        ranks[cell.place] = enter_cell(&mut firsts, cell)?;
     }
-    let mut last = &cells[0];
-    let mut rank = 0;
-    for cell in cells {
-        if !is_same_cell(cell, last) {
-            rank += 1;
-        }
-        ranks[cell.place] = rank;
-        last = cell;
+    Ok(firsts)
+}
+
+// The cell at that place of two lists, the one behind the other.
+fn cell_in<'l, 'a>(low: &'l [Cell<'a>], high: &'l [Cell<'a>], i: usize) -> &'l Cell<'a>
+    requires { i < length low.now + length high.now }
+    ensures { slice_get (low.now ++ high.now) i ≡ Some result.now }
+{
+    if i < low.len() {
+        &low[i]
+    } else {
+        &high[i - low.len()]
+    }
+}
+
+// The number of the last cell where that is the same, else of a new one behind it.
+fn enter_cell<'a>(firsts: &mut Vec<Cell<'a>>, cell: &Cell<'a>) -> Result<u64, NoMemory>
+    requires rise { AreRising firsts.old.items }
+    requires upto { IsFromLast firsts.old.items cell.now }
+    ensures { IfOk result (IsEntered firsts.old.items cell.now firsts.new.items) }
+{
+    if !is_last(firsts, cell) {
+        firsts.push(*cell)?;
+    }
+    Ok(firsts.len() as u64 - 1)
+}
+
+// Whether the last cell is the same.
+fn is_last(firsts: &[Cell], cell: &Cell) -> bool
+    ensures { MatchBool result (HasLast firsts.now cell.now) (HasLast firsts.now cell.now → ⊥) }
+{
+    match firsts.last() {
+        Some(last) => is_same_cell(last, cell),
+        None => false,
     }
 }
 

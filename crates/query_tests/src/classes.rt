@@ -42,7 +42,10 @@ fn check_classes(
     if let Some(refused) = refusal_of_pairs(one.schema, other.schema, on) {
         panic!(rt; "{refused:?}")
     }
-    let classes = classes_of(rt, rt.alloc(), one, other, on, 1)?;
+    let both = classes_of(rt, rt.alloc(), one, other, on, 1)?;
+    let mut classes = both.left;
+    let mut rights = both.right;
+    classes.append(&mut rights)?;
     assert_eq!(rt; classes.len(), want.len());
     for (class, number) in classes.iter().zip(want) {
         check_class(rt, *class, *number, &classes, want);

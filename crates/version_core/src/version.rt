@@ -41,13 +41,18 @@ fn is_shown(version: &Version, n: u64) -> bool
 pub fn rows_shown(alloc: Global, versions: &[Version], n: u64) -> Result<RowList, NoMemory>
     ensures { IfOk result (λ rows. rows ≡ shown n versions.now) }
 {
-    let mut rows = RowList::new(alloc);
+    // They are counted first, so that no memory is asked for again as they grow.
+    let count = versions
+        .iter()
+        .filter(|version| is_shown(version, n))
+        .count();
+    let mut rows = Vec::with_capacity(alloc, count)?;
     for version in versions {
         if is_shown(version, n) {
             rows.push(version.row.copy(alloc)?)?;
         }
     }
-    Ok(rows)
+    Ok(RowList::from(rows))
 }
 
 /// Whether commit n shows the version and its row holds at the point.

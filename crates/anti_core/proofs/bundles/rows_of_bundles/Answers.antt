@@ -1,10 +1,11 @@
 use Rattle.grid_core.proofs.BundleLemmas.{low-distinct, none_first}
 use Rattle.anti_core.proofs.BundleLemmas.{bundling_start, bundling_more, bundling_end}
+use Rattle.anti_core.proofs.ItemLemmas.{IsItemsAnti-sorted}
 use Rattle.anti_core.proofs.bundles.rows_of_bundles.Goals as goal
 
 pub bundles-init : goal.bundles-init
 bundles-init g c =
-    bundling_start c.args.left.now c.args.right.now c.new-rows.result.items c.new-rows.ensures.items
+    bundling_start c.args.left.now c.args.right.now c.in_ok-rows.rows.items c.in_ok-rows.ensures.items
     c.requires.left_rise c.requires.right_rise c.requires.ids
 
 pub rows_of_items-requires-clause-ids : goal.rows_of_items-requires-clause-ids
@@ -22,5 +23,7 @@ bundles-preserved g c =
 
 pub returns : goal.returns
 returns g c =
-    bundling_end c.args.left.now c.args.right.now c.bundles.lefts.now c.bundles.rights.now c.bundles.rows.items
-    (none_first c.bundles.lefts.now c.in_default.ensures.value) c.bundles.invariant
+    IsItemsAnti-sorted c.args.left.now c.args.right.now c.bundles.rows.items c.sort_unstable.new.items.items
+    (bundling_end c.args.left.now c.args.right.now c.bundles.lefts.now c.bundles.rights.now c.bundles.rows.items
+    (none_first c.bundles.lefts.now c.in_default.ensures.value) c.bundles.invariant)
+    c.sort_unstable.ensures.permutation c.sort_unstable.ensures.sorted

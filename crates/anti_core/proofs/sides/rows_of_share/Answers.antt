@@ -1,4 +1,4 @@
-use Rattle.std.proofs.Common.{◌≢◌, ◌≤◌, length, arith}
+use Rattle.std.proofs.Common.{◌≤◌, length, arith}
 use Rattle.std.specs.Prelude.{IsPermutation}
 use Rattle.std.proofs.lemmas.List.Sorted.{IsPermutation-refl, length_permutation}
 use Rattle.std.proofs.lemmas.Result.{IfOk-weaker}
@@ -6,7 +6,7 @@ use Rattle.dip_core.specs.Item.{item_limit}
 use Rattle.dip_core.proofs.DivisionLemmas.{HasDistinctIds-permutation}
 use Rattle.match_core.specs.Items.{items_of_share, items_with}
 use Rattle.match_core.proofs.RowItems.{length-items_with}
-use Rattle.anti_core.specs.declared.rows.AntiRow.{AntiRow}
+use Rattle.anti_core.specs.Anti.{AntiRowBefore}
 use Rattle.anti_core.proofs.BundleLemmas.{united-rise}
 use Rattle.anti_core.proofs.ItemLemmas.{rows-permutation}
 use Rattle.anti_core.proofs.ShareLemmas.{share-few, share-distinct}
@@ -59,8 +59,8 @@ returns g c =
     let united = c.deref-2.result.now in
     IfOk-weaker c.rows_of_halves.result _ _
     (λ rows lists.
-    rows-alike (λ (a b : AntiRow). a ≢ b) left right united rows.items
+    rows-alike AntiRowBefore left right united rows.items
     (rw c.deref-2.ensures.value c.in_ok-lefts.ensures.union.alike)
     (rows-permutation left lefts united united (rw c.deref.ensures.value c.in_ok-lefts.ensures.permutation)
-    (IsPermutation-refl united) (λ (a b : AntiRow). a ≢ b) rows.items lists))
+    (IsPermutation-refl united) AntiRowBefore rows.items lists))
     c.rows_of_halves.ensures

@@ -1,9 +1,10 @@
-use Rattle.std.proofs.Common.{take}
+use Rattle.std.proofs.Common.{◌≡◌, ◌+◌, ◌++◌, length, take}
 use Rattle.match_core.specs.Classes.{AreClasses}
 use Rattle.match_core.proofs.classes.classes_of.Given as goal
 
--- the classes tell of the pairs so far
+-- the classes of both sides tell of the pairs so far
 abbrev pub invariant-loop-pair : goal.invariant-loop-pair
 invariant-loop-pair g l =
-    AreClasses l.left.schema.now l.right.schema.now l.left.rows.now l.right.rows.now
-    (take l.pair-index l.on) l.classes.items
+    (length l.classes.left.items ≡ length l.left.rows.now) × (length l.classes.right.items ≡ length l.right.rows.now)
+    × AreClasses l.left.schema.now l.right.schema.now l.left.rows.now l.right.rows.now
+    (take (l.pair-index + 1) l.on) (l.classes.left.items ++ l.classes.right.items)

@@ -4,4 +4,4 @@ use Rattle.version_core.proofs.version.rows_shown.Given as goal
 
 -- the rows so far
 abbrev pub invariant-loop-version : goal.invariant-loop-version
-invariant-loop-version l = l.rows ≡ shown l.n (take l.version-index l.versions)
+invariant-loop-version l = l.rows.items ≡ shown l.n (take l.version-index l.versions)
