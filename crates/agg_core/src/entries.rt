@@ -7,6 +7,7 @@ ghost use Rattle.agg_core.specs.Entries.{AreEntries, AreEntriesSorted, AreKeyed,
 ghost use Rattle.agg_core.specs.Ranges.{in_range, rows_in_range};
 
 use crate::ranges::{Key, KeyRange, has_key};
+use list_core::room_for_half;
 use period_core::NoMemory;
 use row_core::{Row, Value};
 use sort_core::sort_by_key;
@@ -26,7 +27,7 @@ fn room_for(range: &KeyRange<'_>, rows: usize) -> usize {
     if range.above.is_none() && range.upto.is_none() {
         rows
     } else {
-        rows / 8 * 5
+        room_for_half(rows)
     }
 }
 

@@ -39,7 +39,7 @@ pub struct AggShare {
 }
 
 impl AggShare {
-    /// The value of the group of a plateau.
+    /// The value of the group of a plateau: None where all rows are one group, or no group has the plateau's class.
     pub fn group(&self, plateau: &Plateau) -> Option<&Value>
         ensures { option_copied result ≡ (agg_row_of self.now.groups.items plateau.now).group }
     {
@@ -129,14 +129,14 @@ impl AggRows {
 fn push_share(alloc: Global, share: &AggShare, rows: &mut Vec<AggRow>) -> Result<(), NoMemory>
     ensures { OnOk result (rows.new.items ≡ rows.old.items ++ rows_in share.now) }
 {
-    for piece in share.plateaus.pieces() {
-        push_piece(alloc, share, piece, rows)?;
+    for chunk in share.plateaus.chunks() {
+        push_chunk(alloc, share, chunk, rows)?;
     }
     Ok(())
 }
 
 // Adds the rows of some plateaus of a share.
-fn push_piece(
+fn push_chunk(
     alloc: Global,
     share: &AggShare,
     plateaus: &[Plateau],

@@ -35,8 +35,8 @@ impl AnswerWriter {
         requires { self.old.fields ≡ [] }
         ensures { OnOk result (Adds self.old self.new (map agg_record (rows_in share.now))) }
     {
-        for piece in share.plateaus.pieces() {
-            self.agg_rows(share, piece)?;
+        for chunk in share.plateaus.chunks() {
+            self.agg_rows(share, chunk)?;
         }
         Ok(())
     }

@@ -1,3 +1,4 @@
+pub mod ChunkLemmas
 pub mod CutLemmas
 pub mod MadeLemmas
 pub mod OrderedLemmas

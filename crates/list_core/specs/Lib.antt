@@ -1,3 +1,4 @@
+pub mod Chunks
 pub mod Cut
 pub mod Order
 pub mod Wanted

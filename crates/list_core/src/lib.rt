@@ -3,10 +3,14 @@
 //! Lists that contracts see as their items, whatever room they have; and what it is to be the list of all
 //! that is wanted, in order.
 
+mod chunked;
 mod copy;
 mod cut;
 mod list;
+mod room;
 
+pub use chunked::ChunkedList;
 pub use copy::{DeepCopy, copy_each};
 pub use cut::start_at;
 pub use list::List;
+pub use room::room_for_half;

@@ -19,6 +19,7 @@ ghost use Rattle.match_core.specs.declared.cells.CellRange.TheVariants.{UpTo, Ab
 
 use crate::NoMemory;
 use crate::side_column::SideColumn;
+use list_core::room_for_half;
 use row_core::{Row, Value};
 use sort_core::sort_unstable;
 use std::alloc::Global;
@@ -153,7 +154,7 @@ pub(crate) fn is_before(a: &Cell, b: &Cell) -> bool
 fn room_for_cells(range: &CellRange<'_>, rows: usize) -> usize {
     match range {
         CellRange::All => rows,
-        CellRange::UpTo(_) | CellRange::Above(_) => rows / 8 * 5,
+        CellRange::UpTo(_) | CellRange::Above(_) => room_for_half(rows),
     }
 }
 

@@ -6,6 +6,7 @@ ghost use Rattle.match_core.specs.Items.{has_class, item_with, items_of, items_o
 use crate::NoMemory;
 use crate::share::Share;
 use dip_core::Item;
+use list_core::room_for_half;
 use row_core::{Row, RowList};
 use std::alloc::Global;
 
@@ -43,6 +44,14 @@ pub fn items_with(alloc: Global, rows: &[Row], classes: &[u64]) -> Result<Vec<It
     Ok(items)
 }
 
+// Room for a share's items: for all rows where it has all classes, else for somewhat more than half of them.
+fn room_for_share(share: Share, rows: usize) -> usize {
+    match share {
+        Share::All => rows,
+        Share::UpTo(_) | Share::Above(_) => room_for_half(rows),
+    }
+}
+
 /// The rows as items in their order, each of the class that stands at its place: those of a share's classes alone.
 ///
 /// # Errors
@@ -57,7 +66,7 @@ pub fn items_of_share(
     requires { length rows.now ≤ length classes.now }
     ensures { IfOk result (λ items. items.items ≡ items_of_share share rows.now classes.now) }
 {
-    let mut items = Vec::new(alloc);
+    let mut items = Vec::with_capacity(alloc, room_for_share(share, rows.len()))?;
     for i in 0..rows.len() {
         let class = classes[i];
         if has_class(share, class) {

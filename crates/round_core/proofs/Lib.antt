@@ -12,4 +12,3 @@ pub mod ShareLemmas
 pub mod ClosingLemmas
 pub mod CollectLemmas
 pub mod PlateauExistence
-pub mod PieceLemmas

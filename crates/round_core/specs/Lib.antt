@@ -6,4 +6,3 @@ pub mod TwoLaws
 pub mod ClassLists
 pub mod Rounds
 pub mod Closing
-pub mod Pieces

@@ -7,7 +7,6 @@ mod class_steps;
 mod closing;
 mod laws;
 mod measure;
-mod pieces;
 mod plateau;
 mod plateaus;
 mod round;
@@ -18,7 +17,6 @@ mod tally_round;
 
 pub use laws::classes_have_one_list;
 pub use measure::Measure;
-pub use pieces::Plateaus;
-pub use plateau::Plateau;
+pub use plateau::{Plateau, Plateaus};
 pub use plateaus::plateaus_of;
 pub use tally_round::TallyRound;

@@ -1,5 +1,6 @@
 //! Plateaus.
 
+use list_core::ChunkedList;
 use period_core::Period;
 
 /// A class, and a maximal period at each instant of which it has an item and its items come to one value.
@@ -12,3 +13,6 @@ pub struct Plateau {
     /// What its items that hold an instant of the period come to, by the measure that was asked for.
     pub value: i128,
 }
+
+/// Plateaus, in chunks that were found apart.
+pub type Plateaus = ChunkedList<Plateau>;

@@ -9,10 +9,10 @@ ghost use Rattle.round_core.specs.Plateaus.{ArePlateaus};
 
 use crate::closing::plateaus_in;
 use crate::measure::Measure;
-use crate::pieces::Plateaus;
+use crate::plateau::Plateaus;
 use crate::rounds::combine_all;
 use crate::runs::shared_lists;
-use crate::spans::plateaus_of_spans;
+use crate::spans::{CUTS, plateaus_of_spans};
 use dip_core::Item;
 use grid_core::{middle_class, parted_behind};
 use period_core::NoMemory;
@@ -56,7 +56,7 @@ fn plateaus_of_halves<R: Threads + Sync, G: Gate>(
     ensures { IfOk result (λ plateaus. ArePlateaus measure items.now plateaus) }
 {
     let Some(class) = middle_class(items, &[], workers) else {
-        return plateaus_of_spans(rt, alloc, measure, items, workers, gate);
+        return plateaus_of_spans(rt, alloc, measure, items, CUTS, workers, gate);
     };
     let (low_items, high_items) = parted_behind(class, items);
     let few = workers / 2;

@@ -1,5 +1,5 @@
 //! Items of one class, cut at an instant: half of the workers find the plateaus of what the items hold before it, and the
-//! others those of what they hold from it on.
+//! others those of what they hold from it on. One worker cuts many items too, and finds the one after the other.
 
 ghost use Rattle.std.specs.Prelude.{◌<◌, ◌≤◌, ◌≤ℤ◌, IfOk, IfSome, MatchOption, length};
 ghost use Rattle.std.specs.Thread.{IsSync};
@@ -11,10 +11,10 @@ ghost use Rattle.round_core.specs.Spans.{AreBefore, AreFrom, AreOfOneClass, AreP
 
 use crate::closing::joined;
 use crate::measure::Measure;
-use crate::pieces::Plateaus;
-use crate::plateau::Plateau;
+use crate::plateau::{Plateau, Plateaus};
 use crate::plateaus::plateaus_by_rounds;
 use dip_core::Item;
+use list_core::room_for_half;
 use period_core::{NoMemory, Period, Point};
 use std::alloc::Global;
 use std::thread::{Threads, join};
@@ -23,13 +23,15 @@ use work_core::Gate;
 /// Of fewer items one span would be over before the other span's thread has started.
 const ITEMS_FOR_SPANS: usize = 16_384;
 
+/// Items of a span, of which one worker cuts no fewer: the steps of so many are still in the processor's cache when they are
+/// taken together, and the memory of one span serves the next.
+const ITEMS_OF_SPAN: usize = 65_536;
+
+/// Items are cut so often at most: into a span for each of the most workers.
+pub(crate) const CUTS: u32 = 6;
+
 /// By so many items a middle instant is told.
 const SAMPLE: usize = 255;
-
-/// Room for what so many items hold on one side of a middle instant: somewhat more than half of them.
-fn room_for_span(items: usize) -> usize {
-    items / 8 * 5
-}
 
 /// What an item holds before an instant.
 fn ended(item: &Item, at: Point) -> Option<Item>
@@ -69,7 +71,7 @@ fn begun(item: &Item, at: Point) -> Option<Item>
 fn items_before(alloc: Global, items: &[Item], at: Point) -> Result<Vec<Item>, NoMemory>
     ensures { IfOk result (λ early. AreBefore at items.now early.items) }
 {
-    let mut early = Vec::with_capacity(alloc, room_for_span(items.len()))?;
+    let mut early = Vec::with_capacity(alloc, room_for_half(items.len()))?;
     for i in 0..items.len() {
         if let Some(cut) = ended(&items[i], at) {
             early.push(cut)?;
@@ -82,7 +84,7 @@ fn items_before(alloc: Global, items: &[Item], at: Point) -> Result<Vec<Item>, N
 fn items_from(alloc: Global, items: &[Item], at: Point) -> Result<Vec<Item>, NoMemory>
     ensures { IfOk result (λ late. AreFrom at items.now late.items) }
 {
-    let mut late = Vec::with_capacity(alloc, room_for_span(items.len()))?;
+    let mut late = Vec::with_capacity(alloc, room_for_half(items.len()))?;
     for i in 0..items.len() {
         if let Some(cut) = begun(&items[i], at) {
             late.push(cut)?;
@@ -137,15 +139,24 @@ fn parts_well(items: &[Item], at: Point) -> bool {
     before.max(behind) <= SAMPLE / 4 * 3
 }
 
-/// The instant at which items are cut, so that half of the workers take each side. None for one worker, and where items
-/// are few, of several classes, or most of them would be on both sides.
-fn middle_instant(items: &[Item], workers: u32) -> Option<Point>
+/// Fewer items are left as they are.
+fn least_to_cut(workers: u32) -> usize {
+    if workers < 2 {
+        ITEMS_OF_SPAN
+    } else {
+        ITEMS_FOR_SPANS
+    }
+}
+
+/// The instant at which items are cut, which may be done so often. None where items are few, of several classes, or most of
+/// them would be on both sides.
+fn middle_instant(items: &[Item], cuts: u32, workers: u32) -> Option<Point>
     requires { ClassesRise items.now }
-    ensures { IfSome result (λ _. (2 ≤ workers) × AreOfOneClass items.now) }
+    ensures { IfSome result (λ _. (0 < cuts) × AreOfOneClass items.now) }
 {
     let (first, _) = items.split_first()?;
     let (last, _) = items.split_last()?;
-    if workers < 2 || items.len() < ITEMS_FOR_SPANS || first.class < last.class {
+    if cuts == 0 || items.len() < least_to_cut(workers) || first.class < last.class {
         return None;
     }
     let at = middle_start(items, first);
@@ -164,6 +175,7 @@ fn plateaus_before<R: Threads + Sync, G: Gate>(
     measure: Measure,
     items: &[Item],
     at: Point,
+    cuts: u32,
     workers: u32,
     gate: &G,
 ) -> Result<Plateaus, NoMemory>
@@ -173,7 +185,7 @@ fn plateaus_before<R: Threads + Sync, G: Gate>(
     ensures { IfOk result (λ plateaus. ArePlateausBefore at measure items.now plateaus) }
 {
     let early = items_before(alloc, items, at)?;
-    plateaus_of_spans(rt, alloc, measure, &early, workers, gate)
+    plateaus_of_spans(rt, alloc, measure, &early, cuts, workers, gate)
 }
 
 /// The plateaus of what items of one class hold from an instant on.
@@ -184,6 +196,7 @@ fn plateaus_from<R: Threads + Sync, G: Gate>(
     measure: Measure,
     items: &[Item],
     at: Point,
+    cuts: u32,
     workers: u32,
     gate: &G,
 ) -> Result<Plateaus, NoMemory>
@@ -193,17 +206,18 @@ fn plateaus_from<R: Threads + Sync, G: Gate>(
     ensures { IfOk result (λ plateaus. ArePlateausFrom at measure items.now plateaus) }
 {
     let late = items_from(alloc, items, at)?;
-    plateaus_of_spans(rt, alloc, measure, &late, workers, gate)
+    plateaus_of_spans(rt, alloc, measure, &late, cuts, workers, gate)
 }
 
-/// The plateaus of all classes. Where all items are of one class, and many, half of the workers find those before an
-/// instant.
+/// The plateaus of all classes. Where all items are of one class, and many, they are cut at an instant, and half of the
+/// workers find those before it; they may be cut so often.
 #[cycle(spans)]
 pub(crate) fn plateaus_of_spans<R: Threads + Sync, G: Gate>(
     rt: &R,
     alloc: Global,
     measure: Measure,
     items: &[Item],
+    cuts: u32,
     workers: u32,
     gate: &G,
 ) -> Result<Plateaus, NoMemory>
@@ -212,9 +226,15 @@ pub(crate) fn plateaus_of_spans<R: Threads + Sync, G: Gate>(
     requires rise { ClassesRise items.now }
     ensures { IfOk result (λ plateaus. ArePlateaus measure items.now plateaus) }
 {
-    let Some(at) = middle_instant(items, workers) else {
+    let Some(at) = middle_instant(items, cuts, workers) else {
         return plateaus_by_rounds(rt, alloc, measure, items, workers, gate);
     };
+    let cuts = cuts - 1;
+    if workers < 2 {
+        let early = plateaus_before(rt, alloc, measure, items, at, cuts, workers, gate)?;
+        let late = plateaus_from(rt, alloc, measure, items, at, cuts, workers, gate)?;
+        return spliced(early, late);
+    }
     let few = workers / 2;
     let others = workers - few;
     let (early, late) = join(
@@ -223,12 +243,12 @@ pub(crate) fn plateaus_of_spans<R: Threads + Sync, G: Gate>(
             requires { IsSync R.row × IsSync G.row × (0 < few) × (few ≤ worker_limit) × (length items.now ≤ item_limit)
                 × AreOfOneClass items.now }
             ensures { IfOk result (λ plateaus. ArePlateausBefore at measure items.entry.now plateaus) }
-        { plateaus_before(rt, alloc, measure, items, at, few, gate) },
+        { plateaus_before(rt, alloc, measure, items, at, cuts, few, gate) },
         || -> Result<Plateaus, NoMemory>
             requires { IsSync R.row × IsSync G.row × (0 < others) × (others ≤ worker_limit)
                 × (length items.now ≤ item_limit) × AreOfOneClass items.now }
             ensures { IfOk result (λ plateaus. ArePlateausFrom at measure items.entry.now plateaus) }
-        { plateaus_from(rt, alloc, measure, items, at, others, gate) },
+        { plateaus_from(rt, alloc, measure, items, at, cuts, others, gate) },
     );
     let early = early?;
     let late = late?;

@@ -22,6 +22,17 @@ plateaus_from-plateaus_of_spans-requires-clause-rise g t c κs within =
     (own_rise class c.in_ok-late.late.items
     (owned class c.args.items.now c.in_ok-late.late.items c.requires.class.own c.in_ok-late.ensures.own))
 
+pub plateaus_of_spans-returns-then-workers-lt2 : goal.plateaus_of_spans-returns-then-workers-lt2
+plateaus_of_spans-returns-then-workers-lt2 g t c =
+    let one = c.in-Some.ensures.1 in
+    let early = c.in_ok-early.ensures in
+    let late = c.in_ok-late.ensures in
+    IfOk-weaker c.spliced.result _ _
+    (λ rows s.
+    ArePlateaus-spliced c.args.measure one.class c.in-Some.at c.args.items.now early.early late.late one.own early.cut
+    late.cut c.in_ok-early.early c.in_ok-late.late early.all late.all rows s)
+    c.spliced.ensures
+
 pub plateaus_of_spans-returns : goal.plateaus_of_spans-returns
 plateaus_of_spans-returns g t c =
     let measure = c.args.measure in
@@ -30,12 +41,12 @@ plateaus_of_spans-returns g t c =
     let one = c.in-Some.ensures.1 in
     let early =
     IfOk-at_ok (λ (plateaus : List Plateau). ArePlateausBefore at measure items plateaus)
-    c.in_ok-early.was c.join-early.ensures.first in
+    c.in_ok-early-2.was c.join-early.ensures.first in
     let late =
     IfOk-at_ok (λ (plateaus : List Plateau). ArePlateausFrom at measure items plateaus)
-    c.in_ok-late.was c.join-early.ensures.second in
-    IfOk-weaker c.spliced.result _ _
+    c.in_ok-late-2.was c.join-early.ensures.second in
+    IfOk-weaker c.spliced-2.result _ _
     (λ rows s.
     ArePlateaus-spliced measure one.class at items early.early late.late one.own early.cut late.cut
-    c.in_ok-early.early c.in_ok-late.late early.all late.all rows s)
-    c.spliced.ensures
+    c.in_ok-early-2.early c.in_ok-late-2.late early.all late.all rows s)
+    c.spliced-2.ensures

@@ -1,6 +1,6 @@
 use Rattle.std.proofs.Common.{◌≡◌, ◌++◌, map, take}
 use Rattle.agg_core.specs.Grouping.{agg_row_of}
-use Rattle.agg_core.proofs.rows.push_piece.Given as goal
+use Rattle.agg_core.proofs.rows.push_chunk.Given as goal
 
 abbrev pub invariant-loop-plateau : goal.invariant-loop-plateau
 invariant-loop-plateau l =

@@ -1,0 +1,161 @@
+//! Lists in chunks.
+
+ghost use Rattle.std.specs.Prelude.{◌≡◌, ◌∷◌, ◌++◌, [], List, IfOk, MatchOption, length, slice_get};
+ghost use Rattle.std.specs.Option.{option_copied};
+ghost use Rattle.list_core.specs.Chunks.{all_in};
+
+use std::alloc::{AllocError, Global};
+use std::marker::Model;
+
+/// Items in chunks that were listed apart and stand behind one another, so that none is moved where a list comes behind
+/// another. Contracts see the list of all.
+#[derive(Debug, Drop)]
+pub struct ChunkedList<T> {
+    chunks: Vec<Vec<T>>,
+    len: usize,
+}
+
+impl<T> Model for ChunkedList<T> {
+    ghost use Rattle.std.specs.Prelude.{List};
+    ghost use Rattle.list_core.specs.Chunks.{AreChunks, all_in};
+
+    ghost Value = { List T };
+
+    ghost view = { λ l. all_in l.chunks.items };
+
+    ghost invariant = { λ l. AreChunks l.chunks.items l.len };
+}
+
+impl<T> ChunkedList<T> {
+    /// How many items there are.
+    pub fn len(&self) -> usize
+        ensures { result ≡ length self.now }
+    {
+        self.len
+    }
+
+    /// The chunks, none of which is empty.
+    pub fn chunks(&self) -> &[Vec<T>]
+        ensures { all_in result.now ≡ self.now }
+    {
+        &self.chunks
+    }
+
+    /// The item at that place, from 0 on; None exactly past the last.
+    pub fn get(&self, i: usize) -> Option<&T>
+        ensures { option_copied result ≡ slice_get self.now i }
+    {
+        get_in(&self.chunks, i)
+    }
+
+    /// The first item.
+    pub fn first(&self) -> Option<&T>
+        ensures { MatchOption result (self.now ≡ []) (λ first. (back : List T) × (self.now ≡ first.now ∷ back)) }
+    {
+        let (chunk, _) = self.chunks.split_first()?;
+        let (first, _) = chunk.split_first()?;
+        Some(first)
+    }
+
+    /// The last item.
+    pub fn last(&self) -> Option<&T>
+        ensures { MatchOption result (self.now ≡ [])
+            (λ last. (front : List T) × (self.now ≡ front ++ last.now ∷ [])) }
+    {
+        let (chunk, _) = self.chunks.split_last()?;
+        let (last, _) = chunk.split_last()?;
+        Some(last)
+    }
+}
+
+impl<T: Drop> ChunkedList<T> {
+    /// These items as one chunk.
+    ///
+    /// # Errors
+    ///
+    /// `AllocError` where a growth is refused; the items are dropped then.
+    pub fn of(alloc: Global, items: Vec<T>) -> Result<ChunkedList<T>, AllocError>
+        ensures { IfOk result (λ list. list ≡ items.items) }
+    {
+        let len = items.len();
+        let mut chunks = Vec::new(alloc);
+        if !items.is_empty() {
+            chunks.push(items)?;
+        }
+        Ok(ChunkedList { chunks, len })
+    }
+
+    /// These items, and others behind them.
+    ///
+    /// # Errors
+    ///
+    /// `AllocError` where a growth is refused; both lists are dropped then.
+    pub fn followed_by(self, later: ChunkedList<T>) -> Result<ChunkedList<T>, AllocError>
+        ensures { IfOk result (λ list. list ≡ self ++ later) }
+    {
+        let mut chunks = self.chunks;
+        let mut others = later.chunks;
+        let Some(len) = self.len.checked_add(later.len) else {
+            return Err(AllocError);
+        };
+        chunks.append(&mut others)?;
+        Ok(ChunkedList { chunks, len })
+    }
+
+    /// These items, with another one in place of the first, where there is one.
+    pub fn with_first(self, item: T) -> ChunkedList<T>
+        ensures { (first : T) (back : List T) → self ≡ first ∷ back → result ≡ item ∷ back }
+    {
+        let mut chunks = self.chunks;
+        if !chunks.is_empty() {
+            chunks[0][0] = item;
+        }
+        ChunkedList {
+            chunks,
+            len: self.len,
+        }
+    }
+
+    /// These items but the last one.
+    ///
+    /// # Errors
+    ///
+    /// `AllocError` where a growth is refused; the items are dropped then.
+    pub fn without_last(self) -> Result<ChunkedList<T>, AllocError>
+        ensures { (front : List T) (last : T) → self ≡ front ++ last ∷ [] → IfOk result (λ rest. rest ≡ front) }
+    {
+        let mut chunks = self.chunks;
+        let Some(mut chunk) = chunks.pop() else {
+            return Ok(ChunkedList { chunks, len: 0 });
+        };
+        chunk.pop();
+        if !chunk.is_empty() {
+            chunks.push(chunk)?;
+        }
+        Ok(ChunkedList {
+            chunks,
+            len: self.len - 1,
+        })
+    }
+}
+
+// The item at that place of all chunks.
+fn get_in<T>(chunks: &[Vec<T>], place: usize) -> Option<&T>
+    ensures { option_copied result ≡ slice_get (all_in chunks.now) place }
+{
+    let mut left = place;
+    for chunk in chunks {
+        if left < chunk.len() {
+            return item_at(chunk, left);
+        }
+        left -= chunk.len();
+    }
+    None
+}
+
+// The item at that place of a chunk.
+fn item_at<T>(chunk: &[T], place: usize) -> Option<&T>
+    ensures { option_copied result ≡ slice_get chunk.now place }
+{
+    chunk.get(place)
+}
