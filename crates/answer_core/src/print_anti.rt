@@ -1,5 +1,6 @@
 //! Prints rows of a table when none of another matched them.
 ghost use Rattle.std.specs.Prelude.{◌≡◌, ◌∷◌, [], OnOk, map};
+ghost use Rattle.list_core.specs.Chunks.{all_in};
 ghost use Rattle.answer_core.specs.PrintedRecords.{anti_record, anti_records};
 ghost use Rattle.answer_core.specs.Unwritten.{Adds};
 
@@ -16,8 +17,18 @@ impl AnswerWriter {
         ensures { OnOk result (Adds self.old self.new (anti_records unmatched.now)) }
     {
         let left = unmatched.left_values(self.alloc())?;
-        self.anti_rows(unmatched.rows(), &left)?;
+        self.anti_chunks(unmatched.rows().chunks(), &left)?;
         self.end(unmatched.rows().len() as u64)
+    }
+
+    fn anti_chunks(&mut self, chunks: &[Vec<AntiRow>], left: &RowValues<'_>) -> Result<(), NoMemory>
+        requires { self.old.fields ≡ [] }
+        ensures { OnOk result (Adds self.old self.new (map (anti_record left.now) (all_in chunks.now))) }
+    {
+        for chunk in chunks {
+            self.anti_rows(chunk, left)?;
+        }
+        Ok(())
     }
 
     fn anti_rows(&mut self, rows: &[AntiRow], left: &RowValues<'_>) -> Result<(), NoMemory>

@@ -3,7 +3,7 @@ ghost use Rattle.std.specs.Prelude.{◌≡◌, IfOk};
 ghost use Rattle.row_core.specs.Rows.{RowsRise};
 
 use crate::row_values::RowValues;
-use anti_core::{AntiRow, AntiRows};
+use anti_core::AntiRows;
 use period_core::NoMemory;
 use row_core::RowList;
 use std::alloc::Global;
@@ -37,10 +37,10 @@ impl Unmatched {
     }
 
     /// When they held with no match.
-    pub(crate) fn rows(&self) -> &[AntiRow]
+    pub(crate) fn rows(&self) -> &AntiRows
         ensures { result.now ≡ self.now.rows }
     {
-        self.rows.as_slice()
+        &self.rows
     }
 
     /// The values of the left table's rows.

@@ -1,6 +1,6 @@
 -- The rows of items, part by part, and from the items of parts to the items that were divided.
-use Rattle.std.proofs.Common.{◌≡◌, ◌≢◌, ℕ, ◌+◌, ◌<◌, ℤ, List, [], ◌++◌, length, map, take, drop, get_or, refl, sym, subst, ap, ◌∙◌, inl, inr, arith, length-append}
-use Rattle.std.specs.Prelude.{◌<ℤ◌, Contains, IsPermutation, IsSorted}
+use Rattle.std.proofs.Common.{◌≡◌, ◌≢◌, ℕ, ◌+◌, ◌<◌, ℤ, List, [], ◌++◌, length, map, take, drop, refl, sym, subst, ap, ◌∙◌, inl, inr, arith, length-append}
+use Rattle.std.specs.Prelude.{◌<ℤ◌, Contains, IsPermutation}
 use Rattle.std.proofs.lemmas.Int.{ints}
 use Rattle.std.proofs.lemmas.List.{take-append-drop}
 use Rattle.std.proofs.lemmas.List.Elements.{Contains-append_left, Contains-append_right, Contains-append_cases}
@@ -15,11 +15,11 @@ use Rattle.merge_core.specs.declared.gap.Gap.{Gap}
 use Rattle.merge_core.specs.Gaps.{IsCovered, IsUncovered, IsGap, GapStartsBefore, ListsGaps}
 use Rattle.merge_core.proofs.SweepLemmas.{IsMaximal-same}
 use Rattle.anti_core.specs.declared.rows.AntiRow.{AntiRow}
-use Rattle.anti_core.specs.Anti.{anti_cmp}
+use Rattle.anti_core.specs.Anti.{AntiRowBefore}
 use Rattle.anti_core.specs.ItemAnti.{row_of_gap, IsItemsAntiRow, AreItemsRows, IsItemsAnti}
 use Rattle.list_core.proofs.MadeLemmas.{Contains-map, Contains-map_source, AllPairs-map}
 use Rattle.dip_core.proofs.PartedLemmas.{all_of-more, distinct-earlier, distinct-later, ids-apart}
-use Rattle.anti_core.proofs.OrderLemmas.{AntiRow-same_fields, before-apart, sorted_rows}
+use Rattle.anti_core.proofs.OrderLemmas.{AntiRow-same_fields}
 use Rattle.anti_core.proofs.PartLemmas.{parts-apart}
 
 -- ---- part by part
@@ -117,25 +117,12 @@ module _ (left front back : List Item) (n : ℕ) (is_front : front ≡ take n le
 
 -- ---- in order
 
--- the rows, sorted
-pub IsItemsAnti-sorted : (left right : List Item) (found rows : List AntiRow) → AreItemsRows left right found
-    → IsPermutation found rows → IsSorted anti_cmp rows → IsItemsAnti left right rows
-IsItemsAnti-sorted left right found rows all moved sorted = record {
-  ordered = sorted_rows found rows all.ordered moved sorted;
-  exactly = λ row. (
-    λ h. (all.exactly row).0 (Contains-permutation rows found row (IsPermutation-sym found rows moved) h),
-    λ is. Contains-permutation found rows row moved ((all.exactly row).1 is),
-  );
-}
-
--- rows in order are all rows
-pub AreItemsRows-ordered : (left right : List Item) (rows : List AntiRow) → IsItemsAnti left right rows
-    → AreItemsRows left right rows
-AreItemsRows-ordered left right rows lists = record {
-  ordered = λ i j d less within.
-      before-apart (get_or rows i d) (get_or rows j d) (lists.ordered i j d less within);
-  exactly = lists.exactly;
-}
+-- all rows, put in order
+pub IsItemsAnti-ordered : (left right : List Item) (found rows : List AntiRow) → AreItemsRows left right found
+    → IsListOf AntiRowBefore (Contains found) rows → IsItemsAnti left right rows
+IsItemsAnti-ordered left right found rows all lists =
+    IsListOf-same AntiRowBefore (Contains found) (IsItemsAntiRow left right) rows (λ row. (all.exactly row).0)
+    (λ row. (all.exactly row).1) lists
 
 -- ---- of the items that were divided
 

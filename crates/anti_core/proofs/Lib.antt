@@ -1,11 +1,12 @@
 pub mod AntiExistence
 pub mod BorderLemmas
 pub mod BundleLemmas
+pub mod InPlaceLemmas
 pub mod ItemLemmas
 pub mod MaximalLemmas
 pub mod OrderLemmas
+pub mod OrderingLemmas
 pub mod PartLemmas
-pub mod ResultLemmas
 pub mod RowLemmas
 pub mod ShareLemmas
 pub mod SupplyLemmas

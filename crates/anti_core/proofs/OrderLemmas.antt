@@ -1,10 +1,10 @@
 -- The order of the rows of an anti-join, and lists of rows that are sorted by it.
-use Rattle.std.proofs.Common.{◌≡◌, ◌≢◌, List, AllPairs, sym, ap, ◌∙◌}
+use Rattle.std.proofs.Common.{◌≡◌, ◌≢◌, List, AllPairs, sym, ap}
 use Rattle.std.specs.Prelude.{IsPermutation, IsSorted}
 use Rattle.std.specs.Bool.{Decides}
 use Rattle.std.specs.Cmp.{IsTotalOrder}
-use Rattle.std.specs.declared.cmp.Ordering.TheVariants.{Equal, Less}
-use Rattle.std.proofs.lemmas.Cmp.{then_total, on_total, int_cmp_total, nat_cmp_total, int_ranked, ranked, tied_itself}
+use Rattle.std.specs.declared.cmp.Ordering.TheVariants.{Equal}
+use Rattle.std.proofs.lemmas.Cmp.{then_total, on_total, int_cmp_total, nat_cmp_total, int_ranked, ranked}
 use Rattle.std.proofs.lemmas.Bool.Decides.{Decides-eqb, Decides-int_eq, Decides-and, Decides-like}
 use Rattle.list_core.proofs.OrderedLemmas.{both_tie, sorted_in_order}
 use Rattle.period_core.proofs.PeriodLemmas.{Period-same}
@@ -41,12 +41,6 @@ tied_rows a b e =
     AntiRow-same_fields a b (ranked a.id b.id Equal (sym halves.0))
     (Period-same a.period b.period (int_ranked a.period.from b.period.from Equal (sym ends.0))
     (int_ranked a.period.to b.period.to Equal (sym ends.1)))
-
--- rows that are in order differ
-pub before-apart : (a b : AntiRow) → AntiRowBefore a b → a ≢ b
-before-apart a b less same =
-    let bad : Equal ≡ Less =
-    sym (tied_itself anti_total a) ∙ ap (anti_cmp a) same ∙ less in cc
 
 -- rows that differ are in order once they are sorted
 pub sorted_rows : (xs ys : List AntiRow) → AllPairs (λ x y. x ≢ y) xs → IsPermutation xs ys → IsSorted anti_cmp ys

@@ -1,19 +1,19 @@
 //! The rows of items, a bundle at a time: all items of some classes. Items of other classes don't match them, so the
 //! parts of a bundle are paired with each other alone. They are few, since few of its items hold at once.
 
-ghost use Rattle.std.specs.Prelude.{◌<◌, ◌≤◌, length, IfOk};
+ghost use Rattle.std.specs.Prelude.{◌≡◌, ◌<◌, ◌≤◌, length, IfOk};
 ghost use Rattle.std.specs.Thread.{IsSync};
 ghost use Rattle.dip_core.specs.Item.{item_limit, HasDistinctIds};
 ghost use Rattle.grid_core.specs.Bundles.{ClassesRise};
+ghost use Rattle.list_core.specs.Chunks.{all_in};
 ghost use Rattle.work_core.specs.Limits.{worker_limit};
-ghost use Rattle.anti_core.specs.ItemAnti.{IsItemsAnti};
+ghost use Rattle.anti_core.specs.ItemAnti.{AreItemsRows};
 
 use crate::parted::rows_of_items;
-use crate::rows::{AntiRow, merged};
+use crate::rows::AntiRow;
 use dip_core::Item;
 use grid_core::{last_class, middle_class, parted_behind};
 use period_core::NoMemory;
-use sort_core::sort_unstable;
 use std::alloc::Global;
 use std::thread::{Threads, join};
 use work_core::Gate;
@@ -33,7 +33,7 @@ fn bundle_items(left: &[Item], right: &[Item]) -> usize {
     share.clamp(BUNDLE_LEAST, BUNDLE_MOST)
 }
 
-/// The rows of all left items, which are found bundle by bundle, in order.
+/// The rows of all left items, which are found bundle by bundle.
 fn rows_of_bundles<R: Threads + Sync, G: Gate>(
     rt: &R,
     alloc: Global,
@@ -48,7 +48,7 @@ fn rows_of_bundles<R: Threads + Sync, G: Gate>(
     requires left_rise { ClassesRise left.now }
     requires right_rise { ClassesRise right.now }
     requires ids { HasDistinctIds left.now }
-    ensures { IfOk result (λ rows. IsItemsAnti left.now right.now rows.items) }
+    ensures { IfOk result (λ rows. AreItemsRows left.now right.now rows.items) }
 {
     let enough = bundle_items(left, right);
     let mut rows = Vec::with_capacity(alloc, left.len())?;
@@ -63,12 +63,11 @@ fn rows_of_bundles<R: Threads + Sync, G: Gate>(
         lefts = high_lefts;
         rights = high_rights;
     }
-    sort_unstable(rt, &mut rows, workers);
     Ok(rows)
 }
 
-/// The rows of all left items, in order. Half of the workers find those of the lower classes, where there are enough of
-/// both.
+/// The rows of all left items, in a list of each thread that finds some. Half of the workers find those of the lower
+/// classes, where there are enough of both.
 #[cycle(halves)]
 pub(crate) fn rows_of_halves<R: Threads + Sync, G: Gate>(
     rt: &R,
@@ -77,17 +76,18 @@ pub(crate) fn rows_of_halves<R: Threads + Sync, G: Gate>(
     right: &[Item],
     workers: u32,
     gate: &G,
-) -> Result<Vec<AntiRow>, NoMemory>
+) -> Result<Vec<Vec<AntiRow>>, NoMemory>
     requires workers { (0 < workers) × (workers ≤ worker_limit) }
     requires left_few { length left.now ≤ item_limit }
     requires right_few { length right.now ≤ item_limit }
     requires left_rise { ClassesRise left.now }
     requires right_rise { ClassesRise right.now }
     requires ids { HasDistinctIds left.now }
-    ensures { IfOk result (λ rows. IsItemsAnti left.now right.now rows.items) }
+    ensures { IfOk result (λ lists. AreItemsRows left.now right.now (all_in lists.items)) }
 {
     let Some(class) = middle_class(left, right, workers) else {
-        return rows_of_bundles(rt, alloc, left, right, workers, gate);
+        let rows = rows_of_bundles(rt, alloc, left, right, workers, gate)?;
+        return one_list(alloc, rows);
     };
     let (low_lefts, high_lefts) = parted_behind(class, left);
     let (low_rights, high_rights) = parted_behind(class, right);
@@ -95,20 +95,30 @@ pub(crate) fn rows_of_halves<R: Threads + Sync, G: Gate>(
     let others = workers - few;
     let (low, high) = join(
         rt,
-        || -> Result<Vec<AntiRow>, NoMemory>
+        || -> Result<Vec<Vec<AntiRow>>, NoMemory>
             requires { IsSync R.row × IsSync G.row × (0 < few) × (few ≤ worker_limit) × (length low_lefts.now ≤ item_limit)
                 × (length low_rights.now ≤ item_limit) × ClassesRise low_lefts.now × ClassesRise low_rights.now
                 × HasDistinctIds low_lefts.now }
-            ensures { IfOk result (λ rows. IsItemsAnti low_lefts.entry.now low_rights.entry.now rows.items) }
+            ensures { IfOk result (λ lists. AreItemsRows low_lefts.entry.now low_rights.entry.now (all_in lists.items)) }
         { rows_of_halves(rt, alloc, low_lefts, low_rights, few, gate) },
-        || -> Result<Vec<AntiRow>, NoMemory>
+        || -> Result<Vec<Vec<AntiRow>>, NoMemory>
             requires { IsSync R.row × IsSync G.row × (0 < others) × (others ≤ worker_limit)
                 × (length high_lefts.now ≤ item_limit) × (length high_rights.now ≤ item_limit)
                 × ClassesRise high_lefts.now × ClassesRise high_rights.now × HasDistinctIds high_lefts.now }
-            ensures { IfOk result (λ rows. IsItemsAnti high_lefts.entry.now high_rights.entry.now rows.items) }
+            ensures { IfOk result (λ lists. AreItemsRows high_lefts.entry.now high_rights.entry.now (all_in lists.items)) }
         { rows_of_halves(rt, alloc, high_lefts, high_rights, others, gate) },
     );
-    let rows = low?;
-    let high = high?;
-    merged(rows, high)
+    let mut lists = low?;
+    let mut more = high?;
+    lists.append(&mut more)?;
+    Ok(lists)
+}
+
+/// These rows as the only list.
+fn one_list(alloc: Global, rows: Vec<AntiRow>) -> Result<Vec<Vec<AntiRow>>, NoMemory>
+    ensures { IfOk result (λ lists. all_in lists.items ≡ rows.items) }
+{
+    let mut lists = Vec::new(alloc);
+    lists.push(rows)?;
+    Ok(lists)
 }

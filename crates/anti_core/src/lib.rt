@@ -7,6 +7,7 @@
 mod anti_joins;
 mod bundles;
 mod laws;
+mod ordering;
 mod pairs;
 mod part_gaps;
 mod parted;

@@ -4,7 +4,7 @@ ghost use Rattle.std.specs.Prelude.{◌≡◌, ◌++◌, map, IfOk, IsPermutatio
 ghost use Rattle.anti_core.specs.Anti.{anti_cmp};
 ghost use Rattle.anti_core.specs.ItemAnti.{row_of_gap};
 
-use list_core::List;
+use list_core::ChunkedList;
 use merge_core::Gap;
 use period_core::{NoMemory, Period};
 
@@ -18,8 +18,8 @@ pub struct AntiRow {
     pub period: Period,
 }
 
-/// The rows of an anti-join, in their order.
-pub type AntiRows = List<AntiRow>;
+/// The rows of an anti-join, in their order, in chunks that were sorted apart.
+pub type AntiRows = ChunkedList<AntiRow>;
 
 /// Adds the rows of some gaps, in their order.
 pub(crate) fn add_rows(gaps: &[Gap], rows: &mut Vec<AntiRow>) -> Result<(), NoMemory>
@@ -32,18 +32,4 @@ pub(crate) fn add_rows(gaps: &[Gap], rows: &mut Vec<AntiRow>) -> Result<(), NoMe
         })?;
     }
     Ok(())
-}
-
-/// The rows of two lists, in order. A list that is in order is left so by the sort, which finds that: two such lists are
-/// only merged.
-pub(crate) fn merged(
-    mut rows: Vec<AntiRow>,
-    mut more: Vec<AntiRow>,
-) -> Result<Vec<AntiRow>, NoMemory>
-    ensures permutation { IfOk result (λ all. IsPermutation (rows.items ++ more.items) all.items) }
-    ensures sorted { IfOk result (λ all. IsSorted anti_cmp all.items) }
-{
-    rows.append(&mut more)?;
-    rows.sort()?;
-    Ok(rows)
 }

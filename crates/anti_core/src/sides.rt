@@ -4,14 +4,16 @@
 ghost use Rattle.std.specs.Prelude.{◌<◌, ◌≤◌, length, IfOk, IsPermutation, IsSome};
 ghost use Rattle.std.specs.Thread.{IsSync};
 ghost use Rattle.dip_core.specs.Item.{item_limit, HasDistinctIds};
+ghost use Rattle.list_core.specs.Chunks.{all_in};
 ghost use Rattle.grid_core.specs.Bundles.{ClassesRise};
 ghost use Rattle.match_core.specs.Items.{items_of_share, items_with};
 ghost use Rattle.work_core.specs.Limits.{worker_limit};
-ghost use Rattle.anti_core.specs.ItemAnti.{IsItemsAnti};
+ghost use Rattle.anti_core.specs.ItemAnti.{AreItemsRows, IsItemsAnti};
 ghost use Rattle.anti_core.specs.United.{IsUnion};
 
 use crate::bundles::rows_of_halves;
-use crate::rows::{AntiRow, AntiRows, merged};
+use crate::ordering::ordered;
+use crate::rows::{AntiRow, AntiRows};
 use crate::united::united_rows;
 use dip_core::Item;
 use grid_core::order_by_class;
@@ -115,7 +117,7 @@ fn prepared<R: Threads + Sync>(
     Ok((lefts, united))
 }
 
-/// The rows of the left items of a share, in order.
+/// The rows of the left items of a share, in a list of each thread that finds some.
 fn rows_of_share<R: Threads + Sync, G: Gate>(
     rt: &R,
     alloc: Global,
@@ -126,15 +128,15 @@ fn rows_of_share<R: Threads + Sync, G: Gate>(
     share: Share,
     workers: u32,
     gate: &G,
-) -> Result<Vec<AntiRow>, NoMemory>
+) -> Result<Vec<Vec<AntiRow>>, NoMemory>
     requires workers { (0 < workers) × (workers ≤ worker_limit) }
     requires left { length left.now ≤ length left_classes.now }
     requires right { length right.now ≤ length right_classes.now }
     requires left_few { length left.now ≤ item_limit }
     requires right_few { length right.now ≤ item_limit }
     requires ids { HasDistinctIds (items_with left.now left_classes.now) }
-    ensures { IfOk result (λ rows. IsItemsAnti (items_of_share share left.now left_classes.now)
-        (items_of_share share right.now right_classes.now) rows.items) }
+    ensures { IfOk result (λ lists. AreItemsRows (items_of_share share left.now left_classes.now)
+        (items_of_share share right.now right_classes.now) (all_in lists.items)) }
 {
     let (lefts, united) = prepared(
         rt,
@@ -149,8 +151,8 @@ fn rows_of_share<R: Threads + Sync, G: Gate>(
     rows_of_halves(rt, alloc, &lefts, &united, workers, gate)
 }
 
-/// The rows of all left items, in order. Half of the workers find those of the lower classes, where rows are many and of
-/// more classes than one.
+/// The rows of all left items, in a list of each thread that finds some. Half of the workers find those of the lower
+/// classes, where rows are many and of more classes than one.
 fn rows_of_sides<R: Threads + Sync, G: Gate>(
     rt: &R,
     alloc: Global,
@@ -160,15 +162,15 @@ fn rows_of_sides<R: Threads + Sync, G: Gate>(
     right_classes: &[u64],
     workers: u32,
     gate: &G,
-) -> Result<Vec<AntiRow>, NoMemory>
+) -> Result<Vec<Vec<AntiRow>>, NoMemory>
     requires workers { (0 < workers) × (workers ≤ worker_limit) }
     requires left { length left.now ≤ length left_classes.now }
     requires right { length right.now ≤ length right_classes.now }
     requires left_few { length left.now ≤ item_limit }
     requires right_few { length right.now ≤ item_limit }
     requires ids { HasDistinctIds (items_with left.now left_classes.now) }
-    ensures { IfOk result (λ rows. IsItemsAnti (items_with left.now left_classes.now)
-        (items_with right.now right_classes.now) rows.items) }
+    ensures { IfOk result (λ lists. AreItemsRows (items_with left.now left_classes.now)
+        (items_with right.now right_classes.now) (all_in lists.items)) }
 {
     let Some(class) = class_between(left_classes, workers) else {
         return rows_of_share(
@@ -187,14 +189,14 @@ fn rows_of_sides<R: Threads + Sync, G: Gate>(
     let others = workers - few;
     let (low, high) = join(
         rt,
-        || -> Result<Vec<AntiRow>, NoMemory>
+        || -> Result<Vec<Vec<AntiRow>>, NoMemory>
             requires { IsSync R.row × IsSync G.row × (0 < few) × (few ≤ worker_limit)
                 × (length left.now ≤ length left_classes.now) × (length right.now ≤ length right_classes.now)
                 × (length left.now ≤ item_limit) × (length right.now ≤ item_limit)
                 × HasDistinctIds (items_with left.now left_classes.now) }
-            ensures { IfOk result (λ rows. IsItemsAnti
+            ensures { IfOk result (λ lists. AreItemsRows
                 (items_of_share (Share.UpTo class) left.entry.now left_classes.entry.now)
-                (items_of_share (Share.UpTo class) right.entry.now right_classes.entry.now) rows.items) }
+                (items_of_share (Share.UpTo class) right.entry.now right_classes.entry.now) (all_in lists.items)) }
         {
             rows_of_share(
                 rt,
@@ -208,14 +210,14 @@ fn rows_of_sides<R: Threads + Sync, G: Gate>(
                 gate,
             )
         },
-        || -> Result<Vec<AntiRow>, NoMemory>
+        || -> Result<Vec<Vec<AntiRow>>, NoMemory>
             requires { IsSync R.row × IsSync G.row × (0 < others) × (others ≤ worker_limit)
                 × (length left.now ≤ length left_classes.now) × (length right.now ≤ length right_classes.now)
                 × (length left.now ≤ item_limit) × (length right.now ≤ item_limit)
                 × HasDistinctIds (items_with left.now left_classes.now) }
-            ensures { IfOk result (λ rows. IsItemsAnti
+            ensures { IfOk result (λ lists. AreItemsRows
                 (items_of_share (Share.Above class) left.entry.now left_classes.entry.now)
-                (items_of_share (Share.Above class) right.entry.now right_classes.entry.now) rows.items) }
+                (items_of_share (Share.Above class) right.entry.now right_classes.entry.now) (all_in lists.items)) }
         {
             rows_of_share(
                 rt,
@@ -230,9 +232,10 @@ fn rows_of_sides<R: Threads + Sync, G: Gate>(
             )
         },
     );
-    let rows = low?;
-    let high = high?;
-    merged(rows, high)
+    let mut lists = low?;
+    let mut more = high?;
+    lists.append(&mut more)?;
+    Ok(lists)
 }
 
 /// The anti-join of two sides, whose rows match where their classes are equal. The right items are united before they
@@ -256,7 +259,7 @@ pub(crate) fn anti_sides<R: Threads + Sync, G: Gate>(
     ensures { IfOk result (IsItemsAnti (items_with left.now left_classes.now)
         (items_with right.now right_classes.now)) }
 {
-    let rows = rows_of_sides(
+    let lists = rows_of_sides(
         rt,
         alloc,
         left,
@@ -266,5 +269,5 @@ pub(crate) fn anti_sides<R: Threads + Sync, G: Gate>(
         workers,
         gate,
     )?;
-    Ok(AntiRows::from(rows))
+    ordered(rt, alloc, lists, left, workers)
 }

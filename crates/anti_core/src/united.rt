@@ -32,7 +32,7 @@ pub(crate) fn united_rows<R: Threads + Sync>(
 {
     if workers < 2 || rows.len() < ROWS_FOR_HALVES {
         let items = items_of_share(alloc, rows, classes, share)?;
-        return united_items(alloc, items);
+        return Ok(united_items(items));
     }
     let few = workers / 2;
     let others = workers - few;
@@ -52,11 +52,11 @@ pub(crate) fn united_rows<R: Threads + Sync>(
                 IsUnion (items_of_share share back.entry.now back_classes.entry.now) united.items) }
         { united_rows(rt, alloc, back, back_classes, share, others) },
     );
-    united_again(alloc, first?, second?)
+    united_again(first?, second?)
 }
 
 /// How many of the rows `few` of the workers take.
-fn rows_for(rows: usize, few: u32, workers: u32) -> usize
+pub(crate) fn rows_for(rows: usize, few: u32, workers: u32) -> usize
     requires some { 0 < workers }
     requires few { few ≤ workers }
     ensures { result ≤ rows }
@@ -64,47 +64,48 @@ fn rows_for(rows: usize, few: u32, workers: u32) -> usize
     rows / workers as usize * few as usize
 }
 
-/// The union of items. The sort needs no memory.
-fn united_items(alloc: Global, mut items: Vec<Item>) -> Result<Vec<Item>, NoMemory>
-    ensures { IfOk result (λ united. IsUnion items.items united.items) }
+/// The union of items. It takes no memory.
+fn united_items(mut items: Vec<Item>) -> Vec<Item>
+    ensures { IsUnion items.items result.items }
 {
     items.sort_unstable_by_key(|item| (item.class, item.period.from));
-    unite(alloc, &items)
+    unite(&mut items);
+    items
 }
 
 /// The union of two unions. Each is in order, so the sort, which finds that, only merges them.
-fn united_again(
-    alloc: Global,
-    mut first: Vec<Item>,
-    mut second: Vec<Item>,
-) -> Result<Vec<Item>, NoMemory>
+fn united_again(mut first: Vec<Item>, mut second: Vec<Item>) -> Result<Vec<Item>, NoMemory>
     ensures { IfOk result (λ united. IsUnion (first.items ++ second.items) united.items) }
 {
     first.append(&mut second)?;
     first.sort_by_key(|item| (item.class, item.period.from))?;
-    unite(alloc, &first)
+    unite(&mut first);
+    Ok(first)
 }
 
-/// The items without ids and amounts, each as one with those behind it that continue it.
-fn unite(alloc: Global, items: &[Item]) -> Result<Vec<Item>, NoMemory>
-    requires { StandByClass items.now }
-    ensures { IfOk result (λ united. IsUnion items.now united.items) }
+/// Makes each item one with those behind it that continue it, without ids and amounts.
+fn unite(items: &mut Vec<Item>)
+    requires { StandByClass items.old.items }
+    ensures { IsUnion items.old.items items.new.items }
 {
-    let mut united = Vec::new(alloc);
-    let Some((first, later)) = items.split_first() else {
-        return Ok(united);
+    let Some(first) = items.first() else {
+        return;
     };
     let mut last = plain(first);
-    for next in later {
-        if let Some(both) = joined(&last, next) {
+    // So many united ones stand in front.
+    let mut count = 0;
+    for i in 1..items.len() {
+        let item = items[i];
+        if let Some(both) = joined(&last, &item) {
             last = both;
         } else {
-            united.push(last)?;
-            last = plain(next);
+            items[count] = last;
+            count += 1;
+            last = plain(&item);
         }
     }
-    united.push(last)?;
-    Ok(united)
+    items[count] = last;
+    items.truncate(count + 1);
 }
 
 /// An item's class and period.

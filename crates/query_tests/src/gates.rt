@@ -1,7 +1,7 @@
 //! Which pairs of parts queries run, and that none waits for another, as gates see it.
 
 use crate::joins::{worked_rows, worked_tables};
-use crate::tables::{days, january, side, without_columns};
+use crate::tables::{days, january, listed, side, without_columns};
 use agg_core::{AggRow, Func, agg};
 use anti_core::{AntiRow, anti};
 use join_core::join;
@@ -182,7 +182,7 @@ fn anti_joins_while_a_pair_is_held(rt: HostRuntime) -> Result<(), Fail> {
         let (one, other) = (side(&rt, &left), side(&rt, &right));
         let on = [(column, column)];
         let rows = anti(&rt, rt.alloc(), one, other, &on, 2, gate)?;
-        assert_eq!(rt; rows.as_slice(), want.as_slice());
+        assert_eq!(rt; listed(rt.alloc(), &rows)?.as_slice(), want.as_slice());
         check_left(&rt, gate);
     }
     Ok(())

@@ -1,7 +1,7 @@
 //! Anti-joins of tables of random rows, against what each day shows of each left row, and of tables of many values.
 
 use crate::generated::{DAYS, Pair, PlainRow, period, runs};
-use crate::tables::{days, january, numbers, side};
+use crate::tables::{days, january, listed, numbers, side};
 use anti_core::{AntiRow, anti};
 use period_core::Point;
 use rand_core::SeedableRng;
@@ -54,7 +54,11 @@ fn check_anti(
     for workers in [1, 2, 7] {
         let (one, other) = (side(rt, &pair.left), side(rt, &pair.right));
         let rows = anti(rt, rt.alloc(), one, other, &pair.names, workers, &OpenGate)?;
-        assert_eq!(rt; rows.as_slice(), want.as_slice(), "with {workers} workers");
+        assert_eq!(rt;
+            listed(rt.alloc(), &rows)?.as_slice(),
+            want.as_slice(),
+            "with {workers} workers"
+        );
     }
     Ok(want.len())
 }
@@ -78,13 +82,13 @@ fn leaves_what_each_day_shows(rt: HostRuntime) -> Result<(), Fail> {
     Ok(())
 }
 
-// Three rows of each of three thousand values, which are more than are taken at a time. Every other value has a right
-// row, which holds on the second of their two days.
+// Three rows of each of six thousand values, which are more than are taken at a time, and so many that several workers
+// put them in order. Every other value has a right row, which holds on the second of their two days.
 #[test]
 fn leaves_rows_of_many_values(rt: HostRuntime) -> Result<(), Fail> {
     let (mut lefts, mut rights) = (Vec::new(rt.alloc()), Vec::new(rt.alloc()));
     let mut want = Vec::new(rt.alloc());
-    for i in 0..9_000u64 {
+    for i in 0..18_000u64 {
         let value = (i / 3) as i64;
         let to = if value % 2 == 0 { 2 } else { 3 };
         lefts.push((1, 3, value))?;
@@ -98,11 +102,15 @@ fn leaves_rows_of_many_values(rt: HostRuntime) -> Result<(), Fail> {
     }
     let (left, right) = (numbers(&rt, &lefts)?, numbers(&rt, &rights)?);
     let column = Name::parse(b"c")?;
-    for workers in [1, 2] {
+    for workers in [1, 2, 7] {
         let (one, other) = (side(&rt, &left), side(&rt, &right));
         let on = [(column, column)];
         let rows = anti(&rt, rt.alloc(), one, other, &on, workers, &OpenGate)?;
-        assert_eq!(rt; rows.as_slice(), want.as_slice(), "with {workers} workers");
+        assert_eq!(rt;
+            listed(rt.alloc(), &rows)?.as_slice(),
+            want.as_slice(),
+            "with {workers} workers"
+        );
     }
     Ok(())
 }

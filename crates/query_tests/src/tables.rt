@@ -3,6 +3,7 @@
 ghost use Rattle.std.specs.Prelude.{◌≡◌, All, IfOk, IsTrue};
 ghost use Rattle.row_core.specs.Schema.{fits};
 
+use anti_core::{AntiRow, AntiRows};
 use dip_core::{Item, Part};
 use match_core::Side;
 use merge_core::Steps;
@@ -68,6 +69,17 @@ pub fn item(rt: &impl Abort, id: u64, from: u8, to: u8, class: u64) -> Item {
         class,
         amount: 0,
     }
+}
+
+/// The rows of an anti-join in one list.
+pub fn listed(alloc: Global, rows: &AntiRows) -> Result<Vec<AntiRow>, Fail> {
+    let mut listed = Vec::with_capacity(alloc, rows.len())?;
+    for i in 0..rows.len() {
+        if let Some(row) = rows.get(i) {
+            listed.push(*row)?;
+        }
+    }
+    Ok(listed)
 }
 
 /// The steps of one item.

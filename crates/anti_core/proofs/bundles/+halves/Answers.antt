@@ -1,13 +1,14 @@
-use Rattle.std.proofs.Common.{rules, ◌≤◌, ◌++◌, Global, Vec, length, refl, arith}
-use Rattle.std.proofs.lemmas.Result.{IfOk-at_ok}
+use Rattle.std.proofs.Common.{rules, ◌≤◌, length, refl, subst, sym, arith}
+use Rattle.std.specs.Global.{Vec}
+use Rattle.std.proofs.lemmas.Result.{IfOk-at_ok, IfOk-weaker}
 use Rattle.dip_core.specs.Item.{item_limit}
 use Rattle.grid_core.proofs.BundleLemmas.{low-distinct, low-few, low-rise, high-distinct, high-few, high-rise}
+use Rattle.list_core.specs.Chunks.{all_in}
 use Rattle.work_core.specs.Limits.{worker_limit}
 use Rattle.anti_core.specs.declared.rows.AntiRow.{AntiRow}
-use Rattle.anti_core.specs.ItemAnti.{IsItemsAnti}
+use Rattle.anti_core.specs.ItemAnti.{AreItemsRows}
 use Rattle.anti_core.proofs.BundleLemmas.{AreItemsRows-parted}
-use Rattle.anti_core.proofs.ItemLemmas.{AreItemsRows-ordered, IsItemsAnti-sorted}
-use Rattle.anti_core.proofs.ResultLemmas.{IfOk-both}
+use Rattle.anti_core.proofs.OrderingLemmas.{all_in-append}
 use Rattle.anti_core.proofs.bundles.+halves.Goals as goal
 
 pub join-low-requires-after_bounds : goal.join-low-requires-after_bounds
@@ -77,24 +78,24 @@ join-low-requires-after_bounds g t c κs within =
       ),
     )
 
+pub returns-in_default : goal.returns-in_default
+returns-in_default g t c =
+    IfOk-weaker c.one_list.result _ _
+    (λ lists e. subst (AreItemsRows c.args.left.now c.args.right.now) (sym e) c.in_ok-rows.ensures)
+    c.one_list.ensures
+
 pub returns : goal.returns
 returns g t c =
-    let low = c.in_ok-rows.rows.items in
-    let high = c.in_ok-high.high.items in
+    let low = c.in_ok-lists.lists.items in
+    let high = c.in_ok-more.more.items in
     let low_left = c.parted_behind.result.0.now in
     let high_left = c.parted_behind.result.1.now in
     let low_right = c.parted_behind-2.result.0.now in
     let high_right = c.parted_behind-2.result.1.now in
-    IfOk-both c.merged.result
-    (λ rows moved sorted.
-    IsItemsAnti-sorted c.args.left.now c.args.right.now (low ++ high) rows.items
+    subst (AreItemsRows c.args.left.now c.args.right.now) (all_in-append low high c.append.new.self.items c.in_ok-append.ensures.items)
     (AreItemsRows-parted c.in-Some.class c.args.left.now low_left high_left c.args.right.now low_right high_right
-    c.parted_behind.ensures c.parted_behind-2.ensures low high c.requires.ids
-    (AreItemsRows-ordered low_left low_right low
-    (IfOk-at_ok (λ (rows : Vec AntiRow Global). IsItemsAnti low_left low_right rows.items) c.in_ok-rows.was
-    c.join-low.ensures.first))
-    (AreItemsRows-ordered high_left high_right high
-    (IfOk-at_ok (λ (rows : Vec AntiRow Global). IsItemsAnti high_left high_right rows.items) c.in_ok-high.was
-    c.join-low.ensures.second)))
-    moved sorted)
-    c.merged.ensures.permutation c.merged.ensures.sorted
+    c.parted_behind.ensures c.parted_behind-2.ensures (all_in low) (all_in high) c.requires.ids
+    (IfOk-at_ok (λ (lists : Vec (Vec AntiRow)). AreItemsRows low_left low_right (all_in lists.items)) c.in_ok-lists.was
+    c.join-low.ensures.first)
+    (IfOk-at_ok (λ (lists : Vec (Vec AntiRow)). AreItemsRows high_left high_right (all_in lists.items)) c.in_ok-more.was
+    c.join-low.ensures.second))

@@ -1,6 +1,5 @@
 use Rattle.grid_core.proofs.BundleLemmas.{low-distinct, none_first}
 use Rattle.anti_core.proofs.BundleLemmas.{bundling_start, bundling_more, bundling_end}
-use Rattle.anti_core.proofs.ItemLemmas.{IsItemsAnti-sorted}
 use Rattle.anti_core.proofs.bundles.rows_of_bundles.Goals as goal
 
 pub bundles-init : goal.bundles-init
@@ -23,7 +22,5 @@ bundles-preserved g c =
 
 pub returns : goal.returns
 returns g c =
-    IsItemsAnti-sorted c.args.left.now c.args.right.now c.bundles.rows.items c.sort_unstable.new.items.items
-    (bundling_end c.args.left.now c.args.right.now c.bundles.lefts.now c.bundles.rights.now c.bundles.rows.items
-    (none_first c.bundles.lefts.now c.in_default.ensures.value) c.bundles.invariant)
-    c.sort_unstable.ensures.permutation c.sort_unstable.ensures.sorted
+    bundling_end c.args.left.now c.args.right.now c.bundles.lefts.now c.bundles.rights.now c.bundles.rows.items
+    (none_first c.bundles.lefts.now c.in_default.ensures.value) c.bundles.invariant

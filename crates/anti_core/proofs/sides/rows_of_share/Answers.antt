@@ -1,12 +1,13 @@
-use Rattle.std.proofs.Common.{◌≤◌, length, arith}
+use Rattle.std.proofs.Common.{◌≢◌, ◌≤◌, length, arith}
 use Rattle.std.specs.Prelude.{IsPermutation}
 use Rattle.std.proofs.lemmas.List.Sorted.{IsPermutation-refl, length_permutation}
 use Rattle.std.proofs.lemmas.Result.{IfOk-weaker}
 use Rattle.dip_core.specs.Item.{item_limit}
 use Rattle.dip_core.proofs.DivisionLemmas.{HasDistinctIds-permutation}
+use Rattle.list_core.specs.Chunks.{all_in}
 use Rattle.match_core.specs.Items.{items_of_share, items_with}
 use Rattle.match_core.proofs.RowItems.{length-items_with}
-use Rattle.anti_core.specs.Anti.{AntiRowBefore}
+use Rattle.anti_core.specs.declared.rows.AntiRow.{AntiRow}
 use Rattle.anti_core.proofs.BundleLemmas.{united-rise}
 use Rattle.anti_core.proofs.ItemLemmas.{rows-permutation}
 use Rattle.anti_core.proofs.ShareLemmas.{share-few, share-distinct}
@@ -58,9 +59,9 @@ returns g c =
     let lefts = c.deref.result.now in
     let united = c.deref-2.result.now in
     IfOk-weaker c.rows_of_halves.result _ _
-    (λ rows lists.
-    rows-alike AntiRowBefore left right united rows.items
+    (λ lists rows.
+    rows-alike (λ (a b : AntiRow). a ≢ b) left right united (all_in lists.items)
     (rw c.deref-2.ensures.value c.in_ok-lefts.ensures.union.alike)
     (rows-permutation left lefts united united (rw c.deref.ensures.value c.in_ok-lefts.ensures.permutation)
-    (IsPermutation-refl united) AntiRowBefore rows.items lists))
+    (IsPermutation-refl united) (λ (a b : AntiRow). a ≢ b) (all_in lists.items) rows))
     c.rows_of_halves.ensures

@@ -1,37 +1,58 @@
-use Rattle.std.proofs.Common.{◌≡◌, ◌+◌, ◌<◌, ◌∷◌, drop, length, arith, sym, ap, ◌∙◌}
-use Rattle.std.proofs.lemmas.List.{drop_more, drop_all}
-use Rattle.anti_core.proofs.UnitedLemmas.{uniting_start, uniting_joined, uniting_cut, uniting_end}
+use Rattle.std.proofs.Common.{◌≡◌, ◌∙◌, ◌<◌, ◌≤◌, arith, drop, length, subst, sym, take}
+use Rattle.std.proofs.lemmas.List.{length-set}
+use Rattle.anti_core.specs.United.{IsUnion}
+use Rattle.anti_core.proofs.InPlaceLemmas.{placed_cut, placed_end, placed_joined, placed_start}
+use Rattle.anti_core.proofs.UnitedLemmas.{IsUniting}
 use Rattle.anti_core.proofs.united.unite.Goals as goal
-use Rattle.anti_core.proofs.united.unite.Goals.{in-Some-joined, in_default-joined+in_ok-push}
+use Rattle.anti_core.proofs.united.unite.Goals.{in-Some-joined, in_default-joined}
 
-pub loop-next-init : goal.loop-next-init
-loop-next-init c =
-    uniting_start c.args.items.now c.in-Some.later.now c.in-Some.first.now c.plain-last.result
-    c.new-united.result.items c.in-Some.ensures.cases.0 c.plain-last.ensures c.new-united.ensures.items c.requires
+pub loop-i-init : goal.loop-i-init
+loop-i-init c =
+    let items = c.args.items.now.items in
+    let start = placed_start items c.deref.result.now c.in-Some.first.now c.plain-last.result c.deref.ensures.value
+    c.in-Some.ensures.value c.plain-last.ensures c.requires in
+    let some : 0 < length items = start.0 in
+    let len : c.len-i-end.result ≡ length items = c.len-i-end.ensures ∙ c.args.items.now.ok.0 in
+    (len, omega arith, omega (arith, some, len), start.1)
 
-pub loop-next-preserved : goal.loop-next-preserved
-loop-next-preserved c =
-    let later = c.in-Some.later.now in
-    let i = c.loop-next.next-index in
-    let next = c.next-item.result in
-    let inside : i < length later = omega arith in
-    let left : drop i later ≡ next ∷ drop (i + 1) later =
-    drop_more later i next inside ∙ ap (λ z. z ∷ drop (i + 1) later) (sym c.next-item.is) in
+pub loop-i-preserved : goal.loop-i-preserved
+loop-i-preserved c =
+    let items = c.args.items.now.items in
+    let now = c.loop-i.items.items in
+    let i = c.loop-i.i in
+    let count = c.loop-i.count in
+    let last = c.loop-i.last in
+    let len : c.len-i-end.result ≡ length now = c.loop-i.invariant.0 in
+    let before : count < i = c.loop-i.invariant.1 in
+    let test = c.loop-i-test.true in
+    let inside : i < length now = omega (arith, test, len) in
+    let sweep : IsUniting items (drop i now) last (take count now) = c.loop-i.invariant.3 in
     elim c.match-joined.branch [
       | in-Some-joined w ↦
-          rw (w.united-is, w.last-is)
-          (uniting_joined c.args.items.now (drop i later) (drop (i + 1) later) c.loop-next.last next _
-          c.loop-next.united.items left w.in-Some-joined.ensures.0 w.in-Some-joined.ensures.1 c.loop-next.invariant)
-      | in_default-joined+in_ok-push w ↦
-          rw (w.united-is, w.last-is)
-          (uniting_cut c.args.items.now (drop i later) (drop (i + 1) later) c.loop-next.last next
-          w.plain-last-in_default-joined.result c.loop-next.united.items _ left w.in_default-joined.ensures
-          w.plain-last-in_default-joined.ensures w.in_ok-push.ensures.items c.loop-next.invariant)
+          rw (w.items-is, w.last-is, w.count-is) (
+            len,
+            omega (arith, before),
+            omega (arith, test),
+            placed_joined items now i count last c.index.result.now w.in-Some-joined.both inside c.index.ensures
+                w.in-Some-joined.ensures.0 w.in-Some-joined.ensures.1 sweep,
+          )
+      | in_default-joined w ↦
+          rw (w.items-is, w.last-is, w.count-is) (
+            len ∙ sym (length-set now count last),
+            omega (arith, before),
+            omega (arith, test),
+            placed_cut items now i count last c.index.result.now w.plain-last-in_default-joined.result before inside c.index.ensures
+                w.in_default-joined.ensures w.plain-last-in_default-joined.ensures sweep,
+          )
     ]
 
 pub returns : goal.returns
 returns c =
-    uniting_end c.args.items.now (drop c.loop-next.next-index c.in-Some.later.now) c.loop-next.last
-    c.loop-next.united.items c.push-2.new.self.items
-    (drop_all c.loop-next.next-index c.in-Some.later.now (omega arith))
-    c.in_ok-push-2.ensures.items c.loop-next.invariant
+    let now = c.loop-i.items.items in
+    let len : c.len-i-end.result ≡ length now = c.loop-i.invariant.0 in
+    let before : c.loop-i.count < c.loop-i.i = c.loop-i.invariant.1 in
+    let most : c.loop-i.i ≤ c.len-i-end.result = c.loop-i.invariant.2 in
+    let end = c.loop-i-test.false in
+    subst (IsUnion c.args.items.now.items) (sym c.truncate.ensures.items)
+    (placed_end c.args.items.now.items now c.loop-i.i c.loop-i.count c.loop-i.last (omega (arith, end, len))
+    (omega (arith, before, most, len)) c.loop-i.invariant.3)

@@ -1,21 +1,16 @@
 use Rattle.std.proofs.Common.{rules, ◌++◌, sym}
 use Rattle.std.proofs.lemmas.List.Sorted.{answers_always}
-use Rattle.std.proofs.lemmas.Result.{IfOk-weaker}
 use Rattle.dip_core.specs.declared.item.Item.{Item}
 use Rattle.anti_core.proofs.UnitedLemmas.{stand_sorted, union_moved}
 use Rattle.anti_core.proofs.united.united_again.Goals as goal
 
 pub unite-requires : goal.unite-requires
 unite-requires c =
-    rw c.deref.ensures.value
-    (stand_sorted c.sort_by_key.new.self.items
+    stand_sorted c.sort_by_key.new.self.items
     (c.in_ok-sort_by_key.ensures.sorted (λ (x : Item). (x.class, x.period.from))
-    (answers_always _ _ _ (λ f a r g called. search rules))))
+    (answers_always _ _ _ (λ f a r g called. search rules)))
 
 pub returns : goal.returns
 returns c =
-    IfOk-weaker c.unite.result _ _
-    (λ united u.
-    union_moved (c.args.first.items ++ c.args.second.items) c.deref.result.now united.items
-    (rw (c.deref.ensures.value, sym c.in_ok-append.ensures.items) c.sort_by_key.ensures.permutation) u)
-    c.unite.ensures
+    union_moved (c.args.first.items ++ c.args.second.items) c.sort_by_key.new.self.items c.unite.new.items.items
+    (rw (sym c.in_ok-append.ensures.items) c.sort_by_key.ensures.permutation) c.unite.ensures

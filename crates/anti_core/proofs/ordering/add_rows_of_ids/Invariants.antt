@@ -1,0 +1,8 @@
+use Rattle.std.proofs.Common.{◌≡◌, ◌++◌, filter, take}
+use Rattle.anti_core.specs.Ordering.{has_id}
+use Rattle.anti_core.proofs.ordering.add_rows_of_ids.Given as goal
+
+-- those of the range among the rows so far have been added
+abbrev pub invariant-loop-row : goal.invariant-loop-row
+invariant-loop-row l =
+    l.rows.items ≡ l.fn.rows.items ++ filter (λ row. has_id l.ids row.id) (take l.row-index l.list)

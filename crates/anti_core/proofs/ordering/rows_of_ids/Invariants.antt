@@ -1,0 +1,9 @@
+use Rattle.std.proofs.Common.{◌≡◌, filter, take}
+use Rattle.list_core.specs.Chunks.{all_in}
+use Rattle.anti_core.specs.Ordering.{has_id}
+use Rattle.anti_core.proofs.ordering.rows_of_ids.Given as goal
+
+-- those of the range in the lists so far are there
+abbrev pub invariant-loop-list : goal.invariant-loop-list
+invariant-loop-list l =
+    l.rows.items ≡ filter (λ row. has_id l.ids row.id) (all_in (take l.list-index l.lists))
