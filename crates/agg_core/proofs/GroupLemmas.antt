@@ -3,10 +3,9 @@ use Rattle.std.proofs.Common.{◌≡◌, ◌⊎◌, ◌<◌, ◌≤◌, ◌+◌,
 use Rattle.std.specs.Prelude.{slice_get, unwrap_or, Contains}
 use Rattle.std.specs.Borrow.{Bor}
 use Rattle.std.specs.List.{AllZip}
-use Rattle.std.specs.Option.{option_copied}
 use Rattle.std.specs.Ordering.{is_lt}
 use Rattle.std.proofs.lemmas.Bool.Decides.{Decides-eqb, same_from_decides}
-use Rattle.std.proofs.lemmas.List.{get_or-take, get_or_default, length-map, length-take-le, take_more}
+use Rattle.std.proofs.lemmas.List.{get_or-take, get_or_default, length-map, map-append, length-take-le, take_more}
 use Rattle.std.proofs.lemmas.List.Elements.{All-map, All-cons, All-nil, All-contains, Contains-get_or, Contains-append_left, Contains-push, Contains-push_cases}
 use Rattle.std.proofs.lemmas.Option.{slice_get_within, slice_get-get_or, get_or_from_slice_get}
 use Rattle.std.proofs.lemmas.Slice.Zip.{AllZip-long}
@@ -25,7 +24,7 @@ use Rattle.agg_core.specs.declared.entries.Entry.{Entry}
 use Rattle.agg_core.specs.Agg.{amount_item}
 use Rattle.agg_core.specs.Groups.{rows_of_group}
 use Rattle.agg_core.specs.Entries.{AreInGroups, AreRising, entry_row, value_at_place}
-use Rattle.agg_core.specs.Grouping.{AreNotAfter, GroupBefore, IsClassOf, IsGrouping, IsLast, AreItemsByGroup, IsNumberedItem, RisesByGroup, copied_groups}
+use Rattle.agg_core.specs.Grouping.{AreNotAfter, GroupBefore, IsClassOf, IsGrouping, IsLast, AreItemsByGroup, IsNumberedItem, RisesByGroup, groups_of}
 use Rattle.agg_core.proofs.OrderLemmas.{not_after}
 use Rattle.agg_core.proofs.EntryLemmas.{AllZip-more}
 
@@ -112,23 +111,19 @@ class_of_added value old new class rise upto not_last put e =
       ];
     })
 
--- one group more, behind references
-values-push : (groups new : List (Option (Bor Value))) (o : Option (Bor Value)) → new ≡ groups ++ o ∷ []
-    → copied_groups new ≡ copied_groups groups ++ option_copied o ∷ []
-values-push groups new o put = ap copied_groups put ∙ map_push groups where
-  map_push : (gs : List (Option (Bor Value))) → copied_groups (gs ++ o ∷ []) ≡ copied_groups gs ++ option_copied o ∷ []
-  map_push [] = refl
-  map_push (g ∷ gs) = ap (λ l. option_copied g ∷ l) (map_push gs)
+-- the group of one value more
+groups_of-push : (values new : List (Bor Value)) (value : Bor Value) → new ≡ values ++ value ∷ []
+    → groups_of new ≡ groups_of values ++ Some value.now ∷ []
+groups_of-push values new value put =
+    ap groups_of put ∙ map-append (λ (v : Bor Value). Some v.now) values (value ∷ [])
 
--- the group that is added stands behind a reference
-pub class_pushed : (value : Value) (old new : List (Option (Bor Value))) (o : Option (Bor Value)) (class : ℕ)
-    → option_copied o ≡ Some value → RisesByGroup (copied_groups old) → AreNotAfter (copied_groups old) (Some value)
-    → (IsLast (copied_groups old) (Some value) → ⊥) → new ≡ old ++ o ∷ [] → class ≡ length old
-    → IsClassOf value (copied_groups old) (copied_groups new) class
-class_pushed value old new o class is rise upto not_last put e =
-    class_of_added value (copied_groups old) (copied_groups new) class rise upto not_last
-    (values-push old new o put ∙ ap (λ (g : Option Value). copied_groups old ++ g ∷ []) is)
-    (e ∙ sym (length-map old option_copied))
+-- the group that is added is that of a value behind a reference
+pub class_pushed : (old new : List (Bor Value)) (value : Bor Value) (class : ℕ) → RisesByGroup (groups_of old)
+    → AreNotAfter (groups_of old) (Some value.now) → (IsLast (groups_of old) (Some value.now) → ⊥)
+    → new ≡ old ++ value ∷ [] → class ≡ length old → IsClassOf value.now (groups_of old) (groups_of new) class
+class_pushed old new value class rise upto not_last put e =
+    class_of_added value.now (groups_of old) (groups_of new) class rise upto not_last (groups_of-push old new value put)
+    (e ∙ sym (length-map old (λ (v : Bor Value). Some v.now)))
 
 -- ---- numbered rows
 

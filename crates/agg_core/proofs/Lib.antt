@@ -4,3 +4,4 @@ pub mod GroupLemmas
 pub mod PlateauLemmas
 pub mod AggExistence
 pub mod ShareLemmas
+pub mod SpanLemmas

@@ -2,7 +2,6 @@
 use Rattle.std.specs.Prelude.{None, slice_index_or, ◌≡◌, ◌+◌, ◌-◌, ◌<◌, ◌≤◌, ◌⊎◌, ℕ, ℤ, List, length, map, All, AllPairs, Contains, false, Option, Some, slice_get, IfSome}
 use Rattle.std.specs.Borrow.{Bor}
 use Rattle.std.specs.List.{AllZip}
-use Rattle.std.specs.Option.{option_copied}
 use Rattle.std.specs.declared.cmp.Ordering.TheVariants.{Less}
 use Rattle.std.specs.Ordering.{is_lt}
 use Rattle.row_core.specs.ValueOrder.{maybe_cmp}
@@ -71,9 +70,9 @@ pub record IsGrouping (amount_of : Row → ℤ) (group_of : Row → Option Value
   pub of_classes : (c : ℕ) (g : Option Value) → slice_get groups c ≡ Some g
       → of_class c items ≡ map (amount_item amount_of c) (rows_of_group group_of g rows)
 
--- the groups behind references
-abbrev pub copied_groups : List (Option (Bor Value)) → List (Option Value)
-copied_groups groups = map option_copied groups
+-- the groups of the values behind references
+abbrev pub groups_of : List (Bor Value) → List (Option Value)
+groups_of values = map (λ (value : Bor Value). Some value.now) values
 
 -- the row of a plateau: its class is the number of its group
 abbrev pub agg_row_of : List (Option Value) → Plateau → AggRow

@@ -4,3 +4,4 @@ pub mod Entries
 pub mod Ranges
 pub mod Grouping
 pub mod Shares
+pub mod Spans

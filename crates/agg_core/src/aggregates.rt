@@ -9,10 +9,10 @@ ghost use Rattle.agg_core.specs.Entries.{amount_at, place_in, value_at_place};
 ghost use Rattle.agg_core.specs.Grouping.{HaveValues};
 
 use crate::func::{Func, agg_refusal, measure_of, number_column};
-use crate::groups::one_group;
 use crate::ranges::KeyRange;
-use crate::rows::{AggRows, rows_of_groups};
+use crate::rows::AggRows;
 use crate::shares::rows_of_range;
+use crate::spans::rows_of_one_group;
 use match_core::{QueryRefused, Side};
 use period_core::NoMemory;
 use round_core::Measure;
@@ -74,10 +74,7 @@ fn agg_rows<R: Threads + Sync, G: Gate>(
     ensures { IfOk result (λ answer. AreAggRows measure (amount_at amount) (value_at_place by) rows.now answer) }
 {
     match by {
-        None => {
-            let grouped = one_group(rt, alloc, rows, amount, workers)?;
-            rows_of_groups(rt, alloc, measure, &grouped, workers, gate)
-        }
+        None => rows_of_one_group(rt, alloc, measure, rows, amount, workers, gate),
         Some(place) => {
             let all = KeyRange {
                 above: None,

@@ -11,6 +11,7 @@ mod laws;
 mod ranges;
 mod rows;
 mod shares;
+mod spans;
 
 pub use aggregates::agg;
 pub use func::Func;

@@ -4,7 +4,7 @@ ghost use Rattle.std.specs.Prelude.{◌≡◌, ◌<◌, ◌≤◌, ◌++◌, All
 ghost use Rattle.std.specs.Option.{option_copied};
 ghost use Rattle.dip_core.specs.Item.{item_limit};
 ghost use Rattle.work_core.specs.Limits.{worker_limit};
-ghost use Rattle.agg_core.specs.Grouping.{ArePlateauRows, agg_row_of, copied_groups};
+ghost use Rattle.agg_core.specs.Grouping.{ArePlateauRows, agg_row_of, groups_of};
 ghost use Rattle.agg_core.specs.Shares.{rows_in, rows_in_shares};
 
 use crate::groups::GroupedRows;
@@ -168,22 +168,22 @@ pub(crate) fn rows_of_groups<R: Threads + Sync, G: Gate>(
     requires few { length grouped.now.items.items ≤ item_limit }
     requires classes { AllPairs (λ a b. a.class ≤ b.class) grouped.now.items.items }
     ensures { IfOk result (λ rows. ArePlateauRows measure grouped.now.items.items
-        (copied_groups grouped.now.groups.items) rows) }
+        (groups_of grouped.now.groups.items) rows) }
 {
     let plateaus = plateaus_of(rt, alloc, measure, &grouped.items, workers, gate)?;
     let groups = copy_groups(alloc, &grouped.groups)?;
     AggRows::of(alloc, AggShare { groups, plateaus })
 }
 
-// The groups with values of their own.
-fn copy_groups(alloc: Global, groups: &[Option<&Value>]) -> Result<Vec<Option<Value>>, NoMemory>
-    ensures { IfOk result (λ copies. copies.items ≡ copied_groups groups.now) }
+// The groups, each with a value of its own.
+fn copy_groups(alloc: Global, values: &[&Value]) -> Result<Vec<Option<Value>>, NoMemory>
+    ensures { IfOk result (λ groups. groups.items ≡ groups_of values.now) }
 {
-    let mut copies = Vec::with_capacity(alloc, groups.len())?;
-    for group in groups {
-        copies.push(copy_group(alloc, *group)?)?;
+    let mut groups = Vec::with_capacity(alloc, values.len())?;
+    for value in values {
+        groups.push(Some(value.copy(alloc)?))?;
     }
-    Ok(copies)
+    Ok(groups)
 }
 
 // The group with a value of its own.

@@ -207,6 +207,43 @@ fn sums_are_wider_than_numbers(rt: HostRuntime) -> Result<(), Fail> {
     Ok(())
 }
 
+// Seven hundred rows from each of 27 days on, which hold for three: so many that several workers take spans of them, at whose
+// ends the value goes on.
+#[test]
+fn a_value_goes_on_from_span_to_span(rt: HostRuntime) -> Result<(), Fail> {
+    let mut rows = Vec::new(rt.alloc());
+    for _ in 0..700 {
+        for day in 1..28u8 {
+            rows.push((day, day + 3, 1))?;
+        }
+    }
+    let table = numbers(&rt, &rows)?;
+    let mut want = Vec::new(rt.alloc());
+    for (from, to, value) in [
+        (1, 2, 700),
+        (2, 3, 1_400),
+        (3, 28, 2_100),
+        (28, 29, 1_400),
+        (29, 30, 700),
+    ] {
+        want.push(AggRow {
+            group: None,
+            period: january(&rt, from, to),
+            value,
+        })?;
+    }
+    for workers in [1, 2, 7] {
+        let side = side(&rt, &table);
+        let rows = agg(&rt, rt.alloc(), side, Func::Count, None, workers, &OpenGate)?;
+        assert_eq!(rt;
+            rows.to_vec(rt.alloc())?.as_slice(),
+            want.as_slice(),
+            "with {workers} workers"
+        );
+    }
+    Ok(())
+}
+
 // As many rows as a table has, all of one day, with the greatest number and with the least.
 #[test]
 fn sums_reach_their_bounds(rt: HostRuntime) -> Result<(), Fail> {

@@ -15,7 +15,7 @@ use Rattle.round_core.specs.Spans.{AreBefore, AreFrom, IsBegun, IsEnded}
 -- ---- one item at an instant
 
 -- an item that doesn't hold it
-lone_none : (x : Item) (t : ℤ) → (Holds x.period t → ⊥) → holding (x ∷ []) t ≡ []
+pub lone_none : (x : Item) (t : ℤ) → (Holds x.period t → ⊥) → holding (x ∷ []) t ≡ []
 lone_none x t off = split (holds_at t x.period) refl
   where
     split : (b : Bool) → holds_at t x.period ≡ b → cond b (x ∷ []) [] ≡ []
@@ -27,7 +27,7 @@ lone_held : (x : Item) (t : ℤ) → Holds x.period t → holding (x ∷ []) t �
 lone_held x t h = ap (λ b. cond b (x ∷ []) []) (test-from_holds t x.period h)
 
 -- of two items of one amount of which both hold it or neither does, the amounts are the same
-lone_same : (x y : Item) (t : ℤ) → y.amount ≡ x.amount → (Holds y.period t → Holds x.period t)
+pub lone_same : (x y : Item) (t : ℤ) → y.amount ≡ x.amount → (Holds y.period t → Holds x.period t)
     → (Holds x.period t → Holds y.period t) → amounts (holding (y ∷ []) t) ≡ amounts (holding (x ∷ []) t)
 lone_same x y t e to back = split (holds_at t x.period) refl
   where
@@ -40,7 +40,7 @@ lone_same x y t e to back = split (holds_at t x.period) refl
         ap amounts (lone_none y t (λ h. off (to h))) ∙ sym (ap amounts (lone_none x t off))
 
 -- those of two lists that hold it
-holding-append : (xs ys : List Item) (t : ℤ) → holding (xs ++ ys) t ≡ holding xs t ++ holding ys t
+pub holding-append : (xs ys : List Item) (t : ℤ) → holding (xs ++ ys) t ≡ holding xs t ++ holding ys t
 holding-append xs ys t = filter-append (λ (x : Item). holds_at t x.period) xs ys
 
 -- the amounts of items and of one more

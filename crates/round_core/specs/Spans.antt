@@ -85,3 +85,12 @@ pub record ArePlateausFrom (at : ℤ) (measure : Measure) (items : List Item) (p
   pub late : List Item
   pub cut : AreFrom at items late
   pub all : ArePlateaus measure late plateaus
+
+-- items of one class, of which some end by an instant and the others start from it on
+pub record AreApart (early late : List Item) : Type 0 where
+  pub class : ℕ
+  pub at : ℤ
+  pub early_own : All (λ (x : Item). x.class ≡ class) early
+  pub late_own : All (λ (x : Item). x.class ≡ class) late
+  pub early_ends : (t : ℤ) → at ≤ℤ t → holding early t ≡ []
+  pub late_starts : (t : ℤ) → t <ℤ at → holding late t ≡ []

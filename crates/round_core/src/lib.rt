@@ -7,6 +7,7 @@ mod class_steps;
 mod closing;
 mod laws;
 mod measure;
+mod parting;
 mod plateau;
 mod plateaus;
 mod round;
@@ -17,6 +18,8 @@ mod tally_round;
 
 pub use laws::classes_have_one_list;
 pub use measure::Measure;
+pub use parting::parting_instant;
 pub use plateau::{Plateau, Plateaus};
 pub use plateaus::plateaus_of;
+pub use spans::spliced;
 pub use tally_round::TallyRound;

@@ -1,16 +1,19 @@
 //! Items of one class, cut at an instant: half of the workers find the plateaus of what the items hold before it, and the
 //! others those of what they hold from it on. One worker cuts many items too, and finds the one after the other.
 
-ghost use Rattle.std.specs.Prelude.{◌<◌, ◌≤◌, ◌≤ℤ◌, IfOk, IfSome, MatchOption, length};
+ghost use Rattle.std.specs.Prelude.{◌<◌, ◌≤◌, ◌≤ℤ◌, ◌++◌, IfOk, IfSome, List, MatchOption, length};
 ghost use Rattle.std.specs.Thread.{IsSync};
 ghost use Rattle.dip_core.specs.Item.{item_limit};
+ghost use Rattle.dip_core.specs.declared.item.Item.{Item as AnyItem};
 ghost use Rattle.grid_core.specs.Bundles.{ClassesRise};
 ghost use Rattle.work_core.specs.Limits.{worker_limit};
 ghost use Rattle.round_core.specs.Plateaus.{ArePlateaus};
-ghost use Rattle.round_core.specs.Spans.{AreBefore, AreFrom, AreOfOneClass, ArePlateausBefore, ArePlateausFrom, AreSpliced, HaveNoJoint, IsBegun, IsEnded, IsJoint};
+ghost use Rattle.round_core.specs.declared.measure.Measure.{Measure as AnyMeasure};
+ghost use Rattle.round_core.specs.Spans.{AreApart, AreBefore, AreFrom, AreOfOneClass, ArePlateausBefore, ArePlateausFrom, AreSpliced, HaveNoJoint, IsBegun, IsEnded, IsJoint};
 
 use crate::closing::joined;
 use crate::measure::Measure;
+use crate::parting::parting_instant;
 use crate::plateau::{Plateau, Plateaus};
 use crate::plateaus::plateaus_by_rounds;
 use dip_core::Item;
@@ -30,8 +33,8 @@ const ITEMS_OF_SPAN: usize = 65_536;
 /// Items are cut so often at most: into a span for each of the most workers.
 pub(crate) const CUTS: u32 = 6;
 
-/// By so many items a middle instant is told.
-const SAMPLE: usize = 255;
+/// By so many items, or somewhat fewer, a middle instant is told.
+const SAMPLE: usize = 1_023;
 
 /// What an item holds before an instant.
 fn ended(item: &Item, at: Point) -> Option<Item>
@@ -102,41 +105,22 @@ fn joint(early: &Plateaus, late: &Plateaus) -> Option<Plateau>
     joined(last, first)
 }
 
-/// One list behind the other: where the second begins with what continues the last of the first, both are one.
-fn spliced(early: Plateaus, late: Plateaus) -> Result<Plateaus, NoMemory>
-    ensures { IfOk result (λ rows. AreSpliced early late rows) }
+/// One list behind the other: where the second begins with what continues the last of the first, both are one. So from the
+/// plateaus of items that end by an instant, and of items of their class that start from it on, come those of all.
+///
+/// # Errors
+///
+/// `NoMemory` where a growth is refused.
+pub fn spliced(early: Plateaus, late: Plateaus) -> Result<Plateaus, NoMemory>
+    ensures lists { IfOk result (λ rows. AreSpliced early late rows) }
+    ensures plateaus { (measure : AnyMeasure) (before behind : List AnyItem) → AreApart before behind
+        → ArePlateaus measure before early → ArePlateaus measure behind late
+        → IfOk result (ArePlateaus measure (before ++ behind)) }
 {
     let Some(both) = joint(&early, &late) else {
         return early.followed_by(late);
     };
     early.without_last()?.followed_by(late.with_first(both))
-}
-
-/// About the middle one of the items' starts.
-fn middle_start(items: &[Item], first: &Item) -> Point {
-    let step = items.len() / SAMPLE;
-    let mut sample = [first.period.from; SAMPLE];
-    for i in 0..SAMPLE {
-        if let Some(item) = items.get(i * step) {
-            sample[i] = item.period.from;
-        }
-    }
-    sample.sort_unstable();
-    sample[SAMPLE / 2]
-}
-
-/// Whether a cut leaves neither side with most of the items: of those that hold the instant both sides have a part.
-fn parts_well(items: &[Item], at: Point) -> bool {
-    let step = items.len() / SAMPLE;
-    let mut before = 0;
-    let mut behind = 0;
-    for i in 0..SAMPLE {
-        if let Some(item) = items.get(i * step) {
-            before += (item.period.from < at) as usize;
-            behind += (at < item.period.to) as usize;
-        }
-    }
-    before.max(behind) <= SAMPLE / 4 * 3
 }
 
 /// Fewer items are left as they are.
@@ -148,23 +132,37 @@ fn least_to_cut(workers: u32) -> usize {
     }
 }
 
+/// The periods of some items.
+fn sample_of(alloc: Global, items: &[Item]) -> Result<Vec<Period>, NoMemory> {
+    let step = items.len() / SAMPLE;
+    let mut sample = Vec::with_capacity(alloc, SAMPLE)?;
+    for i in 0..SAMPLE {
+        if let Some(item) = items.get(i * step) {
+            sample.push(item.period)?;
+        }
+    }
+    Ok(sample)
+}
+
 /// The instant at which items are cut, which may be done so often. None where items are few, of several classes, or most of
 /// them would be on both sides.
-fn middle_instant(items: &[Item], cuts: u32, workers: u32) -> Option<Point>
+fn middle_instant(
+    alloc: Global,
+    items: &[Item],
+    cuts: u32,
+    workers: u32,
+) -> Result<Option<Point>, NoMemory>
     requires { ClassesRise items.now }
-    ensures { IfSome result (λ _. (0 < cuts) × AreOfOneClass items.now) }
+    ensures { IfOk result (λ middle. IfSome middle (λ _. (0 < cuts) × AreOfOneClass items.now)) }
 {
-    let (first, _) = items.split_first()?;
-    let (last, _) = items.split_last()?;
+    let (Some((first, _)), Some((last, _))) = (items.split_first(), items.split_last()) else {
+        return Ok(None);
+    };
     if cuts == 0 || items.len() < least_to_cut(workers) || first.class < last.class {
-        return None;
+        return Ok(None);
     }
-    let at = middle_start(items, first);
-    if parts_well(items, at) {
-        Some(at)
-    } else {
-        None
-    }
+    let sample = sample_of(alloc, items)?;
+    parting_instant(alloc, &sample)
 }
 
 /// The plateaus of what items of one class hold before an instant.
@@ -226,7 +224,7 @@ pub(crate) fn plateaus_of_spans<R: Threads + Sync, G: Gate>(
     requires rise { ClassesRise items.now }
     ensures { IfOk result (λ plateaus. ArePlateaus measure items.now plateaus) }
 {
-    let Some(at) = middle_instant(items, cuts, workers) else {
+    let Some(at) = middle_instant(alloc, items, cuts, workers)? else {
         return plateaus_by_rounds(rt, alloc, measure, items, workers, gate);
     };
     let cuts = cuts - 1;

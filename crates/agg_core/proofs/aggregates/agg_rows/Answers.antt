@@ -1,25 +1,10 @@
-use Rattle.std.proofs.Common.{List, Option, None, Some, ℕ, subst, sym}
+use Rattle.std.proofs.Common.{List, Option, Some, ℕ, subst, sym}
 use Rattle.row_core.specs.declared.row.Row.{Row}
 use Rattle.std.proofs.lemmas.Result.{IfOk-weaker}
 use Rattle.agg_core.specs.Agg.{AreAggRows}
 use Rattle.agg_core.specs.Entries.{amount_at, value_at_place}
-use Rattle.agg_core.specs.Grouping.{copied_groups}
-use Rattle.agg_core.proofs.PlateauLemmas.{answer_of}
 use Rattle.agg_core.proofs.ShareLemmas.{rows_in_range-all}
 use Rattle.agg_core.proofs.aggregates.agg_rows.Goals as goal
-
-pub returns-in_ok-grouped-in-None : goal.returns-in_ok-grouped-in-None
-returns-in_ok-grouped-in-None g c =
-    let grouped = c.in_ok-grouped-in-None.grouped in
-    IfOk-weaker c.rows_of_groups.result _ _
-    (λ answer made.
-    subst
-    (λ (by : Option ℕ).
-    AreAggRows c.args.measure (amount_at c.args.amount) (value_at_place by) c.args.rows.now answer)
-    (sym c.in-None.is)
-    (answer_of c.args.measure (amount_at c.args.amount) (value_at_place None) c.args.rows.now grouped.items.items
-    (copied_groups grouped.groups.items) c.in_ok-grouped-in-None.ensures answer made))
-    c.rows_of_groups.ensures
 
 pub returns-in-Some : goal.returns-in-Some
 returns-in-Some g c =

@@ -1,17 +1,17 @@
 use Rattle.agg_core.specs.Entries.{amount_at}
-use Rattle.agg_core.specs.Grouping.{copied_groups}
+use Rattle.agg_core.specs.Grouping.{groups_of}
 use Rattle.agg_core.proofs.GroupLemmas.{numbered_more, upto_next}
 use Rattle.agg_core.proofs.groups.group_entries.Goals as goal
 
 pub enter_group-requires-clause-upto : goal.enter_group-requires-clause-upto
 enter_group-requires-clause-upto c =
     upto_next (amount_at c.args.amount) c.args.entries.now c.loop-entry.entry-index c.entry-item.result
-    c.loop-entry.items.items (copied_groups c.loop-entry.groups.items) c.requires c.loop-entry-test.true c.entry-item.is
+    c.loop-entry.items.items (groups_of c.loop-entry.groups.items) c.requires c.loop-entry-test.true c.entry-item.is
     c.loop-entry.invariant
 
 pub loop-entry-preserved : goal.loop-entry-preserved
 loop-entry-preserved c =
     numbered_more (amount_at c.args.amount) c.args.entries.now c.loop-entry.entry-index c.entry-item.result
-    c.loop-entry.items.items c.push.new.self.items c.amount_item.result (copied_groups c.loop-entry.groups.items)
-    (copied_groups c.enter_group.new.groups.items) c.in_ok-class.class c.loop-entry-test.true c.entry-item.is
+    c.loop-entry.items.items c.push.new.self.items c.amount_item.result (groups_of c.loop-entry.groups.items)
+    (groups_of c.enter_group.new.groups.items) c.in_ok-class.class c.loop-entry-test.true c.entry-item.is
     c.in_ok-class.ensures c.amount_item.ensures c.in_ok-push.ensures.items c.loop-entry.invariant

@@ -6,7 +6,7 @@ use Rattle.std.proofs.lemmas.Slice.Zip.{AllZip-long}
 use Rattle.dip_core.specs.Item.{item_limit}
 use Rattle.row_core.specs.declared.row.Row.{Row}
 use Rattle.agg_core.specs.Entries.{AreRising, amount_at, value_at_place}
-use Rattle.agg_core.specs.Grouping.{AreItemsByGroup, IsNumberedItem, copied_groups}
+use Rattle.agg_core.specs.Grouping.{AreItemsByGroup, IsNumberedItem, groups_of}
 use Rattle.agg_core.specs.Ranges.{in_range, rows_in_range}
 use Rattle.agg_core.proofs.EntryLemmas.{keyed_entries, length-entries}
 use Rattle.agg_core.proofs.ShareLemmas.{answer_of_entries}
@@ -33,7 +33,7 @@ rows_of_groups-requires-clause-few g c κs within =
     length_permutation c.in_ok-entries.entries.items c.in_ok-entries-2.entries.items c.in_ok-entries-2.ensures.moved in
     let value = ap length c.deref.ensures.value in
     let same =
-    AllZip-long (IsNumberedItem (amount_at c.args.amount) (copied_groups c.in_ok-grouped.grouped.groups.items))
+    AllZip-long (IsNumberedItem (amount_at c.args.amount) (groups_of c.in_ok-grouped.grouped.groups.items))
     c.deref.result.now items c.in_ok-grouped.ensures.each in
     omega (arith, few, both, listed, moved, value, same)
 
@@ -41,7 +41,7 @@ pub returns : goal.returns
 returns g c =
     let rows = rows_in_range (value_at_place (Some c.args.place)) c.args.range.now c.args.rows.now in
     let items = c.in_ok-grouped.grouped.items.items in
-    let groups = copied_groups c.in_ok-grouped.grouped.groups.items in
+    let groups = groups_of c.in_ok-grouped.grouped.groups.items in
     IfOk-weaker c.rows_of_groups.result _ _
     (λ answer made.
     answer_of_entries c.args.measure (amount_at c.args.amount) c.args.place rows c.in_ok-entries.entries.items

@@ -1,6 +1,9 @@
-use Rattle.std.proofs.Common.{◌≡◌, ◌∷◌, ◌++◌, ap, inl, ◌∙◌}
+use Rattle.std.proofs.Common.{◌≡◌, ◌∷◌, ◌++◌, ap, inl, inr, ◌∙◌}
+use Rattle.std.specs.Prelude.{IfOk, List}
 use Rattle.std.proofs.lemmas.Result.{IfOk-weaker}
-use Rattle.round_core.specs.Spans.{IsJoint}
+use Rattle.round_core.specs.Spans.{AreSpliced, IsJoint}
+use Rattle.round_core.specs.declared.plateau.Plateau.{Plateau}
+use Rattle.round_core.proofs.SpanLemmas.{plateaus_of_both}
 use Rattle.round_core.proofs.spans.spliced.Goals as goal
 
 pub returns : goal.returns
@@ -9,10 +12,27 @@ returns c =
     let joint : IsJoint c.args.early c.args.late both = c.in-Some.ensures in
     let front : c.in_ok-without_last.field-0 ≡ joint.front = c.in_ok-without_last.ensures joint.front joint.last joint.early_is in
     let back : c.with_first.result ≡ both ∷ joint.back = c.with_first.ensures joint.first joint.back joint.late_is in
+    let lists : IfOk c.followed_by-2.result (λ (rows : List Plateau). AreSpliced c.args.early c.args.late rows) =
     IfOk-weaker c.followed_by-2.result _ _
     (λ rows e. inl (record {
       both = both;
       joint = joint;
       rows_are = e ∙ ap (λ l. l ++ c.with_first.result) front ∙ ap (λ l. joint.front ++ l) back;
     }))
-    c.followed_by-2.ensures
+    c.followed_by-2.ensures in
+    record {
+      lists = lists;
+      plateaus = λ measure before behind apart one other. IfOk-weaker c.followed_by-2.result _ _
+          (λ rows s. plateaus_of_both before behind apart measure c.args.early c.args.late rows one other s) lists;
+    }
+
+pub returns-in_default : goal.returns-in_default
+returns-in_default c =
+    let lists : IfOk c.followed_by.result (λ (rows : List Plateau). AreSpliced c.args.early c.args.late rows) =
+    IfOk-weaker c.followed_by.result _ _
+    (λ rows e. inr (record { off = c.in_default.ensures; rows_are = e })) c.followed_by.ensures in
+    record {
+      lists = lists;
+      plateaus = λ measure before behind apart one other. IfOk-weaker c.followed_by.result _ _
+          (λ rows s. plateaus_of_both before behind apart measure c.args.early c.args.late rows one other s) lists;
+    }

@@ -1,8 +1,8 @@
 use Rattle.std.proofs.Common.{◌+◌, ◌*◌}
-use Rattle.agg_core.proofs.groups.+halves.Given as goal
+use Rattle.agg_core.proofs.spans.+spans.Given as goal
 
-abbrev pub decreases-items_by_halves : goal.decreases-items_by_halves
-decreases-items_by_halves g l = 2 * l.workers
+abbrev pub decreases-plateaus_within : goal.decreases-plateaus_within
+decreases-plateaus_within g l = 2 * l.workers
 
 abbrev pub decreases-join+arg2 : goal.decreases-join+arg2
 decreases-join+arg2 g l = 2 * l.few + 1

@@ -1,7 +1,0 @@
-use Rattle.std.proofs.Common.{◌≡◌, map, take}
-use Rattle.agg_core.specs.Agg.{amount_item}
-use Rattle.agg_core.specs.Entries.{amount_at}
-use Rattle.agg_core.proofs.groups.amount_items.Given as goal
-
-abbrev pub invariant-loop-row : goal.invariant-loop-row
-invariant-loop-row l = l.items.items ≡ map (amount_item (amount_at l.amount) 0) (take l.row-index l.rows)

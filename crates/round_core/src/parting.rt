@@ -1,0 +1,47 @@
+//! The instant at which what periods hold is cut in two.
+
+ghost use Rattle.std.specs.Prelude.{◌≡◌, Contains, IfOk, IfSome, map};
+
+use period_core::{NoMemory, Period, Point};
+use std::alloc::Global;
+
+/// The periods' starts.
+fn starts_of(alloc: Global, periods: &[Period]) -> Result<Vec<Point>, NoMemory>
+    ensures { IfOk result (λ starts. starts.items ≡ map (λ p. p.from) periods.now) }
+{
+    periods.iter().map(|period| period.from).collect(alloc)
+}
+
+/// The middle one of the periods' starts.
+fn middle_start(alloc: Global, periods: &[Period]) -> Result<Option<Point>, NoMemory>
+    ensures { IfOk result (λ middle. IfSome middle (λ at. Contains (map (λ p. p.from) periods.now) at)) }
+{
+    let mut starts = starts_of(alloc, periods)?;
+    starts.sort_unstable();
+    match starts.get(starts.len() / 2) {
+        Some(at) => Ok(Some(*at)),
+        None => Ok(None),
+    }
+}
+
+/// Whether a cut leaves neither side with most of the periods: those that hold instants of both count on both.
+fn parts_well(periods: &[Period], at: Point) -> bool {
+    let early = periods.iter().filter(|period| period.from < at).count();
+    let late = periods.iter().filter(|period| at < period.to).count();
+    early.max(late) <= periods.len() / 4 * 3
+}
+
+/// The middle one of the periods' starts, at which what they hold is cut in two. None where there are no periods, and where
+/// one side of the cut would have more than about three quarters of them.
+///
+/// # Errors
+///
+/// `NoMemory` where a growth is refused.
+pub fn parting_instant(alloc: Global, periods: &[Period]) -> Result<Option<Point>, NoMemory>
+    ensures { IfOk result (λ parting. IfSome parting (λ at. Contains (map (λ p. p.from) periods.now) at)) }
+{
+    match middle_start(alloc, periods)? {
+        Some(at) if parts_well(periods, at) => Ok(Some(at)),
+        _ => Ok(None),
+    }
+}
