@@ -2,13 +2,12 @@
 use Rattle.std.proofs.Common.{◌≡◌, Option, Some, None, List, [], ◌∷◌, ◌++◌, map, inl, inr, refl, sym, ap, ◌∙◌, arith, append-nil, length-append}
 use Rattle.std.specs.Prelude.{ℤ, ◌≤ℤ◌, ◌<ℤ◌, All, IfSome}
 use Rattle.std.proofs.lemmas.Int.{ints}
-use Rattle.std.proofs.lemmas.List.{map-append}
 use Rattle.std.proofs.lemmas.List.Elements.{All-append, All-cons, All-map, All-nil}
 use Rattle.row_core.specs.declared.row.Row.{Row}
 use Rattle.dip_core.specs.declared.item.Item.{Item}
 use Rattle.merge_core.specs.Tallies.{amounts, holding}
 use Rattle.merge_core.proofs.SharedLemmas.{by_order}
-use Rattle.round_core.proofs.CutItems.{holding-append, lone_none, lone_same}
+use Rattle.round_core.proofs.CutItems.{amounts-append, holding-append, lone_none, lone_same}
 use Rattle.round_core.proofs.SpanLemmas.{ArePlateaus-alike}
 use Rattle.round_core.specs.Plateaus.{ArePlateaus}
 use Rattle.round_core.specs.Spans.{AreApart}
@@ -54,8 +53,8 @@ pub within_append : (span : Span) (xs ys cut more : List Item) → AreWithin spa
     → AreWithin span (xs ++ ys) (cut ++ more)
 within_append span xs ys cut more a b = record {
   hold = record {
-    same = λ t h. parted cut more t ∙ ap (λ l. l ++ amounts (holding more t)) (a.hold.same t h)
-        ∙ ap (λ l. amounts (holding xs t) ++ l) (b.hold.same t h) ∙ sym (parted xs ys t);
+    same = λ t h. amounts-append cut more t ∙ ap (λ l. l ++ amounts (holding more t)) (a.hold.same t h)
+        ∙ ap (λ l. amounts (holding xs t) ++ l) (b.hold.same t h) ∙ sym (amounts-append xs ys t);
     none = λ t off. holding-append cut more t ∙ ap (λ l. l ++ holding more t) (a.hold.none t off) ∙ b.hold.none t off;
     own = All-append (λ (x : Item). x.class ≡ 0) cut more a.hold.own b.hold.own;
   };
@@ -64,11 +63,6 @@ within_append span xs ys cut more a b = record {
       let n = length-append xs ys in
       omega (arith, few, others, m, n));
 }
-  where
-    parted : (us vs : List Item) (t : ℤ)
-        → amounts (holding (us ++ vs) t) ≡ amounts (holding us t) ++ amounts (holding vs t)
-    parted us vs t =
-        ap amounts (holding-append us vs t) ∙ map-append (λ (x : Item). x.amount) (holding us t) (holding vs t)
 
 -- ---- two spans that meet
 

@@ -1,14 +1,12 @@
 //! Rows by group: each is an item whose class is the number of its group.
 
-ghost use Rattle.std.specs.Prelude.{◌≡◌, ◌≢◌, IfOk, MatchBool, None, Some, map};
-ghost use Rattle.std.specs.Thread.{IsSync};
+ghost use Rattle.std.specs.Prelude.{◌≡◌, ◌≢◌, IfOk, MatchBool, Some};
 ghost use Rattle.agg_core.specs.Agg.{amount_item};
-ghost use Rattle.agg_core.specs.Entries.{AreRising, amount_at, value_at_place};
+ghost use Rattle.agg_core.specs.Entries.{AreRising, amount_at};
 ghost use Rattle.agg_core.specs.Grouping.{
   AreItemsByGroup,
   AreNotAfter,
   IsClassOf,
-  IsGrouping,
   IsLast,
   RisesByGroup,
   groups_of,

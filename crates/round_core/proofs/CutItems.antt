@@ -43,12 +43,11 @@ lone_same x y t e to back = split (holds_at t x.period) refl
 pub holding-append : (xs ys : List Item) (t : ℤ) → holding (xs ++ ys) t ≡ holding xs t ++ holding ys t
 holding-append xs ys t = filter-append (λ (x : Item). holds_at t x.period) xs ys
 
--- the amounts of items and of one more
-amounts-more : (xs : List Item) (x : Item) (t : ℤ)
-    → amounts (holding (xs ++ x ∷ []) t) ≡ amounts (holding xs t) ++ amounts (holding (x ∷ []) t)
-amounts-more xs x t =
-    ap amounts (holding-append xs (x ∷ []) t)
-    ∙ map-append (λ (y : Item). y.amount) (holding xs t) (holding (x ∷ []) t)
+-- and their amounts
+pub amounts-append : (xs ys : List Item) (t : ℤ)
+    → amounts (holding (xs ++ ys) t) ≡ amounts (holding xs t) ++ amounts (holding ys t)
+amounts-append xs ys t =
+    ap amounts (holding-append xs ys t) ∙ map-append (λ (x : Item). x.amount) (holding xs t) (holding ys t)
 
 -- ---- classes
 
@@ -88,11 +87,11 @@ before_none at = record {
 pub before_more : (at : ℤ) (xs early : List Item) (x cut : Item) → IsEnded at x cut → AreBefore at xs early
     → AreBefore at (xs ++ x ∷ []) (early ++ cut ∷ [])
 before_more at xs early x cut i b = record {
-  same = λ t h. amounts-more early cut t
+  same = λ t h. amounts-append early (cut ∷ []) t
       ∙ ap (λ l. l ++ amounts (holding (cut ∷ []) t)) (b.same t h)
       ∙ ap (λ l. amounts (holding xs t) ++ l)
       (lone_same x cut t i.amount (λ k. ((i.holds t).0 k).0) (λ k. (i.holds t).1 (k, h)))
-      ∙ sym (amounts-more xs x t);
+      ∙ sym (amounts-append xs (x ∷ []) t);
   none = λ t h. holding-append early (cut ∷ []) t
       ∙ ap (λ l. l ++ holding (cut ∷ []) t) (b.none t h)
       ∙ lone_none cut t (λ k. (let lo : t <ℤ at = ((i.holds t).0 k).1 in omega (arith, ints)));
@@ -111,7 +110,7 @@ before_left at xs early x off b = record {
       ∙ sym (append-nil (amounts (holding xs t)))
       ∙ ap (λ l. amounts (holding xs t) ++ l)
       (sym (ap amounts (lone_none x t (λ k. (let lo : x.period.from ≤ℤ t = k.0 in omega (arith, ints))))))
-      ∙ sym (amounts-more xs x t);
+      ∙ sym (amounts-append xs (x ∷ []) t);
   none = b.none;
   few = (let few = b.few in let n = length-append xs (x ∷ []) in omega (arith, few, n));
   own = λ y h. has_left xs x y.class (b.own y h);
@@ -131,11 +130,11 @@ from_none at = record {
 pub from_more : (at : ℤ) (xs late : List Item) (x cut : Item) → IsBegun at x cut → AreFrom at xs late
     → AreFrom at (xs ++ x ∷ []) (late ++ cut ∷ [])
 from_more at xs late x cut i f = record {
-  same = λ t h. amounts-more late cut t
+  same = λ t h. amounts-append late (cut ∷ []) t
       ∙ ap (λ l. l ++ amounts (holding (cut ∷ []) t)) (f.same t h)
       ∙ ap (λ l. amounts (holding xs t) ++ l)
       (lone_same x cut t i.amount (λ k. ((i.holds t).0 k).0) (λ k. (i.holds t).1 (k, h)))
-      ∙ sym (amounts-more xs x t);
+      ∙ sym (amounts-append xs (x ∷ []) t);
   none = λ t h. holding-append late (cut ∷ []) t
       ∙ ap (λ l. l ++ holding (cut ∷ []) t) (f.none t h)
       ∙ lone_none cut t (λ k. (let lo : at ≤ℤ t = ((i.holds t).0 k).1 in omega (arith, ints)));
@@ -154,7 +153,7 @@ from_left at xs late x off f = record {
       ∙ sym (append-nil (amounts (holding xs t)))
       ∙ ap (λ l. amounts (holding xs t) ++ l)
       (sym (ap amounts (lone_none x t (λ k. (let hi : t <ℤ x.period.to = k.1 in omega (arith, ints))))))
-      ∙ sym (amounts-more xs x t);
+      ∙ sym (amounts-append xs (x ∷ []) t);
   none = f.none;
   few = (let few = f.few in let n = length-append xs (x ∷ []) in omega (arith, few, n));
   own = λ y h. has_left xs x y.class (f.own y h);

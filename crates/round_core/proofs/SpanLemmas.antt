@@ -5,8 +5,8 @@ use Rattle.std.proofs.Math.Seq.{get_or-append_seam}
 use Rattle.std.proofs.lemmas.Bool.{eq-eqb}
 use Rattle.std.proofs.lemmas.Int.{ints}
 use Rattle.std.proofs.lemmas.List.{length-map}
-use Rattle.std.proofs.lemmas.List.Elements.{Contains-get_or, All-append, All-head, All-tail, All-contains, filter-append, Contains-append_cases, Contains-append_left, Contains-append_right}
-use Rattle.period_core.specs.Period.{Holds, holds_at}
+use Rattle.std.proofs.lemmas.List.Elements.{Contains-get_or, All-append, All-head, All-tail, All-contains, Contains-append_cases, Contains-append_left, Contains-append_right}
+use Rattle.period_core.specs.Period.{Holds}
 use Rattle.period_core.proofs.PeriodLemmas.{Period-same}
 use Rattle.dip_core.specs.declared.item.Item.{Item}
 use Rattle.list_core.specs.Wanted.{IsListOf}
@@ -27,6 +27,7 @@ use Rattle.round_core.specs.Closing.{Continues, IsJoined}
 use Rattle.round_core.specs.Spans.{AreApart, AreBefore, AreFrom, AreJoined, AreApartAt, AreOfOneClass, AreSpliced, HaveNoJoint, IsJoint}
 use Rattle.round_core.proofs.ClosingLemmas.{Plateau-same}
 use Rattle.round_core.proofs.CollectLemmas.{no_tally}
+use Rattle.round_core.proofs.CutItems.{holding-append}
 use Rattle.round_core.proofs.CutLemmas.{IsCutAt, early_ends, late_starts, early_whole, late_whole, both_whole, whole_early, whole_late, whole_front, whole_back}
 use Rattle.round_core.proofs.PlateauExistence.{bounds, holder, one_at, own_item, value_or_not}
 
@@ -556,10 +557,6 @@ module _ (measure : Measure) (class : ℕ) (at : ℤ) (items early late : List I
 
 -- ---- items of two sides of an instant
 
--- those of both that hold an instant
-both_hold : (early late : List Item) (t : ℤ) → holding (early ++ late) t ≡ holding early t ++ holding late t
-both_hold early late t = filter-append (λ (x : Item). holds_at t x.period) early late
-
 -- some of them
 has_in : (items : List Item) (x : Item) → Contains items x → HasItem items x.class
 has_in items x h = record { item = x; item_in = h; class_is = refl }
@@ -568,7 +565,7 @@ module _ (early late : List Item) (apart : AreApart early late) where
   before_all : AreBefore apart.at (early ++ late) early
   before_all = record {
     same = λ t h. ap amounts
-        (sym (both_hold early late t ∙ ap (λ l. holding early t ++ l) (apart.late_starts t h)
+        (sym (holding-append early late t ∙ ap (λ l. holding early t ++ l) (apart.late_starts t h)
         ∙ append-nil (holding early t)));
     none = apart.early_ends;
     few = (let n = length-append early late in omega (arith, n));
@@ -578,7 +575,7 @@ module _ (early late : List Item) (apart : AreApart early late) where
   from_all : AreFrom apart.at (early ++ late) late
   from_all = record {
     same = λ t h. ap amounts
-        (sym (both_hold early late t ∙ ap (λ l. l ++ holding late t) (apart.early_ends t h)));
+        (sym (holding-append early late t ∙ ap (λ l. l ++ holding late t) (apart.early_ends t h)));
     none = apart.late_starts;
     few = (let n = length-append early late in omega (arith, n));
     own = λ x h. has_in (early ++ late) x (Contains-append_right early late x h);
