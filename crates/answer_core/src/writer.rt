@@ -1,5 +1,5 @@
 //! Makes the bytes of answers, record by record.
-ghost use Rattle.std.specs.Prelude.{◌≡◌, ◌+◌, ◌<◌, ◌≤◌, ◌++◌, ◌∷◌, [], ℕ, false, IfErr, IfOk, OnErr, OnOk, decimal, length, take};
+ghost use Rattle.std.specs.Prelude.{◌≡◌, ◌+◌, ◌<◌, ◌≤◌, ◌++◌, ◌∷◌, [], ℕ, false, IfErr, IfOk, OnErr, OnOk, decimal, drop, length, take};
 ghost use Rattle.std.specs.Fmt.{signed_decimal};
 ghost use Rattle.std.specs.Io.KnownBytes.{Appends, Keeps};
 ghost use Rattle.csv.specs.Records.{fields_of, partial_of};
@@ -64,6 +64,22 @@ fn text_of(writer: Writer<Vec<u8>>) -> Result<Vec<u8>, NoMemory>
         Ok(text) => Ok(text),
         Err(_) => Err(AllocError),
     }
+}
+
+/// All that a writer of `csv` was given, and behind it what another was given from a place on.
+fn joined_text(
+    first: Writer<Vec<u8>>,
+    second: Writer<Vec<u8>>,
+    place: usize,
+) -> Result<Vec<u8>, NoMemory>
+    requires { place ≤ length ((writer_under second).items ++ writer_pending second) }
+    ensures { IfOk result (λ text. text.items ≡ ((writer_under first).items ++ writer_pending first)
+        ++ drop place ((writer_under second).items ++ writer_pending second)) }
+{
+    let mut text = text_of(first)?;
+    let more = text_of(second)?;
+    text.extend_from_slice(&more[place..])?;
+    Ok(text)
 }
 
 impl AnswerWriter {
@@ -219,9 +235,7 @@ impl AnswerWriter {
             to_text,
             written,
         } = self;
-        let mut records = text_of(writer)?;
-        let more = text_of(other.writer)?;
-        records.extend_from_slice(&more[other.written..])?;
+        let records = joined_text(writer, other.writer, other.written)?;
         Ok(AnswerWriter {
             alloc,
             writer: writer_behind(records),
@@ -254,7 +268,7 @@ impl AnswerWriter {
             ≤ failures_of writer.old + patience.old.left + last_failures result }
     {
         if self.writer.flush().is_err() {
-            *self = AnswerWriter::new(self.alloc);
+            self.restart();
             return Err(RunFault::NoMemory);
         }
         let text = self.writer.get_ref();
@@ -262,7 +276,7 @@ impl AnswerWriter {
         self.written = text.len();
         self.row.clear();
         if self.written > KEPT {
-            *self = AnswerWriter::new(self.alloc);
+            self.restart();
         }
         Ok(())
     }

@@ -1,7 +1,8 @@
 -- How the commands of a block are answered: those before its load, the load, and those behind it.
-use Rattle.std.proofs.Common.{◌≡◌, ◌⊎◌, ◌∙◌, ◌+◌, ◌-◌, ◌<◌, ◌≤◌, ℕ, suc, List, [], ◌∷◌, ◌++◌, Bool, Result, Ok, Err, ap, append_assoc, arith, cond, drop, false, inl, inr, length, refl, subst, sym, take, true}
-use Rattle.std.specs.Prelude.{All, codes, ◌||◌, if◌then◌else◌}
+use Rattle.std.proofs.Common.{◌≡◌, ◌⊎◌, ◌∙◌, ◌+◌, ◌^◌, ◌<◌, ◌≤◌, ℕ, suc, List, [], ◌∷◌, ◌++◌, Bool, Result, Ok, Err, ap, append_assoc, arith, cond, drop, false, inl, inr, length, refl, subst, sym, take, true}
+use Rattle.std.specs.Prelude.{All, IfOk, codes, ◌||◌, if◌then◌else◌}
 use Rattle.std.proofs.lemmas.List.{append-nil, drop-drop, drop_all, length-append, length-take}
+use Rattle.std.proofs.lemmas.Result.{IfOk-at_ok}
 use Rattle.std.proofs.lemmas.List.Sums.{sum_by-append, sum_by-cons}
 use Rattle.list_core.proofs.PlaceLemmas.{All-seam}
 use Rattle.row_core.specs.Refusals.{map_ok}
@@ -21,9 +22,12 @@ use Rattle.answer_core.specs.declared.answer.Answer.{Answer}
 use Rattle.answer_core.proofs.Printing.{Adds-trans}
 use Rattle.row_core.specs.declared.failure.Failure.TheVariants.{Refused, NoMemory}
 use Rattle.script_core.specs.Answer.{AnswersEach, IsAnswerTo}
+use Rattle.script_core.specs.BlockCuts.{first_load_meaning}
 use Rattle.script_core.specs.Failure.{Failure}
-use Rattle.script_core.specs.Performing.{AsksLoad, IsAnswerOf, Performs, PrintsBlock, PrintsOne, PrintsQueries, PrintsStatement}
+use Rattle.script_core.specs.Performing.{AsksLoad, CanBeJoined, IsAnswerOf, Performs, PrintsAnswer, PrintsBlock, PrintsOne, PrintsQueries, PrintsSection, PrintsStatement}
 use Rattle.script_core.specs.declared.outcome.Outcome.{Outcome}
+use Rattle.script_core.specs.declared.together.FirstLoad.{FirstLoad}
+use Rattle.script_core.specs.declared.together.FirstLoad.TheVariants as load_variant
 use Rattle.script_core.proofs.TogetherExistence.{reads-allowed}
 
 -- ---- one command
@@ -37,6 +41,21 @@ performed-answer before number meant (Ok told) after given performs is =
 performed-answer before number meant (Err (Refused wrong)) after given performs is =
     subst (λ (g : Answer). IsAnswerTo before number meant g after) (sym is) performs
 performed-answer before number meant (Err NoMemory) after given performs is = absurd is
+
+-- a command is answered by the answer that its outcome is, which was printed
+pub command-printed : {E : Type 0} (before : History) (number : ℕ) (meant : Meaning) (outcome : Result Answer Failure)
+    (after : History) (given : Result Answer E) (old new : Unwritten) (errors : ℕ)
+    → Performs before number meant outcome after → IfOk given (IsAnswerOf outcome)
+    → (answer : Answer) × (given ≡ Ok answer) × PrintsAnswer answer old new errors
+    → PrintsOne before number meant after old new errors
+command-printed before number meant outcome after given old new errors performs is (answer, was, said) =
+    let own = IfOk-at_ok (IsAnswerOf outcome) was is in
+    record {
+      answer = said.records;
+      answers = (answer, performed-answer before number meant outcome after answer performs own, said.are);
+      printed = said.printed;
+      errors = said.errors;
+    }
 
 -- an answer to the block's load, and that nothing changes where it is refused
 abbrev LoadAnswered : History → History → ℕ → Meaning → Answer → Type 0
@@ -94,6 +113,10 @@ pub load-asks : (has_load : Bool) (own : List Record) (member : Member) → IsMe
 load-asks has_load own member is loads =
     asks-if (is_barred has_load member.opening) member.number member.alone
     (asks-alone own is.behind member is.whole loads is.means)
+
+pub first-asks : (load : FirstLoad) → AsksLoad (first_load_meaning load)
+first-asks (load_variant.Refused fault) = tt
+first-asks (load_variant.Rows table body) = tt
 
 -- ---- many commands
 
@@ -426,3 +449,14 @@ load-cut number lines place taken members meant within few split next_is =
           (subst (λ l. AreMembers (number + place + length (take taken (drop place lines)))
           (drop taken (drop place lines)) l) (sym same.1) n.behind);
     }
+
+-- what is told of two sections that are printed can be told of both
+pub sections-joined : {E : Type 0} (before : History) (near far : ℕ) (front back : List Record)
+    (old new empty later : Unwritten) (queries : Result (Outcome × Outcome) E)
+    → length front + length back + 1 < 2 ^ 64
+    → IfOk queries (λ told. PrintsSection before near front old new told.0)
+    → IfOk queries (λ told. PrintsSection before far back empty later told.1)
+    → IfOk queries (λ told. CanBeJoined told.0 told.1)
+sections-joined before near far front back old new empty later (Ok told) few first last =
+    record { before = first.few; behind = last.few; fits = omega (arith, first.fewer, last.fewer) }
+sections-joined before near far front back old new empty later (Err error) few first last = tt

@@ -1,5 +1,6 @@
 -- A table that is read, and two, one after the other.
-use Rattle.std.proofs.Common.{◌≡◌, ◌∙◌, ℕ, List, Option, None, Result, Ok, ap, refl}
+use Rattle.std.proofs.Common.{◌≡◌, ◌∙◌, ℕ, List, Option, None, Result, Ok, ap, refl, sym}
+use Rattle.std.specs.Borrow.{Bor}
 use Rattle.book_core.specs.History.{History}
 use Rattle.command_core.specs.Fields.{both_ok}
 use Rattle.command_core.specs.Pairs.{Compared}
@@ -12,6 +13,7 @@ use Rattle.row_core.specs.declared.failure.Failure.TheVariants.{Refused, NoMemor
 use Rattle.row_core.specs.declared.row.Row.{Row}
 use Rattle.row_core.specs.declared.schema.Column.{Column}
 use Rattle.script_core.specs.Failure.{Failure, IsFailureOf}
+use Rattle.script_core.specs.Performing.{IsShown}
 use Rattle.script_core.specs.Effects.{TableRows, aggregated_told, columns_told, agg_func, rows_told, sides_told, table_told}
 
 -- its rows and its columns
@@ -23,6 +25,12 @@ table-read number h asof name columns rows read told =
     (λ r. and_then r
     (λ (rows : List Row). map_ok (λ (columns : List Column). (columns, rows)) (columns_told number h name))) read
     ∙ ap (map_ok (λ (columns : List Column). (columns, rows))) told
+
+pub shown-read : (number : ℕ) (h : History) (asof : Option ℕ) (name : List ℕ) (read : Bor (List Column) × List Row)
+    → IsShown number h asof name (Ok read) → table_told number h asof name ≡ Ok (read.0.now, read.1)
+shown-read number h asof name read shown =
+    let (_, told, is) = shown.gives in
+    table-read number h asof name read.0.now read.1 (told ∙ ap Ok (sym is)) shown.columns
 
 -- both_ok, whose columns may be compared
 pub sides-read : (number : ℕ) (h : History) (asof : Option ℕ) (tables : Compared) (left right : TableRows)

@@ -1,4 +1,5 @@
 pub mod Answer
+pub mod BlockCuts
 pub mod Failure
 pub mod Ledgers
 pub mod Performing

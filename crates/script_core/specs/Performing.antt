@@ -1,7 +1,7 @@
 -- What performing a command gives: its answer, or why there is none.
-use Rattle.std.specs.Prelude.{ℕ, ◌≡◌, ◌≤◌, All, IfOk, IsTrue, List, length, true, Option, Result, Ok, Err, ⊤}
+use Rattle.std.specs.Prelude.{ℕ, ◌≡◌, ◌≤◌, ◌<◌, ◌+◌, ◌^◌, ◌++◌, All, IfOk, IsTrue, List, [], drop, length, take, true, Option, Result, Ok, Err, ⊤}
 use Rattle.std.specs.Borrow.{Bor}
-use Rattle.answer_core.specs.PrintedRecords.{errors_in}
+use Rattle.answer_core.specs.PrintedRecords.{IsPrintedAs, errors_in}
 use Rattle.answer_core.specs.Unwritten.{Adds, Unwritten}
 use Rattle.answer_core.specs.declared.answer.Answer.{Answer}
 use Rattle.answer_core.specs.declared.answer.Answer.TheVariants as answer
@@ -9,7 +9,7 @@ use Rattle.book_core.specs.History.{History}
 use Rattle.command_core.specs.Meaning.{Meaning, Load, Refuse}
 use Rattle.command_core.specs.Records.{Record}
 use Rattle.command_core.specs.declared.refusal.Fault.{Fault}
-use Rattle.command_core.specs.Statement.{AreMembers, Member, Placed, Statement, commands_in, placed_in}
+use Rattle.command_core.specs.Statement.{AreMembers, Member, Placed, Statement, States, commands_in, placed_in}
 use Rattle.script_core.specs.Answer.{Answers, AnswersBlock, AnswersEach, AnswersOne, IsAnswerTo}
 use Rattle.script_core.specs.declared.outcome.Outcome.{Outcome}
 use Rattle.script_core.specs.Failure.{Failure, IsFailureOf}
@@ -18,7 +18,7 @@ use Rattle.row_core.specs.Schema.{fits}
 use Rattle.row_core.specs.declared.failure.Failure.TheVariants.{Refused, NoMemory}
 use Rattle.row_core.specs.declared.row.Row.{Row}
 use Rattle.row_core.specs.declared.schema.Column.{Column}
-use Rattle.script_core.specs.Effects.{columns_told, rows_told}
+use Rattle.script_core.specs.Effects.{columns_told, rows_told, sides_told}
 use Rattle.version_core.specs.Limits.{version_limit}
 
 -- a value is what is asked of what may be read, and a refusal the one that applies
@@ -36,6 +36,12 @@ pub record IsShown (number : ℕ) (history : History) (asof : Option ℕ) (table
   pub rise : IfOk result (λ read. RowsRise read.1)
   pub fit : IfOk result (λ read. All (λ row. IsTrue (fits read.0.now row.values)) read.1)
 
+-- it fails as the comparison of these two tables does, whatever their columns are compared by
+abbrev pub FailsToCompare : ℕ → History → Option ℕ → List ℕ → List ℕ → Failure → Type 0
+FailsToCompare number history asof left right failure =
+    (on : List (List ℕ × List ℕ))
+    → IsFailureOf (sides_told number history asof (record { left = left; right = right; on = on })) failure
+
 -- the change is made as it is meant, and its commit's number answered; or nothing changes
 abbrev pub Changes : Result History Fault → History → History → Result Answer Failure → Type 0
 Changes meant old new (Ok given) = (meant ≡ Ok new) × (given ≡ answer.Committed (length new))
@@ -47,6 +53,40 @@ Performs before number meaning (Ok given) after = IsAnswerTo before number meani
 Performs before number meaning (Err (Refused fault)) after =
     IsAnswerTo before number meaning (answer.Refused fault) after
 Performs before number meaning (Err NoMemory) after = ⊤
+
+-- the records of an answer were printed, and those that tell of a refusal counted
+pub record PrintsAnswer (answer : Answer) (old new : Unwritten) (told : ℕ) : Type 0 where
+  pub records : List Record
+  pub are : IsPrintedAs answer records
+  pub printed : Adds old new records
+  pub errors : told ≡ errors_in records
+
+-- the same of the answer that there is, and what another printer made put behind it
+pub record PrintsBefore {E : Type 0} (given : Result Answer E) (old later new : Unwritten) (told : ℕ)
+    : Type 0 where
+  pub answer : Answer
+  pub is : given ≡ Ok answer
+  pub near : Unwritten
+  pub own : PrintsAnswer answer old near told
+  pub joined : new ≡ record { text = near.text ++ later.text; fields = [] }
+
+-- what is told of the queries before a block's load and of those behind it can be told of all its commands
+pub record CanBeJoined (first last : Outcome) : Type 0 where
+  pub before : first.errors ≤ first.commands
+  pub behind : last.errors ≤ last.commands
+  pub fits : first.commands + last.commands + 1 < 2 ^ 64
+
+-- what comes behind the answers to the queries before a block's load was printed: the load's answer, and what another
+-- printer made of the queries behind it; all commands and refusals of the block were counted
+pub record PrintsBehind {E : Type 0} (queries : Result (Outcome × Outcome) E) (load : Result Answer E)
+    (old later new : Unwritten) (told : Outcome) : Type 0 where
+  pub queried : Outcome × Outcome
+  pub queries_are : queries ≡ Ok queried
+  pub errors : ℕ
+  pub few : errors ≤ 1
+  pub printed : PrintsBefore load old later new errors
+  pub commands : told.commands ≡ queried.0.commands + queried.1.commands + 1
+  pub refusals : told.errors ≡ queried.0.errors + queried.1.errors + errors
 
 -- a command was answered, the records of its answer printed, and those that tell of a refusal counted
 pub record PrintsOne (before : History) (number : ℕ) (meaning : Meaning) (after : History) (old new : Unwritten)
@@ -103,3 +143,12 @@ pub record PrintsStatement (before : History) (number : ℕ) (statement : Statem
   pub printed : Adds old new answer
   pub commands : told.commands ≡ commands_in statement
   pub errors : told.errors ≡ errors_in answer
+
+-- the first statement of some records, the first of them of this number, takes so many of them; it was answered
+pub record PrintsNext (records : List Record) (number : ℕ) (before after : History) (old new : Unwritten)
+    (told : Outcome) (taken : ℕ) : Type 0 where
+  pub some : 0 < taken
+  pub within : taken ≤ length records
+  pub statement : Statement
+  pub states : States number (take taken records) (drop taken records) statement
+  pub prints : PrintsStatement before number statement after old new told

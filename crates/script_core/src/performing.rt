@@ -1,15 +1,16 @@
 //! Commands, each done alone, and queries on a snapshot, in a block of commands or out of it.
-ghost use Rattle.std.specs.Prelude.{◌≡◌, ℕ, ◌+◌, ◌≤◌, ◌<◌, ◌^◌, List, [], length, true, IfErr, IfOk};
+ghost use Rattle.std.specs.Prelude.{◌≡◌, ℕ, ◌+◌, ◌≤◌, ◌<◌, ◌^◌, List, [], length, true, IfErr, IfOk, Ok};
 ghost use Rattle.command_core.specs.Command.{meaning_of};
 ghost use Rattle.command_core.specs.Meaning.{behind_length};
 ghost use Rattle.command_core.specs.Statement.{is_allowed};
+ghost use Rattle.answer_core.specs.declared.answer.Answer.{Answer};
 ghost use Rattle.work_core.specs.Limits.{worker_limit};
 ghost use Rattle.store_core.specs.Snapshots.{asked, history, number_shown};
 ghost use Rattle.script_core.specs.Answer.{IsAnswerTo};
 ghost use Rattle.script_core.specs.Effects.{rows_told};
 ghost use Rattle.script_core.specs.Failure.{IsFailureOf};
 ghost use Rattle.script_core.specs.Ledgers.{ledger_history, left_in, ShowsAll};
-ghost use Rattle.script_core.specs.Performing.{IsAnswerOf, Performs, PrintsOne};
+ghost use Rattle.script_core.specs.Performing.{IsAnswerOf, Performs, PrintsAnswer, PrintsOne};
 
 use crate::changes::{delete, load, make, update};
 use crate::failure::{Failure, refused};
@@ -171,6 +172,32 @@ pub(crate) fn answer_of(outcome: Result<Answer, Failure>) -> Result<Answer, NoMe
     }
 }
 
+/// Prints an answer; tells how many records of it tell of a refusal.
+fn print_answer(printer: &mut AnswerWriter, answer: &Answer) -> Result<u64, NoMemory>
+    requires { printer.old.fields ≡ [] }
+    ensures printed { IfOk result (PrintsAnswer answer.now printer.old printer.new) }
+    ensures few { IfOk result (λ errors. errors ≤ 1) }
+{
+    printer.print(answer)?;
+    Ok(answer.refusals())
+}
+
+/// Prints the answer, where there is one; tells how many records of it tell of a refusal.
+pub(crate) fn print_given(
+    printer: &mut AnswerWriter,
+    given: Result<Answer, NoMemory>,
+) -> Result<u64, NoMemory>
+    requires { printer.old.fields ≡ [] }
+    ensures printed { IfOk result (λ errors.
+        (answer : Answer) × (given ≡ Ok answer) × PrintsAnswer answer printer.old printer.new errors) }
+    ensures few { IfOk result (λ errors. errors ≤ 1) }
+{
+    match given {
+        Ok(answer) => print_answer(printer, &answer),
+        Err(error) => Err(error),
+    }
+}
+
 /// Answers a query, whose first record has this number, from a snapshot of all commits, and prints its answer; tells
 /// how many records of it tell of a refusal.
 pub(crate) fn answer_query<T: Threads + Sync>(
@@ -186,9 +213,8 @@ pub(crate) fn answer_query<T: Threads + Sync>(
         (history context.now.newest.now) printer.old printer.new) }
     ensures few { IfOk result (λ errors. errors ≤ 1) }
 {
-    let answer = answer_of(query(context, number, command))?;
-    printer.print(&answer)?;
-    Ok(answer.refusals())
+    let answer = answer_of(query(context, number, command));
+    print_given(printer, answer)
 }
 
 /// Does a command, whose first record has this number, and prints its answer; tells how many records of it tell of a
@@ -212,7 +238,6 @@ pub(crate) fn answer_command<T: Threads + Wait + Sync>(
     ensures few { IfOk result (λ errors. errors ≤ 1) }
     ensures left { left_in ledger.old ≤ left_in ledger.new + 2 }
 {
-    let answer = answer_of(perform(rt, alloc, ledger, number, command, workers))?;
-    printer.print(&answer)?;
-    Ok(answer.refusals())
+    let answer = answer_of(perform(rt, alloc, ledger, number, command, workers));
+    print_given(printer, answer)
 }

@@ -1,5 +1,5 @@
 //! What queries read of a snapshot.
-ghost use Rattle.std.specs.Prelude.{◌≡◌, ◌+◌, ◌<◌, ◌≤◌, ◌^◌, All, IfOk, IsTrue, Ok, length, nat_le, nat_lt};
+ghost use Rattle.std.specs.Prelude.{◌≡◌, ◌+◌, ◌<◌, ◌≤◌, ◌^◌, All, IfErr, IfOk, IsTrue, Ok, length, nat_le, nat_lt};
 ghost use Rattle.book_core.specs.Versions.{AreBetween, AreFromTo};
 ghost use Rattle.command_core.specs.Fields.{both_ok};
 ghost use Rattle.command_core.specs.Lines.{lines_in};
@@ -11,7 +11,7 @@ ghost use Rattle.row_core.specs.Rows.{RowsRise};
 ghost use Rattle.row_core.specs.Schema.{fits};
 ghost use Rattle.script_core.specs.Answer.{IsAggOf, IsAntiOf, IsDipOf, IsJoinOf, IsVerdictOn, IsVersions};
 ghost use Rattle.script_core.specs.Ledgers.{commit_shown, ShowsAll};
-ghost use Rattle.script_core.specs.Performing.{Gives, IsShown};
+ghost use Rattle.script_core.specs.Performing.{FailsToCompare, Gives, IsShown};
 ghost use Rattle.store_core.specs.Snapshots.{history};
 ghost use Rattle.script_core.specs.Effects.{agg_func, aggregated_told, claim_of, columns_told, rows_on, rows_told, sides_told, versions_told};
 ghost use Rattle.answer_core.specs.declared.answer.Answer.TheVariants.{Rows};
@@ -22,10 +22,10 @@ use crate::pairs::name_pairs;
 use agg_core::agg;
 use answer_core::{Answer, Joined, Unmatched};
 use anti_core::anti;
-use cert_core::{Certificate, check_division};
+use cert_core::{Certificate, Claim, check_division};
 use command_core::{Aggregate, Func, Lines, Refusal, TwoTables};
 use join_core::join;
-use period_core::Point;
+use period_core::{NoMemory, Point};
 use query_core::{Side, dip, items};
 use row_core::{Name, RowList, Schema};
 use std::alloc::Global;
@@ -75,6 +75,41 @@ fn shown_tables<'a, T: Threads + Sync>(
             ensures { IsShown number (history snapshot.entry.now) (commit_shown snapshot.entry.now) right result }
         { shown_table(snapshot, number, right) },
     )
+}
+
+/// Two tables as a snapshot shows them: the columns and the rows of each.
+#[derive(Drop)]
+struct BothTables<'a> {
+    left_columns: &'a Schema,
+    left: RowList,
+    right_columns: &'a Schema,
+    right: RowList,
+}
+
+/// Both tables that the command of this number compares, where both are there.
+fn both_tables<'a, T: Threads + Sync>(
+    rt: &T,
+    snapshot: &'a Snapshot,
+    number: u64,
+    left: Name,
+    right: Name,
+    workers: u32,
+) -> Result<BothTables<'a>, Failure>
+    ensures left { IfOk result (λ both. IsShown number (history snapshot.now) (commit_shown snapshot.now) left
+        (Ok (both.left_columns, both.left))) }
+    ensures right { IfOk result (λ both. IsShown number (history snapshot.now) (commit_shown snapshot.now) right
+        (Ok (both.right_columns, both.right))) }
+    ensures fails { IfErr result (FailsToCompare number (history snapshot.now) (commit_shown snapshot.now) left right) }
+{
+    let (left, right) = shown_tables(rt, snapshot, number, left, right, workers);
+    let (left_columns, left) = left?;
+    let (right_columns, right) = right?;
+    Ok(BothTables {
+        left_columns,
+        left,
+        right_columns,
+        right,
+    })
 }
 
 /// All rows of a table.
@@ -139,10 +174,13 @@ pub(crate) fn join_tables<T: Threads + Sync>(
         (compared_in tables.entry))
         (λ sides. IsJoinOf sides.0 sides.1 (name_pairs_in tables.entry.on)) result }
 {
-    let (left, right) = shown_tables(rt, snapshot, number, tables.left, tables.right, workers);
-    let (left_columns, left) = left?;
-    let (right_columns, right) = right?;
     let on = name_pairs(alloc, tables.on)?;
+    let BothTables {
+        left_columns,
+        left,
+        right_columns,
+        right,
+    } = both_tables(rt, snapshot, number, tables.left, tables.right, workers)?;
     let left_side = Side {
         schema: left_columns,
         rows: &left,
@@ -172,10 +210,13 @@ pub(crate) fn anti_tables<T: Threads + Sync>(
         (compared_in tables.entry))
         (λ sides. IsAntiOf sides.0 sides.1 (name_pairs_in tables.entry.on)) result }
 {
-    let (left, right) = shown_tables(rt, snapshot, number, tables.left, tables.right, workers);
-    let (left_columns, left) = left?;
-    let (right_columns, right) = right?;
     let on = name_pairs(alloc, tables.on)?;
+    let BothTables {
+        left_columns,
+        left,
+        right_columns,
+        right,
+    } = both_tables(rt, snapshot, number, tables.left, tables.right, workers)?;
     let left_side = Side {
         schema: left_columns,
         rows: &left,
@@ -227,6 +268,21 @@ fn agg_func(func: &Func) -> agg_core::Func
     }
 }
 
+/// The verdict on a claimed division of some rows.
+fn verdict_on(
+    alloc: Global,
+    rows: &RowList,
+    claim: &Claim,
+    certificate: &Certificate,
+) -> Result<Answer, NoMemory>
+    requires { RowsRise rows.now }
+    ensures { IfOk result (IsVerdictOn (items_of rows.now) claim.now certificate.now) }
+{
+    let items = items(alloc, rows)?;
+    let verdict = check_division(alloc, &items, claim, certificate)?;
+    Ok(Answer::Verdict(verdict))
+}
+
 /// The verdict on a claimed division of a table's rows, the body's first record being of the number
 /// behind the command's.
 pub(crate) fn check(
@@ -244,8 +300,7 @@ pub(crate) fn check(
 {
     let (_, rows) = shown_table(snapshot, number, table)?;
     let claim = read_claim(alloc, body, number + 1)?;
-    let items = items(alloc, &rows)?;
-    Ok(Answer::Verdict(check_division(alloc, &items, &claim, &certificate)?))
+    Ok(verdict_on(alloc, &rows, &claim, &certificate)?)
 }
 
 /// The versions of a table that some commit from the first to the last shows.

@@ -1,6 +1,8 @@
 //! The statements of a script, one after another: commands, and blocks of commands.
-ghost use Rattle.std.specs.Prelude.{◌≡◌, ℕ, ◌+◌, ◌*◌, ◌≤◌, ◌<◌, ◌^◌, List, [], length, IfErr, IfOk, Some};
+ghost use Rattle.std.specs.Prelude.{◌≡◌, ℕ, ◌+◌, ◌*◌, ◌≤◌, ◌<◌, ◌^◌, List, [], drop, length, IfErr, IfOk, Some};
 ghost use Rattle.std.specs.Io.KnownBytes.{Appends};
+ghost use Rattle.answer_core.specs.Unwritten.{nothing};
+ghost use Rattle.command_core.specs.Lines.{lines_in};
 ghost use Rattle.command_core.specs.Statement as said;
 ghost use Rattle.command_core.specs.Statement.{StandsFor, behind_of};
 ghost use Rattle.stream_core.specs.Counted.{failures_of, inner_of, sink_of};
@@ -8,7 +10,7 @@ ghost use Rattle.stream_core.specs.FailureCount.{greatest_count};
 ghost use Rattle.stream_core.specs.Faults.{last_failures, retry_limit};
 ghost use Rattle.work_core.specs.Limits.{worker_limit};
 ghost use Rattle.script_core.specs.Ledgers.{ledger_history, left_in};
-ghost use Rattle.script_core.specs.Performing.{PrintsStatement};
+ghost use Rattle.script_core.specs.Performing.{PrintsNext, PrintsStatement};
 ghost use Rattle.script_core.specs.Script.{AppendsFront, ExplainsRun, IsOutput, RunsAll, streams_of};
 ghost use Rattle.script_core.specs.Writing.{AnswersAll, ExplainsAnswering};
 
@@ -61,7 +63,73 @@ fn answer_statement<T: Threads + Wait + Sync>(
     }
 }
 
-/// Answers the statements of some records, and writes each answer whole.
+/// Answers the statement that begins at a place, and prints its answer; tells what of it is told, and how many records
+/// it takes.
+fn answer_next<T: Threads + Wait + Sync>(
+    rt: &T,
+    alloc: Global,
+    ledger: &mut Ledger,
+    lines: Lines<'_>,
+    at: usize,
+    workers: u32,
+    printer: &mut AnswerWriter,
+) -> Result<(Outcome, usize), NoMemory>
+    requires below { at < length (lines_in lines) }
+    requires workers { (0 < workers) × (workers ≤ worker_limit) }
+    requires begins { printer.old.fields ≡ [] }
+    requires left { 2 ≤ left_in ledger.old }
+    ensures printed { IfOk result (λ told. PrintsNext (drop at (lines_in lines.entry)) (at + 1)
+        (ledger_history ledger.old)
+        (ledger_history ledger.new) printer.old printer.new told.0 told.1) }
+    ensures few { IfOk result (λ told. told.0.errors ≤ told.0.commands) }
+    ensures left { left_in ledger.old ≤ left_in ledger.new + 2 }
+{
+    let number = at as u64 + 1;
+    let rest = lines.range(at, lines.len());
+    let StatementCut { statement, taken } = next_statement(alloc, rest, number)?;
+    let told = answer_statement(rt, alloc, ledger, number, statement, workers, printer)?;
+    Ok((told, taken))
+}
+
+/// Answers the statements of some records, and writes each answer whole. The printer is empty.
+fn answer_each<T: Threads + Wait + Sync, W: Write>(
+    rt: &T,
+    alloc: Global,
+    ledger: &mut Ledger,
+    records: &Records,
+    workers: u32,
+    printer: &mut AnswerWriter,
+    writer: &mut Counted<W>,
+    patience: &mut Patience,
+) -> Result<Outcome, RunFault>
+    requires workers { (0 < workers) × (workers ≤ worker_limit) }
+    requires begun { ledger_history ledger.old ≡ [] }
+    requires empty { printer.old ≡ nothing }
+    requires left { 2 * length records.now ≤ left_in ledger.old }
+    ensures ok { IfOk result (AnswersAll records.now (sink_of W.contents writer.old) (sink_of W.contents writer.new)) }
+    ensures fault { IfErr result
+        (ExplainsAnswering records.now (sink_of W.contents writer.old) (sink_of W.contents writer.new)) }
+    ensures counts { failures_of writer.old ≤ failures_of writer.new }
+    ensures tries { failures_of writer.new + patience.new.left
+        ≤ failures_of writer.old + patience.old.left + last_failures result }
+{
+    let lines = Lines::all(records);
+    let mut outcome = Outcome {
+        commands: 0,
+        errors: 0,
+    };
+    let mut at = 0;
+    while at < lines.len() {
+        let (told, taken) = answer_next(rt, alloc, ledger, lines, at, workers, printer)?;
+        printer.write_to(writer, patience)?;
+        outcome.commands += told.commands;
+        outcome.errors += told.errors;
+        at += taken;
+    }
+    Ok(outcome)
+}
+
+/// Answers the statements of some records, the first of them on an empty ledger, and writes each answer whole.
 fn answer_all<T: Threads + Wait + Sync, W: Write>(
     rt: &T,
     alloc: Global,
@@ -81,35 +149,17 @@ fn answer_all<T: Threads + Wait + Sync, W: Write>(
     ensures tries { failures_of writer.new + patience.new.left
         ≤ failures_of writer.old + patience.old.left + last_failures result }
 {
-    let lines = Lines::all(records);
     let mut printer = AnswerWriter::new(alloc);
-    let mut outcome = Outcome {
-        commands: 0,
-        errors: 0,
-    };
-    let mut at = 0;
-    while at < lines.len() {
-        let number = at as u64 + 1;
-        let StatementCut { statement, taken } = next_statement(
-            alloc,
-            lines.range(at, lines.len()),
-            number,
-        )?;
-        let told = answer_statement(
-            rt,
-            alloc,
-            &mut ledger,
-            number,
-            statement,
-            workers,
-            &mut printer,
-        )?;
-        printer.write_to(writer, patience)?;
-        outcome.commands += told.commands;
-        outcome.errors += told.errors;
-        at += taken;
-    }
-    Ok(outcome)
+    answer_each(
+        rt,
+        alloc,
+        &mut ledger,
+        records,
+        workers,
+        &mut printer,
+        writer,
+        patience,
+    )
 }
 
 /// Reads a script whole, answers its statements in order, each a command or a block of commands, and writes each

@@ -9,15 +9,17 @@ ghost use Rattle.work_core.specs.Limits.{worker_limit};
 ghost use Rattle.store_core.specs.Snapshots.{history};
 ghost use Rattle.script_core.specs.Answer.{IsAnswerTo};
 ghost use Rattle.script_core.specs.Ledgers.{ledger_history, left_in};
-ghost use Rattle.script_core.specs.Performing.{AsksLoad, PrintsBlock, PrintsStatement, PrintsSection};
+ghost use Rattle.script_core.specs.Performing.{AsksLoad, CanBeJoined, PrintsBefore, PrintsBehind, PrintsBlock, PrintsStatement, PrintsSection};
+ghost use Rattle.script_core.specs.BlockCuts.{CanBeNumbered, IsCutAt, first_load_meaning};
 
 use crate::changes::load_by;
 use crate::ledger::Ledger;
 use crate::outcome::Outcome;
-use crate::performing::{QueryContext, answer_of, answer_query};
+use crate::performing::{QueryContext, answer_of, answer_query, print_given};
 use answer_core::{Answer, AnswerWriter};
-use command_core::{Command, CommandCut, Lines, first_load, next_inside};
+use command_core::{Command, CommandCut, Fault, Lines, first_load, next_inside};
 use period_core::NoMemory;
+use row_core::Name;
 use std::alloc::Global;
 use std::sync::Wait;
 use std::thread::{Threads, join_mut};
@@ -27,6 +29,24 @@ use std::thread::{Threads, join_mut};
 struct Section<'a> {
     lines: Lines<'a>,
     first: u64,
+}
+
+/// What the first load of a block asks for.
+#[derive(Clone, Copy)]
+enum FirstLoad<'a> {
+    /// It is refused, whatever the tables are.
+    Refused(Fault),
+    /// The records of the body become rows of the table.
+    Rows { table: Name, body: Lines<'a> },
+}
+
+/// A block of commands, cut at its first load, whose first record has this number.
+#[derive(Clone, Copy)]
+struct BlockCut<'a> {
+    front: Section<'a>,
+    number: u64,
+    load: FirstLoad<'a>,
+    back: Section<'a>,
 }
 
 /// Answers the queries of a section of a block, and prints their answers; tells how many commands there are, and how
@@ -60,23 +80,37 @@ fn answer_queries<T: Threads + Sync>(
     Ok(told)
 }
 
+/// What a command asks for that stands as the first load of a block.
+fn load_asked<'a>(command: &Command<'a>) -> FirstLoad<'a>
+    requires { AsksLoad (meaning_of command.now) }
+    ensures { first_load_meaning result ≡ meaning_of command.now }
+{
+    match command {
+        Command::Load { table, body } => FirstLoad::Rows {
+            table: *table,
+            body: *body,
+        },
+        Command::Refused(fault) => FirstLoad::Refused(*fault),
+        _ => unreachable!(),
+    }
+}
+
 /// Does the first load of a block, whose first record has this number, or tells why it can't be done.
 fn answer_load<T: Wait>(
     context: &QueryContext<'_, T>,
     ledger: &mut Ledger,
     number: u64,
-    command: &Command<'_>,
+    load: &FirstLoad<'_>,
 ) -> Result<Answer, NoMemory>
     requires same { history context.now.newest.now ≡ ledger_history ledger.old }
-    requires load { AsksLoad (meaning_of command.now) }
-    requires numbers { number + behind_length (meaning_of command.now) < 2 ^ 64 }
+    requires numbers { number + behind_length (first_load_meaning load.now) < 2 ^ 64 }
     requires left { 0 < left_in ledger.old }
     ensures answers { IfOk result (λ answer.
-        IsAnswerTo (ledger_history ledger.old) number (meaning_of command.now) answer (ledger_history ledger.new)) }
+        IsAnswerTo (ledger_history ledger.old) number (first_load_meaning load.now) answer (ledger_history ledger.new)) }
     ensures left { left_in ledger.old ≤ left_in ledger.new + 1 }
 {
-    match command {
-        Command::Load { table, body } => answer_of(load_by(
+    match load {
+        FirstLoad::Rows { table, body } => answer_of(load_by(
             context.rt,
             context.alloc,
             ledger,
@@ -85,8 +119,7 @@ fn answer_load<T: Wait>(
             *table,
             *body,
         )),
-        Command::Refused(fault) => Ok(Answer::Refused(*fault)),
-        _ => unreachable!(),
+        FirstLoad::Refused(fault) => Ok(Answer::Refused(*fault)),
     }
 }
 
@@ -95,10 +128,7 @@ fn answer_load<T: Wait>(
 fn answer_both<T: Threads + Wait + Sync>(
     context: &QueryContext<'_, T>,
     ledger: &mut Ledger,
-    front: Section<'_>,
-    number: u64,
-    command: &Command<'_>,
-    back: Section<'_>,
+    block: &BlockCut<'_>,
     printer: &mut AnswerWriter,
     later: &mut AnswerWriter,
 ) -> (
@@ -106,95 +136,134 @@ fn answer_both<T: Threads + Wait + Sync>(
     Result<Answer, NoMemory>,
 )
     requires same { history context.now.newest.now ≡ ledger_history ledger.old }
-    requires before { (members : List Member) × AreMembers front.first (lines_in front.lines) members }
-    requires behind { (members : List Member) × AreMembers back.first (lines_in back.lines) members }
-    requires numbers_before { front.first + length (lines_in front.lines) < 2 ^ 64 }
-    requires numbers_behind { back.first + length (lines_in back.lines) < 2 ^ 64 }
-    requires load { AsksLoad (meaning_of command.now) × (number + behind_length (meaning_of command.now) < 2 ^ 64) }
+    requires whole { (members : List Member) × IsCutAt block.now members }
+    requires numbers { CanBeNumbered block.now }
     requires begins { (printer.old.fields ≡ []) × (later.old.fields ≡ []) }
     requires left { 0 < left_in ledger.old }
-    ensures front { IfOk result.0 (λ told. PrintsSection (history context.now.newest.now) front.entry.first
-        (lines_in front.entry.lines) printer.old printer.new told.0) }
-    ensures back { IfOk result.0 (λ told. PrintsSection (history context.now.newest.now) back.entry.first
-        (lines_in back.entry.lines) later.old later.new told.1) }
-    ensures load { IfOk result.1 (λ answer.
-        IsAnswerTo (ledger_history ledger.old) number (meaning_of command.now) answer (ledger_history ledger.new)) }
+    ensures front { IfOk result.0 (λ told. PrintsSection (history context.now.newest.now) block.now.front.first
+        (lines_in block.now.front.lines) printer.old printer.new told.0) }
+    ensures back { IfOk result.0 (λ told. PrintsSection (history context.now.newest.now) block.now.back.first
+        (lines_in block.now.back.lines) later.old later.new told.1) }
+    ensures load { IfOk result.1 (λ answer. IsAnswerTo (ledger_history ledger.old) block.now.number
+        (first_load_meaning block.now.load) answer (ledger_history ledger.new)) }
     ensures left { left_in ledger.old ≤ left_in ledger.new + 1 }
 {
     let mut queries = || -> Result<(Outcome, Outcome), NoMemory>
-        requires { IsSync T.row
-            × ((members : List Member) × AreMembers front.first (lines_in front.lines) members)
-            × ((members : List Member) × AreMembers back.first (lines_in back.lines) members)
-            × (front.first + length (lines_in front.lines) < 2 ^ 64)
-            × (back.first + length (lines_in back.lines) < 2 ^ 64)
+        requires { IsSync T.row × ((members : List Member) × IsCutAt block.now members) × CanBeNumbered block.now
             × ((printer.now.fields ≡ []) × (later.now.fields ≡ [])) }
-        ensures front { IfOk result (λ told. PrintsSection (history context.entry.now.newest.now) front.entry.first
-            (lines_in front.entry.lines) printer.entry.now printer.exit.now told.0) }
-        ensures back { IfOk result (λ told. PrintsSection (history context.entry.now.newest.now) back.entry.first
-            (lines_in back.entry.lines) later.entry.now later.exit.now told.1) }
+        ensures front { IfOk result (λ told. PrintsSection (history context.entry.now.newest.now)
+            block.entry.now.front.first
+            (lines_in block.entry.now.front.lines) printer.entry.now printer.exit.now told.0) }
+        ensures back { IfOk result (λ told. PrintsSection (history context.entry.now.newest.now)
+            block.entry.now.back.first
+            (lines_in block.entry.now.back.lines) later.entry.now later.exit.now told.1) }
     {
-        let before = answer_queries(context, front, printer)?;
-        let behind = answer_queries(context, back, later)?;
+        let before = answer_queries(context, block.front, printer)?;
+        let behind = answer_queries(context, block.back, later)?;
         Ok((before, behind))
     };
     let mut loading = || -> Result<Answer, NoMemory>
-        requires { (history context.now.newest.now ≡ ledger_history ledger.now) × AsksLoad (meaning_of command.now)
-            × (number + behind_length (meaning_of command.now) < 2 ^ 64) × (0 < left_in ledger.now) }
-        ensures answers { IfOk result (λ answer. IsAnswerTo (ledger_history ledger.entry.now) number
-            (meaning_of command.entry.now) answer (ledger_history ledger.exit.now)) }
+        requires { (history context.now.newest.now ≡ ledger_history ledger.now) × CanBeNumbered block.now
+            × (0 < left_in ledger.now) }
+        ensures answers { IfOk result (λ answer. IsAnswerTo (ledger_history ledger.entry.now) block.entry.now.number
+            (first_load_meaning block.entry.now.load) answer (ledger_history ledger.exit.now)) }
         ensures left { left_in ledger.entry.now ≤ left_in ledger.exit.now + 1 }
-    { answer_load(context, ledger, number, command) };
+    { answer_load(context, ledger, block.number, &block.load) };
     join_mut(context.rt, &mut queries, &mut loading)
 }
 
-/// Answers the commands of a block, of which the one behind so many records is its first load.
-fn answer_beside_load<T: Threads + Wait + Sync>(
-    context: &QueryContext<'_, T>,
-    ledger: &mut Ledger,
-    block: Section<'_>,
-    place: usize,
-    printer: &mut AnswerWriter,
-) -> Result<Outcome, NoMemory>
-    requires same { history context.now.newest.now ≡ ledger_history ledger.old }
+/// Cuts a block of commands at its first load, which stands behind so many records.
+fn cut_at<'a>(block: Section<'a>, place: usize) -> BlockCut<'a>
     requires whole { (members : List Member) × AreMembers block.first (lines_in block.lines) members }
     requires within { place < length (lines_in block.lines) }
     requires split { (members : List Member) → AreMembers block.first (lines_in block.lines) members
         → IsSplit block.first members (take place (lines_in block.lines)) (drop place (lines_in block.lines)) }
     requires numbers { block.first + length (lines_in block.lines) < 2 ^ 64 }
-    requires begins { printer.old.fields ≡ [] }
-    requires left { 0 < left_in ledger.old }
-    ensures printed { IfOk result (λ told. (members : List Member)
-        → AreMembers block.entry.first (lines_in block.entry.lines) members
-        → PrintsBlock (history context.now.newest.now) (placed_in false members) (ledger_history ledger.new)
-        printer.old printer.new told) }
-    ensures few { IfOk result (λ told. told.errors ≤ told.commands) }
-    ensures fewer { IfOk result (λ told. told.commands ≤ length (lines_in block.entry.lines)) }
-    ensures left { left_in ledger.old ≤ left_in ledger.new + 1 }
+    ensures cut { (members : List Member) → AreMembers block.entry.first (lines_in block.entry.lines) members
+        → IsCutAt result members }
+    ensures numbers { CanBeNumbered result }
+    ensures within { length (lines_in result.front.lines) + length (lines_in result.back.lines)
+        < length (lines_in block.entry.lines) }
 {
     let Section { lines, first } = block;
     let rest = lines.range(place, lines.len());
     let number = first + place as u64;
     let CommandCut { command, taken } = next_inside(rest, number, false);
-    let front = Section {
-        lines: lines.range(0, place),
-        first,
-    };
-    let back = Section {
-        lines: rest.range(taken, rest.len()),
-        first: number + taken as u64,
-    };
-    let mut later = AnswerWriter::new(context.alloc);
-    let (queries, load) = answer_both(
-        context, ledger, front, number, &command, back, printer, &mut later,
-    );
-    let (before, behind) = queries?;
-    let answer = load?;
-    printer.print(&answer)?;
+    BlockCut {
+        front: Section {
+            lines: lines.range(0, place),
+            first,
+        },
+        number,
+        load: load_asked(&command),
+        back: Section {
+            lines: rest.range(taken, rest.len()),
+            first: number + taken as u64,
+        },
+    }
+}
+
+/// Prints the answer to a block's load, where there is one, and adds the answers to the queries behind it; tells how
+/// many records of the load's answer tell of a refusal.
+fn print_load(
+    printer: &mut AnswerWriter,
+    load: Result<Answer, NoMemory>,
+    later: AnswerWriter,
+) -> Result<u64, NoMemory>
+    requires here { printer.old.fields ≡ [] }
+    requires there { later.fields ≡ [] }
+    ensures printed { IfOk result (PrintsBefore load printer.old later printer.new) }
+    ensures few { IfOk result (λ errors. errors ≤ 1) }
+{
+    let errors = print_given(printer, load)?;
     printer.append(later)?;
+    Ok(errors)
+}
+
+/// Prints what comes behind the answers to the queries before a block's load, if all of it is there, and tells what is
+/// told of the whole block.
+fn print_behind(
+    printer: &mut AnswerWriter,
+    queries: Result<(Outcome, Outcome), NoMemory>,
+    load: Result<Answer, NoMemory>,
+    later: AnswerWriter,
+) -> Result<Outcome, NoMemory>
+    requires queries { IfOk queries (λ told. CanBeJoined told.0 told.1) }
+    requires here { IfOk queries (λ told. printer.old.fields ≡ []) }
+    requires there { IfOk queries (λ told. later.fields ≡ []) }
+    ensures { IfOk result (PrintsBehind queries load printer.old later printer.new) }
+{
+    let (before, behind) = queries?;
+    let errors = print_load(printer, load, later)?;
     Ok(Outcome {
         commands: before.commands + behind.commands + 1,
-        errors: before.errors + behind.errors + answer.refusals(),
+        errors: before.errors + behind.errors + errors,
     })
+}
+
+/// Answers the commands of a block that is cut at its first load.
+fn answer_beside_load<T: Threads + Wait + Sync>(
+    context: &QueryContext<'_, T>,
+    ledger: &mut Ledger,
+    block: &BlockCut<'_>,
+    printer: &mut AnswerWriter,
+) -> Result<Outcome, NoMemory>
+    requires same { history context.now.newest.now ≡ ledger_history ledger.old }
+    requires whole { (members : List Member) × IsCutAt block.now members }
+    requires numbers { CanBeNumbered block.now }
+    requires begins { printer.old.fields ≡ [] }
+    requires left { 0 < left_in ledger.old }
+    ensures printed { IfOk result (λ told. (members : List Member) → IsCutAt block.now members
+        → PrintsBlock (history context.now.newest.now) (placed_in false members) (ledger_history ledger.new)
+        printer.old printer.new told) }
+    ensures few { IfOk result (λ told. told.errors ≤ told.commands) }
+    ensures fewer { IfOk result (λ told. told.commands ≤ length (lines_in block.now.front.lines)
+        + length (lines_in block.now.back.lines) + 1) }
+    ensures left { left_in ledger.old ≤ left_in ledger.new + 1 }
+{
+    let mut later = AnswerWriter::new(context.alloc);
+    let (queries, load) = answer_both(context, ledger, block, printer, &mut later);
+    print_behind(printer, queries, load, later)
 }
 
 /// Answers the commands of a block, each query from what all commits showed at the block's beginning.
@@ -218,7 +287,7 @@ fn answer_commands<T: Threads + Wait + Sync>(
     ensures left { left_in ledger.old ≤ left_in ledger.new + 1 }
 {
     match first_load(block.lines) {
-        Some(place) => answer_beside_load(context, ledger, block, place, printer),
+        Some(place) => answer_beside_load(context, ledger, &cut_at(block, place), printer),
         None => answer_queries(context, block, printer),
     }
 }

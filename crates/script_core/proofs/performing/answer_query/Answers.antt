@@ -1,21 +1,14 @@
-use Rattle.std.proofs.Common.{sym}
+use Rattle.std.proofs.lemmas.Result.{IfOk-weaker}
 use Rattle.command_core.specs.Command.{meaning_of}
 use Rattle.store_core.specs.Snapshots.{history}
-use Rattle.script_core.proofs.Blocks.{performed-answer}
+use Rattle.script_core.proofs.Blocks.{command-printed}
 use Rattle.script_core.proofs.performing.answer_query.Goals as goal
 
 pub returns-clause-printed : goal.returns-clause-printed
 returns-clause-printed g c =
-    let said = c.in_ok-print.ensures.ok in
-    record {
-      answer = said.0;
-      answers = (
-        c.in_ok-answer.answer,
-        performed-answer (history c.args.context.now.newest.now) c.args.number
-            (meaning_of c.args.command) c.query.result (history c.args.context.now.newest.now)
-            c.in_ok-answer.answer c.query.ensures c.in_ok-answer.ensures,
-        said.1,
-      );
-      printed = said.2;
-      errors = sym (c.refusals.ensures.told said.0 said.1);
-    }
+    let before = history c.args.context.now.newest.now in
+    IfOk-weaker c.print_given.result _ _
+    (λ errors printed.
+    command-printed before c.args.number (meaning_of c.args.command) c.query.result before c.answer_of-answer.result
+    c.args.printer.now c.print_given.new.printer errors c.query.ensures c.answer_of-answer.ensures printed)
+    c.print_given.ensures.printed

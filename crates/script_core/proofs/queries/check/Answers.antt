@@ -1,12 +1,10 @@
-use Rattle.std.proofs.Common.{◌≡◌, ◌+◌, ◌∙◌, List, Result, Ok, ap, refl, subst, sym}
-use Rattle.cert_core.specs.Verdict.{IsVerdict}
-use Rattle.dip_core.specs.Item.{IdsRise}
-use Rattle.dip_core.specs.declared.item.Item.{Item}
+use Rattle.std.proofs.Common.{◌≡◌, ◌+◌, ◌∙◌, List, Result, Ok, ap, subst}
+use Rattle.row_core.specs.declared.row.Row.{Row}
 use Rattle.match_core.specs.Items.{items_of}
-use Rattle.match_core.proofs.ItemIds.{IdsRise-items_of}
 use Rattle.command_core.specs.Fields.{both_ok}
 use Rattle.command_core.specs.Lines.{lines_in}
 use Rattle.store_core.specs.Snapshots.{history}
+use Rattle.script_core.specs.Answer.{IsVerdictOn}
 use Rattle.script_core.specs.Effects.{claim_of, rows_told}
 use Rattle.script_core.specs.Ledgers.{commit_shown}
 use Rattle.script_core.proofs.queries.check.Goals as goal
@@ -15,23 +13,15 @@ both_ok-Ok : {S T E : Type 0} (one : Result S E) (other : Result T E) (x : S) (y
     → both_ok one other ≡ Ok (x, y)
 both_ok-Ok one other x y e f = ap (λ r. both_ok r other) e ∙ ap (λ r. both_ok (Ok x) r) f
 
-pub check_division-requires : goal.check_division-requires
-check_division-requires c =
-    subst IdsRise (sym (c.deref.ensures.value ∙ c.in_ok-items.ensures))
-    (IdsRise-items_of c.in_ok-rows.rows c.in_ok-rows.ensures.rise)
-
 pub returns : goal.returns
 returns c =
     let told = rows_told c.args.number (history c.args.snapshot.now) (commit_shown c.args.snapshot.now) c.args.table in
     let claimed = claim_of (c.args.number + 1) (lines_in c.args.body) in
     let claim = c.in_ok-claim.claim in
-    let verdict = c.in_ok-check_division.field-0 in
-    let h = c.in_ok-rows.ensures.gives in
-    let same = c.deref.ensures.value ∙ (c.in_ok-items.ensures ∙ ap items_of h.2) in
-    let applies =
-    subst (λ (items : List Item). IsVerdict items claim c.args.certificate verdict) same
-    c.in_ok-check_division.ensures.verdict in (
+    let given = c.in_ok-verdict_on.field-0 in
+    let h = c.in_ok-rows.ensures.gives in (
       (h.0, claim),
       both_ok-Ok told claimed h.0 claim h.1 c.in_ok-claim.ensures,
-      record { verdict = verdict; applies = applies; is = refl },
+      subst (λ (rows : List Row). IsVerdictOn (items_of rows) claim c.args.certificate given) h.2
+          c.in_ok-verdict_on.ensures,
     )

@@ -3,7 +3,7 @@ use Rattle.std.proofs.Common.{◌≡◌, ◌+◌, ◌*◌, ◌≤◌, ◌-◌, [
 use Rattle.stream_core.specs.Counted.{failures_of, inner_of}
 use Rattle.script_core.specs.Ledgers.{ledger_history, left_in}
 use Rattle.script_core.proofs.Progress.{Progress}
-use Rattle.script_core.proofs.session.answer_all.Given as goal
+use Rattle.script_core.proofs.session.answer_each.Given as goal
 
 abbrev pub invariant-loop-at : goal.invariant-loop-at
 invariant-loop-at g l = record {

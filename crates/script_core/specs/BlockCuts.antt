@@ -1,0 +1,34 @@
+-- What contracts read of a block of commands that is cut at its first load.
+use Rattle.std.specs.Prelude.{◌+◌, ◌≡◌, ◌<◌, ◌^◌, List, ◌∷◌, ◌++◌, All, false, length, true}
+use Rattle.command_core.specs.Lines.{lines_in}
+use Rattle.command_core.specs.Meaning as meaning
+use Rattle.command_core.specs.Meaning.{Meaning, behind_length}
+use Rattle.command_core.specs.Statement.{AreMembers, Member, begins_load, meaning_inside}
+use Rattle.script_core.specs.declared.together.BlockCut.{BlockCut}
+use Rattle.script_core.specs.declared.together.FirstLoad.{FirstLoad}
+use Rattle.script_core.specs.declared.together.FirstLoad.TheVariants.{Refused, Rows}
+
+-- what a block's first load means
+abbrev pub first_load_meaning : FirstLoad → Meaning
+first_load_meaning (Refused fault) = meaning.Refuse fault
+first_load_meaning (Rows table body) = meaning.Load table (lines_in body)
+
+-- a block's members, cut at their first load: those of the front section, the load, and those of the back section
+pub record IsCutAt (cut : BlockCut) (members : List Member) : Type 0 where
+  pub front : List Member
+  pub load : Member
+  pub back : List Member
+  pub are : members ≡ front ++ load ∷ back
+  pub none : All (λ member. begins_load member ≡ false) front
+  pub loads : begins_load load ≡ true
+  pub before : AreMembers cut.front.first (lines_in cut.front.lines) front
+  pub numbered : load.number ≡ cut.number
+  pub means : first_load_meaning cut.load ≡ meaning_inside false load
+  pub behind : AreMembers cut.back.first (lines_in cut.back.lines) back
+
+-- all its records, and those behind the load's first, have numbers of 64 bits, and its commands can be counted in them
+pub record CanBeNumbered (cut : BlockCut) : Type 0 where
+  pub before : cut.front.first + length (lines_in cut.front.lines) < 2 ^ 64
+  pub load : cut.number + behind_length (first_load_meaning cut.load) < 2 ^ 64
+  pub behind : cut.back.first + length (lines_in cut.back.lines) < 2 ^ 64
+  pub few : length (lines_in cut.front.lines) + length (lines_in cut.back.lines) + 1 < 2 ^ 64
