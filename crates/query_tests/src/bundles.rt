@@ -1,4 +1,4 @@
-//! Joins of tables of many numbers: a few numbers at a time where that is less, and else all parts of both.
+//! Joins of tables of many numbers: some numbers at a time.
 
 use crate::tables::{Table, days, january, numbers, numbers_of, side};
 use join_core::{JoinRow, join};
@@ -73,15 +73,15 @@ fn joins_few_values_at_a_time(rt: HostRuntime) -> Result<(), Fail> {
         }
         // Together the parts are 25 and 50.
         assert!(rt; answer.turns >= 1_250);
-        assert!(rt; gate.run.load(Ordering::SeqCst) < 625);
+        assert!(rt; gate.run.load(Ordering::SeqCst) < 1_250);
     }
     Ok(())
 }
 
-// Rows of one day, each of a number of its own, are as many parts: a few numbers at a time take fewer advances than a
-// join may.
+// Rows of one day, each of a number of its own, would be as many parts, if all of them were divided together: so many
+// pairs of parts are answered as advances, and far fewer are run.
 #[test]
-fn pairs_all_parts_of_one_day(rt: HostRuntime) -> Result<(), Fail> {
+fn joins_few_values_of_one_day(rt: HostRuntime) -> Result<(), Fail> {
     let mut rows = Vec::new(rt.alloc());
     for number in 0..600 {
         rows.push((1, 2, number))?;
@@ -98,7 +98,7 @@ fn pairs_all_parts_of_one_day(rt: HostRuntime) -> Result<(), Fail> {
         assert_eq!(rt; row.period, january(&rt, 1, 2));
         assert_eq!(rt; row.left, row.right);
     }
-    assert!(rt; answer.turns >= 360_000);
-    assert_eq!(rt; gate.run.load(Ordering::SeqCst), 360_000);
+    assert_eq!(rt; answer.turns, 360_000);
+    assert!(rt; gate.run.load(Ordering::SeqCst) < 12_000);
     Ok(())
 }

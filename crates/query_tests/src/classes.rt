@@ -1,90 +1,124 @@
 //! Classes of rows by a text and a number, and the items of rows with them.
 
-use crate::tables::{Table, january, side};
+use crate::tables::{Table, TablePair, january, push_row, side};
+use dip_core::Item;
 use match_core::{classes_of, items_with, refusal_of_pairs};
-use row_core::{Kind, Name, Row, RowList, Schema, Text, Value, Values};
+use row_core::{Kind, Name, RowList, Schema, Text, Value, Values};
 use std::alloc::Global;
 use std::process::Abort;
 use std::test::Fail;
 use std::thread::Threads;
 
-// A table with a column `t` of texts and a column `n` of numbers, and rows of one day with these values.
-fn table(rt: &(impl Abort + Alloc<A = Global>), rows: &[(&[u8], i64)]) -> Result<Table, Fail> {
-    let text = (Name::parse(b"t")?, Kind::Text);
-    let number = (Name::parse(b"n")?, Kind::Int);
-    let schema = Schema::new(rt.alloc(), &[text, number])?;
-    let mut list = RowList::new(rt.alloc());
-    let mut id = 0;
-    for (text, number) in rows {
-        assert!(rt; id < 1_000_000);
-        id += 1;
-        let mut values = Values::new(rt.alloc());
-        values.push(Value::Text(Text::new(rt.alloc(), text)?))?;
-        values.push(Value::Int(*number))?;
-        list.push(Row {
-            id,
-            period: january(rt, 1, 2),
-            values,
-        })?;
+// A table with a column `t` of texts and a column `n` of numbers, without rows.
+fn empty(rt: &(impl Abort + Alloc<A = Global>)) -> Table {
+    let text = (Name::parse(b"t").expect(rt, "a name"), Kind::Text);
+    let number = (Name::parse(b"n").expect(rt, "a name"), Kind::Int);
+    Table {
+        schema: Schema::new(rt.alloc(), &[text, number]).expect(rt, "a schema"),
+        rows: RowList::new(rt.alloc()),
     }
-    Ok(Table { schema, rows: list })
 }
 
-// Rows have one class exactly where these numbers are equal.
+fn values(rt: &(impl Abort + Alloc<A = Global>), text: &[u8], number: i64) -> Values {
+    let text = Text::new(rt.alloc(), text).expect(rt, "a text");
+    let mut values = Values::new(rt.alloc());
+    values.push(Value::Text(text)).expect(rt, "memory");
+    values.push(Value::Int(number)).expect(rt, "memory");
+    values
+}
+
+// A table with these columns, and rows of one day with these values.
+fn table(rt: &(impl Abort + Alloc<A = Global>), rows: &[(&[u8], i64)]) -> Table {
+    let mut table = empty(rt);
+    for (text, number) in rows {
+        let values = values(rt, text, *number);
+        push_row(rt, &mut table.rows, january(rt, 1, 2), values);
+    }
+    table
+}
+
+// The columns of these names on both sides.
+fn names(rt: &(impl Abort + Alloc<A = Global>), names: &[&[u8]]) -> Vec<(Name, Name)> {
+    let mut on = Vec::new(rt.alloc());
+    for name in names {
+        let name = Name::parse(name).expect(rt, "a name");
+        on.push((name, name)).expect(rt, "memory");
+    }
+    on
+}
+
+// The classes of the rows of both tables.
+fn classes(
+    rt: &(impl Abort + Alloc<A = Global> + Threads + Sync),
+    pair: &TablePair,
+    on: &[(Name, Name)],
+) -> Vec<u64> {
+    let (one, other) = (side(rt, &pair.left), side(rt, &pair.right));
+    assert!(rt; refusal_of_pairs(one.schema, other.schema, on).is_none());
+    let both = classes_of(rt, rt.alloc(), one, other, on, 1).expect(rt, "memory");
+    let mut classes = both.left;
+    classes.extend_from_slice(&both.right).expect(rt, "memory");
+    classes
+}
+
+// By the columns of these names rows have one class exactly where these numbers are equal.
 fn check_classes(
     rt: &(impl Abort + Alloc<A = Global> + Threads + Sync),
-    left: &Table,
-    right: &Table,
-    on: &[(Name, Name)],
+    pair: &TablePair,
+    on: &[&[u8]],
     want: &[u64],
-) -> Result<(), Fail> {
-    let (one, other) = (side(rt, left), side(rt, right));
-    if let Some(refused) = refusal_of_pairs(one.schema, other.schema, on) {
-        panic!(rt; "{refused:?}")
-    }
-    let both = classes_of(rt, rt.alloc(), one, other, on, 1)?;
-    let mut classes = both.left;
-    let mut rights = both.right;
-    classes.append(&mut rights)?;
-    assert_eq!(rt; classes.len(), want.len());
+) {
+    let classes = classes(rt, pair, &names(rt, on));
+    assert!(rt; classes.len() == want.len());
     for (class, number) in classes.iter().zip(want) {
         check_class(rt, *class, *number, &classes, want);
     }
-    Ok(())
 }
 
 // The rows of this class are those of this number.
 fn check_class(rt: &impl Abort, class: u64, number: u64, classes: &[u64], want: &[u64]) {
     for (other, wanted) in classes.iter().zip(want) {
-        assert_eq!(rt; *other == class, *wanted == number);
+        assert!(rt; (*other == class) == (*wanted == number));
+    }
+}
+
+const LEFT: &[(&[u8], i64)] = &[(b"x", 1), (b"y", 1), (b"x", 2)];
+
+const RIGHT: &[(&[u8], i64)] = &[(b"x", 2), (b"x", 1), (b"", 1), (b"y", 2)];
+
+fn tables(rt: &(impl Abort + Alloc<A = Global>)) -> TablePair {
+    TablePair {
+        left: table(rt, LEFT),
+        right: table(rt, RIGHT),
+        on: Vec::new(rt.alloc()),
     }
 }
 
 #[test]
-fn classes_by_text_and_number(rt: HostRuntime) -> Result<(), Fail> {
-    let left = table(&rt, &[(b"x", 1), (b"y", 1), (b"x", 2)])?;
-    let right = table(&rt, &[(b"x", 2), (b"x", 1), (b"", 1), (b"y", 2)])?;
-    let (t, n) = (Name::parse(b"t")?, Name::parse(b"n")?);
-    check_classes(&rt, &left, &right, &[], &[0, 0, 0, 0, 0, 0, 0])?;
-    check_classes(&rt, &left, &right, &[(t, t)], &[0, 1, 0, 0, 0, 2, 1])?;
-    check_classes(&rt, &left, &right, &[(n, n)], &[0, 0, 1, 1, 0, 0, 1])?;
-    let both = [(t, t), (n, n)];
-    check_classes(&rt, &left, &right, &both, &[0, 1, 2, 2, 0, 3, 4])?;
-    Ok(())
+fn classes_by_text_and_number(rt: HostRuntime) {
+    let pair = tables(&rt);
+    check_classes(&rt, &pair, &[], &[0, 0, 0, 0, 0, 0, 0]);
+    check_classes(&rt, &pair, &[b"t"], &[0, 1, 0, 0, 0, 2, 1]);
+    check_classes(&rt, &pair, &[b"n"], &[0, 0, 1, 1, 0, 0, 1]);
+    check_classes(&rt, &pair, &[b"t", b"n"], &[0, 1, 2, 2, 0, 3, 4]);
+}
+
+// The item of a row of the first of January.
+fn check_item(rt: &impl Abort, item: Option<&Item>, id: u64, class: u64) {
+    let item = item.expect(rt, "an item");
+    assert!(rt; item.id == id);
+    assert!(rt; item.class == class);
+    assert!(rt; item.period == january(rt, 1, 2));
 }
 
 #[test]
 fn items_have_the_classes_of_their_places(rt: HostRuntime) -> Result<(), Fail> {
-    let table = table(&rt, &[(b"x", 1), (b"y", 1)])?;
+    let table = table(&rt, &[(b"x", 1), (b"y", 1)]);
     let rows = table.rows.as_slice();
     assert!(rt; rows.len() <= 2);
     let items = items_with(rt.alloc(), rows, &[7, 4])?;
-    assert_eq!(rt; items.len(), 2);
-    let day = january(&rt, 1, 2);
-    for (item, (id, class)) in items.iter().zip([(1, 7), (2, 4)]) {
-        assert_eq!(rt; item.id, id);
-        assert_eq!(rt; item.class, class);
-        assert_eq!(rt; item.period, day);
-    }
+    assert!(rt; items.len() == 2);
+    check_item(&rt, items.first(), 1, 7);
+    check_item(&rt, items.get(1), 2, 4);
     Ok(())
 }

@@ -1,16 +1,17 @@
 //! Which pairs of parts queries run, and that none waits for another, as gates see it.
 
-use crate::joins::{worked_rows, worked_tables};
-use crate::tables::{days, january, listed, side, without_columns};
-use agg_core::{AggRow, Func, agg};
-use anti_core::{AntiRow, anti};
-use join_core::join;
-use period_core::Period;
-use row_core::Name;
+use crate::joins::{worked_join, worked_rows};
+use crate::queries::{Question, check_aggs, check_antis, check_joins, joined, ungrouped};
+use crate::tables::{TablePair, days, january, periods_twice, without_columns};
+use agg_core::Func;
+use anti_core::AntiRow;
+use join_core::JoinRow;
+use period_core::{Period, Point};
 use std::alloc::Global;
 use std::process::Abort;
 use std::sync::atomic::{AtomicU64, Ordering};
 use std::test::Fail;
+use std::thread::Threads;
 use work_core::{Gate, OpenGate, PairName};
 
 // Counts how often each of ten times ten pairs is entered, by left and then right part, and any other.
@@ -75,10 +76,13 @@ impl Gate for Counts {
     fn leave(&self, _pair: PairName) {}
 }
 
-// Each pair of a left part was entered once.
-fn check_counts(rt: &impl Abort, counts: &[AtomicU64; 10]) {
-    for count in counts {
-        assert_eq!(rt; count.load(Ordering::SeqCst), 1);
+// Each pair was entered once, and no other.
+fn check_counts(rt: &impl Abort, counts: &Counts) {
+    assert!(rt; counts.others.load(Ordering::SeqCst) == 0);
+    for rights in &counts.entered {
+        for count in rights {
+            assert!(rt; count.load(Ordering::SeqCst) == 1);
+        }
     }
 }
 
@@ -139,108 +143,96 @@ fn both_ways(one: (u32, u32), other: (u32, u32)) -> [Holds; 2] {
 
 // The pair that was awaited has left, and no one gave up.
 fn check_left(rt: &impl Abort, gate: &Holds) {
-    assert_eq!(rt; gate.left.load(Ordering::SeqCst), 1);
-    assert_eq!(rt;
-        gate.failed.load(Ordering::SeqCst),
-        0,
-        "with {:?} held",
-        gate.held
-    );
+    assert!(rt; gate.left.load(Ordering::SeqCst) == 1);
+    let failed = gate.failed.load(Ordering::SeqCst);
+    assert!(rt; failed == 0, "with {:?} held", gate.held);
 }
 
 // Of two pairs either may wait for the other.
 #[test]
-fn joins_while_a_pair_is_held(rt: HostRuntime) -> Result<(), Fail> {
-    let (left, right) = worked_tables(&rt)?;
-    let column = Name::parse(b"c")?;
+fn joins_while_a_pair_is_held(rt: HostRuntime) {
+    let pair = worked_join(&rt);
     let want = worked_rows(&rt);
     for gate in &both_ways((0, 0), (0, 1)) {
-        let (one, other) = (side(&rt, &left), side(&rt, &right));
-        let on = [(column, column)];
-        let answer = join(&rt, rt.alloc(), one, other, &on, 2, gate)?;
-        assert_eq!(rt; answer.rows.as_slice(), want.as_slice());
+        check_joins(&rt, &pair, &[2], gate, &want);
         check_left(&rt, gate);
     }
-    Ok(())
 }
 
-#[test]
-fn anti_joins_while_a_pair_is_held(rt: HostRuntime) -> Result<(), Fail> {
-    let (left, right) = worked_tables(&rt)?;
-    let column = Name::parse(b"c")?;
-    let want = [
+// The rows of the worked anti-join on a column.
+fn worked_antis(rt: &impl Abort) -> [AntiRow; 2] {
+    [
         AntiRow {
             id: 1,
-            period: january(&rt, 1, 3),
+            period: january(rt, 1, 3),
         },
         AntiRow {
             id: 2,
-            period: january(&rt, 5, 7),
+            period: january(rt, 5, 7),
         },
-    ];
+    ]
+}
+
+#[test]
+fn anti_joins_while_a_pair_is_held(rt: HostRuntime) {
+    let pair = worked_join(&rt);
+    let want = worked_antis(&rt);
     for gate in &both_ways((0, 0), (0, 1)) {
-        let (one, other) = (side(&rt, &left), side(&rt, &right));
-        let on = [(column, column)];
-        let rows = anti(&rt, rt.alloc(), one, other, &on, 2, gate)?;
-        assert_eq!(rt; listed(rt.alloc(), &rows)?.as_slice(), want.as_slice());
+        check_antis(&rt, &pair, &[2], gate, &want);
         check_left(&rt, gate);
     }
-    Ok(())
 }
 
 // Four rows of one day, which come to one row: each is a list of its own, and two pairs of them are taken together.
 #[test]
-fn aggregates_while_a_pair_is_held(rt: HostRuntime) -> Result<(), Fail> {
-    let day = january(&rt, 1, 2);
-    let table = without_columns(&rt, &[day; 4])?;
-    let want = [AggRow {
+fn aggregates_while_a_pair_is_held(rt: HostRuntime) {
+    let table = without_columns(&rt, &[january(&rt, 1, 2); 4]);
+    let want = ungrouped(&rt, &[(1, 2, 4)]);
+    let question = Question {
+        func: Func::Count,
         group: None,
-        period: day,
-        value: 4,
-    }];
+    };
     for gate in &both_ways((0, 1), (2, 3)) {
-        let one = side(&rt, &table);
-        let rows = agg(&rt, rt.alloc(), one, Func::Count, None, 2, gate)?;
-        assert_eq!(rt; rows.to_vec(rt.alloc())?.as_slice(), want.as_slice());
+        check_aggs(&rt, &table, &question, &[2], gate, &want);
         check_left(&rt, gate);
     }
-    Ok(())
 }
 
 // So many periods of ten days, each of which starts a day after the one before it.
-fn ten_days(rt: &(impl Abort + Alloc<A = Global>), count: usize) -> Result<Vec<Period>, Fail> {
-    let days = days(rt.alloc())?;
+fn ten_days(rt: &(impl Abort + Alloc<A = Global>), days: &[Point], count: usize) -> Vec<Period> {
     let mut periods = Vec::new(rt.alloc());
-    for (from, to) in days.iter().zip(days.iter().skip(10)).take(count) {
-        periods.push(Period::new(*from, *to)?)?;
+    for i in 0..count {
+        let from = days.get(i).expect(rt, "a day");
+        let to = days.get(i.saturating_add(10)).expect(rt, "a day");
+        let period = Period::new(*from, *to).expect(rt, "a period");
+        periods.push(period).expect(rt, "memory");
     }
-    assert_eq!(rt; periods.len(), count);
-    Ok(periods)
+    periods
+}
+
+// By so many workers these rows come out, and each pair of parts is entered once.
+fn check_entered(
+    rt: &(impl Abort + Alloc<A = Global> + Threads + Sync),
+    pair: &TablePair,
+    workers: u32,
+    want: &[JoinRow],
+) {
+    let gate = Counts {
+        entered: ten_by_ten(),
+        others: AtomicU64::new(0),
+    };
+    check_joins(rt, pair, &[workers], &gate, want);
+    check_counts(rt, &gate);
 }
 
 #[test]
 fn runs_each_pair_of_parts_once(rt: HostRuntime) -> Result<(), Fail> {
-    let periods = ten_days(&rt, 300)?;
-    let table = without_columns(&rt, &periods)?;
-    let (one, other) = (side(&rt, &table), side(&rt, &table));
-    let first = join(&rt, rt.alloc(), one, other, &[], 1, &OpenGate)?;
-    assert_eq!(rt; first.rows.len(), 5_610);
+    let days = days(rt.alloc())?;
+    let pair = periods_twice(&rt, &ten_days(&rt, &days, 300));
+    let first = joined(&rt, &pair, 1, &OpenGate);
+    assert!(rt; first.rows.len() == 5_610);
     for workers in [1, 2, 7, 64] {
-        let gate = Counts {
-            entered: ten_by_ten(),
-            others: AtomicU64::new(0),
-        };
-        let (one, other) = (side(&rt, &table), side(&rt, &table));
-        let answer = join(&rt, rt.alloc(), one, other, &[], workers, &gate)?;
-        assert_eq!(rt;
-            answer.rows.as_slice(),
-            first.rows.as_slice(),
-            "with {workers} workers"
-        );
-        assert_eq!(rt; gate.others.load(Ordering::SeqCst), 0);
-        for counts in &gate.entered {
-            check_counts(&rt, counts);
-        }
+        check_entered(&rt, &pair, workers, first.rows.as_slice());
     }
     Ok(())
 }

@@ -1,12 +1,12 @@
 //! Random rows and their tables, and the runs of days of one value.
 
-use crate::tables::Table;
+use crate::tables::{Table, TablePair};
 use period_core::{Period, Point};
 use rand::RngExt;
 use rand_pcg::Pcg32;
 use row_core::{Kind, Name, Row, RowList, Schema, Text, Value, Values};
-use std::alloc::{AllocError, Global};
-use std::test::Fail;
+use std::alloc::Global;
+use std::process::Abort;
 
 /// Rows hold on some of so many days, of which the first is 2024-01-01.
 pub const DAYS: u64 = 20;
@@ -17,6 +17,15 @@ pub enum Field {
     Code,
     Word,
     Size,
+}
+
+impl Field {
+    fn kind(self) -> Kind {
+        match self {
+            Field::Word => Kind::Text,
+            Field::Code | Field::Size => Kind::Int,
+        }
+    }
 }
 
 /// The columns of left tables.
@@ -42,11 +51,11 @@ pub enum Cell {
 
 impl Cell {
     /// The same as a value of a row.
-    pub fn value(self, alloc: Global) -> Result<Value, Fail> {
-        Ok(match self {
+    pub fn value(self, rt: &(impl Abort + Alloc<A = Global>)) -> Value {
+        match self {
             Cell::Number(number) => Value::Int(number),
-            Cell::Word(word) => Value::Text(Text::new(alloc, word)?),
-        })
+            Cell::Word(word) => Value::Text(Text::new(rt.alloc(), word).expect(rt, "a text")),
+        }
     }
 }
 
@@ -103,117 +112,148 @@ fn random_row(rng: &mut Pcg32, id: u64) -> PlainRow {
 }
 
 /// Up to twelve rows, by rising ids.
-pub fn random_rows(alloc: Global, rng: &mut Pcg32) -> Result<Vec<PlainRow>, AllocError> {
-    let mut rows = Vec::new(alloc);
+pub fn random_rows(rt: &(impl Abort + Alloc<A = Global>), rng: &mut Pcg32) -> Vec<PlainRow> {
+    let mut rows = Vec::new(rt.alloc());
     for i in 0..rng.random_range(0..=12) {
         let id = 3 * i + rng.random_range(1..=3);
-        rows.push(random_row(rng, id))?;
+        rows.push(random_row(rng, id)).expect(rt, "memory");
     }
-    Ok(rows)
+    rows
 }
 
 /// All that rows can have in the column by which they are grouped, in its order; None where they aren't.
-pub fn groups(alloc: Global, by: Option<Field>) -> Result<Vec<Option<Cell>>, AllocError> {
-    Ok(match by {
-        None => vec![in alloc; None]?,
-        Some(Field::Code) => vec![in alloc; Some(Cell::Number(-1)), Some(Cell::Number(0))]?,
-        Some(Field::Size) => vec![in alloc; Some(Cell::Number(-1)), Some(Cell::Number(2))]?,
-        Some(Field::Word) => vec![in alloc;
-            Some(Cell::Word(b"")),
-            Some(Cell::Word(b"x")),
-            Some(Cell::Word(b"xy")),
-        ]?,
-    })
+pub fn groups(by: Option<Field>) -> &'static [Option<Cell>] {
+    match by {
+        None => UNGROUPED,
+        Some(Field::Code) => CODES,
+        Some(Field::Size) => SIZES,
+        Some(Field::Word) => WORDS,
+    }
 }
 
+const UNGROUPED: &[Option<Cell>] = &[None];
+
+const CODES: &[Option<Cell>] = &[Some(Cell::Number(-1)), Some(Cell::Number(0))];
+
+const SIZES: &[Option<Cell>] = &[Some(Cell::Number(-1)), Some(Cell::Number(2))];
+
+const WORDS: &[Option<Cell>] = &[
+    Some(Cell::Word(b"")),
+    Some(Cell::Word(b"x")),
+    Some(Cell::Word(b"xy")),
+];
+
 /// From one day on and before another.
-pub fn period(days: &[Point], from: u64, to: u64) -> Result<Period, Fail> {
-    let from = days.get(from as usize).ok_or("a day")?;
-    let to = days.get(to as usize).ok_or("a day")?;
-    Ok(Period::new(*from, *to)?)
+pub fn period(rt: &impl Abort, days: &[Point], from: u64, to: u64) -> Period {
+    let from = days.get(from as usize).expect(rt, "a day");
+    let to = days.get(to as usize).expect(rt, "a day");
+    Period::new(*from, *to).expect(rt, "a period")
 }
 
 // The columns, with their names and kinds.
-fn schema(alloc: Global, columns: &[(&[u8], Field)]) -> Result<Schema, Fail> {
-    let mut pairs = Vec::new(alloc);
+fn schema(rt: &(impl Abort + Alloc<A = Global>), columns: &[(&[u8], Field)]) -> Schema {
+    let mut pairs = Vec::new(rt.alloc());
     for (name, field) in columns {
-        let kind = match field {
-            Field::Word => Kind::Text,
-            Field::Code | Field::Size => Kind::Int,
-        };
-        pairs.push((Name::parse(name)?, kind))?;
+        let name = Name::parse(name).expect(rt, "a name");
+        pairs.push((name, field.kind())).expect(rt, "memory");
     }
-    Ok(Schema::new(alloc, &pairs)?)
+    Schema::new(rt.alloc(), &pairs).expect(rt, "a schema")
+}
+
+// What the row has in the columns.
+fn values(
+    rt: &(impl Abort + Alloc<A = Global>),
+    columns: &[(&[u8], Field)],
+    row: &PlainRow,
+) -> Values {
+    let mut values = Values::new(rt.alloc());
+    for (_, field) in columns {
+        let value = row.cell(*field).value(rt);
+        values.push(value).expect(rt, "memory");
+    }
+    values
 }
 
 /// The rows as a table with these columns.
 pub fn table(
-    alloc: Global,
+    rt: &(impl Abort + Alloc<A = Global>),
     columns: &[(&[u8], Field)],
     rows: &[PlainRow],
     days: &[Point],
-) -> Result<Table, Fail> {
-    let mut list = RowList::new(alloc);
+) -> Table {
+    let mut table = Table {
+        schema: schema(rt, columns),
+        rows: RowList::new(rt.alloc()),
+    };
     for row in rows {
-        let mut values = Values::new(alloc);
-        for (_, field) in columns {
-            values.push(row.cell(*field).value(alloc)?)?;
-        }
-        list.push(Row {
+        let row = Row {
             id: row.id,
-            period: period(days, row.from, row.to)?,
-            values,
-        })?;
+            period: period(rt, days, row.from, row.to),
+            values: values(rt, columns, row),
+        };
+        table.rows.push(row).expect(rt, "memory");
     }
-    Ok(Table {
-        schema: schema(alloc, columns)?,
-        rows: list,
-    })
+    table
 }
 
 /// The column's name among these.
-pub fn name(columns: &[(&[u8], Field)], field: Field) -> Result<Name, Fail> {
+pub fn name(rt: &impl Abort, columns: &[(&[u8], Field)], field: Field) -> Name {
     let column = columns.iter().find(|column| column.1 == field);
-    Ok(Name::parse(column.ok_or("a column")?.0)?)
+    Name::parse(column.expect(rt, "a column").0).expect(rt, "a name")
 }
 
-/// Two tables with their rows, and the columns by which rows are compared.
+// So many columns from one of them on.
+fn fields(rt: &(impl Abort + Alloc<A = Global>), first: usize, count: usize) -> Vec<Field> {
+    let mut fields = Vec::new(rt.alloc());
+    for i in 0..count {
+        let (_, field) = LEFT[first.wrapping_add(i) % 3];
+        fields.push(field).expect(rt, "memory");
+    }
+    fields
+}
+
+// The columns' names on both sides.
+fn names(rt: &(impl Abort + Alloc<A = Global>), on: &[Field]) -> Vec<(Name, Name)> {
+    let mut names = Vec::new(rt.alloc());
+    for field in on {
+        let pair = (name(rt, &LEFT, *field), name(rt, &RIGHT, *field));
+        names.push(pair).expect(rt, "memory");
+    }
+    names
+}
+
+/// Rows of two tables, the columns by which they are compared, and the tables.
 #[derive(Drop)]
 pub struct Pair {
     pub lefts: Vec<PlainRow>,
     pub rights: Vec<PlainRow>,
     pub on: Vec<Field>,
-    pub left: Table,
-    pub right: Table,
-    pub names: Vec<(Name, Name)>,
+    pub tables: TablePair,
 }
 
 impl Pair {
     /// Two tables of random rows, to be compared by so many columns from one of them on.
     pub fn random(
-        alloc: Global,
+        rt: &(impl Abort + Alloc<A = Global>),
         rng: &mut Pcg32,
         first: usize,
         count: usize,
         days: &[Point],
-    ) -> Result<Pair, Fail> {
-        let (lefts, rights) = (random_rows(alloc, rng)?, random_rows(alloc, rng)?);
-        let left = table(alloc, &LEFT, &lefts, days)?;
-        let right = table(alloc, &RIGHT, &rights, days)?;
-        let mut on = Vec::new(alloc);
-        let mut names = Vec::new(alloc);
-        for (_, field) in LEFT.iter().cycle().skip(first).take(count) {
-            on.push(*field)?;
-            names.push((name(&LEFT, *field)?, name(&RIGHT, *field)?))?;
-        }
-        Ok(Pair {
+    ) -> Pair {
+        let lefts = random_rows(rt, rng);
+        let rights = random_rows(rt, rng);
+        let on = fields(rt, first, count);
+        let tables = TablePair {
+            left: table(rt, &LEFT, &lefts, days),
+            right: table(rt, &RIGHT, &rights, days),
+            on: names(rt, &on),
+        };
+        Pair {
             lefts,
             rights,
             on,
-            left,
-            right,
-            names,
-        })
+            tables,
+        }
     }
 }
 
@@ -226,20 +266,27 @@ pub struct Run {
 }
 
 /// The longest runs of days of one value, by rising start, of what each day has.
-pub fn runs(alloc: Global, values: &[Option<i128>]) -> Result<Vec<Run>, AllocError> {
-    let mut runs: Vec<Run> = Vec::new(alloc);
+pub fn runs(rt: &(impl Abort + Alloc<A = Global>), values: &[Option<i128>]) -> Vec<Run> {
+    let mut runs = Vec::new(rt.alloc());
     for day in 0..DAYS {
-        let Some(value) = values.get(day as usize).copied().flatten() else {
-            continue;
-        };
-        match runs.last_mut() {
-            Some(run) if run.to == day && run.value == value => run.to = day + 1,
-            _ => runs.push(Run {
-                from: day,
-                to: day + 1,
-                value,
-            })?,
+        if let Some(Some(value)) = values.get(day as usize) {
+            push_day(rt, &mut runs, day, *value);
         }
     }
-    Ok(runs)
+    runs
+}
+
+// Adds a day: to the last run where it follows that and has its value.
+fn push_day(rt: &impl Abort, runs: &mut Vec<Run>, day: u64, value: i128) {
+    let to = day.saturating_add(1);
+    match runs.last_mut() {
+        Some(run) if run.to == day && run.value == value => run.to = to,
+        _ => runs
+            .push(Run {
+                from: day,
+                to,
+                value,
+            })
+            .expect(rt, "memory"),
+    }
 }

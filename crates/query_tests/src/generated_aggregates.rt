@@ -1,15 +1,16 @@
 //! Aggregates of tables of random rows, against what each day shows of each group; and the greatest and the least sums.
 
 use crate::generated::{
-    Cell, DAYS, Field, LEFT, PlainRow, groups, name, period, random_rows, runs, table,
+    Cell, DAYS, Field, LEFT, PlainRow, Run, groups, name, period, random_rows, runs, table,
 };
-use crate::tables::{days, january, numbers, side};
-use agg_core::{AggRow, Func, agg};
+use crate::queries::{Question, check_aggs, ungrouped};
+use crate::tables::{Table, days, table_of};
+use agg_core::{AggRow, Func};
 use period_core::Point;
 use rand_core::SeedableRng;
 use rand_pcg::Pcg32;
 use row_core::{Name, Value};
-use std::alloc::{AllocError, Global};
+use std::alloc::Global;
 use std::process::Abort;
 use std::test::Fail;
 use std::thread::Threads;
@@ -17,9 +18,19 @@ use work_core::OpenGate;
 
 // What is asked of the sizes of rows, and the column by which they are grouped.
 #[derive(Clone, Copy)]
-struct Question {
+struct Asked {
     func: Func,
     by: Option<Field>,
+}
+
+impl Asked {
+    // The same with the column's name.
+    fn question(&self, rt: &impl Abort) -> Question {
+        Question {
+            func: self.func,
+            group: self.by.map(|field| name(rt, &LEFT, field)),
+        }
+    }
 }
 
 // The sum of a few numbers.
@@ -45,111 +56,103 @@ fn come_to(func: &Func, numbers: &[i64]) -> Option<i128> {
 
 // The sizes of the rows of a group that hold on the day.
 fn sizes_on(
-    alloc: Global,
+    rt: &(impl Abort + Alloc<A = Global>),
     rows: &[PlainRow],
     by: Option<Field>,
     group: Option<Cell>,
     day: u64,
-) -> Result<Vec<i64>, AllocError> {
-    let mut sizes = Vec::new(alloc);
+) -> Vec<i64> {
+    let mut sizes = Vec::new(rt.alloc());
     for row in rows {
         if row.holds(day) && row.group(by) == group {
-            sizes.push(row.size)?;
+            sizes.push(row.size).expect(rt, "memory");
         }
     }
-    Ok(sizes)
+    sizes
 }
 
 // What a group comes to on each day.
 fn values_by_day(
-    alloc: Global,
+    rt: &(impl Abort + Alloc<A = Global>),
     rows: &[PlainRow],
-    question: &Question,
+    asked: &Asked,
     group: Option<Cell>,
-) -> Result<Vec<Option<i128>>, AllocError> {
-    let mut values = Vec::new(alloc);
+) -> Vec<Option<i128>> {
+    let mut values = Vec::new(rt.alloc());
     for day in 0..DAYS {
-        let sizes = sizes_on(alloc, rows, question.by, group, day)?;
-        values.push(come_to(&question.func, &sizes))?;
+        let sizes = sizes_on(rt, rows, asked.by, group, day);
+        let value = come_to(&asked.func, &sizes);
+        values.push(value).expect(rt, "memory");
     }
-    Ok(values)
+    values
+}
+
+// The group as it comes out.
+fn value(rt: &(impl Abort + Alloc<A = Global>), group: Option<Cell>) -> Option<Value> {
+    match group {
+        None => None,
+        Some(cell) => Some(cell.value(rt)),
+    }
+}
+
+// The row of a group that is to come out.
+fn agg_row(
+    rt: &(impl Abort + Alloc<A = Global>),
+    group: Option<Cell>,
+    run: &Run,
+    days: &[Point],
+) -> AggRow {
+    AggRow {
+        group: value(rt, group),
+        period: period(rt, days, run.from, run.to),
+        value: run.value,
+    }
 }
 
 // The rows that are to come out, by group and start.
 fn wanted(
-    alloc: Global,
+    rt: &(impl Abort + Alloc<A = Global>),
     rows: &[PlainRow],
-    question: &Question,
+    asked: &Asked,
     days: &[Point],
-) -> Result<Vec<AggRow>, Fail> {
-    let mut wanted = Vec::new(alloc);
-    for group in &groups(alloc, question.by)? {
-        for run in &runs(alloc, &values_by_day(alloc, rows, question, *group)?)? {
-            wanted.push(AggRow {
-                group: value(alloc, *group)?,
-                period: period(days, run.from, run.to)?,
-                value: run.value,
-            })?;
+) -> Vec<AggRow> {
+    let mut wanted = Vec::new(rt.alloc());
+    for group in groups(asked.by) {
+        for run in &runs(rt, &values_by_day(rt, rows, asked, *group)) {
+            let row = agg_row(rt, *group, run, days);
+            wanted.push(row).expect(rt, "memory");
         }
     }
-    Ok(wanted)
-}
-
-// The group as it comes out.
-fn value(alloc: Global, group: Option<Cell>) -> Result<Option<Value>, Fail> {
-    match group {
-        None => Ok(None),
-        Some(cell) => Ok(Some(cell.value(alloc)?)),
-    }
+    wanted
 }
 
 // Asks the question of a generated table by 1, 2 and 7 workers. Tells how many rows come out.
-fn check_agg(
+fn check_random(
     rt: &(impl Abort + Alloc<A = Global> + Threads + Sync),
     rng: &mut Pcg32,
-    question: &Question,
+    asked: &Asked,
     days: &[Point],
-) -> Result<usize, Fail> {
-    let rows = random_rows(rt.alloc(), rng)?;
-    let want = wanted(rt.alloc(), &rows, question, days)?;
-    let table = table(rt.alloc(), &LEFT, &rows, days)?;
-    let group = match question.by {
-        None => None,
-        Some(field) => Some(name(&LEFT, field)?),
-    };
-    for workers in [1, 2, 7] {
-        let one = side(rt, &table);
-        let rows = agg(
-            rt,
-            rt.alloc(),
-            one,
-            question.func,
-            group,
-            workers,
-            &OpenGate,
-        )?;
-        assert_eq!(rt;
-            rows.to_vec(rt.alloc())?.as_slice(),
-            want.as_slice(),
-            "with {workers} workers"
-        );
-    }
-    Ok(want.len())
+) -> usize {
+    let rows = random_rows(rt, rng);
+    let want = wanted(rt, &rows, asked, days);
+    let table = table(rt, &LEFT, &rows, days);
+    let question = asked.question(rt);
+    check_aggs(rt, &table, &question, &[1, 2, 7], &OpenGate, &want);
+    want.len()
 }
 
 // Asks what ten generated tables come to.
 fn check_ten(
     rt: &(impl Abort + Alloc<A = Global> + Threads + Sync),
     rng: &mut Pcg32,
-    question: &Question,
+    asked: &Asked,
     days: &[Point],
-) -> Result<(), Fail> {
+) {
     let mut rows = 0usize;
     for _ in 0..10 {
-        rows = rows.saturating_add(check_agg(rt, rng, question, days)?);
+        rows = rows.saturating_add(check_random(rt, rng, asked, days));
     }
-    assert!(rt; rows >= 10, "{:?} has only {rows} rows", question.func);
-    Ok(())
+    assert!(rt; rows >= 10, "{:?} has only {rows} rows", asked.func);
 }
 
 // Asks a function of twenty tables as one group, of ten by a number and of ten by a text.
@@ -158,28 +161,50 @@ fn check_func(
     rng: &mut Pcg32,
     func: &Func,
     days: &[Point],
-) -> Result<(), Fail> {
+) {
     for by in [None, Some(Field::Code), None, Some(Field::Word)] {
-        let question = Question { func: *func, by };
-        check_ten(rt, rng, &question, days)?;
+        check_ten(rt, rng, &Asked { func: *func, by }, days);
     }
-    Ok(())
 }
 
 #[test]
 fn comes_to_what_each_day_shows(rt: HostRuntime) -> Result<(), Fail> {
     let days = days(rt.alloc())?;
-    let size = name(&LEFT, Field::Size)?;
+    let size = name(&rt, &LEFT, Field::Size);
     let mut rng = Pcg32::seed_from_u64(3);
-    check_func(&rt, &mut rng, &Func::Count, &days)?;
-    check_func(&rt, &mut rng, &Func::Sum(size), &days)?;
-    check_func(&rt, &mut rng, &Func::Min(size), &days)?;
-    check_func(&rt, &mut rng, &Func::Max(size), &days)
+    for func in [
+        Func::Count,
+        Func::Sum(size),
+        Func::Min(size),
+        Func::Max(size),
+    ] {
+        check_func(&rt, &mut rng, &func, &days);
+    }
+    Ok(())
+}
+
+// The column of a table of numbers summed.
+fn sum_of(rt: &impl Abort) -> Func {
+    Func::Sum(Name::parse(b"c").expect(rt, "a name"))
+}
+
+// What all rows of a table of numbers come to, by each of these numbers of workers: days of January 2024 from one on and
+// before another, and values.
+fn check_one_group(
+    rt: &(impl Abort + Alloc<A = Global> + Threads + Sync),
+    table: &Table,
+    func: Func,
+    workers: &[u32],
+    want: &[(u8, u8, i128)],
+) {
+    let want = ungrouped(rt, want);
+    let question = Question { func, group: None };
+    check_aggs(rt, table, &question, workers, &OpenGate, &want);
 }
 
 // Each is past the numbers of 64 bits, with a sign and without.
 #[test]
-fn sums_are_wider_than_numbers(rt: HostRuntime) -> Result<(), Fail> {
+fn sums_are_wider_than_numbers(rt: HostRuntime) {
     let rows = [
         (1, 2, i64::MAX),
         (1, 2, i64::MAX),
@@ -188,82 +213,48 @@ fn sums_are_wider_than_numbers(rt: HostRuntime) -> Result<(), Fail> {
         (2, 3, i64::MIN),
         (2, 3, i64::MIN),
     ];
-    let table = numbers(&rt, &rows)?;
-    let sum = Func::Sum(Name::parse(b"c")?);
-    let rows = agg(&rt, rt.alloc(), side(&rt, &table), sum, None, 2, &OpenGate)?;
     let want = [
-        AggRow {
-            group: None,
-            period: january(&rt, 1, 2),
-            value: 27_670_116_110_564_327_421,
-        },
-        AggRow {
-            group: None,
-            period: january(&rt, 2, 3),
-            value: -27_670_116_110_564_327_424,
-        },
+        (1, 2, 27_670_116_110_564_327_421),
+        (2, 3, -27_670_116_110_564_327_424),
     ];
-    assert_eq!(rt; rows.to_vec(rt.alloc())?.as_slice(), want.as_slice());
-    Ok(())
+    check_one_group(&rt, &table_of(&rt, &rows), sum_of(&rt), &[2], &want);
 }
 
-// Seven hundred rows from each of 27 days on, which hold for three: so many that several workers take spans of them, at whose
-// ends the value goes on.
-#[test]
-fn a_value_goes_on_from_span_to_span(rt: HostRuntime) -> Result<(), Fail> {
+// Rows that hold for three days, so many from each of 27 days on.
+fn three_days(rt: &(impl Abort + Alloc<A = Global>), count: usize) -> Table {
     let mut rows = Vec::new(rt.alloc());
-    for _ in 0..700 {
+    for _ in 0..count {
         for day in 1..28u8 {
-            rows.push((day, day + 3, 1))?;
+            rows.push((day, day + 3, 1)).expect(rt, "memory");
         }
     }
-    let table = numbers(&rt, &rows)?;
-    let mut want = Vec::new(rt.alloc());
-    for (from, to, value) in [
+    table_of(rt, &rows)
+}
+
+// So many rows that several workers take spans of them, at whose ends the value goes on.
+#[test]
+fn a_value_goes_on_from_span_to_span(rt: HostRuntime) {
+    let table = three_days(&rt, 700);
+    let want = [
         (1, 2, 700),
         (2, 3, 1_400),
         (3, 28, 2_100),
         (28, 29, 1_400),
         (29, 30, 700),
-    ] {
-        want.push(AggRow {
-            group: None,
-            period: january(&rt, from, to),
-            value,
-        })?;
-    }
-    for workers in [1, 2, 7] {
-        let side = side(&rt, &table);
-        let rows = agg(&rt, rt.alloc(), side, Func::Count, None, workers, &OpenGate)?;
-        assert_eq!(rt;
-            rows.to_vec(rt.alloc())?.as_slice(),
-            want.as_slice(),
-            "with {workers} workers"
-        );
-    }
-    Ok(())
+    ];
+    check_one_group(&rt, &table, Func::Count, &[1, 2, 7], &want);
 }
 
-// As many rows as a table has, all of one day, with the greatest number and with the least.
+// As many rows as a table has, all of one day, with this number.
+fn check_bound(rt: &(impl Abort + Alloc<A = Global> + Threads + Sync), number: i64, want: i128) {
+    let rows = vec![in rt.alloc(); (1, 2, number); 1_000_000].expect(rt, "memory");
+    let table = table_of(rt, &rows);
+    check_one_group(rt, &table, sum_of(rt), &[2], &[(1, 2, want)]);
+}
+
+// The greatest number, and the least.
 #[test]
-fn sums_reach_their_bounds(rt: HostRuntime) -> Result<(), Fail> {
-    for (number, value) in [
-        (i64::MAX, 9_223_372_036_854_775_807_000_000),
-        (i64::MIN, -9_223_372_036_854_775_808_000_000),
-    ] {
-        let mut rows = Vec::new(rt.alloc());
-        for _ in 0..1_000_000 {
-            rows.push((1, 2, number))?;
-        }
-        let table = numbers(&rt, &rows)?;
-        let sum = Func::Sum(Name::parse(b"c")?);
-        let rows = agg(&rt, rt.alloc(), side(&rt, &table), sum, None, 2, &OpenGate)?;
-        let want = [AggRow {
-            group: None,
-            period: january(&rt, 1, 2),
-            value,
-        }];
-        assert_eq!(rt; rows.to_vec(rt.alloc())?.as_slice(), want.as_slice());
-    }
-    Ok(())
+fn sums_reach_their_bounds(rt: HostRuntime) {
+    check_bound(&rt, i64::MAX, 9_223_372_036_854_775_807_000_000);
+    check_bound(&rt, i64::MIN, -9_223_372_036_854_775_808_000_000);
 }

@@ -1,13 +1,13 @@
 //! Anti-joins of tables of random rows, against what each day shows of each left row, and of tables of many values.
 
 use crate::generated::{DAYS, Pair, PlainRow, period, runs};
-use crate::tables::{days, january, listed, numbers, side};
-use anti_core::{AntiRow, anti};
+use crate::queries::check_antis;
+use crate::tables::{days, january, number_pair};
+use anti_core::AntiRow;
 use period_core::Point;
 use rand_core::SeedableRng;
 use rand_pcg::Pcg32;
-use row_core::Name;
-use std::alloc::{AllocError, Global};
+use std::alloc::Global;
 use std::process::Abort;
 use std::test::Fail;
 use std::thread::Threads;
@@ -15,52 +15,50 @@ use work_core::OpenGate;
 
 // For each day 0 where the left row holds and no right row does that matches.
 fn unmet_by_day(
-    alloc: Global,
+    rt: &(impl Abort + Alloc<A = Global>),
     pair: &Pair,
     left: &PlainRow,
-) -> Result<Vec<Option<i128>>, AllocError> {
-    let mut unmet = Vec::new(alloc);
+) -> Vec<Option<i128>> {
+    let mut unmet = Vec::new(rt.alloc());
     for day in 0..DAYS {
         let met = pair
             .rights
             .iter()
             .any(|right| right.holds(day) && left.matches(right, &pair.on));
-        unmet.push((left.holds(day) && !met).then_some(0))?;
+        let value = (left.holds(day) && !met).then_some(0);
+        unmet.push(value).expect(rt, "memory");
     }
-    Ok(unmet)
+    unmet
 }
 
 // The rows that are to come out, by id and start.
-fn unmet_rows(alloc: Global, pair: &Pair, days: &[Point]) -> Result<Vec<AntiRow>, Fail> {
-    let mut rows = Vec::new(alloc);
+fn unmet_rows(rt: &(impl Abort + Alloc<A = Global>), pair: &Pair, days: &[Point]) -> Vec<AntiRow> {
+    let mut rows = Vec::new(rt.alloc());
     for left in &pair.lefts {
-        for run in &runs(alloc, &unmet_by_day(alloc, pair, left)?)? {
-            rows.push(AntiRow {
+        for run in &runs(rt, &unmet_by_day(rt, pair, left)) {
+            let row = AntiRow {
                 id: left.id,
-                period: period(days, run.from, run.to)?,
-            })?;
+                period: period(rt, days, run.from, run.to),
+            };
+            rows.push(row).expect(rt, "memory");
         }
     }
-    Ok(rows)
+    rows
 }
 
-// Takes the anti-join of both tables by 1, 2 and 7 workers. Tells how many rows come out.
-fn check_anti(
+// Takes the anti-join of two tables by 1, 2 and 7 workers, on so many columns from one of them on. Tells how many rows
+// come out.
+fn check_random(
     rt: &(impl Abort + Alloc<A = Global> + Threads + Sync),
-    pair: &Pair,
+    rng: &mut Pcg32,
+    first: usize,
+    count: usize,
     days: &[Point],
-) -> Result<usize, Fail> {
-    let want = unmet_rows(rt.alloc(), pair, days)?;
-    for workers in [1, 2, 7] {
-        let (one, other) = (side(rt, &pair.left), side(rt, &pair.right));
-        let rows = anti(rt, rt.alloc(), one, other, &pair.names, workers, &OpenGate)?;
-        assert_eq!(rt;
-            listed(rt.alloc(), &rows)?.as_slice(),
-            want.as_slice(),
-            "with {workers} workers"
-        );
-    }
-    Ok(want.len())
+) -> usize {
+    let pair = Pair::random(rt, rng, first, count, days);
+    let want = unmet_rows(rt, &pair, days);
+    check_antis(rt, &pair.tables, &[1, 2, 7], &OpenGate, &want);
+    want.len()
 }
 
 // Ten pairs of tables without columns that are compared, and ten with one, with two and with three.
@@ -71,8 +69,8 @@ fn leaves_what_each_day_shows(rt: HostRuntime) -> Result<(), Fail> {
     for count in 0..4 {
         let mut rows = 0usize;
         for first in 0..10 {
-            let pair = Pair::random(rt.alloc(), &mut rng, first, count, &days)?;
-            rows = rows.saturating_add(check_anti(&rt, &pair, &days)?);
+            let found = check_random(&rt, &mut rng, first, count, &days);
+            rows = rows.saturating_add(found);
         }
         assert!(rt;
             rows >= 20,
@@ -82,35 +80,48 @@ fn leaves_what_each_day_shows(rt: HostRuntime) -> Result<(), Fail> {
     Ok(())
 }
 
+// Three rows of each of so many values: they hold for two days.
+fn in_threes(rt: &(impl Abort + Alloc<A = Global>), values: i64) -> Vec<(u8, u8, i64)> {
+    let mut rows = Vec::new(rt.alloc());
+    for value in 0..values {
+        let three = [(1, 3, value); 3];
+        rows.extend_from_slice(&three).expect(rt, "memory");
+    }
+    rows
+}
+
+// A row of every other one of so many values, which holds on the second of their days.
+fn every_other(rt: &(impl Abort + Alloc<A = Global>), values: i64) -> Vec<(u8, u8, i64)> {
+    let mut rows = Vec::new(rt.alloc());
+    for value in 0..values {
+        if value % 2 == 0 {
+            rows.push((2, 4, value)).expect(rt, "memory");
+        }
+    }
+    rows
+}
+
+// What is left of so many rows in threes.
+fn left_of_threes(rt: &(impl Abort + Alloc<A = Global>), rows: u64) -> Vec<AntiRow> {
+    let mut left = Vec::new(rt.alloc());
+    for i in 0..rows {
+        let to = if i / 3 % 2 == 0 { 2 } else { 3 };
+        let row = AntiRow {
+            id: i + 1,
+            period: january(rt, 1, to),
+        };
+        left.push(row).expect(rt, "memory");
+    }
+    left
+}
+
 // Three rows of each of six thousand values, which are more than are taken at a time, and so many that several workers
 // put them in order. Every other value has a right row, which holds on the second of their two days.
 #[test]
-fn leaves_rows_of_many_values(rt: HostRuntime) -> Result<(), Fail> {
-    let (mut lefts, mut rights) = (Vec::new(rt.alloc()), Vec::new(rt.alloc()));
-    let mut want = Vec::new(rt.alloc());
-    for i in 0..18_000u64 {
-        let value = (i / 3) as i64;
-        let to = if value % 2 == 0 { 2 } else { 3 };
-        lefts.push((1, 3, value))?;
-        if value % 2 == 0 && i % 3 == 0 {
-            rights.push((2, 4, value))?;
-        }
-        want.push(AntiRow {
-            id: i + 1,
-            period: january(&rt, 1, to),
-        })?;
-    }
-    let (left, right) = (numbers(&rt, &lefts)?, numbers(&rt, &rights)?);
-    let column = Name::parse(b"c")?;
-    for workers in [1, 2, 7] {
-        let (one, other) = (side(&rt, &left), side(&rt, &right));
-        let on = [(column, column)];
-        let rows = anti(&rt, rt.alloc(), one, other, &on, workers, &OpenGate)?;
-        assert_eq!(rt;
-            listed(rt.alloc(), &rows)?.as_slice(),
-            want.as_slice(),
-            "with {workers} workers"
-        );
-    }
-    Ok(())
+fn leaves_rows_of_many_values(rt: HostRuntime) {
+    let lefts = in_threes(&rt, 6_000);
+    let rights = every_other(&rt, 6_000);
+    let pair = number_pair(&rt, &lefts, &rights);
+    let want = left_of_threes(&rt, 18_000);
+    check_antis(&rt, &pair, &[1, 2, 7], &OpenGate, &want);
 }

@@ -1,8 +1,9 @@
 //! Joins of tables of random rows, against what each day shows of each two rows.
 
 use crate::generated::{DAYS, Pair, PlainRow, period};
-use crate::tables::{days, side};
-use join_core::{JoinRow, join};
+use crate::queries::check_joins;
+use crate::tables::days;
+use join_core::JoinRow;
 use period_core::Point;
 use rand_core::SeedableRng;
 use rand_pcg::Pcg32;
@@ -18,58 +19,64 @@ fn shared_days(rt: &impl Abort, left: &PlainRow, right: &PlainRow) -> Option<(u6
     for day in 0..DAYS {
         if left.holds(day) && right.holds(day) {
             let (from, to) = shared.unwrap_or((day, day));
-            assert_eq!(rt; to, day);
+            assert!(rt; to == day);
             shared = Some((from, day + 1));
         }
     }
     shared
 }
 
-// The rows that are to come out, by start, end, left id and right id.
-fn joined_by_day(
-    rt: &(impl Abort + Alloc<A = Global>),
-    pair: &Pair,
-    days: &[Point],
-) -> Result<Vec<JoinRow>, Fail> {
+// The first of the days that two rows share, the day behind the last, and the ids of both.
+type Shared = (u64, u64, u64, u64);
+
+// What matching rows share, by start, end, left id and right id.
+fn shared_by_day(rt: &(impl Abort + Alloc<A = Global>), pair: &Pair) -> Vec<Shared> {
     let mut found = Vec::new(rt.alloc());
     for left in &pair.lefts {
         for right in &pair.rights {
             if left.matches(right, &pair.on)
                 && let Some((from, to)) = shared_days(rt, left, right)
             {
-                found.push((from, to, left.id, right.id))?;
+                found
+                    .push((from, to, left.id, right.id))
+                    .expect(rt, "memory");
             }
         }
     }
     found.sort_unstable();
-    let mut rows = Vec::new(rt.alloc());
-    for (from, to, left, right) in found {
-        rows.push(JoinRow {
-            period: period(days, from, to)?,
-            left,
-            right,
-        })?;
-    }
-    Ok(rows)
+    found
 }
 
-// Joins both tables by 1, 2 and 7 workers. Tells how many rows come out.
-fn check_join(
-    rt: &(impl Abort + Alloc<A = Global> + Threads + Sync),
+// The rows that are to come out.
+fn joined_by_day(
+    rt: &(impl Abort + Alloc<A = Global>),
     pair: &Pair,
     days: &[Point],
-) -> Result<usize, Fail> {
-    let want = joined_by_day(rt, pair, days)?;
-    for workers in [1, 2, 7] {
-        let (one, other) = (side(rt, &pair.left), side(rt, &pair.right));
-        let answer = join(rt, rt.alloc(), one, other, &pair.names, workers, &OpenGate)?;
-        assert_eq!(rt;
-            answer.rows.as_slice(),
-            want.as_slice(),
-            "with {workers} workers"
-        );
+) -> Vec<JoinRow> {
+    let mut rows = Vec::new(rt.alloc());
+    for (from, to, left, right) in &shared_by_day(rt, pair) {
+        let row = JoinRow {
+            period: period(rt, days, *from, *to),
+            left: *left,
+            right: *right,
+        };
+        rows.push(row).expect(rt, "memory");
     }
-    Ok(want.len())
+    rows
+}
+
+// Joins two tables by 1, 2 and 7 workers, on so many columns from one of them on. Tells how many rows come out.
+fn check_random(
+    rt: &(impl Abort + Alloc<A = Global> + Threads + Sync),
+    rng: &mut Pcg32,
+    first: usize,
+    count: usize,
+    days: &[Point],
+) -> usize {
+    let pair = Pair::random(rt, rng, first, count, days);
+    let want = joined_by_day(rt, &pair, days);
+    check_joins(rt, &pair.tables, &[1, 2, 7], &OpenGate, &want);
+    want.len()
 }
 
 // Ten pairs of tables without columns that are compared, and ten with one, with two and with three.
@@ -80,8 +87,8 @@ fn joins_what_each_day_shows(rt: HostRuntime) -> Result<(), Fail> {
     for count in 0..4 {
         let mut rows = 0usize;
         for first in 0..10 {
-            let pair = Pair::random(rt.alloc(), &mut rng, first, count, &days)?;
-            rows = rows.saturating_add(check_join(&rt, &pair, &days)?);
+            let found = check_random(&rt, &mut rng, first, count, &days);
+            rows = rows.saturating_add(found);
         }
         assert!(rt;
             rows >= 10,

@@ -1,19 +1,20 @@
 //! Joins of tables: their rows for each number of workers, and how often cursors advance.
 
-use crate::tables::{Table, january, numbers, side, without_columns};
+use crate::queries::{check_joins, joined};
+use crate::tables::{Table, TablePair, january, number_pair, periods_twice, side, table_of};
 use join_core::{JoinRow, join};
 use match_core::QueryRefused;
 use row_core::{Failure, Kind, Name, RowList, Schema};
 use std::alloc::Global;
 use std::process::Abort;
 use std::test::Fail;
+use std::thread::Threads;
 use work_core::OpenGate;
 
-/// The tables of the worked join, of two rows and of three.
-pub fn worked_tables(rt: &(impl Abort + Alloc<A = Global>)) -> Result<(Table, Table), Fail> {
-    let left = numbers(rt, &[(1, 10, 1), (5, 8, 2)])?;
-    let right = numbers(rt, &[(3, 6, 1), (6, 20, 1), (7, 8, 2)])?;
-    Ok((left, right))
+/// The worked join: tables of two rows and of three.
+pub fn worked_join(rt: &(impl Abort + Alloc<A = Global>)) -> TablePair {
+    let rights = [(3, 6, 1), (6, 20, 1), (7, 8, 2)];
+    number_pair(rt, &[(1, 10, 1), (5, 8, 2)], &rights)
 }
 
 /// The rows of the worked join on a column.
@@ -37,96 +38,113 @@ pub fn worked_rows(rt: &impl Abort) -> [JoinRow; 3] {
     ]
 }
 
-#[test]
-fn joins_on_a_column(rt: HostRuntime) -> Result<(), Fail> {
-    let (left, right) = worked_tables(&rt)?;
-    let column = Name::parse(b"c")?;
-    let want = worked_rows(&rt);
-    for workers in [1, 2, 7, 64] {
-        // As many as a join may have.
-        assert!(rt; workers > 0);
-        assert!(rt; workers <= 64);
-        let (one, other) = (side(&rt, &left), side(&rt, &right));
-        let on = [(column, column)];
-        let answer = join(&rt, rt.alloc(), one, other, &on, workers, &OpenGate)?;
-        assert_eq!(rt;
-            answer.rows.as_slice(),
-            want.as_slice(),
-            "with {workers} workers"
-        );
-        assert!(rt; answer.turns >= 4);
-        assert!(rt; answer.turns <= 10);
-    }
-    Ok(())
+// By so many workers the cursors of the worked join advance four times at least and ten times at most.
+fn check_turns(
+    rt: &(impl Abort + Alloc<A = Global> + Threads + Sync),
+    pair: &TablePair,
+    workers: u32,
+) {
+    let turns = joined(rt, pair, workers, &OpenGate).turns;
+    assert!(rt; turns >= 4);
+    assert!(rt; turns <= 10);
 }
 
 #[test]
-fn joins_without_columns(rt: HostRuntime) -> Result<(), Fail> {
-    let (left, right) = worked_tables(&rt)?;
+fn joins_on_a_column(rt: HostRuntime) {
+    let pair = worked_join(&rt);
+    check_joins(&rt, &pair, &[1, 2, 7, 64], &OpenGate, &worked_rows(&rt));
     for workers in [1, 2, 7, 64] {
-        let (one, other) = (side(&rt, &left), side(&rt, &right));
-        let answer = join(&rt, rt.alloc(), one, other, &[], workers, &OpenGate)?;
-        assert_eq!(rt; answer.rows.len(), 6, "with {workers} workers");
+        check_turns(&rt, &pair, workers);
     }
-    Ok(())
+}
+
+// So many rows come out of a join by so many workers.
+fn check_count(
+    rt: &(impl Abort + Alloc<A = Global> + Threads + Sync),
+    pair: &TablePair,
+    workers: u32,
+    want: usize,
+) {
+    let count = joined(rt, pair, workers, &OpenGate).rows.len();
+    assert!(rt; count == want, "{count} rows with {workers} workers");
+}
+
+#[test]
+fn joins_without_columns(rt: HostRuntime) {
+    let mut pair = worked_join(&rt);
+    pair.on.clear();
+    for workers in [1, 2, 7, 64] {
+        check_count(&rt, &pair, workers, 6);
+    }
+}
+
+// A table of one row, and one without rows, which has a column of texts besides.
+fn table_without_rows(rt: &(impl Abort + Alloc<A = Global>), c: Name, d: Name) -> TablePair {
+    let columns = [(c, Kind::Int), (d, Kind::Text)];
+    TablePair {
+        left: table_of(rt, &[(1, 10, 1)]),
+        right: Table {
+            schema: Schema::new(rt.alloc(), &columns).expect(rt, "a schema"),
+            rows: RowList::new(rt.alloc()),
+        },
+        on: Vec::from_slice(rt.alloc(), &[(c, c)]).expect(rt, "memory"),
+    }
+}
+
+// A join on these columns is refused.
+fn check_refusal(
+    rt: &(impl Abort + Alloc<A = Global> + Threads + Sync),
+    pair: &TablePair,
+    on: (Name, Name),
+    want: QueryRefused,
+) {
+    let (left, right) = (side(rt, &pair.left), side(rt, &pair.right));
+    let answer = join(rt, rt.alloc(), left, right, &[on], 2, &OpenGate);
+    assert!(rt; answer.err() == Some(Failure::Refused(want)));
 }
 
 #[test]
 fn refuses_columns(rt: HostRuntime) -> Result<(), Fail> {
     let (c, d) = (Name::parse(b"c")?, Name::parse(b"d")?);
-    let left = numbers(&rt, &[(1, 10, 1)])?;
-    let right = Table {
-        schema: Schema::new(rt.alloc(), &[(c, Kind::Int), (d, Kind::Text)])?,
-        rows: RowList::new(rt.alloc()),
-    };
-    for (on, refused) in [
-        ((c, d), QueryRefused::WrongKind),
-        ((d, c), QueryRefused::NoColumn),
-        ((d, d), QueryRefused::NoColumn),
-    ] {
-        let (one, other) = (side(&rt, &left), side(&rt, &right));
-        let answer = join(&rt, rt.alloc(), one, other, &[on], 2, &OpenGate);
-        assert_eq!(rt; answer.err(), Some(Failure::Refused(refused)));
-    }
-    let (one, other) = (side(&rt, &left), side(&rt, &right));
-    let answer = join(&rt, rt.alloc(), one, other, &[(c, c)], 2, &OpenGate)?;
-    assert!(rt; answer.rows.is_empty());
+    let pair = table_without_rows(&rt, c, d);
+    check_refusal(&rt, &pair, (c, d), QueryRefused::WrongKind);
+    check_refusal(&rt, &pair, (d, c), QueryRefused::NoColumn);
+    check_refusal(&rt, &pair, (d, d), QueryRefused::NoColumn);
+    check_joins(&rt, &pair, &[2], &OpenGate, &[]);
     Ok(())
+}
+
+// So many rows of one day on both sides.
+fn one_day_twice(rt: &(impl Abort + Alloc<A = Global>), count: usize) -> TablePair {
+    let periods = vec![in rt.alloc(); january(rt, 1, 2); count].expect(rt, "memory");
+    periods_twice(rt, &periods)
 }
 
 // All rows of one day: each of them is a part of its own.
 #[test]
-fn joins_rows_of_one_day(rt: HostRuntime) -> Result<(), Fail> {
-    let day = january(&rt, 1, 2);
-    let table = without_columns(&rt, &[day; 200])?;
-    let (one, other) = (side(&rt, &table), side(&rt, &table));
-    let answer = join(&rt, rt.alloc(), one, other, &[], 2, &OpenGate)?;
-    assert_eq!(rt; answer.rows.len(), 40_000);
+fn joins_rows_of_one_day(rt: HostRuntime) {
+    let pair = one_day_twice(&rt, 200);
+    let answer = joined(&rt, &pair, 2, &OpenGate);
+    assert!(rt; answer.rows.len() == 40_000);
     assert!(rt; answer.turns >= 40_000);
     assert!(rt; answer.turns <= 80_000);
-    Ok(())
 }
 
 // Each of 300 rows with each of 300 others, all of one day, by left id and right id.
 fn check_pairs(rt: &impl Abort, rows: &[JoinRow]) {
-    assert_eq!(rt; rows.len(), 90_000);
-    for i in 0..90_000u64 {
-        let want = JoinRow {
-            period: january(rt, 1, 2),
-            left: i / 300 + 1,
-            right: i % 300 + 1,
-        };
-        assert_eq!(rt; rows.get(i as usize).copied(), Some(want));
+    assert!(rt; rows.len() == 90_000);
+    let day = january(rt, 1, 2);
+    for (i, row) in (0..90_000u64).zip(rows) {
+        assert!(rt; row.period == day);
+        assert!(rt; row.left == i / 300 + 1);
+        assert!(rt; row.right == i % 300 + 1);
     }
 }
 
 // More pairs of parts than are run at once.
 #[test]
-fn joins_ninety_thousand_pairs(rt: HostRuntime) -> Result<(), Fail> {
-    let left = without_columns(&rt, &[january(&rt, 1, 2); 300])?;
-    let right = without_columns(&rt, &[january(&rt, 1, 2); 300])?;
-    let (one, other) = (side(&rt, &left), side(&rt, &right));
-    let answer = join(&rt, rt.alloc(), one, other, &[], 2, &OpenGate)?;
+fn joins_ninety_thousand_pairs(rt: HostRuntime) {
+    let pair = one_day_twice(&rt, 300);
+    let answer = joined(&rt, &pair, 2, &OpenGate);
     check_pairs(&rt, answer.rows.as_slice());
-    Ok(())
 }

@@ -25,4 +25,6 @@ mod merges;
 #[cfg(test)]
 mod pieces;
 #[cfg(test)]
+mod queries;
+#[cfg(test)]
 mod tables;

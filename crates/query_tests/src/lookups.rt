@@ -1,40 +1,69 @@
 //! Rows that are looked for by a point or by their ids.
 
-use crate::joins::worked_tables;
-use crate::tables::{january, side};
-use period_core::Point;
+use crate::joins::worked_join;
+use crate::tables::{date, january, side};
 use query_core::{RowsById, at};
 use row_core::{Row, RowList, RowOrder, Values};
-use std::test::Fail;
+use std::alloc::Global;
+use std::process::Abort;
 
-#[test]
-fn gives_the_rows_of_a_point(rt: HostRuntime) -> Result<(), Fail> {
-    let (_, table) = worked_tables(&rt)?;
-    let rows = at(rt.alloc(), side(&rt, &table), Point::parse(b"2024-01-07")?)?;
-    assert_eq!(rt; rows.len(), 2);
-    for (row, id) in rows.as_slice().iter().zip(2u64..4) {
-        assert_eq!(rt; row.id, id);
+// Rows have these ids.
+fn check_order(rt: &impl Abort, rows: &[Row], ids: &[u64]) {
+    assert!(rt; rows.len() == ids.len());
+    for (row, id) in rows.iter().zip(ids) {
+        assert!(rt; row.id == *id);
     }
-    Ok(())
 }
 
 #[test]
-fn finds_rows_by_id(rt: HostRuntime) -> Result<(), Fail> {
-    let ids = [3, 4, 7, 19, 1_000_000_000_000];
+fn gives_the_rows_of_a_point(rt: HostRuntime) {
+    let day = date(1, 7).expect(&rt, "a day");
+    let pair = worked_join(&rt);
+    let rows = at(rt.alloc(), side(&rt, &pair.right), day).expect(&rt, "memory");
+    check_order(&rt, rows.as_slice(), &[2, 3]);
+}
+
+// Rows with these ids.
+fn rows_of(rt: &(impl Abort + Alloc<A = Global>), ids: &[u64]) -> RowList {
     let mut rows = RowList::new(rt.alloc());
     for id in ids {
-        rows.push(Row {
-            id,
-            period: january(&rt, 1, 2),
+        let row = Row {
+            id: *id,
+            period: january(rt, 1, 2),
             values: Values::new(rt.alloc()),
-        })?;
+        };
+        rows.push(row).expect(rt, "memory");
     }
-    assert!(rt; rows.ids_rise());
-    let found = RowsById::new(rt.alloc(), &rows)?;
+    rows
+}
+
+// Each of these ids is found.
+fn check_found(rt: &impl Abort, rows: &RowsById<'_>, ids: &[u64]) {
     for id in ids {
-        assert_eq!(rt; found.get(id).map(|row| row.id), Some(id));
+        let row = rows.get(*id).expect(rt, "a row");
+        assert!(rt; row.id == *id);
     }
-    for id in [
+}
+
+// None of these ids is found.
+fn check_none(rt: &impl Abort, rows: &RowsById<'_>, ids: &[u64]) {
+    for id in ids {
+        assert!(rt; rows.get(*id).is_none(), "there is no row {id}");
+    }
+}
+
+// Of rows with the first ids each is found, and none with one of the others.
+fn check_ids(rt: &(impl Abort + Alloc<A = Global>), ids: &[u64], others: &[u64]) {
+    let rows = rows_of(rt, ids);
+    assert!(rt; rows.ids_rise());
+    let found = RowsById::new(rt.alloc(), &rows).expect(rt, "memory");
+    check_found(rt, &found, ids);
+    check_none(rt, &found, others);
+}
+
+#[test]
+fn finds_rows_by_id(rt: HostRuntime) {
+    let others = [
         0,
         2,
         5,
@@ -46,19 +75,11 @@ fn finds_rows_by_id(rt: HostRuntime) -> Result<(), Fail> {
         999_999_999_999,
         1_000_000_000_001,
         u64::MAX,
-    ] {
-        assert!(rt; found.get(id).is_none(), "there is no row {id}");
-    }
-    Ok(())
+    ];
+    check_ids(&rt, &[3, 4, 7, 19, 1_000_000_000_000], &others);
 }
 
 #[test]
-fn finds_none_of_no_rows(rt: HostRuntime) -> Result<(), Fail> {
-    let rows = RowList::new(rt.alloc());
-    assert!(rt; rows.ids_rise());
-    let found = RowsById::new(rt.alloc(), &rows)?;
-    for id in [0, 1, u64::MAX] {
-        assert!(rt; found.get(id).is_none(), "there is no row {id}");
-    }
-    Ok(())
+fn finds_none_of_no_rows(rt: HostRuntime) {
+    check_ids(&rt, &[], &[0, 1, u64::MAX]);
 }

@@ -1,11 +1,14 @@
 //! Worked hits and gaps of two parts, and steps of two taken together.
 
+ghost use Rattle.std.specs.Prelude.{◌≡◌};
+
 use crate::tables::{date, item, january, steps_of};
 use dip_core::{Item, Part};
-use merge_core::{Cursor, Gap, Gaps, Hit, Tally, combine, meet_gaps, merge_gaps, merge_join};
+use merge_core::{
+    Cursor, Gap, Gaps, Hit, Steps, Tally, combine, meet_gaps, merge_gaps, merge_join,
+};
 use std::alloc::Global;
 use std::process::Abort;
-use std::test::Fail;
 
 // The left part's one item.
 fn left(rt: &impl Abort) -> [Item; 1] {
@@ -27,12 +30,11 @@ fn check_hits(
     lefts: &[Item],
     rights: &[Item],
     want: &[Hit],
-) -> Result<(), Fail> {
+) {
     let mut hits = Vec::new(rt.alloc());
-    let advances = merge_join(cursor(rt, lefts), cursor(rt, rights), &mut hits)?;
-    assert!(rt; advances <= 3);
-    assert_eq!(rt; hits.as_slice(), want);
-    Ok(())
+    let advances = merge_join(cursor(rt, lefts), cursor(rt, rights), &mut hits);
+    assert!(rt; advances.expect(rt, "memory") <= 3);
+    assert!(rt; hits.as_slice() == want);
 }
 
 // The gaps of two parts, found with at most 3 advances.
@@ -41,16 +43,15 @@ fn check_gaps(
     lefts: &[Item],
     rights: &[Item],
     want: &[Gap],
-) -> Result<(), Fail> {
+) {
     let mut gaps = Vec::new(rt.alloc());
-    let advances = merge_gaps(cursor(rt, lefts), cursor(rt, rights), &mut gaps)?;
-    assert!(rt; advances <= 3);
-    assert_eq!(rt; gaps.as_slice(), want);
-    Ok(())
+    let advances = merge_gaps(cursor(rt, lefts), cursor(rt, rights), &mut gaps);
+    assert!(rt; advances.expect(rt, "memory") <= 3);
+    assert!(rt; gaps.as_slice() == want);
 }
 
 #[test]
-fn finds_hits(rt: HostRuntime) -> Result<(), Fail> {
+fn finds_hits(rt: HostRuntime) {
     let lefts = left(&rt);
     let rights = right(&rt, 1);
     let want = [
@@ -65,23 +66,23 @@ fn finds_hits(rt: HostRuntime) -> Result<(), Fail> {
             period: january(&rt, 6, 10),
         },
     ];
-    check_hits(&rt, &lefts, &rights, &want)?;
-    check_hits(&rt, &lefts, &right(&rt, 2), &[])
+    check_hits(&rt, &lefts, &rights, &want);
+    check_hits(&rt, &lefts, &right(&rt, 2), &[]);
 }
 
 #[test]
-fn finds_gaps(rt: HostRuntime) -> Result<(), Fail> {
+fn finds_gaps(rt: HostRuntime) {
     let lefts = left(&rt);
     let before = Gap {
         left: lefts[0],
         period: january(&rt, 1, 3),
     };
-    check_gaps(&rt, &lefts, &right(&rt, 1), &[before])?;
+    check_gaps(&rt, &lefts, &right(&rt, 1), &[before]);
     let whole = Gap {
         left: lefts[0],
         period: january(&rt, 1, 10),
     };
-    check_gaps(&rt, &lefts, &right(&rt, 2), &[whole])
+    check_gaps(&rt, &lefts, &right(&rt, 2), &[whole]);
 }
 
 // A list of the one gap of the left item, which reaches from its first day to this one.
@@ -90,35 +91,42 @@ fn check_gap(rt: &impl Abort, gaps: &Gaps, to: u8) {
         left: item(rt, 1, 1, 10, 1),
         period: january(rt, 1, to),
     };
-    assert_eq!(rt; gaps.len(), 1);
-    assert_eq!(rt; gaps.get(0), Some(want));
+    assert!(rt; gaps.len() == 1);
+    assert!(rt; gaps.get(0) == Some(want));
 }
 
 #[test]
-fn meets_gaps(rt: HostRuntime) -> Result<(), Fail> {
+fn meets_gaps(rt: HostRuntime) {
     let lefts = left(&rt);
     let rights = right(&rt, 1);
     let part = Part::new(&lefts).expect(&rt, "items without overlaps");
-    let whole = Gaps::whole(rt.alloc(), part)?;
+    let whole = Gaps::whole(rt.alloc(), part).expect(&rt, "memory");
     check_gap(&rt, &whole, 10);
-    let gaps = Gaps::of(rt.alloc(), cursor(&rt, &lefts), cursor(&rt, &rights))?;
+    let gaps = Gaps::of(rt.alloc(), cursor(&rt, &lefts), cursor(&rt, &rights));
+    let gaps = gaps.expect(&rt, "memory");
     check_gap(&rt, &gaps, 3);
-    let shared = meet_gaps(rt.alloc(), &whole, &gaps)?;
+    let shared = meet_gaps(rt.alloc(), &whole, &gaps).expect(&rt, "memory");
     check_gap(&rt, &shared, 3);
-    Ok(())
+}
+
+// An item of this amount, as steps.
+fn amount_steps(rt: &(impl Abort + Alloc<A = Global>), item: Item, amount: i64) -> Steps
+    ensures { result.weight ≡ 1 }
+{
+    steps_of(rt, Item { amount, ..item })
 }
 
 // Two items that hold together for three days.
+fn combined(rt: &(impl Abort + Alloc<A = Global>)) -> Steps {
+    let one = amount_steps(rt, item(rt, 1, 1, 10, 1), 1);
+    let other = amount_steps(rt, item(rt, 2, 5, 8, 1), 2);
+    combine(rt.alloc(), &one, &other).expect(rt, "memory")
+}
+
 #[test]
-fn combines_steps(rt: HostRuntime) -> Result<(), Fail> {
-    let mut longer = item(&rt, 1, 1, 10, 1);
-    longer.amount = 1;
-    let mut shorter = item(&rt, 2, 5, 8, 1);
-    shorter.amount = 2;
-    let one = steps_of(&rt, longer)?;
-    let other = steps_of(&rt, shorter)?;
-    let steps = combine(rt.alloc(), &one, &other)?;
-    assert_eq!(rt; steps.weight(), 2);
+fn combines_steps(rt: HostRuntime) {
+    let steps = combined(&rt);
+    assert!(rt; steps.weight() == 2);
     let alone = Tally {
         count: 1,
         sum: 1,
@@ -138,7 +146,6 @@ fn combines_steps(rt: HostRuntime) -> Result<(), Fail> {
         (10, None),
     ] {
         let at = date(1, day).expect(&rt, "a day");
-        assert_eq!(rt; steps.tally_at(at), want);
+        assert!(rt; steps.tally_at(at) == want);
     }
-    Ok(())
 }

@@ -1,6 +1,6 @@
 //! Pieces of the pairs of a job of a query, in any order, twice, and from another job.
 
-ghost use Rattle.std.specs.Prelude.{◌≡◌, IfOk};
+ghost use Rattle.std.specs.Prelude.{◌≡◌};
 ghost use Rattle.round_core.specs.Together.{all_weight};
 
 use crate::tables::{item, january, steps_of};
@@ -11,33 +11,58 @@ use merge_core::{Gap, Gaps, Hit, Step, Steps, Tally};
 use round_core::TallyRound;
 use std::alloc::Global;
 use std::process::Abort;
-use std::test::Fail;
 use std::thread::Threads;
-use work_core::{Collector, Outs, PairName, PairWork, Piece, Refused, Why};
+use work_core::{Collector, Outs, PairName, PairWork, Piece, Why};
 
 // The piece of a pair that the job has.
 fn piece<'j, W: PairWork>(
     rt: &(impl Abort + Alloc<A = Global>),
     job: &'j W,
     (left, right): (u32, u32),
-) -> Result<Piece<'j, W>, Fail> {
+) -> Piece<'j, W> {
     let name = PairName { left, right };
     assert!(rt; job.place(name).is_some());
-    Ok(Piece::make(rt.alloc(), job, name)?)
+    Piece::make(rt.alloc(), job, name).expect(rt, "memory")
 }
 
-// A piece that must be refused, for this reason, and comes back with its name.
-fn check_refusal<'j, W: PairWork>(
-    rt: &impl Abort,
-    answer: Result<(), Refused<'j, W>>,
+// Takes the job's pieces of these pairs.
+fn take<'j, W: PairWork>(
+    rt: &(impl Abort + Alloc<A = Global>),
+    collector: &mut Collector<'j, W>,
+    job: &'j W,
+    pairs: &[(u32, u32)],
+) {
+    for pair in pairs {
+        assert!(rt; collector.accept(piece(rt, job, *pair)).is_ok());
+    }
+}
+
+// Refuses a job's piece for this reason; it comes back with its name.
+fn refuse<'j, W: PairWork>(
+    rt: &(impl Abort + Alloc<A = Global>),
+    collector: &mut Collector<'j, W>,
+    job: &'j W,
     (left, right): (u32, u32),
     why: Why,
 ) {
-    let Err(refused) = answer else {
+    let Err(refused) = collector.accept(piece(rt, job, (left, right))) else {
         panic!(rt; "the piece is accepted")
     };
-    assert_eq!(rt; refused.why, why);
-    assert_eq!(rt; refused.piece.name(), PairName { left, right });
+    assert!(rt; refused.why == why);
+    assert!(rt; refused.piece.name() == PairName { left, right });
+}
+
+// Ends with a pair missing, which is named first; the collector comes back.
+fn lack<'j, W: PairWork>(
+    rt: &impl Abort,
+    collector: Collector<'j, W>,
+    (left, right): (u32, u32),
+) -> Collector<'j, W> {
+    let Err(unfinished) = collector.finish() else {
+        panic!(rt; "a pair is missing")
+    };
+    assert!(rt; unfinished.first == PairName { left, right });
+    unfinished.collector
 }
 
 // Collects the pieces of a job in this order, and one more behind them. Each is accepted once, and so is what another
@@ -49,29 +74,20 @@ fn collect<'j, W: PairWork>(
     order: &[(u32, u32)],
     equal: (u32, u32),
     last: (u32, u32),
-) -> Result<Outs<W::Out>, Fail> {
-    let mut collector = Collector::new(rt.alloc(), job)?;
+) -> Outs<W::Out> {
+    let mut collector = Collector::new(rt.alloc(), job).expect(rt, "memory");
+    take(rt, &mut collector, job, order);
+    let mut collector = lack(rt, collector, last);
     for pair in order {
-        assert!(rt; collector.accept(piece(rt, job, *pair)?).is_ok());
+        refuse(rt, &mut collector, job, *pair, Why::Double);
     }
-    let Err(unfinished) = collector.finish() else {
-        panic!(rt; "a pair is missing")
-    };
-    assert_eq!(rt; (unfinished.first.left, unfinished.first.right), last);
-    let mut collector = unfinished.collector;
-    for pair in order {
-        let double = collector.accept(piece(rt, job, *pair)?);
-        check_refusal(rt, double, *pair, Why::Double);
-    }
-    let double = collector.accept(piece(rt, changed, equal)?);
-    check_refusal(rt, double, equal, Why::Double);
-    let stranger = collector.accept(piece(rt, changed, last)?);
-    check_refusal(rt, stranger, last, Why::Stranger);
-    assert!(rt; collector.accept(piece(rt, job, last)?).is_ok());
+    refuse(rt, &mut collector, changed, equal, Why::Double);
+    refuse(rt, &mut collector, changed, last, Why::Stranger);
+    take(rt, &mut collector, job, &[last]);
     let Ok(outs) = collector.finish() else {
         panic!(rt; "all pieces are there")
     };
-    Ok(outs)
+    outs
 }
 
 // Two items that overlap, of two classes.
@@ -89,20 +105,37 @@ fn rights(rt: &impl Abort, class: u64) -> [Item; 3] {
 }
 
 // The items in two parts.
-fn divide(
-    rt: &(impl Abort + Alloc<A = Global> + Threads + Sync),
-    items: &[Item],
-) -> Result<Division, Fail> {
+fn divide(rt: &(impl Abort + Alloc<A = Global> + Threads + Sync), items: &[Item]) -> Division {
     assert!(rt; items.len() <= 1_000_000);
-    let division = create_dip(rt, rt.alloc(), Vec::from_slice(rt.alloc(), items)?, 4)?;
-    assert_eq!(rt; division.parts(), 2);
-    Ok(division)
+    let items = Vec::from_slice(rt.alloc(), items).expect(rt, "memory");
+    let division = create_dip(rt, rt.alloc(), items, 4).expect(rt, "memory");
+    assert!(rt; division.parts() == 2);
+    division
 }
+
+// Two parts of each side, and the right ones with the class of an item changed, so that the first of them is the same.
+#[derive(Drop)]
+struct Divided {
+    left: Division,
+    right: Division,
+    changed: Division,
+}
+
+fn divide_all(rt: &(impl Abort + Alloc<A = Global> + Threads + Sync)) -> Divided {
+    Divided {
+        left: divide(rt, &lefts(rt)),
+        right: divide(rt, &rights(rt, 2)),
+        changed: divide(rt, &rights(rt, 1)),
+    }
+}
+
+// The order of the pieces of two times two parts but for the last one.
+const ORDER: &[(u32, u32)] = &[(1, 1), (0, 0), (1, 0)];
 
 // What the parts of one pair share.
 fn check_hits(rt: &impl Abort, outs: &Outs<JoinOut>, number: usize, want: &[Hit]) {
     let out = outs.get(number).expect(rt, "a value");
-    assert_eq!(rt; out.hits.as_slice(), want);
+    assert!(rt; out.hits.as_slice() == want);
 }
 
 // The values of four pairs: what row 1 shares with two rows, nothing, nothing, and what row 2 shares with row 3.
@@ -126,31 +159,20 @@ fn check_values(rt: &impl Abort, outs: &Outs<JoinOut>) {
         right: rights[2],
         period: january(rt, 7, 8),
     }];
-    assert_eq!(rt; outs.len(), 4);
+    assert!(rt; outs.len() == 4);
     check_hits(rt, outs, 0, &first);
     check_hits(rt, outs, 1, &[]);
     check_hits(rt, outs, 2, &[]);
     check_hits(rt, outs, 3, &last);
 }
 
-// Two times two parts, and the same with the class of a right item changed, so that the first right part is the same.
 #[test]
-fn collects_a_join_of_pieces(rt: HostRuntime) -> Result<(), Fail> {
-    let left = divide(&rt, &lefts(&rt))?;
-    let right = divide(&rt, &rights(&rt, 2))?;
-    let changed = divide(&rt, &rights(&rt, 1))?;
-    let job = JoinPairs::new(&left, &right);
-    let changed = JoinPairs::new(&left, &changed);
-    let outs = collect(
-        &rt,
-        &job,
-        &changed,
-        &[(1, 1), (0, 0), (1, 0)],
-        (0, 0),
-        (0, 1),
-    )?;
+fn collects_a_join_of_pieces(rt: HostRuntime) {
+    let all = divide_all(&rt);
+    let job = JoinPairs::new(&all.left, &all.right);
+    let changed = JoinPairs::new(&all.left, &all.changed);
+    let outs = collect(&rt, &job, &changed, ORDER, (0, 0), (0, 1));
     check_values(&rt, &outs);
-    Ok(())
 }
 
 // The one gap of a pair of parts: some days of January.
@@ -160,53 +182,48 @@ fn check_gap(rt: &impl Abort, outs: &Outs<Gaps>, number: usize, left: &Item, fro
         left: *left,
         period: january(rt, from, to),
     }];
-    assert_eq!(rt; gaps.as_slice(), want.as_slice());
+    assert!(rt; gaps.as_slice() == want.as_slice());
+}
+
+// The values of four pairs.
+fn check_gaps(rt: &impl Abort, outs: &Outs<Gaps>) {
+    let lefts = lefts(rt);
+    assert!(rt; outs.len() == 4);
+    check_gap(rt, outs, 0, &lefts[0], 1, 3);
+    check_gap(rt, outs, 1, &lefts[0], 1, 10);
+    check_gap(rt, outs, 2, &lefts[1], 5, 8);
+    check_gap(rt, outs, 3, &lefts[1], 5, 7);
 }
 
 #[test]
-fn collects_an_anti_join_of_pieces(rt: HostRuntime) -> Result<(), Fail> {
-    let left = divide(&rt, &lefts(&rt))?;
-    let right = divide(&rt, &rights(&rt, 2))?;
-    let changed = divide(&rt, &rights(&rt, 1))?;
-    let job = GapPairs::new(&left, &right);
-    let changed = GapPairs::new(&left, &changed);
-    let outs = collect(
-        &rt,
-        &job,
-        &changed,
-        &[(1, 1), (0, 0), (1, 0)],
-        (0, 0),
-        (0, 1),
-    )?;
-    assert_eq!(rt; outs.len(), 4);
-    let lefts = lefts(&rt);
-    check_gap(&rt, &outs, 0, &lefts[0], 1, 3);
-    check_gap(&rt, &outs, 1, &lefts[0], 1, 10);
-    check_gap(&rt, &outs, 2, &lefts[1], 5, 8);
-    check_gap(&rt, &outs, 3, &lefts[1], 5, 7);
-    Ok(())
+fn collects_an_anti_join_of_pieces(rt: HostRuntime) {
+    let all = divide_all(&rt);
+    let job = GapPairs::new(&all.left, &all.right);
+    let changed = GapPairs::new(&all.left, &all.changed);
+    let outs = collect(&rt, &job, &changed, ORDER, (0, 0), (0, 1));
+    check_gaps(&rt, &outs);
 }
 
 // The steps of an item without an amount.
-fn steps(rt: &(impl Abort + Alloc<A = Global>), from: u8, to: u8) -> Result<Steps, Fail>
-    ensures { IfOk result (λ steps. steps.weight ≡ 1) }
+fn steps(rt: &(impl Abort + Alloc<A = Global>), from: u8, to: u8) -> Steps
+    ensures { result.weight ≡ 1 }
 {
     steps_of(rt, item(rt, 1, from, to, 1))
 }
 
 // Three times the steps of two items: those of the first two hold from the first of January on, the second of them
 // to some day.
-fn lists(rt: &(impl Abort + Alloc<A = Global>), to: u8) -> Result<[Steps; 6], Fail>
-    ensures { IfOk result (λ lists. all_weight lists ≡ 6) }
+fn lists(rt: &(impl Abort + Alloc<A = Global>), to: u8) -> [Steps; 6]
+    ensures { all_weight result ≡ 6 }
 {
-    Ok([
-        steps(rt, 1, 2)?,
-        steps(rt, 1, to)?,
-        steps(rt, 2, 3)?,
-        steps(rt, 2, 3)?,
-        steps(rt, 3, 4)?,
-        steps(rt, 3, 4)?,
-    ])
+    [
+        steps(rt, 1, 2),
+        steps(rt, 1, to),
+        steps(rt, 2, 3),
+        steps(rt, 2, 3),
+        steps(rt, 3, 4),
+        steps(rt, 3, 4),
+    ]
 }
 
 // What two items of one day come to.
@@ -221,19 +238,18 @@ fn check_both(rt: &impl Abort, outs: &Outs<Steps>, number: usize, from: u8, to: 
             max: 0,
         },
     }];
-    assert_eq!(rt; both.steps(), want.as_slice());
+    assert!(rt; both.steps() == want.as_slice());
 }
 
 #[test]
-fn collects_a_round_of_pieces(rt: HostRuntime) -> Result<(), Fail> {
-    let all = lists(&rt, 2)?;
-    let changed = lists(&rt, 9)?;
+fn collects_a_round_of_pieces(rt: HostRuntime) {
+    let all = lists(&rt, 2);
+    let changed = lists(&rt, 9);
     let job = TallyRound::new(&all);
     let changed = TallyRound::new(&changed);
-    let outs = collect(&rt, &job, &changed, &[(4, 5), (2, 3)], (2, 3), (0, 1))?;
-    assert_eq!(rt; outs.len(), 3);
+    let outs = collect(&rt, &job, &changed, &[(4, 5), (2, 3)], (2, 3), (0, 1));
+    assert!(rt; outs.len() == 3);
     check_both(&rt, &outs, 0, 1, 2);
     check_both(&rt, &outs, 1, 2, 3);
     check_both(&rt, &outs, 2, 3, 4);
-    Ok(())
 }

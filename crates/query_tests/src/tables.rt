@@ -1,6 +1,6 @@
 //! Days of 2024, items and tables for tests.
 
-ghost use Rattle.std.specs.Prelude.{◌≡◌, All, IfOk, IsTrue};
+ghost use Rattle.std.specs.Prelude.{◌≡◌, All, IsTrue};
 ghost use Rattle.row_core.specs.Schema.{fits};
 
 use anti_core::{AntiRow, AntiRows};
@@ -18,6 +18,14 @@ use std::test::Fail;
 pub struct Table {
     pub schema: Schema,
     pub rows: RowList,
+}
+
+/// Two tables, and the pairs of columns on which their rows are compared.
+#[derive(Drop)]
+pub struct TablePair {
+    pub left: Table,
+    pub right: Table,
+    pub on: Vec<(Name, Name)>,
 }
 
 /// The midnight of a day of 2024; Err where the month has no such day.
@@ -72,55 +80,65 @@ pub fn item(rt: &impl Abort, id: u64, from: u8, to: u8, class: u64) -> Item {
 }
 
 /// The rows of an anti-join in one list.
-pub fn listed(alloc: Global, rows: &AntiRows) -> Result<Vec<AntiRow>, Fail> {
-    let mut listed = Vec::with_capacity(alloc, rows.len())?;
+pub fn listed(rt: &(impl Abort + Alloc<A = Global>), rows: &AntiRows) -> Vec<AntiRow> {
+    let mut listed = Vec::new(rt.alloc());
     for i in 0..rows.len() {
-        if let Some(row) = rows.get(i) {
-            listed.push(*row)?;
-        }
+        let row = rows.get(i).expect(rt, "a row");
+        listed.push(*row).expect(rt, "memory");
     }
-    Ok(listed)
+    listed
 }
 
 /// The steps of one item.
-pub fn steps_of(rt: &(impl Abort + Alloc<A = Global>), item: Item) -> Result<Steps, Fail>
-    ensures { IfOk result (λ steps. steps.weight ≡ 1) }
+pub fn steps_of(rt: &(impl Abort + Alloc<A = Global>), item: Item) -> Steps
+    ensures { result.weight ≡ 1 }
 {
     let items = [item];
     let part = Part::new(&items).expect(rt, "an item");
-    Ok(Steps::of_part(rt.alloc(), part)?)
+    Steps::of_part(rt.alloc(), part).expect(rt, "memory")
 }
 
-// Adds a row of a number.
-fn push_number(
-    rt: &(impl Abort + Alloc<A = Global>),
-    rows: &mut RowList,
-    period: Period,
-    number: i64,
-) -> Result<(), Fail> {
+/// Adds a row with these values, whose id is its number from 1 on.
+pub fn push_row(rt: &impl Abort, rows: &mut RowList, period: Period, values: Values) {
     assert!(rt; rows.len() < 1_000_000);
+    let id = rows.len() as u64 + 1;
+    let row = Row { id, period, values };
+    rows.push(row).expect(rt, "memory");
+}
+
+// The values of a row of a number.
+fn number_values(rt: &(impl Abort + Alloc<A = Global>), number: i64) -> Values {
     let mut values = Values::new(rt.alloc());
-    values.push(Value::Int(number))?;
-    rows.push(Row {
-        id: rows.len() as u64 + 1,
-        period,
-        values,
-    })?;
-    Ok(())
+    values.push(Value::Int(number)).expect(rt, "memory");
+    values
+}
+
+// A table with a column `c` of numbers, without rows.
+fn number_table(rt: &(impl Abort + Alloc<A = Global>)) -> Table {
+    let name = Name::parse(b"c").expect(rt, "a name");
+    Table {
+        schema: Schema::new(rt.alloc(), &[(name, Kind::Int)]).expect(rt, "a schema"),
+        rows: RowList::new(rt.alloc()),
+    }
 }
 
 /// A table with a column `c` of numbers. Its rows, with ids from 1 on, hold from one day of January 2024 on and
 /// before another, and have a number.
+pub fn table_of(rt: &(impl Abort + Alloc<A = Global>), rows: &[(u8, u8, i64)]) -> Table {
+    let mut table = number_table(rt);
+    for (from, to, number) in rows {
+        let values = number_values(rt, *number);
+        push_row(rt, &mut table.rows, january(rt, *from, *to), values);
+    }
+    table
+}
+
+/// The same as a result.
 pub fn numbers(
     rt: &(impl Abort + Alloc<A = Global>),
     rows: &[(u8, u8, i64)],
 ) -> Result<Table, Fail> {
-    let schema = Schema::new(rt.alloc(), &[(Name::parse(b"c")?, Kind::Int)])?;
-    let mut list = RowList::new(rt.alloc());
-    for (from, to, number) in rows {
-        push_number(rt, &mut list, january(rt, *from, *to), *number)?;
-    }
-    Ok(Table { schema, rows: list })
+    Ok(table_of(rt, rows))
 }
 
 /// The same of rows that hold on these periods.
@@ -128,32 +146,46 @@ pub fn numbers_of(
     rt: &(impl Abort + Alloc<A = Global>),
     rows: &[(Period, i64)],
 ) -> Result<Table, Fail> {
-    let schema = Schema::new(rt.alloc(), &[(Name::parse(b"c")?, Kind::Int)])?;
-    let mut list = RowList::new(rt.alloc());
+    let mut table = number_table(rt);
     for (period, number) in rows {
-        push_number(rt, &mut list, *period, *number)?;
+        push_row(rt, &mut table.rows, *period, number_values(rt, *number));
     }
-    Ok(Table { schema, rows: list })
+    Ok(table)
+}
+
+/// Two tables of numbers, which are compared.
+pub fn number_pair(
+    rt: &(impl Abort + Alloc<A = Global>),
+    lefts: &[(u8, u8, i64)],
+    rights: &[(u8, u8, i64)],
+) -> TablePair {
+    let name = Name::parse(b"c").expect(rt, "a name");
+    TablePair {
+        left: table_of(rt, lefts),
+        right: table_of(rt, rights),
+        on: Vec::from_slice(rt.alloc(), &[(name, name)]).expect(rt, "memory"),
+    }
 }
 
 /// A table without columns, whose rows, with ids from 1 on, hold on these periods.
-pub fn without_columns(
-    rt: &(impl Abort + Alloc<A = Global>),
-    periods: &[Period],
-) -> Result<Table, Fail> {
-    let schema = Schema::new(rt.alloc(), &[])?;
-    let mut rows = RowList::new(rt.alloc());
-    let mut id = 0;
+pub fn without_columns(rt: &(impl Abort + Alloc<A = Global>), periods: &[Period]) -> Table {
+    let mut table = Table {
+        schema: Schema::new(rt.alloc(), &[]).expect(rt, "a schema"),
+        rows: RowList::new(rt.alloc()),
+    };
     for period in periods {
-        assert!(rt; id < 1_000_000);
-        id += 1;
-        rows.push(Row {
-            id,
-            period: *period,
-            values: Values::new(rt.alloc()),
-        })?;
+        push_row(rt, &mut table.rows, *period, Values::new(rt.alloc()));
     }
-    Ok(Table { schema, rows })
+    table
+}
+
+/// A table without columns twice, whose rows hold on these periods: no columns are compared.
+pub fn periods_twice(rt: &(impl Abort + Alloc<A = Global>), periods: &[Period]) -> TablePair {
+    TablePair {
+        left: without_columns(rt, periods),
+        right: without_columns(rt, periods),
+        on: Vec::new(rt.alloc()),
+    }
 }
 
 // Whether each row has a value for each column.

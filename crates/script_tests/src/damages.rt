@@ -8,18 +8,17 @@ use std::alloc::Global;
 use std::fmt::Write;
 use std::process::Abort;
 use std::sync::Wait;
-use std::test::Fail;
 use std::thread::Threads;
 
 // What a script is answered.
 fn answers_of(
-    rt: &(impl Alloc<A = Global> + Threads + Wait + Sync),
-    script: &[u8],
-) -> Result<Vec<u8>, Fail> {
-    let mut reader = Counted::new(script);
+    rt: &(impl Abort + Alloc<A = Global> + Threads + Wait + Sync),
+    script: &str,
+) -> String {
+    let mut reader = Counted::new(script.as_bytes());
     let mut writer = Counted::new(Vec::new(rt.alloc()));
-    run(rt, rt.alloc(), &mut reader, &mut writer, 4)?;
-    Ok(writer.into_inner())
+    run(rt, rt.alloc(), &mut reader, &mut writer, 4).expect(rt, "a run");
+    String::from_utf8(writer.into_inner()).expect(rt, "a text")
 }
 
 // A row of January 2024, by the days of its ends, ordered as rows are taken.
@@ -31,26 +30,26 @@ struct Row {
 }
 
 // So many rows, of up to eight days.
-fn make_rows(alloc: Global, rng: &mut Pcg32, count: u64) -> Result<Vec<Row>, Fail> {
+fn make_rows(rt: &(impl Abort + Alloc<A = Global>), rng: &mut Pcg32, count: u64) -> Vec<Row> {
     let longest = rng.random_range(1..=8);
-    let mut rows = Vec::new(alloc);
+    let mut rows = Vec::new(rt.alloc());
     for id in 1..=count {
         let from = rng.random_range(1..=20);
         let to = from + rng.random_range(1..=longest);
-        rows.push(Row { from, to, id })?;
+        rows.push(Row { from, to, id }).expect(rt, "memory");
     }
-    Ok(rows)
+    rows
 }
 
 // The script that makes a table of the rows.
-fn script_of(alloc: Global, rows: &[Row]) -> Result<String, Fail> {
-    let mut script = String::from_str(alloc, "table,t\nload,t\n")?;
+fn script_of(rt: &(impl Abort + Alloc<A = Global>), rows: &[Row]) -> String {
+    let mut script = String::from_str(rt.alloc(), "table,t\nload,t\n").expect(rt, "memory");
     for row in rows {
         let (from, to) = (row.from, row.to);
-        writeln!(script, "row,2024-01-{from:02},2024-01-{to:02}")?;
+        writeln!(script, "row,2024-01-{from:02},2024-01-{to:02}").expect(rt, "memory");
     }
-    script.push_str("end\n")?;
-    Ok(script)
+    script.push_str("end\n").expect(rt, "memory");
+    script
 }
 
 // How many rows hold the day.
@@ -81,51 +80,71 @@ struct Claimed {
 }
 
 impl Claimed {
+    // No parts, and this instant.
+    fn new(rt: &(impl Abort + Alloc<A = Global>), instant: &str) -> Claimed {
+        Claimed {
+            count: 0,
+            instant: String::from_str(rt.alloc(), instant).expect(rt, "memory"),
+            parts: Vec::new(rt.alloc()),
+        }
+    }
+
     // What `dip` answers of the rows.
     fn by_dip(
-        rt: &(impl Alloc<A = Global> + Threads + Wait + Sync),
+        rt: &(impl Abort + Alloc<A = Global> + Threads + Wait + Sync),
         rows: &[Row],
-    ) -> Result<Claimed, Fail> {
-        let alloc = rt.alloc();
-        let mut script = script_of(alloc, rows)?;
-        script.push_str("dip,t\n")?;
-        let answers = answers_of(rt, script.as_bytes())?;
-        let mut claimed = Claimed {
-            count: 0,
-            instant: String::new(alloc),
-            parts: Vec::new(alloc),
-        };
-        for line in str::from_utf8(&answers)?.lines() {
-            claimed.read(alloc, line)?;
+    ) -> Claimed {
+        let mut script = script_of(rt, rows);
+        script.push_str("dip,t\n").expect(rt, "memory");
+        let answers = answers_of(rt, &script);
+        let mut claimed = Claimed::new(rt, "");
+        for line in answers.lines() {
+            claimed.read(rt, line);
         }
-        Ok(claimed)
+        claimed
     }
 
     // Takes what a record of the answer says.
-    fn read(&mut self, alloc: Global, line: &str) -> Result<(), Fail> {
-        let mut fields = line.split(',');
-        let word = fields.next();
-        let _number = fields.next();
-        if word == Some("dip") {
-            self.count = fields.next().unwrap_or("").parse()?;
-            self.instant.push_str(fields.next().unwrap_or(""))?;
+    fn read(&mut self, rt: &(impl Abort + Alloc<A = Global>), line: &str) {
+        if line.starts_with("dip,") {
+            self.read_least(rt, line);
         }
-        if word == Some("part") {
-            let mut part = Vec::new(alloc);
-            for id in fields {
-                part.push(id.parse()?)?;
-            }
-            self.parts.push(part)?;
+        if line.starts_with("part,") {
+            self.parts.push(ids_of(rt, line)).expect(rt, "memory");
         }
-        Ok(())
+    }
+
+    // Takes the number of parts and the instant, which stand third and fourth.
+    fn read_least(&mut self, rt: &impl Abort, line: &str) {
+        let mut fields = line.split(',').skip(2);
+        self.count = number(rt, fields.next().unwrap_or(""));
+        let instant = fields.next().unwrap_or("");
+        self.instant.push_str(instant).expect(rt, "memory");
     }
 
     // Adds a part, which is counted.
-    fn add_part(&mut self, part: Vec<u64>) -> Result<(), Fail> {
+    fn add_part(&mut self, rt: &impl Abort, part: Vec<u64>) {
         self.count = self.count.saturating_add(1);
-        self.parts.push(part)?;
-        Ok(())
+        self.parts.push(part).expect(rt, "memory");
     }
+
+    // The same again.
+    fn again(&self, rt: &impl Abort) -> Claimed {
+        self.clone().expect(rt, "memory")
+    }
+}
+
+fn number(rt: &impl Abort, field: &str) -> u64 {
+    field.parse().expect(rt, "a number")
+}
+
+// The ids of a part, which stand from the third field on.
+fn ids_of(rt: &(impl Abort + Alloc<A = Global>), line: &str) -> Vec<u64> {
+    let mut part = Vec::new(rt.alloc());
+    for id in line.split(',').skip(2) {
+        part.push(number(rt, id)).expect(rt, "memory");
+    }
+    part
 }
 
 // A script that checks claims on one table, and the answers that are due.
@@ -136,178 +155,266 @@ struct Trial {
 }
 
 impl Trial {
-    fn new(alloc: Global, rows: &[Row]) -> Result<Trial, Fail> {
-        Ok(Trial {
-            script: script_of(alloc, rows)?,
-            answers: String::from_str(alloc, "ok,1\nok,2\n")?,
-        })
+    fn new(rt: &(impl Abort + Alloc<A = Global>), rows: &[Row]) -> Trial {
+        Trial {
+            script: script_of(rt, rows),
+            answers: String::from_str(rt.alloc(), "ok,1\nok,2\n").expect(rt, "memory"),
+        }
     }
 
     // Adds a claim and its verdict.
-    fn add(&mut self, claimed: &Claimed, verdict: &str) -> Result<(), Fail> {
-        let (count, instant) = (claimed.count, claimed.instant.as_str());
-        writeln!(self.script, "check,t,{count},{instant}")?;
-        for part in &claimed.parts {
-            self.script.push_str("part")?;
-            for id in part {
-                write!(self.script, ",{id}")?;
-            }
-            self.script.push_str("\n")?;
-        }
-        self.script.push_str("end\n")?;
-        writeln!(self.answers, "{verdict}")?;
-        Ok(())
+    fn add(&mut self, rt: &impl Abort, claimed: &Claimed, verdict: &str) {
+        self.add_claim(rt, claimed);
+        writeln!(self.answers, "{verdict}").expect(rt, "memory");
     }
 
-    // An id that is left out, one that stands twice, and one that no row has.
-    fn add_wrong_ids(
-        &mut self,
-        alloc: Global,
-        rows: &[Row],
-        claimed: &Claimed,
-    ) -> Result<(), Fail> {
-        let mut fewer = claimed.clone()?;
+    // Adds a claim that is denied, with what comes out instead.
+    fn add_denied(&mut self, rt: &impl Abort, claimed: &Claimed, why: &str, what: u64) {
+        self.add_claim(rt, claimed);
+        writeln!(self.answers, "no,{why},{what}").expect(rt, "memory");
+    }
+
+    fn add_claim(&mut self, rt: &impl Abort, claimed: &Claimed) {
+        let (count, instant) = (claimed.count, claimed.instant.as_str());
+        writeln!(self.script, "check,t,{count},{instant}").expect(rt, "memory");
+        for part in &claimed.parts {
+            self.add_ids(rt, part);
+        }
+        self.script.push_str("end\n").expect(rt, "memory");
+    }
+
+    fn add_ids(&mut self, rt: &impl Abort, part: &[u64]) {
+        self.script.push_str("part").expect(rt, "memory");
+        for id in part {
+            write!(self.script, ",{id}").expect(rt, "memory");
+        }
+        self.script.push_str("\n").expect(rt, "memory");
+    }
+
+    // An id that is left out.
+    fn add_missing(&mut self, rt: &impl Abort, claimed: &Claimed) {
+        let mut fewer = claimed.again(rt);
         if let Some(part) = fewer.parts.iter_mut().find(|part| part.len() > 1) {
             if let Some(id) = part.pop() {
-                self.add(&fewer, &format!(in alloc; "no,Missing,{id}")?)?;
+                self.add_denied(rt, &fewer, "Missing", id);
             }
         }
-        let mut twice = claimed.clone()?;
-        if let (Some(row), Some(part)) = (rows.first(), twice.parts.last_mut()) {
-            let id = row.id;
-            part.push(id)?;
-            self.add(&twice, &format!(in alloc; "no,Twice,{id}")?)?;
-        }
-        let mut more = claimed.clone()?;
-        let stranger = (rows.len() as u64).saturating_add(1);
-        more.add_part(vec![in alloc; stranger]?)?;
-        self.add(&more, &format!(in alloc; "no,Unknown,{stranger}")?)
     }
 
-    // A part without ids, which is counted, and counts that are one off.
-    fn add_wrong_counts(&mut self, alloc: Global, claimed: &Claimed) -> Result<(), Fail> {
+    // An id that stands twice.
+    fn add_twice(&mut self, rt: &impl Abort, rows: &[Row], claimed: &Claimed) {
+        let mut twice = claimed.again(rt);
+        if let (Some(row), Some(part)) = (rows.first(), twice.parts.last_mut()) {
+            part.push(row.id).expect(rt, "memory");
+            self.add_denied(rt, &twice, "Twice", row.id);
+        }
+    }
+
+    // An id that no row has.
+    fn add_unknown(
+        &mut self,
+        rt: &(impl Abort + Alloc<A = Global>),
+        rows: &[Row],
+        claimed: &Claimed,
+    ) {
+        let mut more = claimed.again(rt);
+        let stranger = (rows.len() as u64).saturating_add(1);
+        more.add_part(rt, vec![in rt.alloc(); stranger].expect(rt, "memory"));
+        self.add_denied(rt, &more, "Unknown", stranger);
+    }
+
+    // A part without ids, which is counted.
+    fn add_empty(&mut self, rt: &(impl Abort + Alloc<A = Global>), claimed: &Claimed) {
+        let mut empty = claimed.again(rt);
+        empty.add_part(rt, Vec::new(rt.alloc()));
+        self.add_denied(rt, &empty, "EmptyPart", claimed.count);
+    }
+
+    // Counts that are one off.
+    fn add_wrong_counts(&mut self, rt: &impl Abort, claimed: &Claimed) {
         let count = claimed.count;
-        let mut empty = claimed.clone()?;
-        empty.add_part(Vec::new(alloc))?;
-        self.add(&empty, &format!(in alloc; "no,EmptyPart,{count}")?)?;
+        let mut other = claimed.again(rt);
         for wrong in [count.saturating_add(1), count.saturating_sub(1)] {
             if wrong != count {
-                let mut other = claimed.clone()?;
                 other.count = wrong;
-                self.add(&other, &format!(in alloc; "no,WrongCount,{count}")?)?;
+                self.add_denied(rt, &other, "WrongCount", count);
             }
         }
-        Ok(())
     }
 
     // The first two parts as one, so that some of its rows overlap.
-    fn add_overlap(&mut self, alloc: Global, rows: &[Row], claimed: &Claimed) -> Result<(), Fail> {
+    fn add_overlap(
+        &mut self,
+        rt: &(impl Abort + Alloc<A = Global>),
+        rows: &[Row],
+        claimed: &Claimed,
+    ) {
         let [first, second, others @ ..] = claimed.parts.as_slice() else {
-            return Ok(());
+            return;
         };
-        let mut joined = first.clone()?;
-        joined.extend_from_slice(second)?;
-        let mut taken = Vec::new(alloc);
-        for row in rows {
-            if joined.contains(&row.id) {
-                taken.push(*row)?;
-            }
-        }
-        taken.sort_unstable();
-        let mut fewer = Claimed {
-            count: 0,
-            instant: claimed.instant.clone()?,
-            parts: Vec::new(alloc),
+        let joined = joined(rt, first, second);
+        let Some((a, b)) = overlap_of(&taken(rt, rows, &joined)) else {
+            return;
         };
-        fewer.add_part(joined)?;
+        let mut fewer = Claimed::new(rt, &claimed.instant);
+        fewer.add_part(rt, joined);
         for part in others {
-            fewer.add_part(part.clone()?)?;
+            fewer.add_part(rt, part.clone().expect(rt, "memory"));
         }
-        if let Some((a, b)) = overlap_of(&taken) {
-            self.add(&fewer, &format!(in alloc; "no,Overlap,{a},{b}")?)?;
-        }
-        Ok(())
+        self.add_claim(rt, &fewer);
+        writeln!(self.answers, "no,Overlap,{a},{b}").expect(rt, "memory");
     }
 
-    // Each day of the month as the instant, and none.
-    fn add_instants(&mut self, alloc: Global, rows: &[Row], claimed: &Claimed) -> Result<(), Fail> {
-        let mut other = claimed.clone()?;
+    // Each day of the month as the instant.
+    fn add_instants(
+        &mut self,
+        rt: &(impl Abort + Alloc<A = Global>),
+        rows: &[Row],
+        claimed: &Claimed,
+    ) {
+        let mut other = claimed.again(rt);
         for day in 1..=31 {
-            other.instant = format!(in alloc; "2024-01-{day:02}")?;
-            let holds = crowd_of(rows, day);
-            if holds > 0 && holds as u64 == claimed.count {
-                self.add(&other, "yes")?;
-            } else {
-                self.add(&other, &format!(in alloc; "no,NotCrowded,{holds}")?)?;
-            }
+            other.instant.clear();
+            write!(other.instant, "2024-01-{day:02}").expect(rt, "memory");
+            self.add_crowd(rt, &other, crowd_of(rows, day) as u64);
         }
-        other.instant = String::from_str(alloc, "-")?;
-        let verdict = if rows.is_empty() {
-            "yes"
+    }
+
+    // A claim whose instant so many rows hold.
+    fn add_crowd(&mut self, rt: &impl Abort, claimed: &Claimed, holds: u64) {
+        if holds > 0 && holds == claimed.count {
+            self.add(rt, claimed, "yes");
         } else {
-            "no,NotCrowded,0"
-        };
-        self.add(&other, verdict)
+            self.add_denied(rt, claimed, "NotCrowded", holds);
+        }
+    }
+
+    // No instant.
+    fn add_none(&mut self, rt: &impl Abort, rows: &[Row], claimed: &Claimed) {
+        let mut other = claimed.again(rt);
+        other.instant.clear();
+        other.instant.push_str("-").expect(rt, "memory");
+        if rows.is_empty() {
+            self.add(rt, &other, "yes");
+        } else {
+            self.add_denied(rt, &other, "NotCrowded", 0);
+        }
     }
 
     // Each row in a part of its own, which is the least only where all rows hold one day.
-    fn add_alone(&mut self, alloc: Global, rows: &[Row], claimed: &Claimed) -> Result<(), Fail> {
-        let mut alone = Claimed {
-            count: 0,
-            instant: claimed.instant.clone()?,
-            parts: Vec::new(alloc),
-        };
+    fn add_alone(
+        &mut self,
+        rt: &(impl Abort + Alloc<A = Global>),
+        rows: &[Row],
+        claimed: &Claimed,
+    ) {
+        let mut alone = Claimed::new(rt, &claimed.instant);
         for row in rows {
-            alone.add_part(vec![in alloc; row.id]?)?;
+            alone.add_part(rt, vec![in rt.alloc(); row.id].expect(rt, "memory"));
         }
-        let holds = claimed.count;
-        if holds == alone.count {
-            self.add(&alone, "yes")
+        if alone.count == claimed.count {
+            self.add(rt, &alone, "yes");
         } else {
-            self.add(&alone, &format!(in alloc; "no,NotCrowded,{holds}")?)
+            self.add_denied(rt, &alone, "NotCrowded", claimed.count);
         }
+    }
+
+    // Adds the claim with each damage, and its verdicts.
+    fn add_damages(
+        &mut self,
+        rt: &(impl Abort + Alloc<A = Global>),
+        rows: &[Row],
+        claimed: &Claimed,
+    ) {
+        self.add_missing(rt, claimed);
+        self.add_twice(rt, rows, claimed);
+        self.add_unknown(rt, rows, claimed);
+        self.add_empty(rt, claimed);
+        self.add_wrong_counts(rt, claimed);
+        self.add_overlap(rt, rows, claimed);
+        self.add_instants(rt, rows, claimed);
+        self.add_none(rt, rows, claimed);
+        self.add_alone(rt, rows, claimed);
     }
 
     // Runs the script.
-    fn check(
-        &self,
-        rt: &(impl Abort + Alloc<A = Global> + Threads + Wait + Sync),
-    ) -> Result<(), Fail> {
-        let answers = answers_of(rt, self.script.as_bytes())?;
-        assert_eq!(rt; str::from_utf8(&answers)?, self.answers.as_str());
-        Ok(())
+    fn check(&self, rt: &(impl Abort + Alloc<A = Global> + Threads + Wait + Sync)) {
+        let answers = answers_of(rt, &self.script);
+        assert_eq!(rt; answers.as_str(), self.answers.as_str());
     }
 }
 
+// Both parts in one.
+fn joined(rt: &(impl Abort + Alloc<A = Global>), first: &[u64], second: &[u64]) -> Vec<u64> {
+    let mut joined = Vec::from_slice(rt.alloc(), first).expect(rt, "memory");
+    joined.extend_from_slice(second).expect(rt, "memory");
+    joined
+}
+
+// The rows with these ids, in their order.
+fn taken(rt: &(impl Abort + Alloc<A = Global>), rows: &[Row], ids: &[u64]) -> Vec<Row> {
+    let mut taken = Vec::new(rt.alloc());
+    for row in rows {
+        if ids.contains(&row.id) {
+            taken.push(*row).expect(rt, "memory");
+        }
+    }
+    taken.sort_unstable();
+    taken
+}
+
+// What `dip` answers of so many random rows is certified.
+fn check_certified(
+    rt: &(impl Abort + Alloc<A = Global> + Threads + Wait + Sync),
+    rng: &mut Pcg32,
+    count: u64,
+) {
+    let rows = make_rows(rt, rng, count);
+    let claimed = Claimed::by_dip(rt, &rows);
+    assert_eq!(rt; claimed.parts.len() as u64, claimed.count);
+    let mut trial = Trial::new(rt, &rows);
+    trial.add(rt, &claimed, "yes");
+    trial.check(rt);
+}
+
 #[test]
-fn what_dip_answers_is_certified(rt: HostRuntime) -> Result<(), Fail> {
+fn what_dip_answers_is_certified(rt: HostRuntime) {
     let mut rng = Pcg32::seed_from_u64(1);
     for count in 0..=60 {
-        let rows = make_rows(rt.alloc(), &mut rng, count)?;
-        let claimed = Claimed::by_dip(&rt, &rows)?;
-        assert_eq!(rt; claimed.parts.len() as u64, claimed.count);
-        let mut trial = Trial::new(rt.alloc(), &rows)?;
-        trial.add(&claimed, "yes")?;
-        trial.check(&rt)?;
+        check_certified(&rt, &mut rng, count);
     }
-    Ok(())
+}
+
+// Each damage to what `dip` answers of so many random rows gets its verdict. The verdicts are added to these.
+fn check_damages(
+    rt: &(impl Abort + Alloc<A = Global> + Threads + Wait + Sync),
+    rng: &mut Pcg32,
+    count: u64,
+    verdicts: &mut String,
+) {
+    let rows = make_rows(rt, rng, count);
+    let claimed = Claimed::by_dip(rt, &rows);
+    let mut trial = Trial::new(rt, &rows);
+    trial.add_damages(rt, &rows, &claimed);
+    trial.check(rt);
+    verdicts.push_str(&trial.answers).expect(rt, "memory");
+}
+
+// Of these lines so many at least begin with a verdict.
+fn check_often(rt: &impl Abort, lines: &str, verdict: &str) {
+    let count = lines
+        .lines()
+        .filter(|line| line.starts_with(verdict))
+        .count();
+    assert!(rt; count >= 50, "{verdict} is told only {count} times");
 }
 
 #[test]
-fn each_damage_gets_its_verdict(rt: HostRuntime) -> Result<(), Fail> {
+fn each_damage_gets_its_verdict(rt: HostRuntime) {
     let mut rng = Pcg32::seed_from_u64(2);
     let mut verdicts = String::new(rt.alloc());
     for count in 0..=60 {
-        let rows = make_rows(rt.alloc(), &mut rng, count)?;
-        let claimed = Claimed::by_dip(&rt, &rows)?;
-        let mut trial = Trial::new(rt.alloc(), &rows)?;
-        trial.add_wrong_ids(rt.alloc(), &rows, &claimed)?;
-        trial.add_wrong_counts(rt.alloc(), &claimed)?;
-        trial.add_overlap(rt.alloc(), &rows, &claimed)?;
-        trial.add_instants(rt.alloc(), &rows, &claimed)?;
-        trial.add_alone(rt.alloc(), &rows, &claimed)?;
-        trial.check(&rt)?;
-        verdicts.push_str(&trial.answers)?;
+        check_damages(&rt, &mut rng, count, &mut verdicts);
     }
     for verdict in [
         "no,WrongCount,",
@@ -318,11 +425,6 @@ fn each_damage_gets_its_verdict(rt: HostRuntime) -> Result<(), Fail> {
         "no,Overlap,",
         "no,NotCrowded,",
     ] {
-        let count = verdicts
-            .lines()
-            .filter(|line| line.starts_with(verdict))
-            .count();
-        assert!(rt; count >= 50, "a verdict is told only {count} times");
+        check_often(&rt, &verdicts, verdict);
     }
-    Ok(())
 }

@@ -1,9 +1,14 @@
-//! Changes that the tests make.
+//! Changes that the tests make, and what a store answers to them.
+
+ghost use Rattle.store_core.specs.Passes.{IsPassOf};
 
 use book_core::Change;
 use period_core::{Period, Point};
-use row_core::{Draft, Drafts, Name, Schema, Values};
+use row_core::{Draft, Drafts, Failure, Name, Schema, Values};
 use std::alloc::Global;
+use std::process::Abort;
+use std::sync::Wait;
+use store_core::{Pass, Store, StoreRefused};
 
 // A change can't be made: its table has no name, or memory is refused.
 #[derive(Clone, Copy, Debug, PartialEq, Eq)]
@@ -39,4 +44,35 @@ fn row_change(alloc: Global, table: &[u8]) -> Option<Change> {
         table: Name::parse(table).ok()?,
         rows,
     })
+}
+
+// Makes a table, which the store answers so.
+pub(crate) fn check_make(
+    rt: &(impl Abort + Alloc<A = Global> + Wait),
+    store: &Store,
+    pass: &mut Pass,
+    table: &[u8],
+    want: Result<u64, StoreRefused>,
+)
+    requires { IsPassOf store.now pass.old }
+    ensures { IsPassOf store.now pass.new }
+{
+    let change = make(rt.alloc(), table).expect(rt, "a change");
+    let answer = store.commit(rt, pass, change);
+    assert_eq!(rt; answer, want.map_err(Failure::Refused));
+}
+
+// Adds a row to the table `t`, which the store answers so.
+pub(crate) fn check_load(
+    rt: &(impl Abort + Alloc<A = Global> + Wait),
+    store: &Store,
+    pass: &mut Pass,
+    want: Result<u64, StoreRefused>,
+)
+    requires { IsPassOf store.now pass.old }
+    ensures { IsPassOf store.now pass.new }
+{
+    let change = load(rt.alloc(), b"t").expect(rt, "a change");
+    let answer = store.commit(rt, pass, change);
+    assert_eq!(rt; answer, want.map_err(Failure::Refused));
 }

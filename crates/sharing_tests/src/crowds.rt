@@ -167,6 +167,39 @@ fn file_all(callers: &mut Vec<u32>, answers: &[Answer], caller: u32) -> bool {
     true
 }
 
+// Notes who made each commit that any caller's answers tell; false where a call of one was refused, too.
+fn file_lists(callers: &mut Vec<u32>, lists: &[Option<Vec<Answer>>]) -> bool {
+    for (list, caller) in lists.iter().zip(1u32..5) {
+        let filed = match list {
+            Some(list) => file_all(callers, list, caller),
+            None => false,
+        };
+        if !filed {
+            return false;
+        }
+    }
+    true
+}
+
+// Whether the history answers each caller so.
+fn lists_stand_in_order(lists: &[Option<Vec<Answer>>], sums: &[u64]) -> bool {
+    for list in lists {
+        let stands = match list {
+            Some(list) => stand_in_order(list, sums),
+            None => false,
+        };
+        if !stands {
+            return false;
+        }
+    }
+    true
+}
+
+// Whether the caller of each commit is known.
+fn are_known(callers: &[u32]) -> bool {
+    callers.iter().skip(1).all(|caller| *caller != 0)
+}
+
 #[test]
 fn four_callers_stand_in_one_history(rt: HostRuntime) -> Result<(), Fail> {
     let alloc = rt.alloc();
@@ -180,22 +213,9 @@ fn four_callers_stand_in_one_history(rt: HostRuntime) -> Result<(), Fail> {
     )?;
     // One commit makes the table, and each caller loads 333 times. No caller has number 0.
     let mut callers = vec![in alloc; 0u32; 1 + 1 + 4 * 333]?;
-    for (list, caller) in answers.iter().zip(1u32..5) {
-        let Some(list) = list else {
-            panic!(rt; "a call was refused")
-        };
-        assert!(rt; file_all(&mut callers, list, caller));
-    }
-    let Some((_, told)) = callers.split_first() else {
-        panic!(rt; "there is a place for each commit")
-    };
-    assert!(rt; told.iter().all(|caller| *caller != 0));
+    assert!(rt; file_lists(&mut callers, &answers));
+    assert!(rt; are_known(&callers));
     let sums = sums_of(alloc, &callers)?;
-    for list in &answers {
-        let Some(list) = list else {
-            panic!(rt; "a call was refused")
-        };
-        assert!(rt; stand_in_order(list, &sums));
-    }
+    assert!(rt; lists_stand_in_order(&answers, &sums));
     Ok(())
 }

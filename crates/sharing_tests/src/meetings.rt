@@ -3,8 +3,9 @@
 ghost use Rattle.std.specs.Prelude.{IfOk, IfSome};
 ghost use Rattle.store_core.specs.Passes.{IsPassOf};
 
-use crate::changes::make;
-use row_core::{Failure, Name};
+use crate::changes::{check_make, make};
+use book_core::Entry;
+use row_core::Name;
 use std::alloc::Global;
 use std::sync::Wait;
 use std::test::Fail;
@@ -41,6 +42,11 @@ fn make_and_look<R: Wait>(
     Some((pass, number))
 }
 
+// Whether the first caller made that commit alone, and the second each other.
+fn are_by(log: &[Entry], number: u64) -> bool {
+    log.iter().all(|entry| entry.by == if entry.number == number { 1 } else { 2 })
+}
+
 #[test]
 fn two_callers_stand_in_one_history(rt: HostRuntime) -> Result<(), Fail> {
     let alloc = rt.alloc();
@@ -53,36 +59,27 @@ fn two_callers_stand_in_one_history(rt: HostRuntime) -> Result<(), Fail> {
     let (Some((mut first, a)), Some((mut second, b))) = (one, other) else {
         panic!(rt; "a call was refused, or a snapshot lacks a table")
     };
-    assert_eq!(rt; a.min(b), 1);
-    assert_eq!(rt; a.max(b), 2);
+    assert!(rt; a.min(b) == 1);
+    assert!(rt; a.max(b) == 2);
     let note = store.note(&mut second);
     store.hear(&mut first, note);
-    let log = store.log(&rt, &mut first)?;
-    assert_eq!(rt; log.len(), 2);
-    for entry in log.as_slice() {
-        let by = if entry.number == a { 1 } else { 2 };
-        assert_eq!(rt; entry.by, by);
-    }
-    assert_eq!(rt; first.left(), 0);
-    let spent = store.commit(&rt, &mut first, make(alloc, b"c")?);
-    assert_eq!(rt; spent, Err(Failure::Refused(StoreRefused::PassSpent)));
+    let log = store.log(&rt, &mut first).expect(&rt, "a log");
+    assert!(rt; log.len() == 2);
+    assert!(rt; are_by(log.as_slice(), a));
+    assert!(rt; first.left() == 0);
+    check_make(&rt, &store, &mut first, b"c", Err(StoreRefused::PassSpent));
     Ok(())
 }
 
 #[test]
 fn a_pass_hears_its_own_note(rt: HostRuntime) -> Result<(), Fail> {
     let (store, mut first, _) = two_passes(rt.alloc())?;
-    assert_eq!(rt;
-        store.commit(&rt, &mut first, make(rt.alloc(), b"a")?),
-        Ok(1)
-    );
+    check_make(&rt, &store, &mut first, b"a", Ok(1));
     let note = store.note(&mut first);
-    assert_eq!(rt;
-        store.commit(&rt, &mut first, make(rt.alloc(), b"b")?),
-        Ok(2)
-    );
+    check_make(&rt, &store, &mut first, b"b", Ok(2));
     store.hear(&mut first, note);
-    assert_eq!(rt; first.left(), 1);
-    assert_eq!(rt; store.log(&rt, &mut first)?.len(), 2);
+    assert!(rt; first.left() == 1);
+    let log = store.log(&rt, &mut first).expect(&rt, "a log");
+    assert!(rt; log.len() == 2);
     Ok(())
 }

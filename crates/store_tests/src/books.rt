@@ -1,160 +1,178 @@
 //! Books: what each commit shows, their copies, and their limits.
 
-use book_core::{Book, BookRefused, Change, RowsRefused};
+use crate::fixtures::{day, name, schema};
+use book_core::{Book, BookRefused, Change};
 use list_core::DeepCopy;
-use period_core::{Period, Point};
-use row_core::{Draft, Drafts, Failure, Kind, Name, Row, Schema, Value, Values};
+use period_core::Period;
+use row_core::{Draft, Drafts, Failure, Kind, Row, Value, Values};
 use std::alloc::Global;
-use std::test::Fail;
+use std::process::Abort;
 
 // The change that makes a table without columns.
-fn make(alloc: Global, table: &[u8]) -> Result<Change, Fail> {
-    Ok(Change::Make {
-        table: Name::parse(table)?,
-        schema: Schema::new(alloc, &[])?,
-    })
+fn make(rt: &(impl Abort + Alloc<A = Global>), table: &[u8]) -> Change {
+    Change::Make {
+        table: name(rt, table),
+        schema: schema(rt, &[]),
+    }
+}
+
+// So many rows of one period, without values.
+fn drafts(rt: &(impl Abort + Alloc<A = Global>), period: &Period, rows: usize) -> Drafts {
+    let mut drafts = Drafts::new(rt.alloc());
+    for _ in 0..rows {
+        let draft = Draft {
+            period: *period,
+            values: Values::new(rt.alloc()),
+        };
+        drafts.push(draft).expect(rt, "memory");
+    }
+    drafts
 }
 
 // The change that adds so many rows of one day to the table `t`.
-fn load(alloc: Global, rows: usize) -> Result<Change, Fail> {
-    let from = Point::parse(b"2024-01-01")?;
-    let period = Period::new(from, Point::parse(b"2024-01-02")?)?;
-    let mut drafts = Drafts::new(alloc);
-    for _ in 0..rows {
-        drafts.push(Draft {
-            period,
-            values: Values::new(alloc),
-        })?;
+fn load(rt: &(impl Abort + Alloc<A = Global>), rows: usize) -> Change {
+    Change::Load {
+        table: name(rt, b"t"),
+        rows: drafts(rt, &day(rt), rows),
     }
-    Ok(Change::Load {
-        table: Name::parse(b"t")?,
-        rows: drafts,
-    })
 }
 
-fn ids(alloc: Global, rows: &[Row]) -> Result<Vec<u64>, Fail> {
-    Ok(rows.iter().map(|row| row.id).collect(alloc)?)
+// Makes a change, which the book answers so.
+fn check_apply(rt: &impl Abort, book: &mut Book, change: Change, want: Result<u64, BookRefused>) {
+    let answer = book.apply(1, change);
+    assert_eq!(rt; answer, want.map_err(Failure::Refused));
+}
+
+fn check_load(
+    rt: &(impl Abort + Alloc<A = Global>),
+    book: &mut Book,
+    rows: usize,
+    want: Result<u64, BookRefused>,
+) {
+    check_apply(rt, book, load(rt, rows), want);
+}
+
+// Whether the ids are the numbers from 1 on.
+fn are_counted(rows: &[Row]) -> bool {
+    rows.iter()
+        .zip(1..=rows.len() as u64)
+        .all(|(row, id)| row.id == id)
+}
+
+// Checks that a commit shows so many rows of a table, with the ids from 1 on.
+fn check_rows(rt: &impl Abort, book: &Book, table: &[u8], commit: u64, count: usize) {
+    let rows = book.rows_at(commit, name(rt, table)).expect(rt, "rows");
+    assert!(rt; rows.len() == count);
+    assert!(rt; are_counted(rows.as_slice()));
 }
 
 #[test]
-fn shows_each_commit(rt: HostRuntime) -> Result<(), Fail> {
-    let table = Name::parse(b"t")?;
+fn shows_each_commit(rt: HostRuntime) {
     let mut book = Book::new(rt.alloc());
-    assert_eq!(rt;
-        book.apply(1, load(rt.alloc(), 1)?),
-        Err(Failure::Refused(BookRefused::NoTable))
+    check_load(&rt, &mut book, 1, Err(BookRefused::NoTable));
+    check_apply(&rt, &mut book, make(&rt, b"t"), Ok(1));
+    check_apply(
+        &rt,
+        &mut book,
+        make(&rt, b"t"),
+        Err(BookRefused::TableExists),
     );
-    assert_eq!(rt; book.apply(1, make(rt.alloc(), b"t")?), Ok(1));
-    assert_eq!(rt;
-        book.apply(2, make(rt.alloc(), b"t")?),
-        Err(Failure::Refused(BookRefused::TableExists))
-    );
-    assert_eq!(rt; book.apply(1, load(rt.alloc(), 2)?), Ok(2));
-    assert_eq!(rt; book.apply(1, load(rt.alloc(), 1)?), Ok(3));
-    assert_eq!(rt; book.commits(), 3);
-    for (commit, want) in [(0, &[][..]), (1, &[]), (2, &[1, 2]), (3, &[1, 2, 3])] {
-        let rows = book.rows_at(commit, table)?;
-        assert_eq!(rt; ids(rt.alloc(), rows.as_slice())?.as_slice(), want);
-    }
-    let other = Name::parse(b"u")?;
-    assert_eq!(rt;
-        book.rows_at(4, other).err(),
-        Some(Failure::Refused(RowsRefused::Future))
-    );
-    assert_eq!(rt;
-        book.rows_at(3, other).err(),
-        Some(Failure::Refused(RowsRefused::NoTable))
-    );
-    assert!(rt; book.schema(other).is_err());
-    assert_eq!(rt; book.schema(table)?.width(), 0);
-    Ok(())
+    check_load(&rt, &mut book, 2, Ok(2));
+    check_load(&rt, &mut book, 1, Ok(3));
+    check_rows(&rt, &book, b"t", 0, 0);
+    check_rows(&rt, &book, b"t", 1, 0);
+    check_rows(&rt, &book, b"t", 2, 2);
+    check_rows(&rt, &book, b"t", 3, 3);
 }
 
-#[test]
-fn refuses_values_of_another_kind(rt: HostRuntime) -> Result<(), Fail> {
-    let table = Name::parse(b"u")?;
-    let column = (Name::parse(b"v")?, Kind::Text);
-    let mut book = Book::new(rt.alloc());
-    let schema = Schema::new(rt.alloc(), &[column])?;
-    assert_eq!(rt; book.apply(1, Change::Make { table, schema }), Ok(1));
-    let from = Point::parse(b"2024-01-01")?;
-    let period = Period::new(from, Point::parse(b"2024-01-10")?)?;
+// The change that makes the table `u`, with a column of texts.
+fn make_texts(rt: &(impl Abort + Alloc<A = Global>)) -> Change {
+    let column = (name(rt, b"v"), Kind::Text);
+    Change::Make {
+        table: name(rt, b"u"),
+        schema: schema(rt, &[column]),
+    }
+}
+
+// The change that adds a row with a number to the table `u`.
+fn load_number(rt: &(impl Abort + Alloc<A = Global>)) -> Change {
     let mut values = Values::new(rt.alloc());
-    values.push(Value::Int(1))?;
+    values.push(Value::Int(1)).expect(rt, "memory");
+    let period = day(rt);
     let mut rows = Drafts::new(rt.alloc());
-    rows.push(Draft { period, values })?;
-    let refused = book.apply(1, Change::Load { table, rows });
-    assert_eq!(rt; refused, Err(Failure::Refused(BookRefused::WrongKind)));
-    assert_eq!(rt; book.commits(), 1);
-    assert!(rt; book.rows_at(1, table)?.is_empty());
-    Ok(())
-}
-
-#[test]
-fn copies_go_their_own_way(rt: HostRuntime) -> Result<(), Fail> {
-    let table = Name::parse(b"t")?;
-    let mut book = Book::new(rt.alloc());
-    assert_eq!(rt;
-        book.apply(1, make(rt.alloc(), b"t")?.copy(rt.alloc())?),
-        Ok(1)
-    );
-    let change = load(rt.alloc(), 3)?;
-    assert_eq!(rt; book.apply(1, change.copy(rt.alloc())?), Ok(2));
-    let mut copy = book.copy(rt.alloc())?;
-    assert_eq!(rt; copy.commits(), 2);
-    assert_eq!(rt; copy.log()?.as_slice(), book.log()?.as_slice());
-    assert_eq!(rt; copy.apply(1, change), Ok(3));
-    assert_eq!(rt; book.commits(), 2);
-    for (shown, want) in [
-        (book.rows_at(2, table)?, &[1, 2, 3][..]),
-        (copy.rows_at(2, table)?, &[1, 2, 3]),
-        (copy.rows_at(3, table)?, &[1, 2, 3, 4, 5, 6]),
-    ] {
-        assert_eq!(rt; ids(rt.alloc(), shown.as_slice())?.as_slice(), want);
+    rows.push(Draft { period, values }).expect(rt, "memory");
+    Change::Load {
+        table: name(rt, b"u"),
+        rows,
     }
-    Ok(())
 }
 
 #[test]
-fn a_table_has_a_million_rows(rt: HostRuntime) -> Result<(), Fail> {
-    let table = Name::parse(b"t")?;
+fn refuses_values_of_another_kind(rt: HostRuntime) {
     let mut book = Book::new(rt.alloc());
-    assert_eq!(rt; book.apply(1, make(rt.alloc(), b"t")?), Ok(1));
-    assert_eq!(rt;
-        book.apply(1, load(rt.alloc(), 1_000_001)?),
-        Err(Failure::Refused(BookRefused::Full))
+    check_apply(&rt, &mut book, make_texts(&rt), Ok(1));
+    check_apply(
+        &rt,
+        &mut book,
+        load_number(&rt),
+        Err(BookRefused::WrongKind),
     );
-    assert!(rt; book.rows_at(1, table)?.is_empty());
-    assert_eq!(rt; book.apply(1, load(rt.alloc(), 1_000_000)?), Ok(2));
-    assert_eq!(rt;
-        book.apply(1, load(rt.alloc(), 1)?),
-        Err(Failure::Refused(BookRefused::Full))
-    );
-    assert_eq!(rt; book.apply(1, load(rt.alloc(), 0)?), Ok(3));
-    let rows = book.rows_at(3, table)?;
-    assert_eq!(rt; rows.len(), 1_000_000);
-    assert_eq!(rt; rows.get(999_999).map(|row| row.id), Some(1_000_000));
-    Ok(())
+    assert!(rt; book.commits() == 1);
+    check_rows(&rt, &book, b"u", 1, 0);
+}
+
+// Makes a copy of a change, which the book answers so.
+fn check_copy(
+    rt: &(impl Abort + Alloc<A = Global>),
+    book: &mut Book,
+    change: &Change,
+    want: Result<u64, BookRefused>,
+) {
+    let copy = change.copy(rt.alloc()).expect(rt, "memory");
+    check_apply(rt, book, copy, want);
+}
+
+fn have_same_logs(rt: &impl Abort, a: &Book, b: &Book) -> bool {
+    let a = a.log().expect(rt, "memory");
+    let b = b.log().expect(rt, "memory");
+    a.as_slice() == b.as_slice()
 }
 
 #[test]
-fn has_a_million_commits(rt: HostRuntime) -> Result<(), Fail> {
-    let table = Name::parse(b"t")?;
+fn copies_go_their_own_way(rt: HostRuntime) {
     let mut book = Book::new(rt.alloc());
-    assert_eq!(rt; book.apply(1, make(rt.alloc(), b"t")?), Ok(1));
-    for _ in 1..1_000_000 {
-        book.apply(1, load(rt.alloc(), 1)?)?;
+    check_copy(&rt, &mut book, &make(&rt, b"t"), Ok(1));
+    check_copy(&rt, &mut book, &load(&rt, 3), Ok(2));
+    let mut copy = book.copy(rt.alloc()).expect(&rt, "memory");
+    assert!(rt; have_same_logs(&rt, &copy, &book));
+    check_load(&rt, &mut copy, 3, Ok(3));
+    assert!(rt; book.commits() == 2);
+    check_rows(&rt, &book, b"t", 2, 3);
+    check_rows(&rt, &copy, b"t", 2, 3);
+    check_rows(&rt, &copy, b"t", 3, 6);
+}
+
+#[test]
+fn a_table_has_a_million_rows(rt: HostRuntime) {
+    let mut book = Book::new(rt.alloc());
+    check_apply(&rt, &mut book, make(&rt, b"t"), Ok(1));
+    check_load(&rt, &mut book, 1_000_001, Err(BookRefused::Full));
+    check_rows(&rt, &book, b"t", 1, 0);
+    check_load(&rt, &mut book, 1_000_000, Ok(2));
+    check_load(&rt, &mut book, 1, Err(BookRefused::Full));
+    check_load(&rt, &mut book, 0, Ok(3));
+    check_rows(&rt, &book, b"t", 3, 1_000_000);
+}
+
+#[test]
+fn has_a_million_commits(rt: HostRuntime) {
+    let mut book = Book::new(rt.alloc());
+    check_apply(&rt, &mut book, make(&rt, b"t"), Ok(1));
+    for number in 2..=1_000_000 {
+        check_load(&rt, &mut book, 1, Ok(number));
     }
-    assert_eq!(rt; book.commits(), 1_000_000);
-    assert_eq!(rt;
-        book.apply(1, load(rt.alloc(), 0)?),
-        Err(Failure::Refused(BookRefused::Full))
-    );
-    assert_eq!(rt;
-        book.apply(1, make(rt.alloc(), b"u")?),
-        Err(Failure::Refused(BookRefused::Full))
-    );
-    assert_eq!(rt; book.rows_at(1_000_000, table)?.len(), 999_999);
-    assert_eq!(rt; book.rows_at(2, table)?.len(), 1);
-    Ok(())
+    check_load(&rt, &mut book, 0, Err(BookRefused::Full));
+    check_apply(&rt, &mut book, make(&rt, b"u"), Err(BookRefused::Full));
+    check_rows(&rt, &book, b"t", 2, 1);
+    check_rows(&rt, &book, b"t", 1_000_000, 999_999);
 }

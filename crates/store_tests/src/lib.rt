@@ -4,6 +4,8 @@
 #[cfg(test)]
 mod books;
 #[cfg(test)]
+mod fixtures;
+#[cfg(test)]
 mod points;
 #[cfg(test)]
 mod portions;

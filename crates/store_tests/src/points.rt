@@ -1,27 +1,21 @@
 //! Points and periods: texts, numbers, and the parts of periods.
 
-use period_core::{BadPoint, Period, Point};
+use crate::fixtures::period;
+use period_core::{BadPoint, Point};
 use std::alloc::Global;
 use std::process::Abort;
-use std::test::Fail;
 
-// The number of a text, and the text that is written of it.
-fn check_point(
-    rt: &(impl Abort + Alloc<A = Global>),
-    text: &[u8],
-    number: i64,
-    written: &[u8],
-) -> Result<(), Fail> {
-    let point = Point::parse(text)?;
-    assert_eq!(rt; point.number(), number);
+// Checks the number of a text, and the text that is written of it.
+fn check_point(rt: &(impl Abort + Alloc<A = Global>), text: &[u8], number: i64, written: &[u8]) {
+    let point = Point::parse(text).expect(rt, "a point");
+    assert!(rt; point.number() == number);
     let mut out = Vec::new(rt.alloc());
-    point.write(&mut out)?;
-    assert_eq!(rt; out.as_slice(), written);
-    Ok(())
+    point.write(&mut out).expect(rt, "memory");
+    assert!(rt; out.as_slice() == written);
 }
 
 #[test]
-fn numbers_and_texts(rt: HostRuntime) -> Result<(), Fail> {
+fn numbers_and_texts(rt: HostRuntime) {
     for (text, number) in [
         (&b"1970-01-01"[..], 0),
         (b"2024-01-01", 1_704_067_200),
@@ -32,9 +26,9 @@ fn numbers_and_texts(rt: HostRuntime) -> Result<(), Fail> {
         (b"1969-12-31T23:59:59", -1),
         (b"2024-01-01T12:34:56", 1_704_112_496),
     ] {
-        check_point(&rt, text, number, text)?;
+        check_point(&rt, text, number, text);
     }
-    check_point(&rt, b"2024-01-01T00:00:00", 1_704_067_200, b"2024-01-01")
+    check_point(&rt, b"2024-01-01T00:00:00", 1_704_067_200, b"2024-01-01");
 }
 
 #[test]
@@ -58,29 +52,31 @@ fn texts_of_no_point(rt: HostRuntime) {
         b"2024-01-01T12:00:00Z",
         b"2023-02-29T00:00:00",
     ] {
-        assert_eq!(rt; Point::parse(text), Err(BadPoint));
+        assert!(rt; Point::parse(text) == Err(BadPoint));
     }
-}
-
-fn january(rt: &impl Abort, from: &[u8; 10], to: &[u8; 10]) -> Period {
-    let from = Point::parse(from).expect(rt, "a date");
-    let to = Point::parse(to).expect(rt, "a date");
-    Period::new(from, to).expect(rt, "a period")
 }
 
 #[test]
 fn parts_of_periods(rt: HostRuntime) {
-    let whole = january(&rt, b"2024-01-01", b"2024-01-10");
-    let inside = january(&rt, b"2024-01-04", b"2024-01-06");
-    let first = january(&rt, b"2024-01-01", b"2024-01-04");
-    let last = january(&rt, b"2024-01-06", b"2024-01-10");
-    let later = january(&rt, b"2024-01-20", b"2024-01-21");
-    assert_eq!(rt; whole.minus(&inside), (Some(first), Some(last)));
-    assert_eq!(rt; whole.minus(&whole), (None, None));
-    assert_eq!(rt; whole.minus(&later), (Some(whole), None));
-    let left = january(&rt, b"2024-01-01", b"2024-01-05");
-    let right = january(&rt, b"2024-01-05", b"2024-01-06");
-    assert_eq!(rt; left.meet(&right), None);
+    let whole = period(&rt, b"2024-01-01", b"2024-01-10");
+    let inside = period(&rt, b"2024-01-04", b"2024-01-06");
+    let first = period(&rt, b"2024-01-01", b"2024-01-04");
+    let last = period(&rt, b"2024-01-06", b"2024-01-10");
+    let later = period(&rt, b"2024-01-20", b"2024-01-21");
+    for (other, parts) in [
+        (inside, (Some(first), Some(last))),
+        (whole, (None, None)),
+        (later, (Some(whole), None)),
+    ] {
+        assert!(rt; whole.minus(&other) == parts);
+    }
+}
+
+#[test]
+fn compares_periods_that_touch(rt: HostRuntime) {
+    let left = period(&rt, b"2024-01-01", b"2024-01-05");
+    let right = period(&rt, b"2024-01-05", b"2024-01-06");
+    assert!(rt; left.meet(&right).is_none());
     assert!(rt; !left.overlaps(right));
     assert!(rt; left.precedes(right));
     assert!(rt; left.immediately_precedes(right));
@@ -88,9 +84,9 @@ fn parts_of_periods(rt: HostRuntime) {
 
 #[test]
 fn orders_periods_by_start_and_then_by_end(rt: HostRuntime) {
-    let short = january(&rt, b"2024-01-01", b"2024-01-03");
-    let long = january(&rt, b"2024-01-01", b"2024-01-05");
-    let later = january(&rt, b"2024-01-02", b"2024-01-03");
+    let short = period(&rt, b"2024-01-01", b"2024-01-03");
+    let long = period(&rt, b"2024-01-01", b"2024-01-05");
+    let later = period(&rt, b"2024-01-02", b"2024-01-03");
     assert!(rt; short < long);
     assert!(rt; long < later);
 }

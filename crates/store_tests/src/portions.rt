@@ -1,233 +1,296 @@
 //! Changes of a portion of time: what commits show of them, their versions, the log, and copies.
 
-use book_core::{Book, Change, ChangeKind, Entry, Pairs, Version, VersionsRefused};
+use crate::fixtures::{name, period, schema, text};
+use book_core::{Book, Change, ChangeKind, Entry, Pairs, RowsRefused, Version, VersionsRefused};
 use list_core::DeepCopy;
-use period_core::{Period, Point};
-use row_core::{Draft, Drafts, Failure, Kind, Name, Row, Schema, Text, Value, Values};
+use period_core::Period;
+use row_core::{Draft, Drafts, Failure, Kind, Name, Row, Value, Values};
 use std::alloc::Global;
-use std::test::Fail;
+use std::process::Abort;
 
-fn period(from: &[u8], to: &[u8]) -> Result<Period, Fail> {
-    Ok(Period::new(Point::parse(from)?, Point::parse(to)?)?)
-}
-
-fn text(alloc: Global, bytes: &[u8]) -> Result<Value, Fail> {
-    Ok(Value::Text(Text::new(alloc, bytes)?))
-}
-
-// The list of a column and a value.
-fn pair(alloc: Global, column: &[u8], value: Value) -> Result<Pairs, Fail> {
-    let mut pairs = Pairs::new(alloc);
-    pairs.push((Name::parse(column)?, value))?;
-    Ok(pairs)
+// The pairs of the column `v` with a text, and of the column `k` with a number.
+fn pairs(rt: &(impl Abort + Alloc<A = Global>), v: Option<&[u8]>, k: Option<i64>) -> Pairs {
+    let mut pairs = Pairs::new(rt.alloc());
+    if let Some(bytes) = v {
+        let pair = (name(rt, b"v"), text(rt, bytes));
+        pairs.push(pair).expect(rt, "memory");
+    }
+    if let Some(number) = k {
+        let pair = (name(rt, b"k"), Value::Int(number));
+        pairs.push(pair).expect(rt, "memory");
+    }
+    pairs
 }
 
 // The change that sets the text `y` on two days, under conditions.
-fn update(alloc: Global, conds: Pairs) -> Result<Change, Fail> {
-    Ok(Change::Update {
-        table: Name::parse(b"u")?,
-        portion: period(b"2024-01-04", b"2024-01-06")?,
-        sets: pair(alloc, b"v", text(alloc, b"y")?)?,
-        conds,
-    })
+fn update(rt: &(impl Abort + Alloc<A = Global>), v: Option<&[u8]>, k: Option<i64>) -> Change {
+    Change::Update {
+        table: name(rt, b"u"),
+        portion: period(rt, b"2024-01-04", b"2024-01-06"),
+        sets: pairs(rt, Some(b"y"), None),
+        conds: pairs(rt, v, k),
+    }
 }
 
-// The book of a table with a text column, of which the one row of nine days was updated.
-fn updated_book(alloc: Global) -> Result<Book, Fail> {
-    let table = Name::parse(b"u")?;
-    let schema = Schema::new(alloc, &[(Name::parse(b"v")?, Kind::Text)])?;
-    let mut values = Values::new(alloc);
-    values.push(text(alloc, b"x")?)?;
-    let mut rows = Drafts::new(alloc);
-    rows.push(Draft {
-        period: period(b"2024-01-01", b"2024-01-10")?,
+fn delete(rt: &(impl Abort + Alloc<A = Global>), v: Option<&[u8]>) -> Change {
+    Change::Delete {
+        table: name(rt, b"u"),
+        portion: period(rt, b"2024-01-04", b"2024-01-07"),
+        conds: pairs(rt, v, None),
+    }
+}
+
+// The change that makes the table, with a column `v` of texts and a column `k` of numbers.
+fn make(rt: &(impl Abort + Alloc<A = Global>)) -> Change {
+    let columns = [(name(rt, b"v"), Kind::Text), (name(rt, b"k"), Kind::Int)];
+    Change::Make {
+        table: name(rt, b"u"),
+        schema: schema(rt, &columns),
+    }
+}
+
+// A row of nine days, with the text `x` and a number.
+fn draft(rt: &(impl Abort + Alloc<A = Global>), k: i64) -> Draft {
+    let mut values = Values::new(rt.alloc());
+    values.push(text(rt, b"x")).expect(rt, "memory");
+    values.push(Value::Int(k)).expect(rt, "memory");
+    Draft {
+        period: period(rt, b"2024-01-01", b"2024-01-10"),
         values,
-    })?;
-    let mut book = Book::new(alloc);
-    book.apply(1, Change::Make { table, schema })?;
-    book.apply(1, Change::Load { table, rows })?;
-    book.apply(1, update(alloc, Pairs::new(alloc))?)?;
-    Ok(book)
-}
-
-// The book of a table of 300 rows of nine days, with the numbers up to 99 in turn.
-fn long_book(alloc: Global) -> Result<Book, Fail> {
-    let table = Name::parse(b"u")?;
-    let columns = [
-        (Name::parse(b"v")?, Kind::Text),
-        (Name::parse(b"k")?, Kind::Int),
-    ];
-    let schema = Schema::new(alloc, &columns)?;
-    let mut rows = Drafts::new(alloc);
-    for k in 0..300 {
-        let mut values = Values::new(alloc);
-        values.push(text(alloc, b"x")?)?;
-        values.push(Value::Int(k % 100))?;
-        rows.push(Draft {
-            period: period(b"2024-01-01", b"2024-01-10")?,
-            values,
-        })?;
     }
-    let mut book = Book::new(alloc);
-    book.apply(1, Change::Make { table, schema })?;
-    book.apply(1, Change::Load { table, rows })?;
-    Ok(book)
 }
 
-// The ids and periods of rows.
-fn portions(alloc: Global, rows: &[Row]) -> Result<Vec<(u64, Period)>, Fail> {
-    Ok(rows.iter().map(|row| (row.id, row.period)).collect(alloc)?)
+// The change that adds so many rows, with the numbers up to 99 in turn.
+fn load(rt: &(impl Abort + Alloc<A = Global>), rows: i64) -> Change {
+    let mut drafts = Drafts::new(rt.alloc());
+    for k in 0..rows {
+        drafts.push(draft(rt, k % 100)).expect(rt, "memory");
+    }
+    Change::Load {
+        table: name(rt, b"u"),
+        rows: drafts,
+    }
 }
 
-// The ids of versions, and the commits that show them.
-fn spans(alloc: Global, versions: &[Version]) -> Result<Vec<(u64, u64, Option<u64>)>, Fail> {
-    Ok(
-        versions
+fn apply(rt: &impl Abort, book: &mut Book, by: u32, change: Change) {
+    book.apply(by, change).expect(rt, "a commit");
+}
+
+// The book of the table with so many rows.
+fn book(rt: &(impl Abort + Alloc<A = Global>), rows: i64) -> Book {
+    let mut book = Book::new(rt.alloc());
+    apply(rt, &mut book, 1, make(rt));
+    apply(rt, &mut book, 1, load(rt, rows));
+    book
+}
+
+// The book of the table with one row, which was updated.
+fn updated_book(rt: &(impl Abort + Alloc<A = Global>)) -> Book {
+    let mut book = book(rt, 1);
+    apply(rt, &mut book, 1, update(rt, None, None));
+    book
+}
+
+// Whether the rows have these ids and periods.
+fn are_portions(rows: &[Row], want: &[(u64, Period)]) -> bool {
+    rows.len() == want.len()
+        && rows
             .iter()
-            .map(|version| (version.row.id, version.sysfrom, version.systo))
-            .collect(alloc)?,
-    )
+            .zip(want)
+            .all(|(row, want)| (row.id, row.period) == *want)
 }
 
-// How many versions each commit made and closed.
-fn counts(alloc: Global, entries: &[Entry]) -> Result<Vec<(u64, u64)>, Fail> {
-    Ok(
-        entries
-            .iter()
-            .map(|entry| (entry.added, entry.closed))
-            .collect(alloc)?,
-    )
+// Whether the rows' texts are these.
+fn are_texts(rows: &[Row], want: &[&[u8]]) -> bool {
+    rows.len() == want.len() && rows.iter().zip(want).all(|(row, want)| is_text(row, want))
+}
+
+fn is_text(row: &Row, want: &[u8]) -> bool {
+    match row.values.get(0) {
+        Some(Value::Text(text)) => text.as_bytes() == want,
+        _ => false,
+    }
+}
+
+// Checks the ids, periods and texts of the rows that a commit shows.
+fn check_rows(
+    rt: &impl Abort,
+    book: &Book,
+    commit: u64,
+    portions: &[(u64, Period)],
+    texts: &[&[u8]],
+) {
+    let rows = book.rows_at(commit, name(rt, b"u")).expect(rt, "rows");
+    assert!(rt; are_portions(rows.as_slice(), portions));
+    assert!(rt; are_texts(rows.as_slice(), texts));
 }
 
 #[test]
-fn puts_parts_in_place_of_a_row(rt: HostRuntime) -> Result<(), Fail> {
-    let table = Name::parse(b"u")?;
-    let book = updated_book(rt.alloc())?;
-    let before = [(1, period(b"2024-01-01", b"2024-01-10")?)];
+fn puts_parts_in_place_of_a_row(rt: HostRuntime) {
+    let before = [(1, period(&rt, b"2024-01-01", b"2024-01-10"))];
     let after = [
-        (2, period(b"2024-01-01", b"2024-01-04")?),
-        (3, period(b"2024-01-04", b"2024-01-06")?),
-        (4, period(b"2024-01-06", b"2024-01-10")?),
+        (2, period(&rt, b"2024-01-01", b"2024-01-04")),
+        (3, period(&rt, b"2024-01-04", b"2024-01-06")),
+        (4, period(&rt, b"2024-01-06", b"2024-01-10")),
     ];
-    let rows = book.rows_at(2, table)?;
-    assert_eq!(rt;
-        portions(rt.alloc(), rows.as_slice())?.as_slice(),
-        before.as_slice()
-    );
-    let rows = book.rows_at(3, table)?;
-    assert_eq!(rt;
-        portions(rt.alloc(), rows.as_slice())?.as_slice(),
-        after.as_slice()
-    );
-    for (row, value) in rows.as_slice().iter().zip([b"x", b"y", b"x"]) {
-        let want = [text(rt.alloc(), value)?];
-        assert_eq!(rt; row.values.as_slice(), want.as_slice());
-    }
-    Ok(())
+    let book = updated_book(&rt);
+    check_rows(&rt, &book, 1, &[], &[]);
+    check_rows(&rt, &book, 2, &before, &[b"x"]);
+    check_rows(&rt, &book, 3, &after, &[b"x", b"y", b"x"]);
+}
+
+// The id of a version, the commit that shows it first, and the one that shows it no more.
+type Span = (u64, u64, Option<u64>);
+
+fn span(version: &Version) -> Span {
+    (version.row.id, version.sysfrom, version.systo)
+}
+
+fn are_spans(versions: &[Version], want: &[Span]) -> bool {
+    versions.len() == want.len()
+        && versions
+            .iter()
+            .zip(want)
+            .all(|(version, want)| span(version) == *want)
+}
+
+fn check_between(rt: &impl Abort, book: &Book, [at, m, n]: [u64; 3], want: &[Span]) {
+    let versions = book
+        .between(at, m, n, name(rt, b"u"))
+        .expect(rt, "versions");
+    assert!(rt; are_spans(versions.as_slice(), want));
+}
+
+fn check_from_to(rt: &impl Abort, book: &Book, [at, m, n]: [u64; 3], want: &[Span]) {
+    let versions = book
+        .from_to(at, m, n, name(rt, b"u"))
+        .expect(rt, "versions");
+    assert!(rt; are_spans(versions.as_slice(), want));
 }
 
 #[test]
-fn gives_versions(rt: HostRuntime) -> Result<(), Fail> {
-    let table = Name::parse(b"u")?;
-    let book = updated_book(rt.alloc())?;
-    for (versions, want) in [
-        (book.between(2, 2, 9, table)?, &[(1, 2, None)][..]),
-        (book.from_to(3, 2, 3, table)?, &[(1, 2, Some(3))]),
-        (book.from_to(3, 0, 2, table)?, &[]),
-        (
-            book.between(3, 3, 3, table)?,
-            &[(2, 3, None), (3, 3, None), (4, 3, None)],
-        ),
-        (
-            book.between(3, 0, 9, table)?,
-            &[(1, 2, Some(3)), (2, 3, None), (3, 3, None), (4, 3, None)],
-        ),
-    ] {
-        assert_eq!(rt; spans(rt.alloc(), versions.as_slice())?.as_slice(), want);
-    }
-    Ok(())
+fn gives_versions(rt: HostRuntime) {
+    let book = updated_book(&rt);
+    let after = [(2, 3, None), (3, 3, None), (4, 3, None)];
+    let all = [(1, 2, Some(3)), (2, 3, None), (3, 3, None), (4, 3, None)];
+    check_between(&rt, &book, [2, 2, 9], &[(1, 2, None)]);
+    check_between(&rt, &book, [3, 3, 3], &after);
+    check_between(&rt, &book, [3, 0, 9], &all);
+    check_from_to(&rt, &book, [3, 2, 3], &[(1, 2, Some(3))]);
+    check_from_to(&rt, &book, [3, 0, 2], &[]);
 }
 
 #[test]
-fn refuses_versions(rt: HostRuntime) -> Result<(), Fail> {
-    let table = Name::parse(b"u")?;
-    let other = Name::parse(b"t")?;
-    let book = updated_book(rt.alloc())?;
+fn refuses_versions(rt: HostRuntime) {
+    let other = name(&rt, b"t");
+    let book = updated_book(&rt);
     for (refused, want) in [
-        (book.between(4, 3, 2, other), VersionsRefused::Future),
-        (book.from_to(4, 3, 3, other), VersionsRefused::Future),
-        (book.between(3, 3, 2, other), VersionsRefused::BadPeriod),
-        (book.from_to(3, 3, 3, other), VersionsRefused::BadPeriod),
-        (book.between(3, 3, 3, other), VersionsRefused::NoTable),
-        (book.from_to(3, 3, 4, other), VersionsRefused::NoTable),
+        (book.between(4, 3, 2, other).err(), VersionsRefused::Future),
+        (book.from_to(4, 3, 3, other).err(), VersionsRefused::Future),
+        (
+            book.between(3, 3, 2, other).err(),
+            VersionsRefused::BadPeriod,
+        ),
+        (
+            book.from_to(3, 3, 3, other).err(),
+            VersionsRefused::BadPeriod,
+        ),
+        (book.between(3, 3, 3, other).err(), VersionsRefused::NoTable),
+        (book.from_to(3, 3, 4, other).err(), VersionsRefused::NoTable),
     ] {
-        assert_eq!(rt; refused.err(), Some(Failure::Refused(want)));
+        assert!(rt; refused == Some(Failure::Refused(want)));
     }
-    assert!(rt; book.rows_at(4, table).is_err());
-    Ok(())
 }
 
 #[test]
-fn logs_what_commits_did(rt: HostRuntime) -> Result<(), Fail> {
-    let table = Name::parse(b"u")?;
-    let mut book = updated_book(rt.alloc())?;
-    let delete = Change::Delete {
-        table,
-        portion: period(b"2024-01-04", b"2024-01-07")?,
-        conds: Pairs::new(rt.alloc()),
-    };
-    assert_eq!(rt; book.apply(2, delete), Ok(4));
-    let want = [
-        (1, 1, ChangeKind::Make, 0, 0),
-        (2, 1, ChangeKind::Load, 1, 0),
-        (3, 1, ChangeKind::Update, 3, 1),
-        (4, 2, ChangeKind::Delete, 1, 2),
-    ]
-    .map(|(number, by, kind, added, closed)| Entry {
+fn refuses_rows(rt: HostRuntime) {
+    let table = name(&rt, b"u");
+    let other = name(&rt, b"t");
+    let book = updated_book(&rt);
+    for (commit, table, want) in [
+        (4, table, RowsRefused::Future),
+        (4, other, RowsRefused::Future),
+        (3, other, RowsRefused::NoTable),
+    ] {
+        let refused = book.rows_at(commit, table).err();
+        assert!(rt; refused == Some(Failure::Refused(want)));
+    }
+}
+
+// What the log should have of a commit.
+fn entry(
+    rt: &impl Abort,
+    number: u64,
+    by: u32,
+    kind: ChangeKind,
+    [added, closed]: [u64; 2],
+) -> Entry {
+    Entry {
         number,
         by,
         kind,
-        table,
+        table: name(rt, b"u"),
         added,
         closed,
-    });
-    assert_eq!(rt; book.log()?.as_slice(), want.as_slice());
-    Ok(())
+    }
+}
+
+#[test]
+fn logs_what_commits_did(rt: HostRuntime) {
+    let mut book = updated_book(&rt);
+    apply(&rt, &mut book, 2, delete(&rt, None));
+    let want = [
+        entry(&rt, 1, 1, ChangeKind::Make, [0, 0]),
+        entry(&rt, 2, 1, ChangeKind::Load, [1, 0]),
+        entry(&rt, 3, 1, ChangeKind::Update, [3, 1]),
+        entry(&rt, 4, 2, ChangeKind::Delete, [1, 2]),
+    ];
+    let log = book.log().expect(&rt, "a log");
+    assert!(rt; log.as_slice() == want.as_slice());
+}
+
+// Whether commits made and closed so many versions.
+fn are_counts(entries: &[Entry], want: &[(u64, u64)]) -> bool {
+    entries.len() == want.len()
+        && entries
+            .iter()
+            .zip(want)
+            .all(|(entry, want)| (entry.added, entry.closed) == *want)
 }
 
 // In a table that is long enough for indexes of its columns.
 #[test]
-fn finds_rows_by_their_values(rt: HostRuntime) -> Result<(), Fail> {
-    let alloc = rt.alloc();
-    let mut book = long_book(alloc)?;
-    let mut both = pair(alloc, b"v", text(alloc, b"y")?)?;
-    both.push((Name::parse(b"k")?, Value::Int(7)))?;
-    book.apply(1, update(alloc, pair(alloc, b"k", Value::Int(7))?)?)?;
-    book.apply(1, update(alloc, pair(alloc, b"v", text(alloc, b"y")?)?)?)?;
-    book.apply(1, update(alloc, both)?)?;
-    book.apply(1, update(alloc, pair(alloc, b"k", Value::Int(100))?)?)?;
-    book.apply(1, update(alloc, pair(alloc, b"v", text(alloc, b"x")?)?)?)?;
-    let log = book.log()?;
-    let counts = counts(alloc, log.as_slice())?;
+fn finds_rows_by_their_values(rt: HostRuntime) {
+    let mut book = book(&rt, 300);
+    apply(&rt, &mut book, 1, update(&rt, None, Some(7)));
+    apply(&rt, &mut book, 1, update(&rt, Some(b"y"), None));
+    apply(&rt, &mut book, 1, update(&rt, Some(b"y"), Some(7)));
+    apply(&rt, &mut book, 1, update(&rt, None, Some(100)));
+    apply(&rt, &mut book, 1, update(&rt, Some(b"x"), None));
     let want = [(0, 0), (300, 0), (9, 3), (3, 3), (3, 3), (0, 0), (891, 297)];
-    assert_eq!(rt; counts.as_slice(), want.as_slice());
-    Ok(())
+    let log = book.log().expect(&rt, "a log");
+    assert!(rt; are_counts(log.as_slice(), &want));
+}
+
+// Whether the pair at a place of the list is that name and number.
+fn is_pair(pairs: &Pairs, place: usize, want: (Name, i64)) -> bool {
+    match pairs.get(place) {
+        Some((name, Value::Int(number))) => (*name, *number) == want,
+        _ => false,
+    }
 }
 
 #[test]
-fn adds_pairs_at_the_end(rt: HostRuntime) -> Result<(), Fail> {
-    let name = Name::parse(b"v")?;
-    let other = Name::parse(b"w")?;
+fn adds_pairs_at_the_end(rt: HostRuntime) {
+    let name = name(&rt, b"v");
     let mut pairs = Pairs::new(rt.alloc());
-    assert!(rt; pairs.is_empty());
-    pairs.push((name, Value::Int(1)))?;
-    pairs.push((other, Value::Int(2)))?;
-    assert_eq!(rt; pairs.len(), 2);
-    let want = [(name, Value::Int(1)), (other, Value::Int(2))];
-    assert_eq!(rt; pairs.as_slice(), want.as_slice());
-    assert_eq!(rt; pairs.get(1), Some(&want[1]));
-    assert_eq!(rt; pairs.copy(rt.alloc())?.as_slice(), want.as_slice());
-    Ok(())
+    pairs.push((name, Value::Int(1))).expect(&rt, "memory");
+    pairs.push((name, Value::Int(2))).expect(&rt, "memory");
+    let copy = pairs.copy(rt.alloc()).expect(&rt, "memory");
+    assert!(rt; copy.len() == 2);
+    assert!(rt; is_pair(&copy, 0, (name, 1)));
+    assert!(rt; is_pair(&copy, 1, (name, 2)));
+    assert!(rt; copy.as_slice() == pairs.as_slice());
 }
 
 // What a change of a portion tells: its table, portion, settings and conditions. A deletion has no settings.
@@ -249,19 +312,14 @@ fn told(change: &Change) -> Option<(Name, Period, &[(Name, Value)], &[(Name, Val
     }
 }
 
+fn check_copy(rt: &(impl Abort + Alloc<A = Global>), change: &Change) {
+    let copy = change.copy(rt.alloc()).expect(rt, "memory");
+    assert!(rt; told(&copy).is_some());
+    assert!(rt; told(&copy) == told(change));
+}
+
 #[test]
-fn copies_changes_of_a_portion(rt: HostRuntime) -> Result<(), Fail> {
-    let alloc = rt.alloc();
-    let update = update(alloc, pair(alloc, b"v", text(alloc, b"x")?)?)?;
-    let delete = Change::Delete {
-        table: Name::parse(b"u")?,
-        portion: period(b"2024-01-04", b"2024-01-06")?,
-        conds: pair(alloc, b"v", text(alloc, b"x")?)?,
-    };
-    for change in [update, delete] {
-        let copy = change.copy(alloc)?;
-        assert!(rt; told(&copy).is_some());
-        assert_eq!(rt; told(&copy), told(&change));
-    }
-    Ok(())
+fn copies_changes_of_a_portion(rt: HostRuntime) {
+    check_copy(&rt, &update(&rt, Some(b"x"), None));
+    check_copy(&rt, &delete(&rt, Some(b"x")));
 }

@@ -1,27 +1,44 @@
 //! Names, columns, values and rows, and their copies.
 
+use crate::fixtures::{day, name, schema, text};
 use list_core::DeepCopy;
-use period_core::{Period, Point};
 use row_core::{
     BadName, Draft, Drafts, Failure, Field, KeyRefused, Kind, Name, Row, RowList, RowRefused,
     Schema, SchemaRefused, Text, TextRefused, Value, ValueRefused, Values,
 };
 use std::alloc::Global;
 use std::convert::AsSlice;
-use std::test::Fail;
+use std::process::Abort;
 
 // Columns `c` of numbers and `d` of texts.
-fn columns(alloc: Global) -> Result<Schema, Fail> {
-    let number = (Name::parse(b"c")?, Kind::Int);
-    let text = (Name::parse(b"d")?, Kind::Text);
-    Ok(Schema::new(alloc, &[number, text])?)
+fn columns(rt: &(impl Abort + Alloc<A = Global>)) -> Schema {
+    let columns = [(name(rt, b"c"), Kind::Int), (name(rt, b"d"), Kind::Text)];
+    schema(rt, &columns)
+}
+
+fn is_int(value: &Value, want: i64) -> bool {
+    match value {
+        Value::Int(number) => *number == want,
+        Value::Text(_) => false,
+    }
+}
+
+fn is_text(value: &Value, want: &[u8]) -> bool {
+    match value {
+        Value::Int(_) => false,
+        Value::Text(text) => text.as_bytes() == want,
+    }
+}
+
+// Whether the values are a number and a text.
+fn are_both(values: &[Value], number: i64, text: &[u8]) -> bool {
+    values.len() == 2 && is_int(&values[0], number) && is_text(&values[1], text)
 }
 
 #[test]
-fn knows_names(rt: HostRuntime) -> Result<(), Fail> {
+fn knows_names(rt: HostRuntime) {
     for text in [&b"a"[..], b"z_9", b"abcdefghijklmnopqrstuvwxyzabcdef"] {
-        let name = Name::parse(text)?;
-        assert_eq!(rt; name.as_bytes(), text);
+        assert!(rt; name(&rt, text).as_bytes() == text);
     }
     for text in [
         &b"asof"[..],
@@ -32,164 +49,171 @@ fn knows_names(rt: HostRuntime) -> Result<(), Fail> {
         b"A",
         b"a-b",
     ] {
-        assert_eq!(rt; Name::parse(text), Err(BadName));
+        assert!(rt; Name::parse(text) == Err(BadName));
     }
-    Ok(())
 }
 
 #[test]
-fn knows_columns(rt: HostRuntime) -> Result<(), Fail> {
-    let schema = columns(rt.alloc())?;
-    assert_eq!(rt; schema.width(), 2);
-    assert_eq!(rt; schema.column(Name::parse(b"d")?), Some(1));
-    assert_eq!(rt; schema.column(Name::parse(b"e")?), None);
-    let copy = schema.copy(rt.alloc())?;
-    assert_eq!(rt; copy.as_slice(), schema.as_slice());
-    let column = (Name::parse(b"c")?, Kind::Int);
-    let twice = Schema::new(rt.alloc(), &[column, column]);
-    assert_eq!(rt;
-        twice.err(),
-        Some(Failure::Refused(SchemaRefused::TwiceNamed))
-    );
-    let many = Schema::new(rt.alloc(), &[column; 17]);
-    assert_eq!(rt; many.err(), Some(Failure::Refused(SchemaRefused::TooMany)));
-    Ok(())
+fn knows_columns(rt: HostRuntime) {
+    let schema = columns(&rt);
+    assert!(rt; schema.width() == 2);
+    assert!(rt; schema.column(name(&rt, b"d")) == Some(1));
+    assert!(rt; schema.column(name(&rt, b"e")).is_none());
+    let copy = schema.copy(rt.alloc()).expect(&rt, "memory");
+    assert!(rt; copy.as_slice() == schema.as_slice());
 }
 
 #[test]
-fn knows_keys(rt: HostRuntime) -> Result<(), Fail> {
-    let [c, d, e] = [Name::parse(b"c")?, Name::parse(b"d")?, Name::parse(b"e")?];
-    let both = columns(rt.alloc())?.with_key(rt.alloc(), &[d, c])?;
-    assert_eq!(rt; both.key_len(), 2);
-    assert_eq!(rt; (both.key_column(0), both.key_column(1)), (1, 0));
-    let copy = both.copy(rt.alloc())?;
-    assert_eq!(rt; copy.as_slice(), both.as_slice());
-    assert_eq!(rt; copy.key_places(rt.alloc())?.as_slice(), [1, 0].as_slice());
-    for (names, refused) in [
-        (&[c, e, c][..], KeyRefused::NoColumn),
-        (&[c, c, e][..], KeyRefused::TwiceNamed),
-    ] {
-        let wrong = columns(rt.alloc())?.with_key(rt.alloc(), names);
-        assert_eq!(rt; wrong.err(), Some(Failure::Refused(refused)));
-    }
-    Ok(())
+fn refuses_columns(rt: HostRuntime) {
+    let many = [(name(&rt, b"c"), Kind::Int); 17];
+    let twice = Schema::new(rt.alloc(), &many[..2]).err();
+    assert!(rt; twice == Some(Failure::Refused(SchemaRefused::TwiceNamed)));
+    let many = Schema::new(rt.alloc(), &many).err();
+    assert!(rt; many == Some(Failure::Refused(SchemaRefused::TooMany)));
+}
+
+// Checks that the key is the column `d` and then `c`.
+fn check_key(rt: &(impl Abort + Alloc<A = Global>), schema: &Schema) {
+    assert!(rt; schema.key_len() == 2);
+    assert!(rt; schema.key_column(0) == 1);
+    assert!(rt; schema.key_column(1) == 0);
+    let places = schema.key_places(rt.alloc()).expect(rt, "memory");
+    assert!(rt; places.as_slice() == [1, 0].as_slice());
 }
 
 #[test]
-fn reads_rows(rt: HostRuntime) -> Result<(), Fail> {
-    let schema = columns(rt.alloc())?;
+fn knows_keys(rt: HostRuntime) {
+    let names = [name(&rt, b"d"), name(&rt, b"c")];
+    let both = columns(&rt)
+        .with_key(rt.alloc(), &names)
+        .expect(&rt, "a key");
+    check_key(&rt, &both);
+    let copy = both.copy(rt.alloc()).expect(&rt, "memory");
+    assert!(rt; copy.as_slice() == both.as_slice());
+    check_key(&rt, &copy);
+}
+
+#[test]
+fn refuses_keys(rt: HostRuntime) {
+    let [c, e] = [name(&rt, b"c"), name(&rt, b"e")];
+    let missing = columns(&rt).with_key(rt.alloc(), &[c, e, c]).err();
+    assert!(rt; missing == Some(Failure::Refused(KeyRefused::NoColumn)));
+    let twice = columns(&rt).with_key(rt.alloc(), &[c, c, e]).err();
+    assert!(rt; twice == Some(Failure::Refused(KeyRefused::TwiceNamed)));
+}
+
+fn field(rt: &(impl Abort + Alloc<A = Global>), text: &[u8]) -> Field {
+    Field::new(rt.alloc(), text).expect(rt, "memory")
+}
+
+#[test]
+fn copies_a_field(rt: HostRuntime) {
+    assert!(rt; field(&rt, b"y").as_slice() == b"y".as_slice());
+}
+
+#[test]
+fn reads_rows(rt: HostRuntime) {
+    let schema = columns(&rt);
     let fields = [
-        Field::new(rt.alloc(), b"2024-01-01")?,
-        Field::new(rt.alloc(), b"2024-01-02")?,
-        Field::new(rt.alloc(), b"-7")?,
-        Field::new(rt.alloc(), b"y")?,
+        field(&rt, b"2024-01-01"),
+        field(&rt, b"2024-01-02"),
+        field(&rt, b"-7"),
+        field(&rt, b"y"),
     ];
-    assert!(rt; fields[3].as_slice() == b"y".as_slice());
-    let draft = schema.read_row(rt.alloc(), &fields)?;
-    let first = Point::parse(b"2024-01-01")?;
-    let second = Point::parse(b"2024-01-02")?;
-    assert_eq!(rt; Some(draft.period), Period::new(first, second).ok());
-    let want = [Value::Int(-7), Value::Text(Text::new(rt.alloc(), b"y")?)];
-    assert_eq!(rt; draft.values.as_slice(), want.as_slice());
+    let draft = schema.read_row(rt.alloc(), &fields).expect(&rt, "a row");
+    assert!(rt; draft.period == day(&rt));
+    assert!(rt; are_both(draft.values.as_slice(), -7, b"y"));
     assert!(rt; schema.fits(&draft.values));
-    let narrow = schema.read_row(rt.alloc(), &fields[..3]);
-    assert_eq!(rt;
-        narrow.err(),
-        Some(Failure::Refused(RowRefused::WrongWidth))
-    );
-    let backwards = [&b"2024-01-02"[..], b"2024-01-01", b"x", b"y"];
-    let refused = schema.read_row(rt.alloc(), &backwards);
-    assert_eq!(rt;
-        refused.err(),
-        Some(Failure::Refused(RowRefused::BadPeriod))
-    );
-    Ok(())
 }
 
 #[test]
-fn reads_values(rt: HostRuntime) -> Result<(), Fail> {
-    let schema = columns(rt.alloc())?;
+fn refuses_rows(rt: HostRuntime) {
+    let schema = columns(&rt);
+    let fields = [&b"2024-01-02"[..], b"2024-01-01", b"x", b"y"];
+    let narrow = schema.read_row(rt.alloc(), &fields[..3]).err();
+    assert!(rt; narrow == Some(Failure::Refused(RowRefused::WrongWidth)));
+    let backwards = schema.read_row(rt.alloc(), &fields).err();
+    assert!(rt; backwards == Some(Failure::Refused(RowRefused::BadPeriod)));
+}
+
+#[test]
+fn reads_values(rt: HostRuntime) {
+    let schema = columns(&rt);
     assert!(rt; 1 < schema.width());
-    let number = schema.read_value(rt.alloc(), 0, b"7")?;
-    assert_eq!(rt; number, Value::Int(7));
-    let text = schema.read_value(rt.alloc(), 1, b"7")?;
-    assert_eq!(rt; text.copy(rt.alloc())?, text);
-    assert_eq!(rt; text, Value::Text(Text::new(rt.alloc(), b"7")?));
-    assert!(rt; number < text);
-    let refused = schema.read_value(rt.alloc(), 0, b"y");
-    assert_eq!(rt;
-        refused.err(),
-        Some(Failure::Refused(ValueRefused::BadNumber))
-    );
-    let long = [0xff; 4097];
-    let refused = Text::new(rt.alloc(), &long);
-    assert_eq!(rt; refused.err(), Some(Failure::Refused(TextRefused::TooLong)));
-    let refused = Text::new(rt.alloc(), &long[..4096]);
-    assert_eq!(rt; refused.err(), Some(Failure::Refused(TextRefused::BadUtf8)));
-    Ok(())
+    let number = schema
+        .read_value(rt.alloc(), 0, b"7")
+        .expect(&rt, "a number");
+    assert!(rt; is_int(&number, 7));
+    let text = schema.read_value(rt.alloc(), 1, b"7").expect(&rt, "a text");
+    assert!(rt; is_text(&text, b"7"));
+    let refused = schema.read_value(rt.alloc(), 0, b"y").err();
+    assert!(rt; refused == Some(Failure::Refused(ValueRefused::BadNumber)));
 }
 
 #[test]
-fn orders_numbers_by_value_before_texts_by_bytes(rt: HostRuntime) -> Result<(), Fail> {
-    let rising = [
-        Value::Int(-10),
-        Value::Int(-9),
-        Value::Int(8),
-        Value::Int(70),
-        Value::Text(Text::new(rt.alloc(), b"")?),
-        Value::Text(Text::new(rt.alloc(), b"70")?),
-        Value::Text(Text::new(rt.alloc(), b"8")?),
-        Value::Text(Text::new(rt.alloc(), b"B")?),
-        Value::Text(Text::new(rt.alloc(), b"a")?),
-        Value::Text(Text::new(rt.alloc(), b"aa")?),
-    ];
-    for pair in rising.windows(2) {
-        assert!(rt; pair[0] < pair[1]);
+fn refuses_texts(rt: HostRuntime) {
+    let long = [0xff; 4097];
+    let refused = Text::new(rt.alloc(), &long).err();
+    assert!(rt; refused == Some(Failure::Refused(TextRefused::TooLong)));
+    let refused = Text::new(rt.alloc(), &long[..4096]).err();
+    assert!(rt; refused == Some(Failure::Refused(TextRefused::BadUtf8)));
+}
+
+#[test]
+fn copies_values(rt: HostRuntime) {
+    let value = text(&rt, b"7");
+    let copy = value.copy(rt.alloc()).expect(&rt, "memory");
+    assert!(rt; copy == value);
+}
+
+#[test]
+fn orders_numbers_by_value_before_texts_by_bytes(rt: HostRuntime) {
+    for pair in [-10, -9, 8, 70].windows(2) {
+        assert!(rt; Value::Int(pair[0]) < Value::Int(pair[1]));
     }
-    Ok(())
+    assert!(rt; Value::Int(70) < text(&rt, b""));
+    for pair in [&b""[..], b"70", b"8", b"B", b"a", b"aa"].windows(2) {
+        assert!(rt; text(&rt, pair[0]) < text(&rt, pair[1]));
+    }
 }
 
 // The values 1 and `a`.
-fn values(alloc: Global) -> Result<Values, Fail> {
-    let mut values = Values::new(alloc);
-    values.push(Value::Int(1))?;
-    values.push(Value::Text(Text::new(alloc, b"a")?))?;
-    Ok(values)
-}
-
-// A day.
-fn day() -> Result<Period, Fail> {
-    let from = Point::parse(b"2024-01-01")?;
-    Ok(Period::new(from, Point::parse(b"2024-01-02")?)?)
+fn values(rt: &(impl Abort + Alloc<A = Global>)) -> Values {
+    let mut values = Values::new(rt.alloc());
+    values.push(Value::Int(1)).expect(rt, "memory");
+    values.push(text(rt, b"a")).expect(rt, "memory");
+    values
 }
 
 #[test]
-fn adds_values_and_drafts(rt: HostRuntime) -> Result<(), Fail> {
-    let values = values(rt.alloc())?;
-    assert_eq!(rt; values.len(), 2);
-    assert_eq!(rt; values.get(0), Some(&Value::Int(1)));
+fn adds_values_and_drafts(rt: HostRuntime) {
     let mut drafts = Drafts::new(rt.alloc());
-    drafts.push(Draft {
-        period: day()?,
-        values: values.copy(rt.alloc())?,
-    })?;
-    let added = drafts.get(0).map(|draft| draft.values.as_slice());
-    assert_eq!(rt; added, Some(values.as_slice()));
-    Ok(())
+    let draft = Draft {
+        period: day(&rt),
+        values: values(&rt),
+    };
+    drafts.push(draft).expect(&rt, "memory");
+    assert!(rt; drafts.len() == 1);
+    let draft = drafts.get(0).expect(&rt, "a row");
+    assert!(rt; are_both(draft.values.as_slice(), 1, b"a"));
+}
+
+fn are_same(copy: &Row, row: &Row) -> bool {
+    copy.id == row.id
+        && copy.period == row.period
+        && copy.values.as_slice() == row.values.as_slice()
 }
 
 #[test]
-fn adds_a_row_that_is_a_copy(rt: HostRuntime) -> Result<(), Fail> {
+fn adds_a_row_that_is_a_copy(rt: HostRuntime) {
     let row = Row {
         id: 5,
-        period: day()?,
-        values: values(rt.alloc())?,
+        period: day(&rt),
+        values: values(&rt),
     };
     let mut rows = RowList::new(rt.alloc());
-    rows.push(row.copy(rt.alloc())?)?;
-    let added = rows
-        .get(0)
-        .map(|copy| (copy.id, copy.period, copy.values.as_slice()));
-    assert_eq!(rt; added, Some((5, row.period, row.values.as_slice())));
-    Ok(())
+    let copy = row.copy(rt.alloc()).expect(&rt, "memory");
+    rows.push(copy).expect(&rt, "memory");
+    assert!(rt; rows.len() == 1);
+    assert!(rt; are_same(rows.get(0).expect(&rt, "a row"), &row));
 }
