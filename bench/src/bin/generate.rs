@@ -18,11 +18,14 @@
 //! A script of `join` or `anti` has two tables with so many rows each, and so many joins or anti-joins of them: by
 //! their one column, which is one of so many numbers as there are groups, or without columns where these are 0. One
 //! of `agg` has a table of groups of equal size and of numbers, and so many sums of these by groups, or of all where
-//! there are 0. One of `together` has two tables to join whose rows all hold on one day, so each row is a part of its
-//! own, and without columns each row joins each. One of `apart` has two tables without columns, whose rows all hold on
+//! there are 0. One of `payroll-join` or `payroll-anti` has contracts and pay of so many persons, nearly all of whom hold
+//! at once for ten years: one to three contracts of each person, one after another, and ten rows of pay; joined by the
+//! person, or the pay without a contract. One of `together` has two tables to join whose rows all hold on one day, so
+//! each row is a part of its own, and without columns each row joins each. One of `apart` has two tables without columns, whose rows all hold on
 //! one day, another one for each table: so each row is a part of its own, and no two rows join.
 
 use bench::point::Point;
+use std::collections::BTreeSet;
 use std::fmt::Display;
 use std::io::{self, BufWriter, Write};
 
@@ -31,6 +34,10 @@ const LAST_DAY: u64 = 3_652_058;
 
 /// Days of the range for each row.
 const SPREAD: u64 = 3;
+
+/// The days from 0001-01-01 to a payroll's first, 2015-01-01, and those from there to its end.
+const HIRED: u64 = 735_598;
+const EMPLOYED: u64 = 3_652;
 
 const SURNAMES: [&str; 8] = [
     "Byron",
@@ -224,6 +231,41 @@ impl<W: Write> Script<W> {
         })
     }
 
+    /// Rows of one person, each from the end of the one before it, one more than there are cuts.
+    fn career(&mut self, person: u64, cuts: usize) -> io::Result<()> {
+        let mut ends = BTreeSet::from([EMPLOYED]);
+        while ends.len() <= cuts {
+            ends.insert(1 + self.numbers.below(EMPLOYED - 1));
+        }
+        let mut from = 0;
+        for to in ends {
+            let (start, end) = (self.day(HIRED + from), self.day(HIRED + to));
+            let number = self.numbers.below(10_000);
+            writeln!(self.out, "row,{start},{end},{person},{number}")?;
+            from = to;
+        }
+        Ok(())
+    }
+
+    fn payroll(&mut self, query: &str) -> io::Result<()> {
+        for table in ["contract", "pay"] {
+            writeln!(
+                self.out,
+                "table,{table},person,int,n,int,key,person\nload,{table}"
+            )?;
+            for person in 0..self.options.rows {
+                let cuts = if table == "pay" {
+                    9
+                } else {
+                    self.numbers.below(3)
+                };
+                self.career(person, cuts as usize)?;
+            }
+            writeln!(self.out, "end")?;
+        }
+        self.queries(query)
+    }
+
     fn apart(&mut self) -> io::Result<()> {
         for (day, table) in ["t", "u"].into_iter().enumerate() {
             writeln!(self.out, "table,{table}\nload,{table}")?;
@@ -257,13 +299,24 @@ impl<W: Write> Script<W> {
 
     fn write(&mut self, kind: &str) -> io::Result<()> {
         let rows = self.options.rows;
-        if !matches!(kind, "join" | "anti" | "agg" | "together" | "apart") {
+        let makes_its_tables = [
+            "join",
+            "anti",
+            "agg",
+            "payroll-join",
+            "payroll-anti",
+            "together",
+            "apart",
+        ];
+        if !makes_its_tables.contains(&kind) {
             self.table()?;
         }
         match kind {
             "join" | "anti" => self.compared(kind, Self::period),
             "together" => self.compared("join", Self::period_of_all),
             "agg" => self.aggregate(),
+            "payroll-join" => self.payroll("join,contract,pay,on,person,person"),
+            "payroll-anti" => self.payroll("anti,pay,contract,on,person,person"),
             "apart" => self.apart(),
             "rows" => self.load(rows).and_then(|()| self.queries("rows,t")),
             "at" => self.load(rows).and_then(|()| self.days()),

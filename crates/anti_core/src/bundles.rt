@@ -12,26 +12,11 @@ ghost use Rattle.anti_core.specs.ItemAnti.{AreItemsRows};
 use crate::parted::rows_of_items;
 use crate::rows::AntiRow;
 use dip_core::Item;
-use grid_core::{last_class, middle_class, parted_behind};
+use grid_core::{bundle_items, last_class, middle_class, parted_behind};
 use period_core::NoMemory;
 use std::alloc::Global;
 use std::thread::{Threads, join};
 use work_core::Gate;
-
-/// About so many bundles are made of a table, unless that makes them too small or too large.
-const BUNDLES: usize = 32;
-
-/// A bundle of fewer items would be over before its threads have started.
-const BUNDLE_LEAST: usize = 256;
-
-/// In a bundle of more items many pairs of parts would share no class.
-const BUNDLE_MOST: usize = 4_096;
-
-/// The number of items of which one side has more by the class that ends a bundle.
-fn bundle_items(left: &[Item], right: &[Item]) -> usize {
-    let share = left.len().max(right.len()) / BUNDLES;
-    share.clamp(BUNDLE_LEAST, BUNDLE_MOST)
-}
 
 /// The rows of all left items, which are found bundle by bundle.
 fn rows_of_bundles<R: Threads + Sync, G: Gate>(

@@ -12,3 +12,7 @@ pub record ArePartedBehind (class : ℕ) (items low high : List Item) : Type 0 w
   pub whole : items ≡ low ++ high
   pub upto : All (λ (x : Item). x.class ≤ class) low
   pub above : All (λ (x : Item). class < x.class) high
+
+-- how many items of a side are tried, to tell what share of them holds at once
+abbrev pub sample_len : ℕ
+sample_len = 512

@@ -1,81 +1,24 @@
--- How often cursors advance over the parts of bundles: at least, and at most.
-use Rattle.std.proofs.Common.{◌≡◌, ℕ, suc, ◌+◌, ◌*◌, ◌<◌, ◌≤◌, ℤ, cond, List, [], ◌∷◌, ◌++◌, length, map, flat_map, min, take, drop, All, get_or, Some, refl, sym, subst, ap, ◌∙◌, inl, inr, arith, suc-mul, length-append, length-drop}
-use Rattle.std.specs.Prelude.{slice_get, sum_by, Contains, IsPermutation}
-use Rattle.std.proofs.lemmas.List.{length-map, take-append-drop}
+-- How often cursors advance over the parts of bundles.
+use Rattle.std.proofs.Common.{◌≡◌, ℕ, ◌+◌, ◌*◌, ◌<◌, ◌≤◌, ℤ, cond, List, [], ◌∷◌, ◌++◌, length, map, flat_map, max, All, get_or, refl, sym, subst, ap, ◌∙◌, inl, inr, arith}
+use Rattle.std.specs.Prelude.{sum_by, Contains, IsPermutation}
+use Rattle.std.proofs.lemmas.List.{length-map}
 use Rattle.std.proofs.lemmas.List.Concat.{length-flat_map}
 use Rattle.std.proofs.lemmas.List.Elements.{All-append, All-contains, All-head, All-nil, All-tail, Contains-get_or}
 use Rattle.std.proofs.lemmas.List.Sorted.{length_permutation}
-use Rattle.std.proofs.lemmas.List.Sums.{sum_by-append, sum_by-cons}
+use Rattle.std.proofs.lemmas.List.Sums.{sum_by-append}
 use Rattle.std.proofs.lemmas.Nat.{mul-le}
 use Rattle.period_core.specs.Period.{holds_at}
 use Rattle.dip_core.specs.declared.item.Item.{Item}
 use Rattle.dip_core.specs.Item.{crowd, IsApart}
-use Rattle.dip_core.specs.Division.{all_of, part_at, IsDivision, IsLeast}
+use Rattle.dip_core.specs.Division.{all_of, IsDivision, IsLeast}
 use Rattle.dip_core.proofs.CrowdLemmas.{crowd-le-length, crowd-permutation}
 use Rattle.dip_core.proofs.PartedLemmas.{all_of-append}
-use Rattle.list_core.proofs.PlaceLemmas.{slice_get-drop}
 use Rattle.list_core.proofs.RisingLemmas.{Contains-cons_cases, Contains-none}
 use Rattle.match_core.specs.Items.{unclassed}
-use Rattle.merge_core.specs.Hits.{AreAdvances}
 use Rattle.join_core.specs.declared.bundles.Bundle.{Bundle}
-use Rattle.join_core.specs.declared.pairs.JoinOut.{JoinOut}
-use Rattle.join_core.specs.Bundles.{lefts_of, rights_of, IsTight, AreBundles, AreBundlesAdvances, left_parts, right_parts, least_with, least_between, least_advances}
+use Rattle.join_core.specs.Bundles.{lefts_of, rights_of, IsTight, AreBundles, AreBundlesAdvances, left_parts, right_parts}
 use Rattle.join_core.specs.Join.{IsWithin}
-use Rattle.join_core.specs.PairValues.{AreFirstValues, turns_in}
-use Rattle.join_core.proofs.LeastLemmas.{IsDivision-unclassed, crowd-unclassed}
-use Rattle.join_core.proofs.ListLemmas.{within_take}
-use Rattle.join_core.proofs.PairLemmas.{value_of}
-use Rattle.join_core.proofs.TurnLemmas.{turns_in-cons}
-
--- ---- at least, between two divisions
-
--- of one left part with all right parts
-row-least : (p : List Item) (qs : List (List Item)) (outs : List JoinOut) → length outs ≡ length qs
-    → ((r : ℕ) (o : JoinOut) → slice_get outs r ≡ Some o → AreAdvances p (part_at qs r) o.turns)
-    → least_with (length p) qs ≤ turns_in outs
-row-least p [] outs len each = omega arith
-row-least p (q ∷ qs) [] len each = absurd (omega arith)
-row-least p (q ∷ qs) (o ∷ outs) len each =
-    let rest = row-least p qs outs (omega arith) (λ r x h. each (suc r) x h) in
-    let least : min (length p) (length q) ≤ o.turns = (each 0 o refl).at_least in
-    let split : turns_in (o ∷ outs) ≡ o.turns + turns_in outs = turns_in-cons o outs in
-    let sum = sum_by-cons (λ (part : List Item). min (length p) (length part)) q qs in
-    omega (arith, rest, least, split, sum)
-
--- of all left parts
-rows-least : (ps qs : List (List Item)) (outs : List JoinOut) → length outs ≡ length ps * length qs
-    → ((l r : ℕ) (o : JoinOut) → r < length qs → slice_get outs (l * length qs + r) ≡ Some o
-    → AreAdvances (part_at ps l) (part_at qs r) o.turns)
-    → least_between ps qs ≤ turns_in outs
-rows-least [] qs outs len each = omega arith
-rows-least (p ∷ ps) qs outs len each =
-    let m : ℕ = length qs in
-    let whole : take m outs ++ drop m outs ≡ outs = take-append-drop m outs in
-    let enough : length outs ≡ length qs + length ps * length qs =
-    omega (arith, len, suc-mul (length ps) (length qs)) in
-    let behind : length (drop m outs) ≡ length ps * length qs = omega (arith, length-drop m outs, enough) in
-    let before : length (take m outs) ≡ length qs =
-    omega (arith, behind, enough, length-append (take m outs) (drop m outs), ap length whole) in
-    let first = row-least p qs (take m outs) before
-    (λ r o h.
-    let at = within_take outs (length qs) r o h in
-    let zeroth : r ≡ 0 * length qs + r = omega arith in
-    each 0 r o at.0 (subst (λ n. slice_get outs n ≡ Some o) zeroth at.1)) in
-    let after = rows-least ps qs (drop m outs) behind
-    (λ l r o inside h.
-    let at = sym (slice_get-drop (length qs) outs (l * length qs + r)) ∙ h in
-    let next : length qs + (l * length qs + r) ≡ suc l * length qs + r = omega (arith, suc-mul l (length qs)) in
-    each (suc l) r o inside (subst (λ n. slice_get outs n ≡ Some o) next at)) in
-    let split : turns_in outs ≡ turns_in (take m outs) + turns_in (drop m outs) =
-    sym (ap turns_in whole) ∙ sum_by-append (λ (out : JoinOut). out.turns) (take m outs) (drop m outs) in
-    let sum = sum_by-cons (λ (part : List Item). least_with (length part) qs) p ps in
-    omega (arith, first, after, split, sum)
-
--- of all pairs
-pub least_between-turns : (ps qs : List (List Item)) (outs : List JoinOut) → length outs ≡ length ps * length qs
-    → AreFirstValues ps qs outs → least_between ps qs ≤ turns_in outs
-least_between-turns ps qs outs len values =
-    rows-least ps qs outs len (λ l r o h at. (value_of ps qs outs len values l r o h at).turns)
+use Rattle.join_core.proofs.LeastLemmas.{IsDivision-unclassed, crowd-unclassed, least-few, least_once}
 
 -- ---- the parts of one side of all bundles
 
@@ -154,24 +97,47 @@ module _ (side : Bundle → List (List Item)) where
 
 -- ---- of all bundles
 
--- the advances of bundles are within the bounds of all items, where they are enough
-pub IsWithin-bundles : (left right : List Item) (bundles : List Bundle) (turns k m : ℕ)
-    → AreBundles left right bundles → left_parts bundles * right_parts bundles ≤ least_advances bundles
-    → AreBundlesAdvances bundles turns → IsLeast (map unclassed left) k → IsLeast (map unclassed right) m
-    → IsWithin k m (length left) (length right) turns
-IsWithin-bundles left right bundles turns k m are enough advances lk lm =
-    let lefts_tight : All (λ (c : Bundle). IsTight c.left) bundles = λ i d h. (are.tight i d h).0 in
-    let rights_tight : All (λ (c : Bundle). IsTight c.right) bundles = λ i d h. (are.tight i d h).1 in
-    let lefts = parts-enough (λ (c : Bundle). c.left) left bundles k are.lefts lefts_tight lk in
-    let rights = parts-enough (λ (c : Bundle). c.right) right bundles m are.rights rights_tight lm in
-    let least = advances.at_least in
-    let most = advances.at_most k m (parts-upto (λ (c : Bundle). c.left) left bundles k are.lefts lefts_tight lk)
-    (parts-upto (λ (c : Bundle). c.right) right bundles m are.rights rights_tight lm) in
-    let a = length_permutation left (lefts_of bundles) are.lefts in
-    let b = length_permutation right (rights_of bundles) are.rights in
-    record {
-      at_least = (let product = mul-le k m (left_parts bundles) (right_parts bundles) lefts rights in
-          omega (arith, product, enough, least));
-      at_most = subst (λ (n : ℕ). turns ≤ m * n + k * length right) a
-          (subst (λ (n : ℕ). turns ≤ m * length (lefts_of bundles) + k * n) b most);
-    }
+-- the order of factors
+mul-swap : (a b : ℕ) → a * b ≡ b * a
+mul-swap a b = grind arith
+
+module _ (left right : List Item) (bundles : List Bundle) (are : AreBundles left right bundles) where
+  lefts_tight : All (λ (c : Bundle). IsTight c.left) bundles
+  lefts_tight = λ i d h. (are.tight i d h).0
+
+  rights_tight : All (λ (c : Bundle). IsTight c.right) bundles
+  rights_tight = λ i d h. (are.tight i d h).1
+
+  -- the advances of bundles are no more than the upper bound
+  most : (made k m : ℕ) → AreBundlesAdvances bundles made → IsLeast (map unclassed left) k
+      → IsLeast (map unclassed right) m → made ≤ m * length left + k * length right
+  most made k m advances lk lm =
+      let upto = advances k m (parts-upto (λ (c : Bundle). c.left) left bundles k are.lefts lefts_tight lk)
+      (parts-upto (λ (c : Bundle). c.right) right bundles m are.rights rights_tight lm) in
+      let a = length_permutation left (lefts_of bundles) are.lefts in
+      let b = length_permutation right (rights_of bundles) are.rights in
+      subst (λ (n : ℕ). made ≤ m * n + k * length right) a
+      (subst (λ (n : ℕ). made ≤ m * length (lefts_of bundles) + k * n) b upto)
+
+  -- where they are at least as many as the pairs of parts of any bundles, they are within both bounds
+  pub IsWithin-enough : (made : ℕ) → left_parts bundles * right_parts bundles ≤ made
+      → AreBundlesAdvances bundles made → (k m : ℕ) → IsLeast (map unclassed left) k
+      → IsLeast (map unclassed right) m → IsWithin k m (length left) (length right) made
+  IsWithin-enough made enough advances k m lk lm =
+      let lefts = parts-enough (λ (c : Bundle). c.left) left bundles k are.lefts lefts_tight lk in
+      let rights = parts-enough (λ (c : Bundle). c.right) right bundles m are.rights rights_tight lm in
+      let product = mul-le k m (left_parts bundles) (right_parts bundles) lefts rights in
+      record { at_least = omega (arith, product, enough); at_most = most made k m advances lk lm }
+
+  -- else the product of the least numbers is
+  pub IsWithin-greater : (made i j turns : ℕ) → IsLeast (map unclassed left) i → IsLeast (map unclassed right) j
+      → turns ≡ max made (i * j) → AreBundlesAdvances bundles made → (k m : ℕ) → IsLeast (map unclassed left) k
+      → IsLeast (map unclassed right) m → IsWithin k m (length left) (length right) turns
+  IsWithin-greater made i j turns li lj e advances k m lk lm =
+      let one : i ≡ k = least_once (map unclassed left) i k li lk in
+      let other : j ≡ m = least_once (map unclassed right) j m lj lm in
+      let product : i * j ≡ k * m = ap (λ n. n * j) one ∙ ap (λ n. k * n) other in
+      let swap : k * m ≡ m * k = mul-swap k m in
+      let some = mul-le m k m (length left) (omega arith) (least-few left k lk) in
+      let upto = most made k m advances lk lm in
+      record { at_least = omega (arith, e, product); at_most = omega (arith, e, product, swap, some, upto) }

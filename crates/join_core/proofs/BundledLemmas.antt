@@ -5,7 +5,7 @@ use Rattle.std.proofs.lemmas.List.{take_all, take_more, take-append-drop}
 use Rattle.std.proofs.lemmas.List.Concat.{flat_map-append, length-flat_map}
 use Rattle.std.proofs.lemmas.List.Elements.{Contains-append_left, Contains-append_right, Contains-get_or}
 use Rattle.std.proofs.lemmas.List.Sorted.{IsPermutation-refl}
-use Rattle.std.proofs.lemmas.List.Sums.{sum_by_more, sum_by-append, sum_by-take-le}
+use Rattle.std.proofs.lemmas.List.Sums.{sum_by_more, sum_by-take-le}
 use Rattle.std.proofs.lemmas.Nat.{mul-le}
 use Rattle.std.proofs.lemmas.Option.{get_or_from_slice_get, slice_get_within}
 use Rattle.dip_core.specs.declared.item.Item.{Item}
@@ -18,10 +18,9 @@ use Rattle.list_core.proofs.RisingLemmas.{AllPairs-head, AllPairs-tail, Contains
 use Rattle.list_core.proofs.WantedLemmas.{AllPairs-before}
 use Rattle.join_core.specs.declared.bundles.Bundle.{Bundle}
 use Rattle.join_core.specs.declared.rows.JoinRow.{JoinRow}
-use Rattle.join_core.specs.Bundles.{lefts_of, rights_of, MatchNothing, AreBundlesAdvances, left_parts, right_parts, least_between, least_advances}
+use Rattle.join_core.specs.Bundles.{lefts_of, rights_of, MatchNothing, AreBundlesAdvances, left_parts, right_parts}
 use Rattle.join_core.specs.ItemJoin.{AreItemsRows}
 use Rattle.join_core.specs.PairValues.{AddsFirstPairs}
-use Rattle.join_core.proofs.AdvanceLemmas.{least_between-turns}
 use Rattle.join_core.proofs.ItemLemmas.{AreItemsRows-append, AreItemsRows-none}
 use Rattle.join_core.proofs.JoinedLemmas.{AreItemsRows-of_pairs}
 use Rattle.join_core.proofs.ListLemmas.{Contains-flat_map_source, within_take}
@@ -102,7 +101,7 @@ pub record IsJoining (bundles : List Bundle) (i : ℕ) (rows : List JoinRow) (tu
 pub joining_start : (bundles : List Bundle) (rows : List JoinRow) → rows ≡ [] → IsJoining bundles 0 rows 0
 joining_start bundles rows none = record {
   rows_are = subst (AreItemsRows [] []) (sym none) (AreItemsRows-none []);
-  advances = record { at_least = omega arith; at_most = λ k m lefts rights. omega arith };
+  advances = λ k m lefts rights. omega arith;
   small = omega arith;
 }
 
@@ -176,28 +175,21 @@ module _ (bundles : List Bundle) (i : ℕ) (b : Bundle) (unmatched : AllPairs Ma
       → IsJoining bundles i old turns → IsJoining bundles (i + 1) new (turns + added)
   joining_more old new turns added adds was =
       let is = adds.are.turns_are in
-      let least = least_between-turns b.left b.right adds.are.outs adds.are.len adds.are.values in
       let within = all_turns-within b.left b.right adds.are.outs adds.are.len adds.are.values left_filled
       right_filled in
       let most : added ≤ length b.right * length (all_of b.left) + length b.left * length (all_of b.right) =
       (let w = within.at_most in omega (arith, is, w)) in
-      let before = was.advances in
       record {
         rows_are = rows-more old new added adds was.rows_are;
-        advances = record {
-          at_least = (let so_far = before.at_least in
-              let sum = sum-more (λ (c : Bundle). least_between c.left c.right) bundles i b at in
-              omega (arith, least, is, so_far, sum));
-          at_most = λ k m lefts rights.
-              bound-more k m (length b.left) (length b.right) (length (lefts_of (take i bundles)))
-              (length (rights_of (take i bundles))) (length (all_of b.left)) (length (all_of b.right))
-              (length (lefts_of (take (i + 1) bundles))) (length (rights_of (take (i + 1) bundles))) turns added left_len
-              right_len
-              (before.at_most k m (first-all (λ (c : Bundle). length c.left ≤ k) lefts)
-              (first-all (λ (c : Bundle). length c.right ≤ m) rights))
-              most (own-all (λ (c : Bundle). length c.right ≤ m) rights)
-              (own-all (λ (c : Bundle). length c.left ≤ k) lefts);
-        };
+        advances = λ k m lefts rights.
+            bound-more k m (length b.left) (length b.right) (length (lefts_of (take i bundles)))
+            (length (rights_of (take i bundles))) (length (all_of b.left)) (length (all_of b.right))
+            (length (lefts_of (take (i + 1) bundles))) (length (rights_of (take (i + 1) bundles))) turns added left_len
+            right_len
+            (was.advances k m (first-all (λ (c : Bundle). length c.left ≤ k) lefts)
+            (first-all (λ (c : Bundle). length c.right ≤ m) rights))
+            most (own-all (λ (c : Bundle). length c.right ≤ m) rights)
+            (own-all (λ (c : Bundle). length c.left ≤ k) lefts);
         small = bound-more item_limit item_limit (length b.left) (length b.right)
             (length (lefts_of (take i bundles))) (length (rights_of (take i bundles))) (length (all_of b.left))
             (length (all_of b.right)) (length (lefts_of (take (i + 1) bundles)))
@@ -242,30 +234,26 @@ joining_end bundles i rows turns all is = (
       (take_all i bundles all) is.small,
 )
 
--- ---- how many parts there are, and how many advances at least
+-- ---- how many parts there are
 
 -- those of the first bundles
-pub record IsCounting (bundles : List Bundle) (i lefts rights advances : ℕ) : Type 0 where
+pub record IsCounting (bundles : List Bundle) (i lefts rights : ℕ) : Type 0 where
   pub lefts_are : lefts ≡ left_parts (take i bundles)
   pub rights_are : rights ≡ right_parts (take i bundles)
   pub lefts_few : lefts ≤ length (lefts_of (take i bundles))
   pub rights_few : rights ≤ length (rights_of (take i bundles))
-  pub advances_are : advances ≤ least_advances (take i bundles)
 
-pub counting_more : (bundles : List Bundle) (i lefts rights advances more next : ℕ) (b : Bundle)
-    → slice_get bundles i ≡ Some b → All (λ (p : List Item). 0 < length p) b.left
-    → All (λ (p : List Item). 0 < length p) b.right → more ≤ least_between b.left b.right → next ≤ advances + more
-    → IsCounting bundles i lefts rights advances
-    → IsCounting bundles (i + 1) (lefts + length b.left) (rights + length b.right) next
-counting_more bundles i lefts rights advances more next b at left_filled right_filled least sum was =
+pub counting_more : (bundles : List Bundle) (i lefts rights : ℕ) (b : Bundle) → slice_get bundles i ≡ Some b
+    → All (λ (p : List Item). 0 < length p) b.left → All (λ (p : List Item). 0 < length p) b.right
+    → IsCounting bundles i lefts rights
+    → IsCounting bundles (i + 1) (lefts + length b.left) (rights + length b.right)
+counting_more bundles i lefts rights b at left_filled right_filled was =
     let l = was.lefts_are in
     let r = was.rights_are in
     let l_few = was.lefts_few in
     let r_few = was.rights_few in
-    let a = was.advances_are in
     let l_more = sum-more (λ (c : Bundle). length c.left) bundles i b at in
     let r_more = sum-more (λ (c : Bundle). length c.right) bundles i b at in
-    let a_more = sum-more (λ (c : Bundle). least_between c.left c.right) bundles i b at in
     let l_len = ap length (items-more (λ (c : Bundle). all_of c.left) bundles i b at)
     ∙ length-append (lefts_of (take i bundles)) (all_of b.left) in
     let r_len = ap length (items-more (λ (c : Bundle). all_of c.right) bundles i b at)
@@ -277,24 +265,21 @@ counting_more bundles i lefts rights advances more next b at left_filled right_f
       rights_are = omega (arith, r, r_more);
       lefts_few = omega (arith, l_few, l_len, l_all);
       rights_few = omega (arith, r_few, r_len, r_all);
-      advances_are = omega (arith, a, a_more, least, sum);
     }
 
 -- at the end all are counted
-pub counting_end : (bundles : List Bundle) (i lefts rights advances : ℕ) → length bundles ≤ i
-    → IsCounting bundles i lefts rights advances → lefts * rights ≤ advances
-    → left_parts bundles * right_parts bundles ≤ least_advances bundles
-counting_end bundles i lefts rights advances all is enough =
-    let least = is.advances_are in
-    subst (λ (bs : List Bundle). left_parts bs * right_parts bs ≤ least_advances bs) (take_all i bundles all)
-    (subst (λ (n : ℕ). n * right_parts (take i bundles) ≤ least_advances (take i bundles)) is.lefts_are
-    (subst (λ (n : ℕ). lefts * n ≤ least_advances (take i bundles)) is.rights_are (omega (arith, enough, least))))
+pub counting_end : (bundles : List Bundle) (i lefts rights made : ℕ) → length bundles ≤ i
+    → IsCounting bundles i lefts rights → lefts * rights ≤ made → left_parts bundles * right_parts bundles ≤ made
+counting_end bundles i lefts rights made all is enough =
+    subst (λ (bs : List Bundle). left_parts bs * right_parts bs ≤ made) (take_all i bundles all)
+    (subst (λ (n : ℕ). n * right_parts (take i bundles) ≤ made) is.lefts_are
+    (subst (λ (n : ℕ). lefts * n ≤ made) is.rights_are enough))
 
 -- those of the first bundles are few
-pub counting-few : (bundles : List Bundle) (i lefts rights advances : ℕ) → length (lefts_of bundles) ≤ item_limit
-    → length (rights_of bundles) ≤ item_limit → IsCounting bundles i lefts rights advances
+pub counting-few : (bundles : List Bundle) (i lefts rights : ℕ) → length (lefts_of bundles) ≤ item_limit
+    → length (rights_of bundles) ≤ item_limit → IsCounting bundles i lefts rights
     → (lefts ≤ item_limit) × (rights ≤ item_limit)
-counting-few bundles i lefts rights advances left_few right_few is =
+counting-few bundles i lefts rights left_few right_few is =
     let a = is.lefts_few in
     let b = is.rights_few in
     let c = items-few (λ (d : Bundle). all_of d.left) bundles i in
@@ -391,22 +376,15 @@ module _ (bundles front back : List Bundle) (whole : bundles ≡ front ++ back) 
   -- the advances of both
   pub shares-advances : (turns more : ℕ) → AreBundlesAdvances front turns → AreBundlesAdvances back more
       → AreBundlesAdvances bundles (turns + more)
-  shares-advances turns more one other = record {
-    at_least = (let a = one.at_least in
-        let b = other.at_least in
-        let split = ap least_advances whole
-        ∙ sum_by-append (λ (b : Bundle). least_between b.left b.right) front back in
-        omega (arith, a, b, split));
-    at_most = λ k m lefts rights.
-        bound-more k m k m (length (lefts_of front)) (length (rights_of front)) (length (lefts_of back))
-        (length (rights_of back)) (length (lefts_of bundles)) (length (rights_of bundles)) turns more shares-lefts
-        shares-rights
-        (one.at_most k m (in_front (λ (b : Bundle). length b.left ≤ k) lefts)
-        (in_front (λ (b : Bundle). length b.right ≤ m) rights))
-        (other.at_most k m (in_back (λ (b : Bundle). length b.left ≤ k) lefts)
-        (in_back (λ (b : Bundle). length b.right ≤ m) rights))
-        (omega arith) (omega arith);
-  }
+  shares-advances turns more one other = λ k m lefts rights.
+      bound-more k m k m (length (lefts_of front)) (length (rights_of front)) (length (lefts_of back))
+      (length (rights_of back)) (length (lefts_of bundles)) (length (rights_of bundles)) turns more shares-lefts
+      shares-rights
+      (one k m (in_front (λ (b : Bundle). length b.left ≤ k) lefts)
+      (in_front (λ (b : Bundle). length b.right ≤ m) rights))
+      (other k m (in_back (λ (b : Bundle). length b.left ≤ k) lefts)
+      (in_back (λ (b : Bundle). length b.right ≤ m) rights))
+      (omega arith) (omega arith)
     where
       in_front : (P : Bundle → Type 0) → All P bundles → All P front
       in_front P all = All-front P front back (subst (All P) whole all)

@@ -1,5 +1,5 @@
 -- The least number of parts goes by the periods of the items alone.
-use Rattle.std.proofs.Common.{◌≡◌, ℕ, ◌+◌, ◌<◌, ℤ, pos, List, [], ◌∷◌, ◌++◌, length, map, get_or, cond, Option, Some, None, refl, sym, subst, ap, ◌∙◌, arith}
+use Rattle.std.proofs.Common.{◌≡◌, ℕ, ◌+◌, ◌<◌, ◌≤◌, ℤ, pos, List, [], ◌∷◌, ◌++◌, length, map, get_or, cond, Option, Some, None, refl, sym, subst, ap, ◌∙◌, arith}
 use Rattle.std.specs.Prelude.{IsPermutation}
 use Rattle.std.proofs.lemmas.List.{length-map, map-append, get_or-map, nil_from_length}
 use Rattle.std.proofs.lemmas.List.Elements.{All-map}
@@ -9,9 +9,9 @@ use Rattle.period_core.specs.Period.{holds_at}
 use Rattle.dip_core.specs.declared.item.Item.{Item}
 use Rattle.dip_core.specs.Item.{crowd, IsApart}
 use Rattle.dip_core.specs.Division.{all_of, IsDivision, IsLeast, IsInstantOf}
+use Rattle.dip_core.proofs.AddedLemmas.{length-le-all_of}
 use Rattle.dip_core.proofs.CrowdLemmas.{IsLeast-from_crowd}
 use Rattle.match_core.specs.Items.{unclassed}
-use Rattle.join_core.specs.Join.{IsWithin}
 
 -- all items of the parts, without their classes
 all_of-map : (parts : List (List Item)) → all_of (map (map unclassed) parts) ≡ map unclassed (all_of parts)
@@ -73,7 +73,7 @@ IsLeast-unclassed items parts instant d is =
     (crowd-unclassed items at.0 ∙ at.1 ∙ sym n))
 
 -- there is one least number
-least_once : (items : List Item) (k n : ℕ) → IsLeast items k → IsLeast items n → k ≡ n
+pub least_once : (items : List Item) (k n : ℕ) → IsLeast items k → IsLeast items n → k ≡ n
 least_once items k n a b =
     let u = a.least b.reached.0 b.reached.1 in
     let v = b.least a.reached.0 a.reached.1 in
@@ -81,17 +81,13 @@ least_once items k n a b =
     let f = b.reached.2 in
     omega (arith, u, v, e, f)
 
--- the bounds, by the items in place of their parts
-pub IsWithin-items : (A B C D : List Item) (ps qs : List (List Item)) (turns k m : ℕ) → IsDivision A ps
-    → IsDivision B qs → IsLeast C (length ps) → IsLeast D (length qs)
-    → IsWithin (length ps) (length qs) (length (all_of ps)) (length (all_of qs)) turns → IsLeast C k → IsLeast D m
-    → IsWithin k m (length A) (length B) turns
-IsWithin-items A B C D ps qs turns k m da db lc ld w kc md =
-    let e : length ps ≡ k = least_once C (length ps) k lc kc in
-    let f : length qs ≡ m = least_once D (length qs) m ld md in
-    let x : length (all_of ps) ≡ length A = length_permutation A (all_of ps) da.together in
-    let y : length (all_of qs) ≡ length B = length_permutation B (all_of qs) db.together in
-    subst (λ n. IsWithin n m (length A) (length B) turns) e
-    (subst (λ n. IsWithin (length ps) n (length A) (length B) turns) f
-    (subst (λ n. IsWithin (length ps) (length qs) n (length B) turns) x
-    (subst (λ n. IsWithin (length ps) (length qs) (length (all_of ps)) n turns) y w)))
+-- which is no greater than that of the items
+pub least-few : (items : List Item) (k : ℕ) → IsLeast (map unclassed items) k → k ≤ length items
+least-few items k least =
+    let parts = least.reached.0 in
+    let d = least.reached.1 in
+    let number : length parts ≡ k = least.reached.2 in
+    let all = length-le-all_of parts d.filled in
+    let same = length_permutation (map unclassed items) (all_of parts) d.together in
+    let n = length-map items unclassed in
+    omega (arith, number, all, same, n)

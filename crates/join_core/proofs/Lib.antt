@@ -1,6 +1,7 @@
 pub mod AdvanceLemmas
 pub mod BundleLemmas
 pub mod BundledLemmas
+pub mod CrowdSweep
 pub mod ItemLemmas
 pub mod JoinExistence
 pub mod JoinedLemmas

@@ -1,5 +1,5 @@
 -- The items of two sides in bundles: those of a bundle are divided on their own, and match none of another.
-use Rattle.std.specs.Prelude.{◌≡◌, ◌≢◌, ℕ, ◌+◌, ◌*◌, ◌≤◌, ℤ, min, List, length, flat_map, sum_by, All, AllPairs, Contains, IsPermutation}
+use Rattle.std.specs.Prelude.{◌≡◌, ◌≢◌, ℕ, ◌+◌, ◌*◌, ◌≤◌, ℤ, List, length, flat_map, sum_by, All, AllPairs, Contains, IsPermutation}
 use Rattle.dip_core.specs.declared.item.Item.{Item}
 use Rattle.dip_core.specs.Item.{crowd}
 use Rattle.dip_core.specs.Division.{all_of, IsDivision}
@@ -49,21 +49,8 @@ left_parts bundles = sum_by (λ (b : Bundle). length b.left) bundles
 abbrev pub right_parts : List Bundle → ℕ
 right_parts bundles = sum_by (λ (b : Bundle). length b.right) bundles
 
--- how often the cursors of a part with each of some parts advance at least: as often as the shorter one has items
-abbrev pub least_with : ℕ → List (List Item) → ℕ
-least_with len parts = sum_by (λ (part : List Item). min len (length part)) parts
-
--- those of each part with each part
-abbrev pub least_between : List (List Item) → List (List Item) → ℕ
-least_between lefts rights = sum_by (λ (part : List Item). least_with (length part) rights) lefts
-
--- those of all bundles
-abbrev pub least_advances : List Bundle → ℕ
-least_advances bundles = sum_by (λ (b : Bundle). least_between b.left b.right) bundles
-
--- so many advances are needed by these bundles, and so many are enough where no side has more parts than k and m
-pub record AreBundlesAdvances (bundles : List Bundle) (turns : ℕ) : Type 0 where
-  pub at_least : least_advances bundles ≤ turns
-  pub at_most : (k m : ℕ) → All (λ (b : Bundle). length b.left ≤ k) bundles
-      → All (λ (b : Bundle). length b.right ≤ m) bundles
-      → turns ≤ m * length (lefts_of bundles) + k * length (rights_of bundles)
+-- no more advances than these bundles need, where no side has more parts than k and m
+abbrev pub AreBundlesAdvances : List Bundle → ℕ → Type 0
+AreBundlesAdvances bundles turns =
+    (k m : ℕ) → All (λ (b : Bundle). length b.left ≤ k) bundles → All (λ (b : Bundle). length b.right ≤ m) bundles
+    → turns ≤ m * length (lefts_of bundles) + k * length (rights_of bundles)

@@ -1,4 +1,5 @@
 pub mod Bundles
+pub mod Crowds
 pub mod Join
 pub mod ItemJoin
 pub mod PairValues

@@ -14,12 +14,6 @@ use period_core::NoMemory;
 use std::alloc::Global;
 use std::thread::{Threads, join};
 
-/// About so many bundles are made of two tables, unless that makes them too small.
-const BUNDLES: usize = 16;
-
-/// A bundle of fewer items would be over before its threads have started.
-const BUNDLE_LEAST: usize = 256;
-
 /// Left and right items of some classes, each side divided.
 #[derive(Drop)]
 pub(crate) struct Bundle {
@@ -45,13 +39,6 @@ fn bundle_of<R: Threads + Sync>(
     let _ = left.instant();
     let _ = right.instant();
     Ok(Bundle { left, right })
-}
-
-/// The number of items of which one side has more by the class that ends a bundle. It is told by all items, so that half
-/// of them make no smaller bundles: smaller ones have more parts together, and may advance too seldom for them.
-pub(crate) fn bundle_items(left: &[Item], right: &[Item]) -> usize {
-    let share = left.len().max(right.len()) / BUNDLES;
-    share.max(BUNDLE_LEAST)
 }
 
 /// The bundles of all items, one after another. The last one has the right items above all left ones, which match

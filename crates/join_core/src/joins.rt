@@ -18,11 +18,12 @@ use work_core::Gate;
 
 /// The pairs of a left and a right row that are equal in each named pair of columns and share an instant, each
 /// with all the instants that both hold, by start, end, left id and right id: the same rows for every number of
-/// workers. Both sides are divided, a few values of the columns at a time unless that takes too few advances, and
-/// the gate is called before and after each pair of parts, which tests show.
+/// workers. Both sides are divided, some values of the columns at a time, and the gate is called before and after each
+/// pair of parts, which tests show.
 ///
-/// For k and m, the least numbers of parts of all left and of all right rows, and for a left rows and b right rows
-/// the cursors advance at least k * m times, and at most m * a + k * b times.
+/// The advances that are answered are those that the cursors of these parts made, or k * m, whichever is more, for k
+/// and m, the least numbers of parts of all left and of all right rows. With a left rows and b right rows they are at
+/// most m * a + k * b.
 ///
 /// # Errors
 ///

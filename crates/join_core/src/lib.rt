@@ -5,6 +5,7 @@
 
 mod advances;
 mod bundles;
+mod crowds;
 mod joins;
 mod laws;
 mod pairs;

@@ -11,13 +11,13 @@ ghost use Rattle.join_core.specs.Bundles.{lefts_of, rights_of, AreBundlesAdvance
 ghost use Rattle.join_core.specs.ItemJoin.{AreItemsRows, IsItemsJoin};
 ghost use Rattle.join_core.specs.Join.{IsWithin};
 
-use crate::advances::advance_enough;
-use crate::bundles::{Bundle, bundle_items, bundles_of};
+use crate::advances::turns_answered;
+use crate::bundles::{Bundle, bundles_of};
 use crate::pairs::JoinPairs;
 use crate::rows::{JoinRow, JoinRows};
 use crate::stretches::add_rows_of_pairs;
 use dip_core::Item;
-use grid_core::{divided, order_by_class};
+use grid_core::{bundle_items, order_by_class};
 use period_core::NoMemory;
 use sort_core::sort_unstable;
 use std::alloc::Global;
@@ -29,7 +29,8 @@ use work_core::Gate;
 pub struct JoinAnswer {
     /// The rows, by start, end, left id and right id.
     pub rows: JoinRows,
-    /// How often the cursors of the parts advanced in all.
+    /// How often the cursors of the parts advanced in all, or how many pairs of parts there would be if each side were
+    /// divided as a whole, whichever is more.
     pub turns: u64,
 }
 
@@ -132,37 +133,7 @@ fn rows_of_shares<R: Threads + Sync, G: Gate>(
     Ok(found)
 }
 
-/// The rows of items that are divided as a whole.
-fn rows_of_whole<R: Threads + Sync, G: Gate>(
-    rt: &R,
-    alloc: Global,
-    left: &[Item],
-    right: &[Item],
-    workers: u32,
-    gate: &G,
-) -> Result<FoundRows, NoMemory>
-    requires workers { (0 < workers) × (workers ≤ worker_limit) }
-    requires left_few { length left.now ≤ item_limit }
-    requires right_few { length right.now ≤ item_limit }
-    requires left_ids { HasDistinctIds left.now }
-    requires right_ids { HasDistinctIds right.now }
-    ensures rows { IfOk result (λ found. AreItemsRows left.now right.now found.rows.items) }
-    ensures turns { IfOk result (λ found. (k m : ℕ) → IsLeast (map unclassed left.now) k
-        → IsLeast (map unclassed right.now) m → IsWithin k m (length left.now) (length right.now) found.turns) }
-{
-    let lefts = divided(rt, alloc, left, workers)?;
-    let rights = divided(rt, alloc, right, workers)?;
-    // An instant that as many items hold as there are parts shows that there are no fewer.
-    let _ = lefts.instant();
-    let _ = rights.instant();
-    let mut rows = Vec::new(alloc);
-    let pairs = JoinPairs::new(&lefts, &rights);
-    let turns = add_rows_of_pairs(rt, alloc, &pairs, workers, gate, &mut rows)?;
-    Ok(FoundRows { rows, turns })
-}
-
-/// The rows of items whose classes rise: by bundles, unless these take fewer advances than all parts with each other
-/// need.
+/// The rows of items whose classes rise, bundle by bundle.
 fn rows_by_class<R: Threads + Sync, G: Gate>(
     rt: &R,
     alloc: Global,
@@ -184,11 +155,9 @@ fn rows_by_class<R: Threads + Sync, G: Gate>(
 {
     let enough = bundle_items(left, right);
     let bundles = bundles_of(rt, alloc, left, right, enough, workers)?;
-    if advance_enough(&bundles) {
-        return rows_of_shares(rt, alloc, &bundles, workers, gate);
-    }
-    drop(bundles);
-    rows_of_whole(rt, alloc, left, right, workers, gate)
+    let FoundRows { rows, turns: made } = rows_of_shares(rt, alloc, &bundles, workers, gate)?;
+    let turns = turns_answered(rt, alloc, left, right, &bundles, made, workers)?;
+    Ok(FoundRows { rows, turns })
 }
 
 /// The join of two lists of items, which match where their classes are equal.

@@ -1,24 +1,19 @@
-use Rattle.std.proofs.Common.{◌≡◌, ◌+◌, ◌≤◌, length, Some, refl, arith, leb-true}
+use Rattle.std.proofs.Common.{◌≡◌, length, Some, refl, arith, leb-true}
 use Rattle.std.specs.Prelude.{slice_get}
 use Rattle.std.proofs.lemmas.Nat.{mul-le}
 use Rattle.std.proofs.lemmas.Option.{slice_get_read}
 use Rattle.dip_core.specs.Item.{item_limit}
 use Rattle.join_core.proofs.BundledLemmas.{counting-few, counting_end, counting_more}
-use Rattle.join_core.proofs.advances.advance_enough.Goals as goal
+use Rattle.join_core.proofs.advances.are_enough.Goals as goal
 
 pub loop-bundle-init : goal.loop-bundle-init
-loop-bundle-init c = record {
-  lefts_are = refl;
-  rights_are = refl;
-  lefts_few = omega arith;
-  rights_few = omega arith;
-  advances_are = omega arith;
-}
+loop-bundle-init c =
+    record { lefts_are = refl; rights_are = refl; lefts_few = omega arith; rights_few = omega arith }
 
 pub overflow_add-lefts : goal.overflow_add-lefts
 overflow_add-lefts c =
     let few = counting-few c.args.bundles.now c.loop-bundle.bundle-index c.loop-bundle.lefts c.loop-bundle.rights
-    c.loop-bundle.advances c.requires.left_few c.requires.right_few c.loop-bundle.invariant in
+    c.requires.left_few c.requires.right_few c.loop-bundle.invariant in
     let some = c.parts.ensures.few in
     let value = c.parts.ensures.value in
     omega (arith, few.0, some, value)
@@ -26,7 +21,7 @@ overflow_add-lefts c =
 pub overflow_add-rights : goal.overflow_add-rights
 overflow_add-rights c =
     let few = counting-few c.args.bundles.now c.loop-bundle.bundle-index c.loop-bundle.lefts c.loop-bundle.rights
-    c.loop-bundle.advances c.requires.left_few c.requires.right_few c.loop-bundle.invariant in
+    c.requires.left_few c.requires.right_few c.loop-bundle.invariant in
     let some = c.parts-in-loop-bundle.ensures.few in
     let value = c.parts-in-loop-bundle.ensures.value in
     omega (arith, few.1, some, value)
@@ -37,21 +32,18 @@ loop-bundle-preserved c =
     let at : slice_get c.args.bundles.now c.loop-bundle.bundle-index ≡ Some b =
     slice_get_read c.args.bundles.now (length c.args.bundles.now) c.loop-bundle.bundle-index b refl
     c.loop-bundle-test.true c.bundle-item.is in
-    let sum : c.saturating_add-advances.result ≤ c.loop-bundle.advances + c.advances_of.result =
-    (let e = c.saturating_add-advances.ensures in omega (arith, e)) in
     rw (c.parts.ensures.value, c.parts-in-loop-bundle.ensures.value)
-    (counting_more c.args.bundles.now c.loop-bundle.bundle-index c.loop-bundle.lefts c.loop-bundle.rights
-    c.loop-bundle.advances c.advances_of.result c.saturating_add-advances.result b at c.parts.ensures.division.filled
-    c.parts-in-loop-bundle.ensures.division.filled c.advances_of.ensures sum c.loop-bundle.invariant)
+    (counting_more c.args.bundles.now c.loop-bundle.bundle-index c.loop-bundle.lefts c.loop-bundle.rights b at
+    c.parts.ensures.division.filled c.parts-in-loop-bundle.ensures.division.filled c.loop-bundle.invariant)
 
 pub overflow_mul-result : goal.overflow_mul-result
 overflow_mul-result c =
     let few = counting-few c.args.bundles.now c.loop-bundle.bundle-index c.loop-bundle.lefts c.loop-bundle.rights
-    c.loop-bundle.advances c.requires.left_few c.requires.right_few c.loop-bundle.invariant in
+    c.requires.left_few c.requires.right_few c.loop-bundle.invariant in
     let product = mul-le c.loop-bundle.lefts c.loop-bundle.rights item_limit item_limit few.0 few.1 in
     omega (arith, product)
 
 pub returns : goal.returns
 returns c = λ yes.
-    counting_end c.args.bundles.now c.loop-bundle.bundle-index c.loop-bundle.lefts c.loop-bundle.rights
-    c.loop-bundle.advances c.loop-bundle-test.false c.loop-bundle.invariant (leb-true _ _ yes)
+    counting_end c.args.bundles.now c.loop-bundle.bundle-index c.loop-bundle.lefts c.loop-bundle.rights c.args.made
+    c.loop-bundle-test.false c.loop-bundle.invariant (leb-true _ _ yes)
