@@ -133,24 +133,20 @@ pub fn table_of(rt: &(impl Abort + Alloc<A = Global>), rows: &[(u8, u8, i64)]) -
     table
 }
 
-/// The same as a result.
-pub fn numbers(
-    rt: &(impl Abort + Alloc<A = Global>),
-    rows: &[(u8, u8, i64)],
-) -> Result<Table, Fail> {
-    Ok(table_of(rt, rows))
-}
-
 /// The same of rows that hold on these periods.
-pub fn numbers_of(
-    rt: &(impl Abort + Alloc<A = Global>),
-    rows: &[(Period, i64)],
-) -> Result<Table, Fail> {
+pub fn numbers_of(rt: &(impl Abort + Alloc<A = Global>), rows: &[(Period, i64)]) -> Table {
     let mut table = number_table(rt);
     for (period, number) in rows {
         push_row(rt, &mut table.rows, *period, number_values(rt, *number));
     }
-    Ok(table)
+    table
+}
+
+/// Two tables with a column `c` of numbers each, on which their rows are compared.
+pub fn compared(rt: &(impl Abort + Alloc<A = Global>), left: Table, right: Table) -> TablePair {
+    let name = Name::parse(b"c").expect(rt, "a name");
+    let on = Vec::from_slice(rt.alloc(), &[(name, name)]).expect(rt, "memory");
+    TablePair { left, right, on }
 }
 
 /// Two tables of numbers, which are compared.
@@ -159,12 +155,7 @@ pub fn number_pair(
     lefts: &[(u8, u8, i64)],
     rights: &[(u8, u8, i64)],
 ) -> TablePair {
-    let name = Name::parse(b"c").expect(rt, "a name");
-    TablePair {
-        left: table_of(rt, lefts),
-        right: table_of(rt, rights),
-        on: Vec::from_slice(rt.alloc(), &[(name, name)]).expect(rt, "memory"),
-    }
+    compared(rt, table_of(rt, lefts), table_of(rt, rights))
 }
 
 /// A table without columns, whose rows, with ids from 1 on, hold on these periods.
