@@ -25,7 +25,7 @@ use period_core::Point;
 use row_core::{Failure, Name, NoMemory, RowList, Schema};
 use std::alloc::Global;
 use std::marker::Model;
-use version_core::{Change, VersionList, rows_holding, rows_shown, versions_seen};
+use version_core::{Change, VersionList, rows_shown, versions_seen};
 
 /// The most tables of a book.
 const TABLE_LIMIT: usize = 64;
@@ -219,7 +219,7 @@ impl Book {
             (λ columns. All (λ row. IsTrue (fits columns row.values)) rows)) }
     {
         match self.table_at(n, name) {
-            Ok(table) => Ok(rows_holding(self.alloc, table.versions.as_slice(), n, point)?),
+            Ok(table) => Ok(table.versions.rows_holding(self.alloc, n, point)?),
             Err(refused) => Err(Failure::Refused(refused)),
         }
     }

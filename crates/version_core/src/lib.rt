@@ -13,5 +13,5 @@ mod versions;
 
 pub use change::{Change, Pairs};
 pub use keys::KeyOverlap;
-pub use version::{Version, VersionList, rows_holding, rows_shown, versions_seen};
+pub use version::{Version, VersionList, rows_shown, versions_seen};
 pub use versions::{VERSION_LIMIT, VersionCounts, Versions};

@@ -1,10 +1,12 @@
 //! All versions of a table, with the places of the open ones.
 
-ghost use Rattle.std.specs.Prelude.{◌≡◌, ◌≢◌, ◌+◌, ◌≤◌, ◌<◌, ◌++◌, List, [], true, false, length, map, fold, count_by, All, IfOk, IfErr, IfSome, OnErr, OnOk};
+ghost use Rattle.std.specs.Prelude.{◌≡◌, ◌≢◌, ◌+◌, ◌≤◌, ◌<◌, ◌++◌, List, [], true, false, length, map, filter, fold, count_by, All, IfOk, IfErr, IfSome, OnErr, OnOk};
 ghost use Rattle.std.specs.List.{list_any, range_with_len};
 ghost use Rattle.key_core.specs.Keys.{collide, have_collision};
+ghost use Rattle.period_core.specs.Period.{holds_at};
 ghost use Rattle.row_core.specs.Schema.{key_of};
 ghost use Rattle.row_core.specs.declared.failure.Failure.TheVariants.{NoMemory};
+ghost use Rattle.row_core.specs.declared.row.Row.{Row};
 ghost use Rattle.row_core.specs.declared.schema.Column.{Column};
 ghost use Rattle.version_core.specs.Finding.{AreCandidates, ArePeriods, IsIndex, IsLookupOf, AreSought, row_period};
 ghost use Rattle.version_core.specs.Keys.{is_column_of, overlap_after, rows_left, break_key};
@@ -12,6 +14,7 @@ ghost use Rattle.version_core.specs.Limits.{bucket_count, version_limit};
 ghost use Rattle.version_core.specs.Made.{made, draft_of};
 ghost use Rattle.version_core.specs.OpenVersions.{closed_at, current, is_taken, places_from, versions_after};
 ghost use Rattle.version_core.specs.Rows.{conds_of, drafts_of, numbered, parts_of_all, removes, unnumbered};
+ghost use Rattle.version_core.specs.Shown.{shown};
 ghost use Rattle.version_core.specs.declared.change.Change.{Change};
 
 use crate::change::Change;
@@ -23,10 +26,10 @@ use crate::keys::{KeyOverlap, any_collides, collide_among, collide_among_all, ma
 use crate::making::{NewVersions, versions_of};
 use crate::places::Places;
 use crate::portion::{SOUGHT_LIMIT, columns_sought, count_of, is_removed, push_parts, reaches};
-use crate::version::Version;
+use crate::version::{Version, rows_holding};
 use list_core::{DeepCopy, copy_each};
-use period_core::Period;
-use row_core::{Failure, NoMemory, Schema};
+use period_core::{Period, Point};
+use row_core::{Failure, NoMemory, RowList, Schema};
 use std::alloc::Global;
 use std::marker::Model;
 
@@ -105,6 +108,14 @@ impl Versions {
         ensures { result.now ≡ self.now }
     {
         &self.items
+    }
+
+    /// The rows that commit n shows and that hold at the point. No other row is copied.
+    pub fn rows_holding(&self, alloc: Global, n: u64, point: Point) -> Result<RowList, NoMemory>
+        ensures { IfOk result (λ rows. rows
+            ≡ filter (λ (row : Row). holds_at point row.period) (shown n self.now)) }
+    {
+        rows_holding(alloc, &self.items, &self.periods, n, point)
     }
 
     /// How many rows a change can put in the place of those that it takes out: three of each.
