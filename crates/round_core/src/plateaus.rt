@@ -1,11 +1,13 @@
 //! The plateaus of all classes.
 
-ghost use Rattle.std.specs.Prelude.{◌<◌, ◌≤◌, length, AllPairs, IfOk};
+ghost use Rattle.std.specs.Prelude.{◌<◌, ◌≤◌, ℕ, List, length, AllPairs, IfOk};
 ghost use Rattle.std.specs.Thread.{IsSync};
 ghost use Rattle.dip_core.specs.Item.{item_limit};
-ghost use Rattle.grid_core.specs.Bundles.{ClassesRise};
+ghost use Rattle.dip_core.specs.declared.item.Item.{Item as AnyItem};
+ghost use Rattle.grid_core.specs.Bundles.{ArePartedBehind, ClassesRise};
 ghost use Rattle.work_core.specs.Limits.{worker_limit};
 ghost use Rattle.round_core.specs.Plateaus.{ArePlateaus};
+ghost use Rattle.round_core.specs.declared.measure.Measure.{Measure as AnyMeasure};
 
 use crate::closing::plateaus_in;
 use crate::measure::Measure;
@@ -38,6 +40,18 @@ pub(crate) fn plateaus_by_rounds<R: Threads + Sync, G: Gate>(
     let all = combine_all(rt, alloc, lists, workers, gate)?;
     let plateaus = plateaus_in(alloc, measure, all)?;
     Plateaus::of(alloc, plateaus)
+}
+
+/// The plateaus of all classes, from those of the lower ones and of the higher ones.
+fn both_lists(
+    low: Result<Plateaus, NoMemory>,
+    high: Result<Plateaus, NoMemory>,
+) -> Result<Plateaus, NoMemory>
+    ensures { (measure : AnyMeasure) (class : ℕ) (items lows highs : List AnyItem)
+        → ArePartedBehind class items lows highs → IfOk low (ArePlateaus measure lows)
+        → IfOk high (ArePlateaus measure highs) → IfOk result (ArePlateaus measure items) }
+{
+    low?.followed_by(high?)
 }
 
 /// The plateaus of all classes. Half of the workers find those of the lower classes, where there are enough of both.
@@ -74,9 +88,7 @@ fn plateaus_of_halves<R: Threads + Sync, G: Gate>(
             ensures { IfOk result (λ plateaus. ArePlateaus measure high_items.entry.now plateaus) }
         { plateaus_of_halves(rt, alloc, measure, high_items, others, gate) },
     );
-    let plateaus = low?;
-    let high = high?;
-    plateaus.followed_by(high)
+    both_lists(low, high)
 }
 
 /// The plateaus of all classes, by class and start: the same for every number of workers. The items of a class

@@ -1,7 +1,7 @@
 //! Items of one class, cut at an instant: half of the workers find the plateaus of what the items hold before it, and the
 //! others those of what they hold from it on. One worker cuts many items too, and finds the one after the other.
 
-ghost use Rattle.std.specs.Prelude.{◌<◌, ◌≤◌, ◌≤ℤ◌, ◌++◌, IfOk, IfSome, List, MatchOption, length};
+ghost use Rattle.std.specs.Prelude.{◌<◌, ◌≤◌, ◌≤ℤ◌, ◌++◌, ℤ, IfOk, IfSome, List, MatchOption, length};
 ghost use Rattle.std.specs.Thread.{IsSync};
 ghost use Rattle.dip_core.specs.Item.{item_limit};
 ghost use Rattle.dip_core.specs.declared.item.Item.{Item as AnyItem};
@@ -123,6 +123,18 @@ pub fn spliced(early: Plateaus, late: Plateaus) -> Result<Plateaus, NoMemory>
     early.without_last()?.followed_by(late.with_first(both))
 }
 
+/// The plateaus of items of one class, from those of what they hold before an instant and from it on.
+fn both_spliced(
+    early: Result<Plateaus, NoMemory>,
+    late: Result<Plateaus, NoMemory>,
+) -> Result<Plateaus, NoMemory>
+    ensures { (measure : AnyMeasure) (at : ℤ) (items : List AnyItem) → AreOfOneClass items
+        → IfOk early (ArePlateausBefore at measure items) → IfOk late (ArePlateausFrom at measure items)
+        → IfOk result (ArePlateaus measure items) }
+{
+    spliced(early?, late?)
+}
+
 /// Fewer items are left as they are.
 fn least_to_cut(workers: u32) -> usize {
     if workers < 2 {
@@ -229,9 +241,9 @@ pub(crate) fn plateaus_of_spans<R: Threads + Sync, G: Gate>(
     };
     let cuts = cuts - 1;
     if workers < 2 {
-        let early = plateaus_before(rt, alloc, measure, items, at, cuts, workers, gate)?;
-        let late = plateaus_from(rt, alloc, measure, items, at, cuts, workers, gate)?;
-        return spliced(early, late);
+        let early = plateaus_before(rt, alloc, measure, items, at, cuts, workers, gate);
+        let late = plateaus_from(rt, alloc, measure, items, at, cuts, workers, gate);
+        return both_spliced(early, late);
     }
     let few = workers / 2;
     let others = workers - few;
@@ -248,7 +260,5 @@ pub(crate) fn plateaus_of_spans<R: Threads + Sync, G: Gate>(
             ensures { IfOk result (λ plateaus. ArePlateausFrom at measure items.entry.now plateaus) }
         { plateaus_from(rt, alloc, measure, items, at, cuts, others, gate) },
     );
-    let early = early?;
-    let late = late?;
-    spliced(early, late)
+    both_spliced(early, late)
 }

@@ -1,11 +1,7 @@
-use Rattle.std.proofs.Common.{rules, ◌≤◌, List, length, refl, sym, subst, arith}
-use Rattle.std.proofs.lemmas.Result.{IfOk-at_ok, IfOk-weaker}
+use Rattle.std.proofs.Common.{rules, ◌≤◌, length, refl, arith}
 use Rattle.dip_core.specs.Item.{item_limit}
 use Rattle.grid_core.proofs.BundleLemmas.{low-few, low-rise, high-few, high-rise}
 use Rattle.work_core.specs.Limits.{worker_limit}
-use Rattle.round_core.specs.declared.plateau.Plateau.{Plateau}
-use Rattle.round_core.specs.Plateaus.{ArePlateaus}
-use Rattle.round_core.proofs.HalfLemmas.{ArePlateaus-parted}
 use Rattle.round_core.proofs.plateaus.+halves.Goals as goal
 
 pub join-low-requires-after_bounds : goal.join-low-requires-after_bounds
@@ -64,16 +60,5 @@ join-low-requires-after_bounds g t c κs within =
 
 pub returns : goal.returns
 returns g t c =
-    let measure = c.args.measure in
-    let low = c.in_ok-plateaus.plateaus in
-    let high = c.in_ok-high.high in
-    IfOk-weaker c.followed_by.result _ _
-    (λ all e.
-    subst (ArePlateaus measure c.args.items.now) (sym e)
-    (ArePlateaus-parted measure c.in-Some.class c.args.items.now c.parted_behind.result.0.now
-    c.parted_behind.result.1.now c.parted_behind.ensures low high
-    (IfOk-at_ok (λ (plateaus : List Plateau). ArePlateaus measure c.parted_behind.result.0.now plateaus)
-    c.in_ok-plateaus.was c.join-low.ensures.first)
-    (IfOk-at_ok (λ (plateaus : List Plateau). ArePlateaus measure c.parted_behind.result.1.now plateaus)
-    c.in_ok-high.was c.join-low.ensures.second)))
-    c.followed_by.ensures
+    c.both_lists.ensures c.args.measure c.in-Some.class c.args.items.now c.parted_behind.result.0.now
+    c.parted_behind.result.1.now c.parted_behind.ensures c.join-low.ensures.first c.join-low.ensures.second
