@@ -114,10 +114,6 @@ pub record IsSweeping (starts ends : List ℤ) (i k : ℕ) : Type 0 where
   pub reached : 0 < k → (t : ℤ) × (k + upto ends t ≤ upto starts t)
   pub taken : (j : ℕ) (d : ℤ) → k ≤ j → j < i → get_or ends (j - k) d ≤ℤ get_or starts j d
 
-pub sweeping_start : (starts ends : List ℤ) → IsSweeping starts ends 0 0
-sweeping_start starts ends =
-    record { few = omega arith; reached = λ h. absurd (omega arith); taken = λ j d low inside. absurd (omega arith) }
-
 module _ (starts ends : List ℤ) (i k : ℕ) (s e : ℤ) (same : length starts ≡ length ends) (inside : i < length starts)
     (starts_rise : IsSorted int_cmp starts) (ends_rise : IsSorted int_cmp ends)
     (is_s : get_or starts i s ≡ s) (is_e : get_or ends (i - k) e ≡ e) (was : IsSweeping starts ends i k) where

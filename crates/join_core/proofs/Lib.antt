@@ -1,7 +1,6 @@
 pub mod AdvanceLemmas
-pub mod BundleLemmas
-pub mod BundledLemmas
 pub mod CrowdSweep
+pub mod FoundLemmas
 pub mod ItemLemmas
 pub mod JoinExistence
 pub mod JoinedLemmas

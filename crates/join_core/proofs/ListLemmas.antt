@@ -43,15 +43,6 @@ Contains-flat_map f (y ∷ xs) zero x a at h =
 Contains-flat_map f (y ∷ xs) (suc i) x a at h =
     Contains-append_right (f y) (flat_map f xs) a (Contains-flat_map f xs i x a at h)
 
--- so does what stands in the list of one of the things
-pub Contains-flat_map_in : {X A : Type 0} (f : X → List A) (xs : List X) (x : X) (a : A) → Contains xs x
-    → Contains (f x) a → Contains (flat_map f xs) a
-Contains-flat_map_in f [] x a h k = absurd (Contains-none x h)
-Contains-flat_map_in f (y ∷ xs) x a h k = elim (Contains-cons_cases y xs x h) [
-  | inl e ↦ Contains-append_left (f y) (flat_map f xs) a (subst (λ z. Contains (f z) a) (sym e) k)
-  | inr later ↦ Contains-append_right (f y) (flat_map f xs) a (Contains-flat_map_in f xs x a later k)
-]
-
 -- what stands in all of them together stands in one of them
 pub Contains-flat_map_source : {X A : Type 0} (f : X → List A) (xs : List X) (a : A) → Contains (flat_map f xs) a
     → (i : ℕ) × (x : X) × (slice_get xs i ≡ Some x) × Contains (f x) a

@@ -1,5 +1,5 @@
-pub mod Bundles
 pub mod Crowds
+pub mod Found
 pub mod Join
 pub mod ItemJoin
 pub mod PairValues

@@ -1,98 +1,151 @@
-//! The items of both sides in bundles: all items of some classes, which are divided on their own. Items of other
+//! The rows of items, a bundle at a time: all items of some classes, which are divided on their own. Items of other
 //! classes don't match them, so the parts of a bundle are paired with each other alone.
 
-ghost use Rattle.std.specs.Prelude.{◌<◌, ◌≤◌, length, IfOk};
+ghost use Rattle.std.specs.Prelude.{◌≡◌, ◌+◌, ◌<◌, ◌≤◌, ◌++◌, ◌^◌, length, IfOk};
 ghost use Rattle.std.specs.Thread.{IsSync};
-ghost use Rattle.dip_core.specs.Item.{item_limit};
+ghost use Rattle.dip_core.specs.Item.{item_limit, HasDistinctIds};
 ghost use Rattle.grid_core.specs.Bundles.{ClassesRise};
 ghost use Rattle.work_core.specs.Limits.{worker_limit};
-ghost use Rattle.join_core.specs.Bundles.{AreBundles, IsBundle};
+ghost use Rattle.join_core.specs.Found.{AddsItemsRows, AreMade, IsFound, both_made};
 
-use dip_core::{Division, Item};
+use crate::advances::Advances;
+use crate::pairs::JoinPairs;
+use crate::rows::JoinRow;
+use crate::stretches::add_rows_of_pairs;
+use dip_core::Item;
 use grid_core::{divided, last_class, middle_class, parted_behind};
 use period_core::NoMemory;
 use std::alloc::Global;
 use std::thread::{Threads, join};
+use work_core::Gate;
 
-/// Left and right items of some classes, each side divided.
+/// The rows of a join in any order, and the advances by which they were found.
 #[derive(Drop)]
-pub(crate) struct Bundle {
-    pub left: Division,
-    pub right: Division,
+pub(crate) struct FoundRows {
+    pub rows: Vec<JoinRow>,
+    pub advances: Advances,
 }
 
-/// The bundle of some items.
-fn bundle_of<R: Threads + Sync>(
+impl FoundRows {
+    /// These, and behind them those of other items.
+    fn followed_by(mut self, mut more: FoundRows) -> Result<FoundRows, NoMemory>
+        requires made { self.advances.made + more.advances.made < 2 ^ 64 }
+        requires lefts { self.advances.left_parts + more.advances.left_parts < 2 ^ 64 }
+        requires rights { self.advances.right_parts + more.advances.right_parts < 2 ^ 64 }
+        ensures { IfOk result (λ both. (both.rows.items ≡ self.rows.items ++ more.rows.items)
+            × (both.advances ≡ both_made self.advances more.advances)) }
+    {
+        self.rows.append(&mut more.rows)?;
+        Ok(FoundRows {
+            rows: self.rows,
+            advances: self.advances.plus(more.advances),
+        })
+    }
+}
+
+/// Fewer advances than these are made before another worker has started.
+const ADVANCES_FOR_WORKERS: u64 = 32_768;
+
+/// Adds the rows of a bundle, and returns the advances for them.
+fn add_rows_of_bundle<R: Threads + Sync, G: Gate>(
     rt: &R,
     alloc: Global,
     left: &[Item],
     right: &[Item],
     workers: u32,
-) -> Result<Bundle, NoMemory>
+    gate: &G,
+    rows: &mut Vec<JoinRow>,
+) -> Result<Advances, NoMemory>
+    requires workers { (0 < workers) × (workers ≤ worker_limit) }
     requires left_few { length left.now ≤ item_limit }
     requires right_few { length right.now ≤ item_limit }
-    ensures { IfOk result (λ bundle. IsBundle left.now right.now bundle) }
+    requires left_ids { HasDistinctIds left.now }
+    requires right_ids { HasDistinctIds right.now }
+    ensures rows { IfOk result (λ _. AddsItemsRows left.now right.now rows.old.items rows.new.items) }
+    ensures advances { IfOk result (AreMade left.now right.now) }
 {
-    let left = divided(rt, alloc, left, workers)?;
-    let right = divided(rt, alloc, right, workers)?;
-    // As many items hold this instant as there are parts.
-    let _ = left.instant();
-    let _ = right.instant();
-    Ok(Bundle { left, right })
+    let lefts = divided(rt, alloc, left, workers)?;
+    let rights = divided(rt, alloc, right, workers)?;
+    let left_parts = lefts.parts() as u64;
+    let right_parts = rights.parts() as u64;
+    let most = right_parts * left.len() as u64 + left_parts * right.len() as u64;
+    let workers = if most < ADVANCES_FOR_WORKERS {
+        1
+    } else {
+        workers
+    };
+    let pairs = JoinPairs::new(&lefts, &rights);
+    let made = add_rows_of_pairs(rt, alloc, &pairs, workers, gate, rows)?;
+    Ok(Advances {
+        made,
+        left_parts,
+        right_parts,
+    })
 }
 
-/// The bundles of all items, one after another. The last one has the right items above all left ones, which match
-/// none: they count for the least number of parts.
-fn bundles_by_one<R: Threads + Sync>(
+/// The rows of all items, bundle by bundle. The last bundle has the right items above all left ones, which match none:
+/// they count for the least number of parts.
+fn rows_of_bundles<R: Threads + Sync, G: Gate>(
     rt: &R,
     alloc: Global,
     left: &[Item],
     right: &[Item],
     enough: usize,
     workers: u32,
-) -> Result<Vec<Bundle>, NoMemory>
+    gate: &G,
+) -> Result<FoundRows, NoMemory>
+    requires workers { (0 < workers) × (workers ≤ worker_limit) }
     requires left_few { length left.now ≤ item_limit }
     requires right_few { length right.now ≤ item_limit }
     requires left_rise { ClassesRise left.now }
     requires right_rise { ClassesRise right.now }
-    ensures { IfOk result (λ bundles. AreBundles left.now right.now bundles.items) }
+    requires left_ids { HasDistinctIds left.now }
+    requires right_ids { HasDistinctIds right.now }
+    ensures { IfOk result (IsFound left.now right.now) }
 {
-    let mut bundles = Vec::new(alloc);
+    let mut rows = Vec::new(alloc);
+    let mut advances = Advances::none();
     let mut lefts = left;
     let mut rights = right;
     'bundles: while let Some(first) = lefts.first() {
         let class = last_class(first, lefts, rights, enough);
         let (low_lefts, high_lefts) = parted_behind(class, lefts);
         let (low_rights, high_rights) = parted_behind(class, rights);
-        let bundle = bundle_of(rt, alloc, low_lefts, low_rights, workers)?;
-        bundles.push(bundle)?;
+        let more = add_rows_of_bundle(rt, alloc, low_lefts, low_rights, workers, gate, &mut rows)?;
+        advances = advances.plus(more);
         lefts = high_lefts;
         rights = high_rights;
     }
-    let last = bundle_of(rt, alloc, lefts, rights, workers)?;
-    bundles.push(last)?;
-    Ok(bundles)
+    let more = add_rows_of_bundle(rt, alloc, lefts, rights, workers, gate, &mut rows)?;
+    Ok(FoundRows {
+        rows,
+        advances: advances.plus(more),
+    })
 }
 
-/// The bundles of items whose classes rise. Half of the workers make those of the lower classes, where there are
-/// enough of both.
+/// The rows of items whose classes rise. Half of the workers find those of the lower classes, where there are enough
+/// of both.
 #[cycle(halves)]
-pub(crate) fn bundles_of<R: Threads + Sync>(
+pub(crate) fn rows_of_halves<R: Threads + Sync, G: Gate>(
     rt: &R,
     alloc: Global,
     left: &[Item],
     right: &[Item],
     enough: usize,
     workers: u32,
-) -> Result<Vec<Bundle>, NoMemory>
+    gate: &G,
+) -> Result<FoundRows, NoMemory>
+    requires workers { (0 < workers) × (workers ≤ worker_limit) }
     requires left_few { length left.now ≤ item_limit }
     requires right_few { length right.now ≤ item_limit }
     requires left_rise { ClassesRise left.now }
     requires right_rise { ClassesRise right.now }
-    ensures { IfOk result (λ bundles. AreBundles left.now right.now bundles.items) }
+    requires left_ids { HasDistinctIds left.now }
+    requires right_ids { HasDistinctIds right.now }
+    ensures { IfOk result (IsFound left.now right.now) }
 {
     let Some(class) = middle_class(left, right, workers) else {
-        return bundles_by_one(rt, alloc, left, right, enough, workers);
+        return rows_of_bundles(rt, alloc, left, right, enough, workers, gate);
     };
     let (low_lefts, high_lefts) = parted_behind(class, left);
     let (low_rights, high_rights) = parted_behind(class, right);
@@ -100,19 +153,20 @@ pub(crate) fn bundles_of<R: Threads + Sync>(
     let others = workers - few;
     let (low, high) = join(
         rt,
-        || -> Result<Vec<Bundle>, NoMemory>
-            requires { IsSync R.row × (length low_lefts.now ≤ item_limit) × (length low_rights.now ≤ item_limit)
-                × ClassesRise low_lefts.now × ClassesRise low_rights.now }
-            ensures { IfOk result (λ bundles. AreBundles low_lefts.entry.now low_rights.entry.now bundles.items) }
-        { bundles_of(rt, alloc, low_lefts, low_rights, enough, few) },
-        || -> Result<Vec<Bundle>, NoMemory>
-            requires { IsSync R.row × (length high_lefts.now ≤ item_limit) × (length high_rights.now ≤ item_limit)
-                × ClassesRise high_lefts.now × ClassesRise high_rights.now }
-            ensures { IfOk result (λ bundles. AreBundles high_lefts.entry.now high_rights.entry.now bundles.items) }
-        { bundles_of(rt, alloc, high_lefts, high_rights, enough, others) },
+        || -> Result<FoundRows, NoMemory>
+            requires { IsSync R.row × IsSync G.row × (0 < few) × (few ≤ worker_limit)
+                × (length low_lefts.now ≤ item_limit) × (length low_rights.now ≤ item_limit)
+                × ClassesRise low_lefts.now × ClassesRise low_rights.now
+                × HasDistinctIds low_lefts.now × HasDistinctIds low_rights.now }
+            ensures { IfOk result (IsFound low_lefts.entry.now low_rights.entry.now) }
+        { rows_of_halves(rt, alloc, low_lefts, low_rights, enough, few, gate) },
+        || -> Result<FoundRows, NoMemory>
+            requires { IsSync R.row × IsSync G.row × (0 < others) × (others ≤ worker_limit)
+                × (length high_lefts.now ≤ item_limit) × (length high_rights.now ≤ item_limit)
+                × ClassesRise high_lefts.now × ClassesRise high_rights.now
+                × HasDistinctIds high_lefts.now × HasDistinctIds high_rights.now }
+            ensures { IfOk result (IsFound high_lefts.entry.now high_rights.entry.now) }
+        { rows_of_halves(rt, alloc, high_lefts, high_rights, enough, others, gate) },
     );
-    let mut bundles = low?;
-    let mut high = high?;
-    bundles.append(&mut high)?;
-    Ok(bundles)
+    low?.followed_by(high?)
 }

@@ -49,7 +49,7 @@ returns-clause-rows g c =
     let rights = c.deref-2.result.now in
     let sorted = c.sort_unstable.new.items.items in
     let lists : IsItemsJoin lefts rights sorted =
-    IsItemsJoin-sorted lefts rights c.in_ok-rows.field-0.rows.items sorted c.in_ok-rows.ensures.rows
+    IsItemsJoin-sorted lefts rights c.in_ok-rows.rows.items sorted c.in_ok-rows.ensures.rows
     c.sort_unstable.ensures.permutation c.sort_unstable.ensures.sorted in
     subst (IsItemsJoin left right) (sym c.from.ensures)
     (rows-permutation left right lefts rights (rw c.deref.ensures.value c.order_by_class.ensures.permutation)
@@ -71,7 +71,7 @@ returns-clause-turns g c = λ k m lk lm.
     let lefts_are : IsPermutation left lefts = rw c.deref.ensures.value c.order_by_class.ensures.permutation in
     let rights_are : IsPermutation right rights =
     rw c.deref-2.ensures.value c.order_by_class-2.ensures.permutation in
-    let turns = c.in_ok-rows.field-0.turns in
+    let turns = c.in_ok-rows.turns in
     subst (λ (n : ℕ). IsWithin k m (length left) n turns) (length_permutation right rights rights_are)
     (subst (λ (n : ℕ). IsWithin k m n (length rights) turns) (length_permutation left lefts lefts_are)
     (c.in_ok-rows.ensures.turns k m (least_moved left lefts k lefts_are lk)

@@ -1,0 +1,90 @@
+use Rattle.std.proofs.Common.{arith}
+use Rattle.join_core.proofs.FoundLemmas.{finding_end, finding_more, finding_start, finding-fits, front-ids, last-fits, rest-ids}
+use Rattle.join_core.proofs.bundles.rows_of_bundles.Goals as goal
+
+pub bundles-init : goal.bundles-init
+bundles-init g c =
+    finding_start c.args.left.now c.args.right.now c.new-rows.result.items c.none-advances.result
+    c.new-rows.ensures.items c.none-advances.ensures c.requires.left_rise c.requires.right_rise
+
+pub add_rows_of_bundle-requires-clause-left_ids : goal.add_rows_of_bundle-requires-clause-left_ids
+add_rows_of_bundle-requires-clause-left_ids g c κs within =
+    front-ids c.bundles.lefts.now c.parted_behind.result.0.now c.parted_behind.result.1.now
+    c.parted_behind.ensures.whole
+    (rest-ids c.args.left.now c.bundles.invariant.front_left c.bundles.lefts.now c.bundles.invariant.left_is
+    c.requires.left_ids)
+
+pub add_rows_of_bundle-requires-clause-right_ids : goal.add_rows_of_bundle-requires-clause-right_ids
+add_rows_of_bundle-requires-clause-right_ids g c κs within =
+    front-ids c.bundles.rights.now c.parted_behind-in-Some.result.0.now c.parted_behind-in-Some.result.1.now
+    c.parted_behind-in-Some.ensures.whole
+    (rest-ids c.args.right.now c.bundles.invariant.front_right c.bundles.rights.now c.bundles.invariant.right_is
+    c.requires.right_ids)
+
+pub plus-advances-requires-clause-made : goal.plus-advances-requires-clause-made
+plus-advances-requires-clause-made g c =
+    let fits = finding-fits c.args.left.now c.args.right.now c.bundles.lefts.now c.bundles.rights.now
+    c.parted_behind.result.0.now c.parted_behind.result.1.now c.parted_behind-in-Some.result.0.now
+    c.parted_behind-in-Some.result.1.now c.last_class-class.result c.parted_behind.ensures
+    c.parted_behind-in-Some.ensures c.bundles.rows.items c.bundles.advances c.bundles.invariant c.in_ok-more.more
+    c.in_ok-more.ensures.advances c.requires.left_few c.requires.right_few in
+    omega (arith, fits.2)
+
+pub plus-advances-requires-clause-lefts : goal.plus-advances-requires-clause-lefts
+plus-advances-requires-clause-lefts g c =
+    let fits = finding-fits c.args.left.now c.args.right.now c.bundles.lefts.now c.bundles.rights.now
+    c.parted_behind.result.0.now c.parted_behind.result.1.now c.parted_behind-in-Some.result.0.now
+    c.parted_behind-in-Some.result.1.now c.last_class-class.result c.parted_behind.ensures
+    c.parted_behind-in-Some.ensures c.bundles.rows.items c.bundles.advances c.bundles.invariant c.in_ok-more.more
+    c.in_ok-more.ensures.advances c.requires.left_few c.requires.right_few in
+    omega (arith, fits.0)
+
+pub plus-advances-requires-clause-rights : goal.plus-advances-requires-clause-rights
+plus-advances-requires-clause-rights g c =
+    let fits = finding-fits c.args.left.now c.args.right.now c.bundles.lefts.now c.bundles.rights.now
+    c.parted_behind.result.0.now c.parted_behind.result.1.now c.parted_behind-in-Some.result.0.now
+    c.parted_behind-in-Some.result.1.now c.last_class-class.result c.parted_behind.ensures
+    c.parted_behind-in-Some.ensures c.bundles.rows.items c.bundles.advances c.bundles.invariant c.in_ok-more.more
+    c.in_ok-more.ensures.advances c.requires.left_few c.requires.right_few in
+    omega (arith, fits.1)
+
+pub bundles-preserved : goal.bundles-preserved
+bundles-preserved g c =
+    finding_more c.args.left.now c.args.right.now c.bundles.lefts.now c.bundles.rights.now
+    c.parted_behind.result.0.now c.parted_behind.result.1.now c.parted_behind-in-Some.result.0.now
+    c.parted_behind-in-Some.result.1.now c.last_class-class.result c.parted_behind.ensures
+    c.parted_behind-in-Some.ensures c.bundles.rows.items c.bundles.advances c.bundles.invariant
+    c.add_rows_of_bundle.new.rows.items c.in_ok-more.more c.plus-advances.result c.requires.left_ids
+    c.in_ok-more.ensures.rows c.in_ok-more.ensures.advances c.plus-advances.ensures
+
+pub add_rows_of_bundle-requires-2-clause-right_ids : goal.add_rows_of_bundle-requires-2-clause-right_ids
+add_rows_of_bundle-requires-2-clause-right_ids g c κs within =
+    rest-ids c.args.right.now c.bundles.invariant.front_right c.bundles.rights.now c.bundles.invariant.right_is
+    c.requires.right_ids
+
+pub plus-requires-clause-made : goal.plus-requires-clause-made
+plus-requires-clause-made g c =
+    let fits = last-fits c.args.left.now c.args.right.now c.bundles.lefts.now c.bundles.rights.now
+    c.bundles.rows.items c.bundles.advances c.bundles.invariant c.in_ok-more-2.more c.in_ok-more-2.ensures.advances
+    c.requires.left_few c.requires.right_few in
+    omega (arith, fits.2)
+
+pub plus-requires-clause-lefts : goal.plus-requires-clause-lefts
+plus-requires-clause-lefts g c =
+    let fits = last-fits c.args.left.now c.args.right.now c.bundles.lefts.now c.bundles.rights.now
+    c.bundles.rows.items c.bundles.advances c.bundles.invariant c.in_ok-more-2.more c.in_ok-more-2.ensures.advances
+    c.requires.left_few c.requires.right_few in
+    omega (arith, fits.0)
+
+pub plus-requires-clause-rights : goal.plus-requires-clause-rights
+plus-requires-clause-rights g c =
+    let fits = last-fits c.args.left.now c.args.right.now c.bundles.lefts.now c.bundles.rights.now
+    c.bundles.rows.items c.bundles.advances c.bundles.invariant c.in_ok-more-2.more c.in_ok-more-2.ensures.advances
+    c.requires.left_few c.requires.right_few in
+    omega (arith, fits.1)
+
+pub returns : goal.returns
+returns g c =
+    finding_end c.args.left.now c.args.right.now c.bundles.lefts.now c.bundles.rights.now c.bundles.rows.items
+    c.bundles.advances c.bundles.invariant _ c.in_ok-more-2.more c.requires.left_ids c.in_ok-more-2.ensures.rows
+    c.in_ok-more-2.ensures.advances c.plus.ensures

@@ -1,0 +1,51 @@
+-- What is found of a join bundle by bundle: its rows in any order, and the advances by which they were found.
+use Rattle.std.specs.Prelude.{◌≡◌, ◌≢◌, ℕ, ◌+◌, ◌*◌, ◌≤◌, ℤ, List, ◌++◌, length, Contains}
+use Rattle.dip_core.specs.declared.item.Item.{Item}
+use Rattle.dip_core.specs.Item.{crowd}
+use Rattle.dip_core.specs.Division.{IsDivision}
+use Rattle.join_core.specs.declared.advances.Advances.{Advances}
+use Rattle.join_core.specs.declared.bundles.FoundRows.{FoundRows}
+use Rattle.join_core.specs.declared.rows.JoinRow.{JoinRow}
+use Rattle.join_core.specs.ItemJoin.{AreItemsRows}
+
+-- no instant is held by more than k items, whatever their classes
+abbrev pub HoldAtMost : ℕ → List Item → Type 0
+HoldAtMost k items = (t : ℤ) → crowd items t ≤ k
+
+-- some division of the items has so many parts
+pub record HasParts (items : List Item) (parts : ℕ) : Type 0 where
+  pub division : List (List Item)
+  pub divides : IsDivision items division
+  pub len : length division ≡ parts
+
+-- the advances over parts of these items, some classes at a time: no more than where each part of one side is read
+-- against each of the other, and no side has more parts than its items that hold at once
+pub record AreMade (left right : List Item) (advances : Advances) : Type 0 where
+  pub lefts : HasParts left advances.left_parts
+  pub rights : HasParts right advances.right_parts
+  pub at_most : (k m : ℕ) → HoldAtMost k left → HoldAtMost m right
+      → advances.made ≤ m * length left + k * length right
+
+-- those for some items and those for others
+abbrev pub both_made : Advances → Advances → Advances
+both_made one other = record {
+  made = one.made + other.made;
+  left_parts = one.left_parts + other.left_parts;
+  right_parts = one.right_parts + other.right_parts;
+}
+
+-- the rows of items, and the advances by which they were found
+pub record IsFound (left right : List Item) (found : FoundRows) : Type 0 where
+  pub rows : AreItemsRows left right found.rows.items
+  pub advances : AreMade left right found.advances
+
+-- behind the old rows stand those of the items
+pub record AddsItemsRows (left right : List Item) (old new : List JoinRow) : Type 0 where
+  pub added : List JoinRow
+  pub split : new ≡ old ++ added
+  pub rows : AreItemsRows left right added
+
+-- no item of either list is of the class of a right or left one of the others
+pub record MatchNothing (left right other_left other_right : List Item) : Type 0 where
+  pub forth : (x y : Item) → Contains left x → Contains other_right y → x.class ≢ y.class
+  pub back : (x y : Item) → Contains other_left x → Contains right y → x.class ≢ y.class
