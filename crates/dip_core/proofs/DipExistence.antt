@@ -210,19 +210,13 @@ IsInstant-permutation xs ys k t moved is = record {
   first = λ s less same. is.first s less (crowd-permutation xs ys moved s ∙ same);
 }
 
--- what is divided into these parts are the same items in another order
-divided_alike : (xs ys : List Item) (parts : List (List Item)) → IsDivision xs parts → IsDivision ys parts
-    → IsPermutation xs ys
-divided_alike xs ys parts division other =
-    IsPermutation-trans xs (all_of parts) ys division.together (IsPermutation-sym ys (all_of parts) other.together)
-
 some_instant-of_many : (items : List Item) (parts : List (List Item)) (t : ℤ) → IsDivision items parts
     → 0 < length parts
     → IsInstant items (length parts) t → IsInstantOf parts (Some t)
 some_instant-of_many items parts t division some is = record {
   none = (λ never. absurd (true≢false never), λ e. let size : length parts ≡ 0 = ap length e in absurd (omega arith));
-  crowded =
-      λ xs other. IsInstant-permutation xs items (length parts) t (divided_alike xs items parts other division) is;
+  crowded = IsInstant-permutation (all_of parts) items (length parts) t
+      (IsPermutation-sym items (all_of parts) division.together) is;
 }
 
 -- a least division has as many parts as the placed one, whose instant is known
@@ -251,7 +245,7 @@ some_instant items parts divided =
           (Some t, some_instant-of_many items parts t divided.division some (subst (λ k. IsInstant items k t) same is))
       | inr none ↦ (
         None,
-        record { none = (λ h. nil_from_length parts (omega arith), λ e. refl); crowded = λ xs other. tt },
+        record { none = (λ h. nil_from_length parts (omega arith), λ e. refl); crowded = tt },
       )
     ]
 

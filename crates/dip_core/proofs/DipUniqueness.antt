@@ -365,10 +365,9 @@ one_instant items k one other is is' =
     (λ less. absurd (is'.first one less is.crowded))
     (λ most. by_lt_z other one (λ less. absurd (is.first other less is'.crowded)) (λ least. omega (arith, ints)))
 
-pub one_instant_of : (items : List Item) (parts : List (List Item)) (one other : Option ℤ) → IsDivision items parts
-    → IsInstantOf parts one → IsInstantOf parts other → one ≡ other
-one_instant_of items parts None None division p q = refl
-one_instant_of items parts None (Some t) division p q = absurd (true≢false (q.none.1 (p.none.0 refl)))
-one_instant_of items parts (Some s) None division p q = absurd (true≢false (p.none.1 (q.none.0 refl)))
-one_instant_of items parts (Some s) (Some t) division p q =
-    ap Some (one_instant items (length parts) s t (p.crowded items division) (q.crowded items division))
+pub one_instant_of : (parts : List (List Item)) (one other : Option ℤ) → IsInstantOf parts one
+    → IsInstantOf parts other → one ≡ other
+one_instant_of parts None None p q = refl
+one_instant_of parts None (Some t) p q = absurd (true≢false (q.none.1 (p.none.0 refl)))
+one_instant_of parts (Some s) None p q = absurd (true≢false (p.none.1 (q.none.0 refl)))
+one_instant_of parts (Some s) (Some t) p q = ap Some (one_instant (all_of parts) (length parts) s t p.crowded q.crowded)

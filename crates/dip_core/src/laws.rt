@@ -31,10 +31,10 @@ pub fn items_have_one_dip()
         → IsDip items one → IsDip items other → one ≡ other }
 {}
 
-/// A least division has exactly one instant.
+/// A least division has an instant, and no division has two.
 pub fn division_has_one_instant()
     ensures exists { (items : List Item) (parts : List (List Item)) → IsLeastDivision items parts
         → (instant : Option ℤ) × IsInstantOf parts instant }
-    ensures one { (items : List Item) (parts : List (List Item)) (one other : Option ℤ)
-        → IsDivision items parts → IsInstantOf parts one → IsInstantOf parts other → one ≡ other }
+    ensures one { (parts : List (List Item)) (one other : Option ℤ) → IsInstantOf parts one
+        → IsInstantOf parts other → one ≡ other }
 {}

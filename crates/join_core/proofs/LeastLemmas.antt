@@ -10,7 +10,7 @@ use Rattle.dip_core.specs.declared.item.Item.{Item}
 use Rattle.dip_core.specs.Item.{crowd, IsApart}
 use Rattle.dip_core.specs.Division.{all_of, IsDivision, IsLeast, IsInstantOf}
 use Rattle.dip_core.proofs.AddedLemmas.{length-le-all_of}
-use Rattle.dip_core.proofs.CrowdLemmas.{IsLeast-from_crowd}
+use Rattle.dip_core.proofs.CrowdLemmas.{IsLeast-from_crowd, crowd-permutation}
 use Rattle.match_core.specs.Items.{unclassed}
 
 -- all items of the parts, without their classes
@@ -60,7 +60,8 @@ crowded items parts None d is =
     let m : length (all_of parts) ≡ 0 = ap (λ l. length (all_of l)) e in
     let nothing : items ≡ [] = nil_from_length items (omega (arith, n, m)) in
     (pos 0, ap (λ l. crowd l (pos 0)) nothing ∙ sym (ap length e))
-crowded items parts (Some t) d is = (t, (is.crowded items d).crowded)
+crowded items parts (Some t) d is =
+    (t, sym (crowd-permutation items (all_of parts) d.together t) ∙ is.crowded.crowded)
 
 -- a division with an instant is least without the classes
 pub IsLeast-unclassed : (items : List Item) (parts : List (List Item)) (instant : Option ℤ) → IsDivision items parts

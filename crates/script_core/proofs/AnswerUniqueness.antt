@@ -1,6 +1,6 @@
 -- A command has one answer.
 use Rattle.std.proofs.Common.{◌≡◌, ℕ, ◌+◌, List, Option, Some, None, Result, Ok, Err, length, refl, sym, ap, ◌∙◌, subst}
-use Rattle.std.specs.Prelude.{⊤, nat_le, nat_lt, unwrap_or}
+use Rattle.std.specs.Prelude.{nat_le, nat_lt, unwrap_or}
 use Rattle.row_core.specs.Refusals.{map_err, refused_or}
 use Rattle.row_core.specs.Rows.{RowsRise}
 use Rattle.row_core.specs.declared.row.Row.{Row}
@@ -9,7 +9,6 @@ use Rattle.book_core.specs.Versions.{AreBetween, AreFromTo}
 use Rattle.version_core.specs.declared.version.Version.{Version}
 use Rattle.book_core.proofs.VersionsUniqueness.{one_list}
 use Rattle.book_core.proofs.RiseLemmas.{RowsRise-rows_at}
-use Rattle.dip_core.specs.Division.{IsDivision}
 use Rattle.dip_core.specs.declared.item.Item.{Item}
 use Rattle.dip_core.proofs.DipUniqueness.{one_dip, one_instant_of}
 use Rattle.cert_core.specs.declared.verdict.Certificate.{Certificate}
@@ -172,90 +171,24 @@ one_given before number Log one other f g p q = (p.0 ∙ sym q.0, p.1 ∙ sym q.
 
 -- ---- their records
 
--- what an answer tells as a division divides some items
-abbrev Divides : Answer → Type 0
-Divides (answer.Division rows parts) = (items : List Item) × IsDivision items parts
-Divides given = ⊤
-
-one_print : (given : Answer) (one other : List Record) → Divides given → IsPrintedAs given one → IsPrintedAs given other
+one_print : (given : Answer) (one other : List Record) → IsPrintedAs given one → IsPrintedAs given other
     → one ≡ other
-one_print (answer.Refused fault) one other divides p q = p ∙ sym q
-one_print (answer.Committed commit) one other divides p q = p ∙ sym q
-one_print (answer.Rows rows) one other divides p q = p ∙ sym q
-one_print (answer.Versions versions) one other divides p q = p ∙ sym q
-one_print (answer.Division rows parts) one other (items, division) (s, at, is) (t, at', is') =
-    is ∙ (ap (division_records rows parts) (one_instant_of items parts s t division at at') ∙ sym is')
-one_print (answer.Join joined) one other divides p q = p ∙ sym q
-one_print (answer.Anti unmatched) one other divides p q = p ∙ sym q
-one_print (answer.Agg rows) one other divides p q = p ∙ sym q
-one_print (answer.Verdict verdict) one other divides p q = p ∙ sym q
-one_print (answer.Log entries) one other divides p q = p ∙ sym q
-
--- an answer that is one which tells no division
-plain : (given told : Answer) → Divides told → given ≡ told → Divides given
-plain given told divides e = subst Divides (sym e) divides
-
-change-divides : (before : History) (made : Result History Fault) (given : Answer) (after : History)
-    → AnswersChange before made given after → Divides given
-change-divides before (Ok next) given after p = plain given (answer.Committed (length next)) tt p.0
-change-divides before (Err wrong) given after p = plain given (answer.Refused wrong) tt p.0
-
-query-divides : {S : Type 0} (before : History) (read : Result S Fault) (Is : S → Answer → Type 0)
-    → ((s : S) (given : Answer) → Is s given → Divides given) → (given : Answer) (after : History)
-    → AnswersQuery before read Is given after → Divides given
-query-divides before (Ok s) Is each given after p = each s given p.0
-query-divides before (Err wrong) Is each given after p = plain given (answer.Refused wrong) tt p.0
-
-divides : (before : History) (number : ℕ) (meaning : Meaning) (given : Answer) (after : History)
-    → IsAnswerTo before number meaning given after → Divides given
-divides before number (Refuse wrong) given after p = plain given (answer.Refused wrong) tt p.0
-divides before number (Make name columns) given after p =
-    change-divides before (make_in number before name columns) given after p
-divides before number (Load name body) given after p =
-    change-divides before (load_in number before name body) given after p
-divides before number (Update name portion sets conds) given after p =
-    change-divides before (update_in number before name portion sets conds) given after p
-divides before number (Delete name portion conds) given after p =
-    change-divides before (delete_in number before name portion conds) given after p
-divides before number (Rows name asof) given after p =
-    query-divides before (rows_told number before asof name) (λ rows given. given ≡ answer.Rows rows)
-    (λ rows given. plain given (answer.Rows rows) tt) given after p
-divides before number (At name point asof) given after p =
-    query-divides before (rows_told number before asof name) (λ rows given. given ≡ answer.Rows (rows_on point rows))
-    (λ rows given. plain given (answer.Rows (rows_on point rows)) tt) given after p
-divides before number (Between name first last) given after p =
-    query-divides before (versions_told number before (nat_lt last first) name)
-    (λ _. IsVersions (AreBetween before (length before) first last name))
-    (λ _ given is. plain given (answer.Versions is.versions) tt is.is) given after p
-divides before number (FromTo name first end) given after p =
-    query-divides before (versions_told number before (nat_le end first) name)
-    (λ _. IsVersions (AreFromTo before (length before) first end name))
-    (λ _ given is. plain given (answer.Versions is.versions) tt is.is) given after p
-divides before number (Dip name asof) given after p =
-    query-divides before (rows_told number before asof name) (λ rows. IsDipOf (items_of rows))
-    (λ rows given is. plain given (answer.Division (length (items_of rows)) is.parts)
-    (items_of rows, is.dip.divided.division) is.is) given after p
-divides before number (Join tables asof) given after p =
-    query-divides before (sides_told number before asof tables) (λ sides. IsJoinOf sides.0 sides.1 tables.on)
-    (λ sides given is. plain given
-    (answer.Join (record { left = sides.0.1; right = sides.1.1; rows = is.rows })) tt is.is) given after p
-divides before number (Anti tables asof) given after p =
-    query-divides before (sides_told number before asof tables) (λ sides. IsAntiOf sides.0 sides.1 tables.on)
-    (λ sides given is. plain given (answer.Anti (record { left = sides.0.1; rows = is.rows })) tt is.is) given after p
-divides before number (Agg asked asof) given after p =
-    query-divides before (aggregated_told number before asof asked) (λ table. IsAggOf table asked)
-    (λ table given is. plain given (answer.Agg is.rows) tt is.is) given after p
-divides before number (Check name parts instant asof body) given after p =
-    query-divides before (both_ok (rows_told number before asof name) (claim_of (number + 1) body))
-    (λ read. IsVerdictOn (items_of read.0) read.1 (record { parts = parts; instant = instant }))
-    (λ read given is. plain given (answer.Verdict is.verdict) tt is.is) given after p
-divides before number Log given after p = plain given (answer.Log _) tt p.0
+one_print (answer.Refused fault) one other p q = p ∙ sym q
+one_print (answer.Committed commit) one other p q = p ∙ sym q
+one_print (answer.Rows rows) one other p q = p ∙ sym q
+one_print (answer.Versions versions) one other p q = p ∙ sym q
+one_print (answer.Division rows parts) one other (s, at, is) (t, at', is') =
+    is ∙ (ap (division_records rows parts) (one_instant_of parts s t at at') ∙ sym is')
+one_print (answer.Join joined) one other p q = p ∙ sym q
+one_print (answer.Anti unmatched) one other p q = p ∙ sym q
+one_print (answer.Agg rows) one other p q = p ∙ sym q
+one_print (answer.Verdict verdict) one other p q = p ∙ sym q
+one_print (answer.Log entries) one other p q = p ∙ sym q
 
 pub one_answer : (before : History) (number : ℕ) (meaning : Meaning) (a b : List Record) (f g : History)
     → AnswersOne before number meaning a f → AnswersOne before number meaning b g → (a ≡ b) × (f ≡ g)
 one_answer before number meaning a b f g (one, is, printed) (other, is', printed') =
     let same = one_given before number meaning one other f g is is' in (
-      one_print other a b (divides before number meaning other g is')
-          (subst (λ given. IsPrintedAs given a) same.0 printed) printed',
+      one_print other a b (subst (λ given. IsPrintedAs given a) same.0 printed) printed',
       same.1,
     )
