@@ -9,10 +9,10 @@ use Rattle.dip_core.specs.declared.item.Item.{Item}
 use Rattle.dip_core.specs.Item.{IsChain}
 use Rattle.list_core.specs.Wanted.{IsListOf, AddsAll}
 use Rattle.list_core.proofs.RisingLemmas.{Contains-head, Contains-cons, Contains-cons_cases, Contains-none}
-use Rattle.list_core.proofs.WantedLemmas.{IsListOf-append, IsListOf-none}
+use Rattle.list_core.proofs.WantedLemmas.{IsListOf-append, IsListOf-none, IsListOf-same}
 use Rattle.merge_core.specs.declared.gap.Gap.{Gap}
 use Rattle.merge_core.specs.Gaps.{IsUncovered, IsMaximal, IsGap, GapStartsBefore, ListsGaps}
-use Rattle.merge_core.specs.Sweep.{IsGapOf, IsBetween, IsGapFrom, ListsGapsFrom, Covers, HasGapBefore, PassesWithin, Extends}
+use Rattle.merge_core.specs.Sweep.{IsGapOf, IsBetween, IsGapFrom, ListsGapsFrom, Covers, HasGapBefore, PassesUpto, Extends}
 use Rattle.merge_core.proofs.SharedLemmas.{first_held}
 use Rattle.merge_core.proofs.PartLemmas.{chain_head}
 use Rattle.merge_core.proofs.SweepLemmas.{clear, clear_gap, gap_of_whole, gaps_of_whole, IsMaximal-same}
@@ -22,10 +22,10 @@ pub record IsSwept (x : Item) (Q q : List Item) (at : ℤ) (old now : List Gap) 
   pub added : List Gap
   pub split : now ≡ old ++ added
   pub goes_on : (rest : List Gap) → ListsGapsFrom q x at rest → ListsGapsFrom Q x x.period.from (added ++ rest)
-  pub passes : PassesWithin x Q q n
+  pub passes : PassesUpto x.period.to Q q n
   pub within : (g : Gap) → IsGapFrom q x at g → IsGapFrom Q x x.period.from g
 
-pub nothing_passed : (x : Item) (q : List Item) → PassesWithin x q q 0
+pub nothing_passed : (x : Item) (q : List Item) → PassesUpto x.period.to q q 0
 nothing_passed x q =
     record { passed = []; split = refl; over = λ y h. absurd (Contains-none y h); count = omega arith }
 
@@ -190,8 +190,8 @@ maximal_within q x p m =
     (first.0, omega (arith, ints))
 
 -- items that end before z starts cover nothing of it
-module _ (x z : Item) (q q' : List Item) (n : ℕ) (w : PassesWithin x q q' n)
-    (after : x.period.to ≤ℤ z.period.from) where
+module _ (end : ℤ) (z : Item) (q q' : List Item) (n : ℕ) (w : PassesUpto end q q' n)
+    (after : end ≤ℤ z.period.from) where
   uncovered_to : (t : ℤ) → IsUncovered q z t → IsUncovered q' z t
   uncovered_to t f = record {
     held = f.held;
@@ -209,7 +209,7 @@ module _ (x z : Item) (q q' : List Item) (n : ℕ) (w : PassesWithin x q q' n)
     uncovered = λ c.
         elim (Contains-append_cases w.passed q' c.by (subst (λ v. Contains v c.by) w.split c.by_in)) [
           | inl k ↦ (
-              let over : c.by.period.to ≤ℤ x.period.to = w.over c.by k in
+              let over : c.by.period.to ≤ℤ end = w.over c.by k in
               let held = c.holds in
               let in_z = f.held in omega (arith, ints))
           | inr k ↦ f.uncovered (record { by = c.by; by_in = k; matches = c.matches; holds = c.holds })
@@ -222,17 +222,55 @@ module _ (x z : Item) (q q' : List Item) (n : ℕ) (w : PassesWithin x q q' n)
   not_passed : (p : Period) → IsMaximal (IsUncovered q' z) p → IsMaximal (IsUncovered q z) p
   not_passed p m = IsMaximal-same (IsUncovered q' z) (IsUncovered q z) p uncovered_back uncovered_to m
 
+-- a gap of x against the items that have not ended by its start is one against all
+pub unended_gap : (x : Item) (q q' : List Item) (n : ℕ) → PassesUpto x.period.from q q' n → (g : Gap)
+    → IsGapOf q' x g → IsGapOf q x g
+unended_gap x q q' n w g i = record {
+  left = i.left;
+  maximal = not_passed x.period.from x q q' n w (omega (arith, ints)) g.period i.maximal;
+}
+
+-- and there are no others
+pub unended_gaps : (x : Item) (q q' : List Item) (n : ℕ) (old now : List Gap) → PassesUpto x.period.from q q' n
+    → AddsAll GapStartsBefore (IsGapOf q' x) old now → AddsAll GapStartsBefore (IsGapOf q x) old now
+unended_gaps x q q' n old now w a = record {
+  added = a.added;
+  split = a.split;
+  all = IsListOf-same GapStartsBefore (IsGapOf q' x) (IsGapOf q x) a.added (unended_gap x q q' n w)
+      (λ g i. record {
+        left = i.left;
+        maximal = passed_away x.period.from x q q' n w (omega (arith, ints)) g.period i.maximal;
+      })
+      a.all;
+}
+
+-- those that have ended by the start of x are passed, and then more
+pub passed_both : (x : Item) (q mid q' : List Item) (n m : ℕ) → PassesUpto x.period.from q mid n
+    → PassesUpto x.period.to mid q' m → PassesUpto x.period.to q q' (n + m)
+passed_both x q mid q' n m one other = record {
+  passed = one.passed ++ other.passed;
+  split = one.split ∙ ap (λ z. one.passed ++ z) other.split ∙ sym (append_assoc one.passed other.passed q');
+  over = λ y h. elim (Contains-append_cases one.passed other.passed y h) [
+    | inl k ↦ (
+        let ended : y.period.to ≤ℤ x.period.from = one.over y k in
+        let proper : x.period.from <ℤ x.period.to = x.period.ordered in
+        omega (arith, ints))
+    | inr k ↦ other.over y k
+  ];
+  count = omega (arith, one.count, other.count);
+}
+
 -- a gap of a later item against what is left is one
-later_gap : (x : Item) (p q q' : List Item) (n : ℕ) → IsChain (x ∷ p) → PassesWithin x q q' n → (g : Gap)
+later_gap : (x : Item) (p q q' : List Item) (n : ℕ) → IsChain (x ∷ p) → PassesUpto x.period.to q q' n → (g : Gap)
     → IsGap p q' g → IsGap (x ∷ p) q g
 later_gap x p q q' n part w g i =
     record {
       left_in = Contains-cons x p g.left i.left_in;
-      maximal = not_passed x g.left q q' n w (chain_head x p part g.left i.left_in) g.period i.maximal;
+      maximal = not_passed x.period.to g.left q q' n w (chain_head x p part g.left i.left_in) g.period i.maximal;
     }
 
 -- the gaps of x, and then those of the later items
-pub gaps_step : (x : Item) (p q q' : List Item) (n : ℕ) → IsChain (x ∷ p) → PassesWithin x q q' n
+pub gaps_step : (x : Item) (p q q' : List Item) (n : ℕ) → IsChain (x ∷ p) → PassesUpto x.period.to q q' n
     → (now rest : List Gap) → IsListOf GapStartsBefore (IsGapOf q x) now → ListsGaps p q' rest
     → ListsGaps (x ∷ p) q (now ++ rest)
 gaps_step x p q q' n part w now rest a b =
@@ -256,7 +294,7 @@ gaps_step x p q q' n part w now rest a b =
       })
       | inr k ↦ inr (record {
         left_in = k;
-        maximal = passed_away x g.left q q' n w (chain_head x p part g.left k) g.period i.maximal;
+        maximal = passed_away x.period.to g.left q q' n w (chain_head x p part g.left k) g.period i.maximal;
       })
     ])
 
@@ -270,7 +308,7 @@ pub record IsGapped (P Q p q : List Item) (old now : List Gap) (n : ℕ) : Type 
   pub within : (g : Gap) → IsGap p q g → IsGap P Q g
 
 gapped_past : (P Q : List Item) (x : Item) (p q q' : List Item) (old mid now : List Gap) (n m : ℕ)
-    → IsChain (x ∷ p) → AddsAll GapStartsBefore (IsGapOf q x) mid now → PassesWithin x q q' m
+    → IsChain (x ∷ p) → AddsAll GapStartsBefore (IsGapOf q x) mid now → PassesUpto x.period.to q q' m
     → IsGapped P Q (x ∷ p) q old mid n → IsGapped P Q p q' old now (n + m + 1)
 gapped_past P Q x p q q' old mid now n m part a w g =
     record {
@@ -284,7 +322,7 @@ gapped_past P Q x p q q' old mid now n m part a w g =
     }
 
 pub gapped_more : (P Q : List Item) (x : Item) (p q q' : List Item) (old mid now : List Gap) (n m : ℕ)
-    → p ≡ x ∷ drop 1 p → IsChain p → AddsAll GapStartsBefore (IsGapOf q x) mid now → PassesWithin x q q' m
+    → p ≡ x ∷ drop 1 p → IsChain p → AddsAll GapStartsBefore (IsGapOf q x) mid now → PassesUpto x.period.to q q' m
     → IsGapped P Q p q old mid n → IsGapped P Q (drop 1 p) q' old now (n + m + 1)
 gapped_more P Q x p q q' old mid now n m e part a w g =
     gapped_past P Q x (drop 1 p) q q' old mid now n m (subst IsChain e part) a w

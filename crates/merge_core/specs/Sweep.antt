@@ -1,5 +1,5 @@
 -- What is known of the gaps of one left item while the right items pass by.
-use Rattle.std.specs.Prelude.{◌≡◌, ◌+◌, ℕ, List, ◌∷◌, ◌++◌, length, ℤ, ◌≤ℤ◌, ◌<ℤ◌, Contains}
+use Rattle.std.specs.Prelude.{◌≡◌, ◌+◌, ℕ, List, ◌∷◌, ◌++◌, length, ℤ, ◌≤ℤ◌, ◌<ℤ◌, Bool, not, int_lt, Contains}
 use Rattle.dip_core.specs.declared.item.Item.{Item}
 use Rattle.dip_core.specs.Item.{IsChain}
 use Rattle.list_core.specs.Wanted.{IsListOf}
@@ -46,11 +46,15 @@ pub record HasGapBefore (x y : Item) (at : ℤ) : Type 0 where
   pub gap : Gap
   pub is : (later : List Item) → IsChain (y ∷ later) → IsGapFrom (y ∷ later) x at gap
 
--- n items were passed, none of which ends later than x
-pub record PassesWithin (x : Item) (old new : List Item) (n : ℕ) : Type 0 where
+-- whether an item ends at or before an instant
+abbrev pub has_ended : ℤ → Item → Bool
+has_ended end x = not (int_lt end x.period.to)
+
+-- n items were passed, none of which ends later than at an instant
+pub record PassesUpto (end : ℤ) (old new : List Item) (n : ℕ) : Type 0 where
   pub passed : List Item
   pub split : old ≡ passed ++ new
-  pub over : (y : Item) → Contains passed y → y.period.to ≤ℤ x.period.to
+  pub over : (y : Item) → Contains passed y → y.period.to ≤ℤ end
   pub count : n + length new ≡ length old
 
 -- the new list begins with the old one

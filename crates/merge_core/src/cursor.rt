@@ -1,9 +1,12 @@
 //! Readers of parts that only go forward.
 
-ghost use Rattle.std.specs.Prelude.{◌≡◌, ◌<◌, ◌^◌, [], ◌∷◌, length, drop, MatchOption, IsTrue, ◌↔◌};
+ghost use Rattle.std.specs.Prelude.{◌≡◌, ◌<◌, ◌≤◌, ◌≤ℤ◌, ◌^◌, [], ◌∷◌, length, drop, take, All, MatchOption, IsTrue, ◌↔◌};
 ghost use Rattle.dip_core.specs.Item.{IsChain};
+ghost use Rattle.merge_core.specs.Sweep.{PassesUpto};
 
+use crate::ends::has_ended;
 use dip_core::{Item, Part};
+use period_core::Point;
 use std::marker::Model;
 
 /// Gives each item of a part once, in their order, and never goes back: it can't be copied or cloned.
@@ -65,4 +68,28 @@ impl<'a> Cursor<'a> {
             self.rest = &self.rest[1..];
         }
     }
+    /// Passes the items that end at or before the start of `x`, and answers how many: so few looks are taken that a
+    /// few items go through a long part in no time.
+    pub(crate) fn pass_ended(&mut self, x: &Item) -> u64
+        ensures { PassesUpto x.now.period.from self.old self.new result }
+    {
+        let ended = count_ended(self.rest, x.period.from);
+        self.rest = &self.rest[ended..];
+        ended as u64
+    }
+}
+
+/// How many items of a part end at or before the point: it is looked for among those up to one that ends later, which
+/// is looked for twice as far on each time.
+fn count_ended(items: &[Item], point: Point) -> usize
+    requires { IsChain items.now }
+    ensures inside { result ≤ length items.now }
+    ensures ended { All (λ x. x.period.to ≤ℤ point) (take result items.now) }
+{
+    let mut reach = 1;
+    while reach < items.len() && has_ended(&items[reach], point) {
+        reach *= 2;
+    }
+    let near = &items[..reach.min(items.len())];
+    near.partition_point(|item| has_ended(item, point))
 }

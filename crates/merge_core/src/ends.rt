@@ -3,7 +3,9 @@
 ghost use Rattle.std.specs.Prelude.{◌≡◌, ◌≤ℤ◌, ◌<ℤ◌, MatchBool};
 ghost use Rattle.std.specs.Int.{int_max, int_min};
 ghost use Rattle.period_core.specs.Period.{holds_at};
+ghost use Rattle.merge_core.specs.Sweep.{has_ended};
 
+use dip_core::Item;
 use period_core::{Period, Point};
 
 /// The later of two points.
@@ -53,4 +55,11 @@ pub(crate) fn holds(period: Period, point: Point) -> bool
     ensures { result ≡ holds_at point period }
 {
     period.holds(point)
+}
+
+/// Whether the item ends at or before the point.
+pub(crate) fn has_ended(item: &Item, point: Point) -> bool
+    ensures { result ≡ has_ended point item.now }
+{
+    item.period.to <= point
 }

@@ -4,7 +4,7 @@ ghost use Rattle.std.specs.Prelude.{◌≡◌, ℤ, ◌<ℤ◌, IfOk, IsOk, OnOk
 ghost use Rattle.list_core.specs.Wanted.{AddsAll};
 ghost use Rattle.merge_core.specs.declared.gap.Gap.{Gap};
 ghost use Rattle.merge_core.specs.Gaps.{IsGap, GapStartsBefore, AreGapAdvances};
-ghost use Rattle.merge_core.specs.Sweep.{IsGapOf, IsBetween, Covers, HasGapBefore, PassesWithin, Extends};
+ghost use Rattle.merge_core.specs.Sweep.{IsGapOf, IsBetween, Covers, HasGapBefore, PassesUpto, Extends};
 
 use crate::ends::{ends_before, follows, later};
 use crate::{Cursor, Gap};
@@ -41,7 +41,7 @@ fn cover(x: &Item, y: &Item, at: Point, gaps: &mut Vec<Gap>) -> Result<Point, No
 /// than `x` stays, for the next one.
 fn gaps_of(x: &Item, right: &mut Cursor, gaps: &mut Vec<Gap>) -> Result<u64, NoMemory>
     ensures gaps { OnOk result (AddsAll GapStartsBefore (IsGapOf right.old x.now) gaps.old.items gaps.new.items) }
-    ensures passes { IfOk result (PassesWithin x.now right.old right.new) }
+    ensures passes { IfOk result (PassesUpto x.now.period.to right.old right.new) }
     ensures keeps { Extends gaps.old.items gaps.new.items }
     ensures gap { OnErr result ((gap : Gap) × IsGapOf right.old x.now gap) }
 {
@@ -80,11 +80,12 @@ pub fn merge_gaps(mut left: Cursor, mut right: Cursor, gaps: &mut Vec<Gap>) -> R
     let most = left.len() as u64 + right.len() as u64;
     let mut advances = 0u64;
     while let Some(x) = left.peek() {
+        let ended = right.pass_ended(&x);
         match gaps_of(&x, &mut right, gaps) {
             Ok(passed) => {
                 left.advance();
-                prove!(advances + passed < most);
-                advances += passed + 1;
+                prove!(advances + ended + passed < most);
+                advances += ended + passed + 1;
             }
             Err(refused) => {
                 gaps.truncate(before);
