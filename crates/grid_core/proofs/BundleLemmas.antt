@@ -1,15 +1,15 @@
 -- Items by class, parted behind a class.
-use Rattle.std.proofs.Common.{◌≡◌, ℕ, ◌+◌, ◌<◌, ◌≤◌, List, [], ◌∷◌, ◌++◌, length, take, drop, get_or, true, false, leb, leb-true, sym, subst, ap, None, ◌∙◌, refl, arith, length-append}
+use Rattle.std.proofs.Common.{◌≡◌, ℕ, ◌+◌, ◌-◌, ◌<◌, ◌≤◌, All, List, [], ◌∷◌, ◌++◌, length, take, drop, get_or, true, false, leb, leb-true, ltb, sym, subst, ap, None, Some, ◌∙◌, refl, arith, length-append}
 use Rattle.std.specs.Prelude.{slice_get}
 use Rattle.std.specs.List.Sorted.{IsPartitionPoint}
-use Rattle.std.proofs.lemmas.Bool.{leb-false}
-use Rattle.std.proofs.lemmas.List.{get_or-take, get_or-drop, length-drop, length-take, take-append-drop}
+use Rattle.std.proofs.lemmas.Bool.{leb-false, ltb-false, ltb-true}
+use Rattle.std.proofs.lemmas.List.{get_or-take, get_or-drop, length-drop, length-take, take_all, take-append-drop}
 use Rattle.std.proofs.lemmas.List.Sorted.{IsNonDecreasingBy-drop, IsNonDecreasingBy-take}
 use Rattle.std.proofs.Math.Seq.{drop-append_seam, take-append_seam}
 use Rattle.dip_core.specs.declared.item.Item.{Item}
 use Rattle.dip_core.specs.Item.{HasDistinctIds}
 use Rattle.dip_core.proofs.PartedLemmas.{distinct-earlier, distinct-later}
-use Rattle.grid_core.specs.Bundles.{ArePartedBehind, ClassesRise}
+use Rattle.grid_core.specs.Bundles.{AreFromClass, ArePartedBehind, ClassesRise}
 
 -- those before and behind the place from which a test for higher classes fails
 pub parted-from_point : (class : ℕ) (items low high : List Item) (n : ℕ) → n ≤ length items
@@ -27,10 +27,50 @@ parted-from_point class items low high n inside point front back = rw (front, ba
       (leb-false (get_or items (n + k) d).class class (point.1 (n + k) d (omega arith) within));
 })
 
+-- those from the place on from which a test for lower classes fails
+pub from-point : (class : ℕ) (items : List Item) (n : ℕ) → n ≤ length items
+    → IsPartitionPoint (λ y. ltb y.class class ≡ true) (λ y. ltb y.class class ≡ false) items n
+    → AreFromClass class items (take (length items - n) (drop n items))
+from-point class items n inside point =
+    let len : length (drop n items) ≡ length items - n = length-drop n items in
+    rw (take_all (length items - n) (drop n items) (omega (arith, len))) (record {
+      low = take n items;
+      whole = sym (take-append-drop n items);
+      below = λ k d h.
+          let within : k < n = omega (arith, h, inside, length-take n items) in
+          subst (λ (x : Item). x.class < class) (sym (get_or-take n items k d within))
+          (ltb-true (get_or items k d).class class (point.0 k d (omega arith) within));
+      from = λ k d h.
+          let within : n + k < length items = omega (arith, h, inside, length-drop n items) in
+          subst (λ (x : Item). class ≤ x.class) (sym (get_or-drop n items k d))
+          (ltb-false (get_or items (n + k) d).class class (point.1 (n + k) d (omega arith) within));
+    })
+
 -- where there is no first item there is none
 pub none_first : (items : List Item) → None ≡ slice_get items 0 → items ≡ []
 none_first [] e = refl
 none_first (y ∷ items) e = absurd cc
+
+-- no class is below the first item's
+pub first_lowest : (items : List Item) (first : Item) → Some first ≡ slice_get items 0 → ClassesRise items
+    → All (λ (x : Item). first.class ≤ x.class) items
+first_lowest [] first e rise = absurd cc
+first_lowest (y ∷ items) first e rise = λ k d h.
+    (let same : first ≡ y = cc in
+    subst (λ (x : Item). x.class ≤ (get_or (y ∷ items) k d).class) (sym same) (rise 0 k d (omega arith) h))
+
+module _ (class : ℕ) (items high : List Item) (are : AreFromClass class items high) where
+  -- those of higher classes are no more than all
+  pub from-few : length high ≤ length items
+  from-few =
+      let whole : length items ≡ length (are.low ++ high) = ap length are.whole in
+      omega (arith, whole, length-append are.low high)
+
+  -- and their classes still rise
+  pub from-rise : ClassesRise items → ClassesRise high
+  from-rise rise =
+      subst ClassesRise (ap (drop (length are.low)) are.whole ∙ drop-append_seam are.low high)
+      (IsNonDecreasingBy-drop (λ (x : Item). x.class) (length are.low) items rise)
 
 module _ (class : ℕ) (items low high : List Item) (parted : ArePartedBehind class items low high) where
   -- ids that are distinct in all are so in each

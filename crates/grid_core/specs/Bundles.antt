@@ -13,6 +13,13 @@ pub record ArePartedBehind (class : ℕ) (items low high : List Item) : Type 0 w
   pub upto : All (λ (x : Item). x.class ≤ class) low
   pub above : All (λ (x : Item). class < x.class) high
 
+-- the items of that class and of higher ones, which stand behind those of lower ones
+pub record AreFromClass (class : ℕ) (items high : List Item) : Type 0 where
+  pub low : List Item
+  pub whole : items ≡ low ++ high
+  pub below : All (λ (x : Item). x.class < class) low
+  pub from : All (λ (x : Item). class ≤ x.class) high
+
 -- how many items of a side are tried, to tell what share of them holds at once
 abbrev pub sample_len : ℕ
 sample_len = 512

@@ -4,7 +4,7 @@
 ghost use Rattle.std.specs.Prelude.{◌<◌, ◌≤◌, length, IfOk, IsSome, IsPermutation};
 ghost use Rattle.dip_core.specs.Item.{item_limit};
 ghost use Rattle.dip_core.specs.Division.{IsLeastDivision};
-ghost use Rattle.grid_core.specs.Bundles.{ArePartedBehind, ClassesRise, sample_len};
+ghost use Rattle.grid_core.specs.Bundles.{AreFromClass, ArePartedBehind, ClassesRise, sample_len};
 
 use dip_core::{Division, Item, create_dip};
 use period_core::{NoMemory, Point};
@@ -88,8 +88,8 @@ pub fn bundle_items(left: &[Item], right: &[Item]) -> usize
     enough.clamp(BUNDLE_LEAST, BUNDLE_MOST) as usize
 }
 
-/// The last class of the bundle that begins with that item of either side: the first by which one of the sides has
-/// enough, but none before the item's own.
+/// The last class of the bundle that begins with that item of either side: a bundle of several classes has no more of
+/// a side's items than are enough, so a class of many items is a bundle of its own.
 pub fn last_class(first: &Item, lefts: &[Item], rights: &[Item], enough: usize) -> u64
     ensures { first.now.class ≤ result }
 {
@@ -97,10 +97,11 @@ pub fn last_class(first: &Item, lefts: &[Item], rights: &[Item], enough: usize) 
     class.max(first.class)
 }
 
-// The class by which there are enough items for a bundle; where there aren't, the greatest that can be.
+// The class up to which there are no more items than are enough; where there are none more at all, the greatest that
+// can be.
 fn class_of_enough(items: &[Item], enough: usize) -> u64 {
     match items.get(enough) {
-        Some(item) => item.class,
+        Some(item) => item.class.saturating_sub(1),
         None => u64::MAX,
     }
 }
@@ -112,6 +113,15 @@ pub fn parted_behind(class: u64, items: &[Item]) -> (&[Item], &[Item])
 {
     let low = items.partition_point(|item| item.class <= class);
     items.split_at(low)
+}
+
+/// The items of that class and of higher ones.
+pub fn items_from(class: u64, items: &[Item]) -> &[Item]
+    requires { ClassesRise items.now }
+    ensures { AreFromClass class items.now result.now }
+{
+    let lower = items.partition_point(|item| item.class < class);
+    &items[lower..]
 }
 
 /// The class behind which items are parted so that half of the workers take each half: about the middle one of the
