@@ -1,17 +1,17 @@
 -- The rows of all items, from those of the items of some classes and of all higher ones.
-use Rattle.std.proofs.Common.{◌≡◌, ◌≢◌, ◌⊎◌, ℕ, ◌<◌, ◌≤◌, ℤ, List, [], ◌++◌, length, get_or, sym, subst, ap, ◌∙◌, refl, inl, inr, arith, append-nil}
-use Rattle.std.specs.Prelude.{Contains, AllPairs}
+use Rattle.std.proofs.Common.{◌≡◌, ◌≢◌, ◌⊎◌, ℕ, ◌<◌, ◌≤◌, ℤ, All, Some, List, [], ◌++◌, length, get_or, sym, subst, ap, ◌∙◌, refl, inl, inr, arith, append-nil}
+use Rattle.std.specs.Prelude.{Contains, AllPairs, slice_get}
 use Rattle.std.proofs.lemmas.List.{append_assoc}
 use Rattle.std.proofs.lemmas.List.Elements.{All-contains, Contains-append_left, Contains-append_right, Contains-append_cases}
 use Rattle.dip_core.specs.declared.item.Item.{Item}
 use Rattle.dip_core.specs.Item.{HasDistinctIds}
-use Rattle.list_core.proofs.WantedLemmas.{IsListOf-append}
+use Rattle.list_core.proofs.WantedLemmas.{IsListOf-append, IsListOf-same}
 use Rattle.dip_core.proofs.PartedLemmas.{ids-apart}
 use Rattle.merge_core.specs.Gaps.{IsCovered, IsUncovered}
 use Rattle.merge_core.proofs.SweepLemmas.{IsMaximal-same}
 use Rattle.anti_core.specs.declared.rows.AntiRow.{AntiRow}
-use Rattle.grid_core.specs.Bundles.{ArePartedBehind, ClassesRise}
-use Rattle.grid_core.proofs.BundleLemmas.{high-distinct, high-few, high-rise}
+use Rattle.grid_core.specs.Bundles.{AreFromClass, ArePartedBehind, ClassesRise}
+use Rattle.grid_core.proofs.BundleLemmas.{first_lowest, from-few, from-rise, high-distinct, high-few, high-rise}
 use Rattle.anti_core.specs.ItemAnti.{IsItemsAntiRow, AreItemsRows}
 use Rattle.anti_core.specs.United.{StandsBefore}
 use Rattle.anti_core.proofs.ItemLemmas.{AreItemsRows-none, covered-there}
@@ -114,6 +114,34 @@ module _ (class : ℕ) (left low_left high_left right low_right high_right : Lis
       (subst (λ (ys : List Item). AreItemsRows (low_left ++ high_left) ys (rows ++ more)) (sym rights.whole)
       (rows-together rows more (subst HasDistinctIds lefts.whole distinct) one other))
 
+-- ---- without right items of lower classes
+
+module _ (class : ℕ) (left right high : List Item) (lefts : All (λ (x : Item). class ≤ x.class) left)
+    (rights : AreFromClass class right high) where
+  -- those of lower classes cover no left item
+  covered-from : (x : Item) → Contains left x → (t : ℤ) → IsCovered right x t → IsCovered high x t
+  covered-from x h t is =
+      elim (Contains-append_cases rights.low high is.by (subst (λ (l : List Item). Contains l is.by) rights.whole is.by_in)) [
+        | inl k ↦ (
+            let low : is.by.class < class =
+            All-contains (λ (y : Item). y.class < class) rights.low is.by rights.below k in
+            let own : class ≤ x.class = All-contains (λ (y : Item). class ≤ y.class) left x lefts h in
+            let same : is.by.class ≡ x.class = is.matches in
+            absurd (omega (arith, low, own, same)))
+        | inr k ↦ record { by = is.by; by_in = k; matches = is.matches; holds = is.holds }
+      ]
+
+  from-covered : (x : Item) (t : ℤ) → IsCovered high x t → IsCovered right x t
+  from-covered x t is =
+      covered-there high right (λ y h.
+      subst (λ (l : List Item). Contains l y) (sym rights.whole) (Contains-append_right rights.low high y h)) x t is
+
+  pub AreItemsRows-from : (rows : List AntiRow) → AreItemsRows left high rows → AreItemsRows left right rows
+  AreItemsRows-from rows all =
+      IsListOf-same (λ (a b : AntiRow). a ≢ b) (IsItemsAntiRow left high) (IsItemsAntiRow left right) rows
+      (λ row is. row-moved left left high right row is is.x_in (from-covered is.x) (covered-from is.x is.x_in))
+      (λ row is. row-moved left left right high row is is.x_in (covered-from is.x is.x_in) (from-covered is.x)) all
+
 -- ---- bundle by bundle
 
 -- what the rows so far still lack are those of what is left
@@ -137,6 +165,23 @@ bundling_start left right rows none left_rise right_rise ids =
       right_rise = right_rise;
       ids = ids;
     })
+
+-- the right items of lower classes than the next left one's are left out
+pub bundling_from : (left right lefts rights others : List Item) (first : Item) (rows : List AntiRow)
+    → Some first ≡ slice_get lefts 0 → AreFromClass first.class rights others
+    → IsBundling left right lefts rights rows → IsBundling left right lefts others rows
+bundling_from left right lefts rights others first rows e are i = record {
+  goes_on = λ rest all.
+      i.goes_on rest
+      (AreItemsRows-from first.class lefts rights others (first_lowest lefts first e i.left_rise) are rest all);
+  left_few = i.left_few;
+  right_few = (let most = i.right_few in
+      let few = from-few first.class rights others are in
+      omega (arith, most, few));
+  left_rise = i.left_rise;
+  right_rise = from-rise first.class rights others are i.right_rise;
+  ids = i.ids;
+}
 
 -- a bundle more
 pub bundling_more : (left right lefts rights low_left high_left low_right high_right : List Item) (class : ℕ)

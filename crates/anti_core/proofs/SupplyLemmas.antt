@@ -1,8 +1,8 @@
 -- The gaps of pairs as they are run, and those of one left part against more and more right parts.
-use Rattle.std.proofs.Common.{◌≡◌, ℕ, zero, suc, ◌+◌, ◌-◌, ◌*◌, ◌/◌, ◌%◌, ◌<◌, ◌≤◌, All, List, [], ◌∷◌, ◌++◌, length, take, drop, Option, Some, sym, subst, ap, ◌∙◌, arith, append-nil}
+use Rattle.std.proofs.Common.{◌≡◌, ℕ, zero, suc, ◌+◌, ◌-◌, ◌*◌, ◌/◌, ◌%◌, ◌<◌, ◌≤◌, All, List, [], ◌∷◌, ◌++◌, length, take, drop, None, Option, Some, sym, subst, ap, ◌∙◌, arith, append-nil}
 use Rattle.std.specs.Prelude.{slice_get}
 use Rattle.std.proofs.Math.Seq.{take-add}
-use Rattle.std.proofs.lemmas.List.{drop-drop}
+use Rattle.std.proofs.lemmas.List.{drop-drop, take_all}
 use Rattle.std.proofs.lemmas.Nat.{div-mul-add, mod-mul-add}
 use Rattle.dip_core.specs.declared.item.Item.{Item}
 use Rattle.dip_core.specs.Item.{IsChain}
@@ -73,6 +73,23 @@ one-listed : (p : List Item) (qs : List (List Item)) (start : ℕ) (values : Lis
 one-listed p qs start values from count only some inside at all =
     subst (λ z. ListsGaps p z only) (sym (all_of-one qs start inside))
     (against-first p qs start values from count only all some (sym at))
+
+-- the gaps of a pair with the only right part
+pub only-listed : (ps qs : List (List Item)) (l first from : ℕ) (values : List (List Gap)) (only : List Gap)
+    → length qs ≡ 1 → first + from ≡ l → AreGapsFrom ps qs first values → Some only ≡ slice_get values from
+    → ListsGaps (part_at ps l) (all_of qs) only
+only-listed ps qs l first from values only one e all at =
+    let rights : l * length qs ≡ l * 1 = ap (λ n. l * n) one in
+    let against : AreGapsAgainst (part_at ps l) qs 0 values from 1 =
+    AreGapsAgainst-from_pairs ps qs l 0 first from 1 values all (omega (arith, rights, e)) (omega (arith, one)) in
+    subst (λ z. ListsGaps (part_at ps l) (all_of z) only) (take_all 1 qs (omega (arith, one)))
+    (one-listed (part_at ps l) qs 0 values from 1 only (omega arith) (omega (arith, one)) at against)
+
+-- a list has something at each of its places
+pub none_past : (values : List (List Gap)) (i : ℕ) → i < length values → None ≡ slice_get values i → ⊥
+none_past [] i h e = absurd (omega arith)
+none_past (v ∷ values) zero h e = absurd cc
+none_past (v ∷ values) (suc i) h e = none_past values i (omega arith) e
 
 -- met with the whole periods of the part, it is so still
 pub one-met : (p : List Item) (qs : List (List Item)) (start : ℕ) (values : List (List Gap)) (from count : ℕ)

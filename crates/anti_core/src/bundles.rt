@@ -1,5 +1,6 @@
 //! The rows of items, a bundle at a time: all items of some classes. Items of other classes don't match them, so the
-//! parts of a bundle are paired with each other alone. They are few, since few of its items hold at once.
+//! parts of a bundle are paired with each other alone. They are few: right items of one class don't hold at once, and
+//! a bundle of several classes has few items.
 
 ghost use Rattle.std.specs.Prelude.{◌≡◌, ◌<◌, ◌≤◌, length, IfOk};
 ghost use Rattle.std.specs.Thread.{IsSync};
@@ -12,11 +13,30 @@ ghost use Rattle.anti_core.specs.ItemAnti.{AreItemsRows};
 use crate::parted::rows_of_items;
 use crate::rows::AntiRow;
 use dip_core::Item;
-use grid_core::{bundle_items, last_class, middle_class, parted_behind};
+use grid_core::{items_from, last_class, middle_class, parted_behind};
 use period_core::NoMemory;
 use std::alloc::Global;
 use std::thread::{Threads, join};
 use work_core::Gate;
+
+/// So many items of a side are enough for a bundle of several classes. Bundles of fewer would take longer to begin than
+/// to answer, and of more many pairs of parts would share no class.
+const BUNDLE_ITEMS: usize = 16;
+
+/// Fewer items would be answered before another thread has started.
+const ITEMS_FOR_THREADS: usize = 16_384;
+
+/// How many workers find the rows of a bundle: one where it is small, and isn't all that there is.
+fn workers_for(bundle: &[Item], all: &[Item], workers: u32) -> u32
+    requires { 0 < workers }
+    ensures { (0 < result) × (result ≤ workers) }
+{
+    if bundle.len() < all.len() && bundle.len() < ITEMS_FOR_THREADS {
+        1
+    } else {
+        workers
+    }
+}
 
 /// The rows of all left items, which are found bundle by bundle.
 fn rows_of_bundles<R: Threads + Sync, G: Gate>(
@@ -35,15 +55,17 @@ fn rows_of_bundles<R: Threads + Sync, G: Gate>(
     requires ids { HasDistinctIds left.now }
     ensures { IfOk result (λ rows. AreItemsRows left.now right.now rows.items) }
 {
-    let enough = bundle_items(left, right);
     let mut rows = Vec::with_capacity(alloc, left.len())?;
     let mut lefts = left;
     let mut rights = right;
     'bundles: while let Some(first) = lefts.first() {
-        let class = last_class(first, lefts, rights, enough);
+        // Right items of lower classes match no left item that is left.
+        let others = items_from(first.class, rights);
+        let class = last_class(first, lefts, others, BUNDLE_ITEMS);
         let (low_lefts, high_lefts) = parted_behind(class, lefts);
-        let (low_rights, high_rights) = parted_behind(class, rights);
-        let mut found = rows_of_items(rt, alloc, low_lefts, low_rights, workers, gate)?;
+        let (low_rights, high_rights) = parted_behind(class, others);
+        let few = workers_for(low_lefts, left, workers);
+        let mut found = rows_of_items(rt, alloc, low_lefts, low_rights, few, gate)?;
         rows.append(&mut found)?;
         lefts = high_lefts;
         rights = high_rights;

@@ -1,15 +1,18 @@
 //! The gaps of one left part against all right parts.
 
-ghost use Rattle.std.specs.Prelude.{◌≡◌, ℕ, ◌<◌, ◌≤◌, ◌+◌, ◌*◌, List, length, take, drop, IfOk, OnOk};
+ghost use Rattle.std.specs.Prelude.{◌≡◌, ℕ, ◌<◌, ◌≤◌, ◌+◌, ◌*◌, ◌++◌, List, length, map, take, drop, IfOk, OnOk};
 ghost use Rattle.std.specs.Option.{ForSome};
 ghost use Rattle.dip_core.specs.declared.item.Item.{Item};
 ghost use Rattle.dip_core.specs.Division.{all_of, part_at};
+ghost use Rattle.merge_core.specs.declared.gap.Gap.{Gap};
 ghost use Rattle.merge_core.specs.Gaps.{ListsGaps};
 ghost use Rattle.merge_core.specs.Meets.{IdsTell};
 ghost use Rattle.work_core.specs.Limits.{worker_limit};
+ghost use Rattle.anti_core.specs.ItemAnti.{row_of_gap};
 ghost use Rattle.anti_core.specs.PairGaps.{AreGapsFrom, AreGapsAgainst};
 
 use crate::pairs::GapPairs;
+use crate::rows::{AntiRow, add_rows};
 use crate::supply::{Supply, supply_at};
 use dip_core::Part;
 use merge_core::{Gaps, meet_gaps};
@@ -93,4 +96,36 @@ pub(crate) fn gaps_of_part<R: Threads + Sync, G: Gate>(
         *supply = Some(ready);
     }
     Ok(gaps)
+}
+
+/// Adds the rows of the left part of that number, where there is one right part: their gaps are those of the one pair,
+/// and there is nothing to meet.
+pub(crate) fn add_rows_of_pair<R: Threads + Sync, G: Gate>(
+    rt: &R,
+    alloc: Global,
+    pairs: &GapPairs<'_>,
+    supply: &mut Option<Supply>,
+    number: u32,
+    workers: u32,
+    gate: &G,
+    rows: &mut Vec<AntiRow>,
+) -> Result<(), NoMemory>
+    requires workers { (0 < workers) × (workers ≤ worker_limit) }
+    requires supply { ForSome supply.old (λ s. AreGapsFrom pairs.now.left.now pairs.now.right.now s.first s.values) }
+    requires part { number < length pairs.now.left.now }
+    requires one { length pairs.now.right.now ≡ 1 }
+    ensures rows { OnOk result ((gaps : List Gap)
+        × ListsGaps (part_at pairs.now.left.now number) (all_of pairs.now.right.now) gaps
+        × (rows.new.items ≡ rows.old.items ++ map row_of_gap gaps)) }
+    ensures supply { OnOk result
+        (ForSome supply.new (λ s. AreGapsFrom pairs.now.left.now pairs.now.right.now s.first s.values)) }
+{
+    let at = number as u64;
+    let ready = supply_at(rt, alloc, pairs, supply.take(), at, workers, gate)?;
+    let Some(gaps) = ready.values.get((at - ready.first) as usize) else {
+        unreachable!()
+    };
+    add_rows(gaps.as_slice(), rows)?;
+    *supply = Some(ready);
+    Ok(())
 }

@@ -1,15 +1,21 @@
 //! The rows of items, from the gaps of the parts of their divisions.
 
-ghost use Rattle.std.specs.Prelude.{◌<◌, ◌≤◌, length, IfOk};
+ghost use Rattle.std.specs.Prelude.{◌≡◌, ◌<◌, ◌≤◌, ◌++◌, List, length, map, IfOk, OnOk};
+ghost use Rattle.std.specs.Option.{ForSome};
 ghost use Rattle.std.specs.Thread.{IsSync};
 ghost use Rattle.dip_core.specs.Item.{item_limit, HasDistinctIds};
-ghost use Rattle.dip_core.specs.Division.{all_of};
+ghost use Rattle.dip_core.specs.Division.{all_of, part_at};
+ghost use Rattle.merge_core.specs.declared.gap.Gap.{Gap};
+ghost use Rattle.merge_core.specs.Gaps.{ListsGaps};
+ghost use Rattle.merge_core.specs.Meets.{IdsTell};
 ghost use Rattle.work_core.specs.Limits.{worker_limit};
-ghost use Rattle.anti_core.specs.ItemAnti.{AreItemsRows};
+ghost use Rattle.anti_core.specs.ItemAnti.{AreItemsRows, row_of_gap};
+ghost use Rattle.anti_core.specs.PairGaps.{AreGapsFrom};
 
 use crate::pairs::GapPairs;
-use crate::part_gaps::gaps_of_part;
+use crate::part_gaps::{add_rows_of_pair, gaps_of_part};
 use crate::rows::{AntiRow, add_rows};
+use crate::supply::Supply;
 use dip_core::{Division, Item};
 use grid_core::divided;
 use period_core::NoMemory;
@@ -19,6 +25,35 @@ use work_core::Gate;
 
 /// Of fewer items half would be over before the other half's thread has started.
 const ITEMS_FOR_SHARES: usize = 16_384;
+
+/// Adds the rows of the left part of that number.
+fn add_rows_of_part<R: Threads + Sync, G: Gate>(
+    rt: &R,
+    alloc: Global,
+    pairs: &GapPairs<'_>,
+    supply: &mut Option<Supply>,
+    number: u32,
+    workers: u32,
+    gate: &G,
+    rows: &mut Vec<AntiRow>,
+) -> Result<(), NoMemory>
+    requires workers { (0 < workers) × (workers ≤ worker_limit) }
+    requires supply { ForSome supply.old (λ s. AreGapsFrom pairs.now.left.now pairs.now.right.now s.first s.values) }
+    requires part { number < length pairs.now.left.now }
+    requires tell { IdsTell (part_at pairs.now.left.now number) }
+    ensures rows { OnOk result ((gaps : List Gap)
+        × ListsGaps (part_at pairs.now.left.now number) (all_of pairs.now.right.now) gaps
+        × (rows.new.items ≡ rows.old.items ++ map row_of_gap gaps)) }
+    ensures supply { OnOk result
+        (ForSome supply.new (λ s. AreGapsFrom pairs.now.left.now pairs.now.right.now s.first s.values)) }
+{
+    if pairs.right.parts() == 1 {
+        return add_rows_of_pair(rt, alloc, pairs, supply, number, workers, gate, rows);
+    }
+    let gaps = gaps_of_part(rt, alloc, pairs, supply, number, workers, gate)?;
+    add_rows(gaps.as_slice(), rows)?;
+    Ok(())
+}
 
 /// The rows of all left parts, part by part.
 fn rows_of_parts<R: Threads + Sync, G: Gate>(
@@ -35,8 +70,16 @@ fn rows_of_parts<R: Threads + Sync, G: Gate>(
     let mut rows = Vec::new(alloc);
     let mut supply = None;
     for number in 0..pairs.left.parts() {
-        let gaps = gaps_of_part(rt, alloc, pairs, &mut supply, number, workers, gate)?;
-        add_rows(gaps.as_slice(), &mut rows)?;
+        add_rows_of_part(
+            rt,
+            alloc,
+            pairs,
+            &mut supply,
+            number,
+            workers,
+            gate,
+            &mut rows,
+        )?;
     }
     Ok(rows)
 }

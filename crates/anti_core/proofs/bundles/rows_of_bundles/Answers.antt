@@ -1,11 +1,16 @@
-use Rattle.grid_core.proofs.BundleLemmas.{low-distinct, none_first}
-use Rattle.anti_core.proofs.BundleLemmas.{bundling_start, bundling_more, bundling_end}
+use Rattle.grid_core.proofs.BundleLemmas.{from-rise, low-distinct, none_first}
+use Rattle.anti_core.proofs.BundleLemmas.{bundling_start, bundling_from, bundling_more, bundling_end}
 use Rattle.anti_core.proofs.bundles.rows_of_bundles.Goals as goal
 
 pub bundles-init : goal.bundles-init
 bundles-init g c =
     bundling_start c.args.left.now c.args.right.now c.in_ok-rows.rows.items c.in_ok-rows.ensures.items
     c.requires.left_rise c.requires.right_rise c.requires.ids
+
+pub parted_behind-requires-in-Some : goal.parted_behind-requires-in-Some
+parted_behind-requires-in-Some g c =
+    from-rise c.in-Some.first.now.class c.bundles.rights.now c.items_from-others.result.now c.items_from-others.ensures
+    c.bundles.invariant.right_rise
 
 pub rows_of_items-requires-clause-ids : goal.rows_of_items-requires-clause-ids
 rows_of_items-requires-clause-ids g c = λ κs outlives.
@@ -14,11 +19,14 @@ rows_of_items-requires-clause-ids g c = λ κs outlives.
 
 pub bundles-preserved : goal.bundles-preserved
 bundles-preserved g c =
-    bundling_more c.args.left.now c.args.right.now c.bundles.lefts.now c.bundles.rights.now
+    bundling_more c.args.left.now c.args.right.now c.bundles.lefts.now c.items_from-others.result.now
     c.parted_behind.result.0.now c.parted_behind.result.1.now c.parted_behind-in-Some.result.0.now
     c.parted_behind-in-Some.result.1.now c.last_class-class.result c.bundles.rows.items c.in_ok-found.found.items
     c.append.new.self.items c.parted_behind.ensures c.parted_behind-in-Some.ensures c.in_ok-found.ensures
-    c.in_ok-append.ensures.items c.bundles.invariant
+    c.in_ok-append.ensures.items
+    (bundling_from c.args.left.now c.args.right.now c.bundles.lefts.now c.bundles.rights.now
+    c.items_from-others.result.now c.in-Some.first.now c.bundles.rows.items c.in-Some.ensures.value
+    c.items_from-others.ensures c.bundles.invariant)
 
 pub returns : goal.returns
 returns g c =

@@ -1,4 +1,4 @@
-use Rattle.std.proofs.Common.{◌<◌, length, arith}
+use Rattle.std.proofs.Common.{◌<◌, length, refl, arith}
 use Rattle.dip_core.specs.Division.{all_of}
 use Rattle.anti_core.proofs.ItemLemmas.{AreItemsRows-none, AreItemsRows-more}
 use Rattle.anti_core.proofs.PartLemmas.{IdsTell-part}
@@ -10,19 +10,17 @@ loop-number-init g c = (
   λ x e. cc,
 )
 
-pub gaps_of_part-requires-clause-supply : goal.gaps_of_part-requires-clause-supply
-gaps_of_part-requires-clause-supply g c = λ κs outlives. c.loop-number.invariant.1
-
-pub gaps_of_part-requires-clause-tell : goal.gaps_of_part-requires-clause-tell
-gaps_of_part-requires-clause-tell g c = λ κs outlives.
+pub add_rows_of_part-requires-clause-tell : goal.add_rows_of_part-requires-clause-tell
+add_rows_of_part-requires-clause-tell g c = λ κs outlives.
     IdsTell-part c.args.pairs.now.left.now c.loop-number.number c.requires.ids
 
 pub loop-number-preserved : goal.loop-number-preserved
 loop-number-preserved g c =
     let ps = c.args.pairs.now.left.now in
-    let inside : c.loop-number.number < length ps = omega arith in (
+    let inside : c.loop-number.number < length ps = omega arith in
+    let added = c.in_ok-add_rows_of_part.ensures.rows in (
       AreItemsRows-more ps c.loop-number.number (all_of c.args.pairs.now.right.now) c.loop-number.rows.items
-          c.add_rows.new.rows.items c.in_ok-gaps.gaps c.as_slice.result.now inside c.requires.ids
-          c.loop-number.invariant.0 c.in_ok-gaps.ensures.gaps c.as_slice.ensures c.in_ok-add_rows.ensures,
-      c.in_ok-gaps.ensures.supply,
+          c.add_rows_of_part.new.rows.items added.0 added.0 inside c.requires.ids c.loop-number.invariant.0 added.1 refl
+          added.2,
+      c.in_ok-add_rows_of_part.ensures.supply,
     )
