@@ -60,10 +60,10 @@ fn rows_of_bundles<R: Threads + Sync, G: Gate>(
     let mut rights = right;
     'bundles: while let Some(first) = lefts.first() {
         // Right items of lower classes match no left item that is left.
-        let others = items_from(first.class, rights);
-        let class = last_class(first, lefts, others, BUNDLE_ITEMS);
+        let matching = items_from(first.class, rights);
+        let class = last_class(first, lefts, matching, BUNDLE_ITEMS);
         let (low_lefts, high_lefts) = parted_behind(class, lefts);
-        let (low_rights, high_rights) = parted_behind(class, others);
+        let (low_rights, high_rights) = parted_behind(class, matching);
         let few = workers_for(low_lefts, left, workers);
         let mut found = rows_of_items(rt, alloc, low_lefts, low_rights, few, gate)?;
         rows.append(&mut found)?;

@@ -76,9 +76,9 @@ fn crowd_of_sample(items: &[Item]) -> u64
     crowd
 }
 
-/// The number of items of which one side has more by the class that ends a bundle. Where of a left items k hold at once,
-/// and of b right ones m, a bundle of s items has about s * k / a left and s * m / b right parts: there are to be about as
-/// many pairs of them as items.
+/// How many items of a side are enough for a bundle of several classes. Where of a left items k hold at once, and of b
+/// right ones m, a bundle of s items has about s * k / a left and s * m / b right parts: there are to be about as many
+/// pairs of them as items.
 pub fn bundle_items(left: &[Item], right: &[Item]) -> usize
     requires left_few { length left.now ≤ item_limit }
     requires right_few { length right.now ≤ item_limit }

@@ -9,7 +9,7 @@ bundles-init g c =
 
 pub parted_behind-requires-in-Some : goal.parted_behind-requires-in-Some
 parted_behind-requires-in-Some g c =
-    from-rise c.in-Some.first.now.class c.bundles.rights.now c.items_from-others.result.now c.items_from-others.ensures
+    from-rise c.in-Some.first.now.class c.bundles.rights.now c.items_from-matching.result.now c.items_from-matching.ensures
     c.bundles.invariant.right_rise
 
 pub rows_of_items-requires-clause-ids : goal.rows_of_items-requires-clause-ids
@@ -19,14 +19,14 @@ rows_of_items-requires-clause-ids g c = λ κs outlives.
 
 pub bundles-preserved : goal.bundles-preserved
 bundles-preserved g c =
-    bundling_more c.args.left.now c.args.right.now c.bundles.lefts.now c.items_from-others.result.now
+    bundling_more c.args.left.now c.args.right.now c.bundles.lefts.now c.items_from-matching.result.now
     c.parted_behind.result.0.now c.parted_behind.result.1.now c.parted_behind-in-Some.result.0.now
     c.parted_behind-in-Some.result.1.now c.last_class-class.result c.bundles.rows.items c.in_ok-found.found.items
     c.append.new.self.items c.parted_behind.ensures c.parted_behind-in-Some.ensures c.in_ok-found.ensures
     c.in_ok-append.ensures.items
     (bundling_from c.args.left.now c.args.right.now c.bundles.lefts.now c.bundles.rights.now
-    c.items_from-others.result.now c.in-Some.first.now c.bundles.rows.items c.in-Some.ensures.value
-    c.items_from-others.ensures c.bundles.invariant)
+    c.items_from-matching.result.now c.in-Some.first.now c.bundles.rows.items c.in-Some.ensures.value
+    c.items_from-matching.ensures c.bundles.invariant)
 
 pub returns : goal.returns
 returns g c =
