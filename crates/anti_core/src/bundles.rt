@@ -19,10 +19,6 @@ use std::alloc::Global;
 use std::thread::{Threads, join};
 use work_core::Gate;
 
-/// So many items of a side are enough for a bundle of several classes. Bundles of fewer would take longer to begin than
-/// to answer, and of more many pairs of parts would share no class.
-const BUNDLE_ITEMS: usize = 16;
-
 /// Fewer items would be answered before another thread has started.
 const ITEMS_FOR_THREADS: usize = 16_384;
 
@@ -61,7 +57,7 @@ fn rows_of_bundles<R: Threads + Sync, G: Gate>(
     'bundles: while let Some(first) = lefts.first() {
         // Right items of lower classes match no left item that is left.
         let matching = items_from(first.class, rights);
-        let class = last_class(first, lefts, matching, BUNDLE_ITEMS);
+        let class = last_class(first, lefts, matching);
         let (low_lefts, high_lefts) = parted_behind(class, lefts);
         let (low_rights, high_rights) = parted_behind(class, matching);
         let few = workers_for(low_lefts, left, workers);

@@ -19,7 +19,3 @@ pub record AreFromClass (class : ℕ) (items high : List Item) : Type 0 where
   pub whole : items ≡ low ++ high
   pub below : All (λ (x : Item). x.class < class) low
   pub from : All (λ (x : Item). class ≤ x.class) high
-
--- how many items of a side are tried, to tell what share of them holds at once
-abbrev pub sample_len : ℕ
-sample_len = 512

@@ -4,27 +4,19 @@
 ghost use Rattle.std.specs.Prelude.{◌<◌, ◌≤◌, length, IfOk, IsSome, IsPermutation};
 ghost use Rattle.dip_core.specs.Item.{item_limit};
 ghost use Rattle.dip_core.specs.Division.{IsLeastDivision};
-ghost use Rattle.grid_core.specs.Bundles.{AreFromClass, ArePartedBehind, ClassesRise, sample_len};
+ghost use Rattle.grid_core.specs.Bundles.{AreFromClass, ArePartedBehind, ClassesRise};
 
 use dip_core::{Division, Item, create_dip};
-use period_core::{NoMemory, Point};
+use period_core::NoMemory;
 use std::alloc::Global;
 use std::thread::Threads;
 
 /// Of fewer items half would be over before the other half's thread has started.
 const ITEMS_FOR_HALVES: usize = 8_192;
 
-/// A bundle of fewer items would take longer to begin than to answer.
-const BUNDLE_LEAST: u64 = 16;
-
-/// In a bundle of more items many pairs of parts would share no class.
-const BUNDLE_MOST: u64 = 4_096;
-
-/// Of so many items of a side it is told what share of them holds at once.
-const SAMPLE: usize = 512;
-
-/// So many instants are tried for it.
-const INSTANTS: usize = 16;
+/// So many items of a side are enough for a bundle of several classes. Bundles of fewer would take longer to begin than
+/// to answer, and of more many pairs of parts would share no class.
+const BUNDLE_ITEMS: usize = 16;
 
 /// Puts the items by class.
 pub fn order_by_class(items: &mut Vec<Item>)
@@ -34,73 +26,19 @@ pub fn order_by_class(items: &mut Vec<Item>)
     items.sort_unstable_by_key(|item| item.class);
 }
 
-/// The item of that number of a sample: its place goes on by the golden section of all places, so that the places lie
-/// evenly but in step with nothing that recurs.
-fn sampled(items: &[Item], number: usize) -> &Item
-    requires some { 0 < length items.now }
-    requires few { length items.now ≤ item_limit }
-    requires number { number < sample_len }
-{
-    let stride = items.len() * 40_503 / 65_536 + 1;
-    &items[number * stride % items.len()]
-}
-
-/// How many items of the sample hold that instant.
-fn holding(items: &[Item], instant: Point) -> u64
-    requires some { 0 < length items.now }
-    requires few { length items.now ≤ item_limit }
-    ensures { result ≤ sample_len }
-{
-    let mut holding = 0;
-    for number in 0..SAMPLE {
-        if sampled(items, number).period.holds(instant) {
-            holding += 1;
-        }
-    }
-    holding
-}
-
-/// How many items of the sample hold at once, at one of some instants at most; at least one.
-fn crowd_of_sample(items: &[Item]) -> u64
-    requires { length items.now ≤ item_limit }
-    ensures { (0 < result) × (result ≤ sample_len) }
-{
-    let mut crowd = 1;
-    if items.is_empty() {
-        return crowd;
-    }
-    for number in 0..INSTANTS {
-        let instant = sampled(items, number * (SAMPLE / INSTANTS)).period.from;
-        crowd = crowd.max(holding(items, instant));
-    }
-    crowd
-}
-
-/// How many items of a side are enough for a bundle of several classes. Where of a left items k hold at once, and of b
-/// right ones m, a bundle of s items has about s * k / a left and s * m / b right parts: there are to be about as many
-/// pairs of them as items.
-pub fn bundle_items(left: &[Item], right: &[Item]) -> usize
-    requires left_few { length left.now ≤ item_limit }
-    requires right_few { length right.now ≤ item_limit }
-{
-    let all = (SAMPLE * SAMPLE) as u64;
-    let enough = all / (crowd_of_sample(left) * crowd_of_sample(right));
-    enough.clamp(BUNDLE_LEAST, BUNDLE_MOST) as usize
-}
-
 /// The last class of the bundle that begins with that item of either side: a bundle of several classes has no more of
 /// a side's items than are enough, so a class of many items is a bundle of its own.
-pub fn last_class(first: &Item, lefts: &[Item], rights: &[Item], enough: usize) -> u64
+pub fn last_class(first: &Item, lefts: &[Item], rights: &[Item]) -> u64
     ensures { first.now.class ≤ result }
 {
-    let class = class_of_enough(lefts, enough).min(class_of_enough(rights, enough));
+    let class = class_of_enough(lefts).min(class_of_enough(rights));
     class.max(first.class)
 }
 
 // The class up to which there are no more items than are enough; where there are none more at all, the greatest that
 // can be.
-fn class_of_enough(items: &[Item], enough: usize) -> u64 {
-    match items.get(enough) {
+fn class_of_enough(items: &[Item]) -> u64 {
+    match items.get(BUNDLE_ITEMS) {
         Some(item) => item.class.saturating_sub(1),
         None => u64::MAX,
     }

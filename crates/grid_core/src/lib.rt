@@ -7,8 +7,6 @@ mod bundles;
 mod parts;
 mod stretches;
 
-pub use bundles::{
-    bundle_items, divided, items_from, last_class, middle_class, order_by_class, parted_behind,
-};
+pub use bundles::{divided, items_from, last_class, middle_class, order_by_class, parted_behind};
 pub use parts::{name_in, place_in, same_part};
 pub use stretches::stretch_len;

@@ -90,7 +90,6 @@ fn rows_of_bundles<R: Threads + Sync, G: Gate>(
     alloc: Global,
     left: &[Item],
     right: &[Item],
-    enough: usize,
     workers: u32,
     gate: &G,
 ) -> Result<FoundRows, NoMemory>
@@ -108,7 +107,7 @@ fn rows_of_bundles<R: Threads + Sync, G: Gate>(
     let mut lefts = left;
     let mut rights = right;
     'bundles: while let Some(first) = lefts.first() {
-        let class = last_class(first, lefts, rights, enough);
+        let class = last_class(first, lefts, rights);
         let (low_lefts, high_lefts) = parted_behind(class, lefts);
         let (low_rights, high_rights) = parted_behind(class, rights);
         let more = add_rows_of_bundle(rt, alloc, low_lefts, low_rights, workers, gate, &mut rows)?;
@@ -131,7 +130,6 @@ pub(crate) fn rows_of_halves<R: Threads + Sync, G: Gate>(
     alloc: Global,
     left: &[Item],
     right: &[Item],
-    enough: usize,
     workers: u32,
     gate: &G,
 ) -> Result<FoundRows, NoMemory>
@@ -145,7 +143,7 @@ pub(crate) fn rows_of_halves<R: Threads + Sync, G: Gate>(
     ensures { IfOk result (IsFound left.now right.now) }
 {
     let Some(class) = middle_class(left, right, workers) else {
-        return rows_of_bundles(rt, alloc, left, right, enough, workers, gate);
+        return rows_of_bundles(rt, alloc, left, right, workers, gate);
     };
     let (low_lefts, high_lefts) = parted_behind(class, left);
     let (low_rights, high_rights) = parted_behind(class, right);
@@ -159,14 +157,14 @@ pub(crate) fn rows_of_halves<R: Threads + Sync, G: Gate>(
                 × ClassesRise low_lefts.now × ClassesRise low_rights.now
                 × HasDistinctIds low_lefts.now × HasDistinctIds low_rights.now }
             ensures { IfOk result (IsFound low_lefts.entry.now low_rights.entry.now) }
-        { rows_of_halves(rt, alloc, low_lefts, low_rights, enough, few, gate) },
+        { rows_of_halves(rt, alloc, low_lefts, low_rights, few, gate) },
         || -> Result<FoundRows, NoMemory>
             requires { IsSync R.row × IsSync G.row × (0 < others) × (others ≤ worker_limit)
                 × (length high_lefts.now ≤ item_limit) × (length high_rights.now ≤ item_limit)
                 × ClassesRise high_lefts.now × ClassesRise high_rights.now
                 × HasDistinctIds high_lefts.now × HasDistinctIds high_rights.now }
             ensures { IfOk result (IsFound high_lefts.entry.now high_rights.entry.now) }
-        { rows_of_halves(rt, alloc, high_lefts, high_rights, enough, others, gate) },
+        { rows_of_halves(rt, alloc, high_lefts, high_rights, others, gate) },
     );
     low?.followed_by(high?)
 }

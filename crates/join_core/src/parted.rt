@@ -13,7 +13,7 @@ use crate::advances::turns_answered;
 use crate::bundles::{FoundRows, rows_of_halves};
 use crate::rows::{JoinRow, JoinRows};
 use dip_core::Item;
-use grid_core::{bundle_items, order_by_class};
+use grid_core::order_by_class;
 use period_core::NoMemory;
 use sort_core::sort_unstable;
 use std::alloc::Global;
@@ -50,10 +50,7 @@ fn rows_by_class<R: Threads + Sync, G: Gate>(
     ensures turns { IfOk result (λ answer. (k m : ℕ) → IsLeast (map unclassed left.now) k
         → IsLeast (map unclassed right.now) m → IsWithin k m (length left.now) (length right.now) answer.1) }
 {
-    let enough = bundle_items(left, right);
-    let FoundRows { rows, advances } = rows_of_halves(
-        rt, alloc, left, right, enough, workers, gate,
-    )?;
+    let FoundRows { rows, advances } = rows_of_halves(rt, alloc, left, right, workers, gate)?;
     let turns = turns_answered(rt, alloc, left, right, advances, workers)?;
     Ok((rows, turns))
 }

@@ -68,8 +68,9 @@ impl<'a> Cursor<'a> {
             self.rest = &self.rest[1..];
         }
     }
-    /// Passes the items that end at or before the start of `x`, and answers how many: so few looks are taken that a
-    /// few items go through a long part in no time.
+
+    /// Passes the items that end at or before the start of `x`, and answers how many. They are looked for in steps of
+    /// double length, so that a few items go through a long part with few looks.
     pub(crate) fn pass_ended(&mut self, x: &Item) -> u64
         ensures { PassesUpto x.now.period.from self.old self.new result }
     {
