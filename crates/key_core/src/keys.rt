@@ -3,7 +3,7 @@
 ghost use Rattle.std.specs.Prelude.{◌≡◌, map, slice_get, IsPermutation, IsSortedBy};
 ghost use Rattle.std.specs.Ordering.{is_lt};
 ghost use Rattle.row_core.specs.ValueOrder.{maybe_cmp, value_cmp};
-ghost use Rattle.key_core.specs.Keys.{collide, have_collision};
+ghost use Rattle.key_core.specs.Keys.{collide, have_collision, same_key};
 ghost use Rattle.key_core.specs.Order.{key_cmp, row_cmp, tested_row, have_neighbours};
 
 use period_core::Period;
@@ -81,7 +81,14 @@ fn value_order(a: &Value, b: &Value) -> Ordering
 pub fn collide(key: &[u32], a: &KeyedRow<'_>, b: &KeyedRow<'_>) -> bool
     ensures { result ≡ collide key.now (tested_row a.now) (tested_row b.now) }
 {
-    key_order(key, a.values, b.values).is_eq() && a.period.meet(&b.period).is_some()
+    same_key(key, a.values, b.values) && a.period.meet(&b.period).is_some()
+}
+
+/// Whether the values are equal in each of the key's columns.
+pub fn same_key(key: &[u32], a: &[Value], b: &[Value]) -> bool
+    ensures { result ≡ same_key key.now a.now b.now }
+{
+    key_order(key, a, b).is_eq()
 }
 
 /// Whether some row and the next one collide.
