@@ -1,21 +1,18 @@
 -- Lists of places stay true as versions are closed and added.
-use Rattle.std.proofs.Common.{◌≡◌, ℕ, ◌+◌, ◌<◌, ◌≤◌, List, [], ◌∷◌, ◌++◌, Bool, true, false, ◌&&◌, ◌||◌, not, cond, Option, Some, None, length, get_or, map, take, drop, ◌*◌, zero, suc, refl, ap, sym, ◌∙◌, arith, length-append}
+use Rattle.std.proofs.Common.{◌≡◌, ℕ, ◌+◌, ◌<◌, ◌≤◌, List, [], ◌∷◌, ◌++◌, Bool, true, false, ◌&&◌, not, cond, Option, Some, None, length, get_or, map, take, drop, ◌*◌, zero, suc, refl, ap, sym, ◌∙◌, arith, length-append}
 use Rattle.std.specs.Prelude.{slice_get, filter, unwrap_or, option_map, is_none, fold, All}
-use Rattle.std.specs.List.{AllByRecursion, list_any, range_with_len}
+use Rattle.std.specs.List.{AllByRecursion, range_with_len}
 use Rattle.std.proofs.lemmas.List.{append-nil, length-map, map-append, take_at}
 use Rattle.std.proofs.lemmas.List.Elements.{filter-append, filter_agree, All-append, All-filter, All-from_recursion, All-weaker, recursion_from_All}
 use Rattle.std.proofs.lemmas.List.Sums.{count_by-le-length, length-filter}
 use Rattle.std.proofs.lemmas.Option.{slice_get-get_or, slice_get-map}
 use Rattle.std.proofs.Math.Bool.{and-true}
 use Rattle.list_core.proofs.PlaceLemmas.{slice_get-before, slice_get-seam}
-use Rattle.row_core.specs.declared.draft.Draft.{Draft}
 use Rattle.row_core.specs.declared.row.Row.{Row}
 use Rattle.row_core.specs.declared.schema.Column.{Column}
-use Rattle.key_core.specs.Keys.{collide}
 use Rattle.version_core.specs.Finding.{AreCandidates, ListsOpen, any_row, passes, row_period}
-use Rattle.version_core.specs.Keys.{AreNear}
 use Rattle.version_core.specs.OpenVersions.{closed, closed_at, current, is_open, is_taken, places_from, versions_after}
-use Rattle.version_core.specs.Made.{made, draft_of}
+use Rattle.version_core.specs.Made.{made}
 use Rattle.version_core.specs.Rows.{drafts_of, numbered, parts_of_all, removes}
 use Rattle.version_core.specs.Limits.{version_limit}
 use Rattle.version_core.specs.declared.change.Change.{Change}
@@ -133,75 +130,9 @@ pub passes-at : (vs : List Version) (test : Version → Bool) (place : ℕ) (v :
 passes-at vs test place v b inside e h =
     ap (λ o. unwrap_or (option_map test o) false) (slice_get-get_or vs place v inside ∙ ap Some (sym e)) ∙ sym h
 
--- the places of rows that could collide with another
-
-any-agree : {X : Type 0} (p q : X → Bool) → ((x : X) → p x ≡ q x) → (xs : List X) → list_any p xs ≡ list_any q xs
-any-agree p q same [] = refl
-any-agree p q same (x ∷ xs) = ap (λ t. t || list_any p xs) (same x) ∙ ap (λ t. q x || t) (any-agree p q same xs)
-
--- there are some
-is_some_place : List ℕ → Bool
-is_some_place [] = false
-is_some_place (x ∷ xs) = true
-
-any-filter : (p : ℕ → Bool) (xs : List ℕ) → list_any p xs ≡ is_some_place (filter p xs)
-unfolding is_some_place
-any-filter p [] = refl
-any-filter p (x ∷ xs) =
-    elim (p x) as
-    (λ b. (b || list_any p xs) ≡ is_some_place (cond b (x ∷ filter p xs) (filter p xs))) [
-      | true ↦ refl
-      | false ↦
-          any-filter p xs
-    ]
-
-any-places : (test : Version → Bool) (at : ℕ) (vs : List Version)
-    → is_some_place (places_from test at vs) ≡ list_any test vs
-unfolding is_some_place
-any-places test at [] = refl
-any-places test at (v ∷ vs) =
-    elim (test v) as
-    (λ b. is_some_place (cond b (at ∷ places_from test (at + 1) vs) (places_from test (at + 1) vs)) ≡
-    (b || list_any test vs)) [ true ↦ refl | false ↦ any-places test (at + 1) vs ]
-
-and_assoc : (a b c : Bool) → ((a && b) && c) ≡ (a && (b && c))
-and_assoc true b c = refl
-and_assoc false b c = refl
-
-narrowed-last : (o t l m : Bool) → (m ≡ true → t ≡ true) → ((o && t) && (l && m)) ≡ ((o && l) && m)
-narrowed-last false t l m h = refl
-narrowed-last true true l m h = refl
-narrowed-last true false true true h = absurd (let e = h refl in cc)
-narrowed-last true false true false h = refl
-narrowed-last true false false m h = refl
-
-pub near-listed : (key : List ℕ) (other : Draft) (vs : List Version) (test : Row → Bool) (places : List ℕ)
-    → ListsOpen vs test places → ((v : Version) → collide key (draft_of v) other ≡ true → test v.row ≡ true)
-    → AreNear key other vs places
-near-listed key other vs test places h covers = record {
-  inside = h.inside;
-  found = λ left.
-      let meets : Version → Bool = λ v. left v && collide key (draft_of v) other in
-      any-agree (passes vs (λ v. (is_open v && left v) && collide key (draft_of v) other))
-      (passes vs (λ v. is_open v && meets v))
-      (λ place. ap (λ o. unwrap_or o false) (mapped (slice_get vs place) left)) places
-      ∙ any-filter (passes vs (λ v. is_open v && meets v)) places
-      ∙ ap is_some_place (filter-listed vs test meets places h)
-      ∙ any-places (λ v. (is_open v && test v.row) && meets v) 0 vs
-      ∙ any-agree (λ v. (is_open v && test v.row) && meets v)
-      (λ v. (is_open v && left v) && collide key (draft_of v) other)
-      (λ v. narrowed-last (is_open v) (test v.row) (left v) (collide key (draft_of v) other) (covers v)) vs;
-}
-  where
-    mapped : (o : Option Version) (left : Version → Bool)
-        → option_map (λ (v : Version). (is_open v && left v) && collide key (draft_of v) other) o ≡ option_map
-        (λ (v : Version). is_open v && (left v && collide key (draft_of v) other)) o
-    mapped None left = refl
-    mapped (Some v) left = ap Some (and_assoc (is_open v) (left v) (collide key (draft_of v) other))
-
 -- versions are closed
 
-open_closed : (n : ℕ) (goes : Row → Bool) (v : Version) → is_open (closed n goes v) ≡ (is_open v && not (goes v.row))
+pub open_closed : (n : ℕ) (goes : Row → Bool) (v : Version) → is_open (closed n goes v) ≡ (is_open v && not (goes v.row))
 open_closed n goes v = after v.systo (goes v.row)
   where
     after : (to : Option ℕ) (b : Bool)

@@ -1,25 +1,20 @@
 -- Indexes by the values of a column.
-use Rattle.std.proofs.Common.{◌≡◌, ℕ, ℤ, ◌+◌, ◌*◌, ◌%◌, ◌<◌, ◌==◌, List, [], ◌∷◌, ◌++◌, Bool, true, false, ◌&&◌, ◌||◌, cond, Option, Some, None, ◌⊎◌, length, map, take, get_or, set, refl, ap, sym, ◌∙◌, arith, inl, inr}
-use Rattle.std.specs.Prelude.{slice_get, filter, position, unwrap_or, option_map, option_and_then, fold, unsigned_abs, All, IfSome, is_some}
+use Rattle.std.proofs.Common.{◌≡◌, ℕ, ℤ, ◌+◌, ◌*◌, ◌%◌, ◌<◌, ◌==◌, List, [], ◌∷◌, ◌++◌, Bool, true, false, ◌&&◌, cond, Option, Some, None, ◌⊎◌, length, map, take, get_or, set, refl, ap, sym, ◌∙◌, arith, inl, inr}
+use Rattle.std.specs.Prelude.{slice_get, filter, position, unwrap_or, option_map, option_and_then, fold, unsigned_abs, All, IfSome}
 use Rattle.std.specs.List.{list_all}
-use Rattle.std.proofs.lemmas.Bool.{and_parts, cases_eq, and_right, eq-eqb, eqb-true, ne_eqb}
-use Rattle.std.proofs.lemmas.Bool.Decides.{eqb_tells}
+use Rattle.std.proofs.lemmas.Bool.{cases_eq, and_right, eq-eqb, eqb-true, ne_eqb}
 use Rattle.std.proofs.lemmas.List.{get_or_default, get_or-set_other, get_or-set_same, length-set, length-take-le, take_more}
 use Rattle.std.proofs.lemmas.List.Elements.{All-get_or, All-weaker}
 use Rattle.std.proofs.lemmas.List.Quantifiers.{position-Some}
 use Rattle.std.proofs.lemmas.List.Recursion.{and_at}
 use Rattle.std.proofs.lemmas.List.Sums.{fold-append}
-use Rattle.period_core.specs.Period.{meet}
 use Rattle.row_core.specs.Schema.{column_of}
-use Rattle.row_core.specs.ValueOrder.{same_maybe, same_value}
-use Rattle.row_core.specs.declared.draft.Draft.{Draft}
+use Rattle.row_core.specs.ValueOrder.{same_value}
 use Rattle.row_core.specs.declared.row.Row.{Row}
 use Rattle.row_core.specs.declared.schema.Column.{Column}
 use Rattle.row_core.specs.declared.value.Value.{Value}
 use Rattle.row_core.specs.declared.value.Value.TheVariants.{Int, Text}
 use Rattle.row_core.proofs.ValueLemmas.{same_value_is}
-use Rattle.key_core.specs.Keys.{same_key}
-use Rattle.version_core.specs.Keys.{AreNear, is_column_of}
 use Rattle.version_core.specs.Finding.{AreCandidates, AreFound, IsIndex, IsLookupOf, ListsOpen, any_row, bucket_in, bucket_of, bucket_of_bytes, falls_into, passes}
 use Rattle.version_core.specs.OpenVersions.{closed, is_open}
 use Rattle.version_core.specs.Rows.{Pair, is_equal_at}
@@ -28,7 +23,7 @@ use Rattle.version_core.specs.declared.change.Change.{Change}
 use Rattle.version_core.specs.declared.index.Index.{Index}
 use Rattle.version_core.specs.declared.index.Lookup.{Lookup}
 use Rattle.version_core.specs.declared.version.Version.{Version}
-use Rattle.version_core.proofs.FindingLemmas.{ListsOpen-closed, ListsOpen-none, ListsOpen-pushed, ListsOpen-skipped, ListsOpen-swept, candidates-listed, near-listed}
+use Rattle.version_core.proofs.FindingLemmas.{ListsOpen-closed, ListsOpen-none, ListsOpen-pushed, ListsOpen-skipped, ListsOpen-swept, candidates-listed}
 
 -- the bucket of a version
 
@@ -250,36 +245,3 @@ pub bucket-of_text : (value : Value) (text bytes : List ℕ) (k : ℕ) → value
     → k ≡ bucket_of_bytes bytes → k ≡ bucket_of value
 unfolding bucket_of
 bucket-of_text value text bytes k e b h = h ∙ ap bucket_of_bytes b ∙ ap bucket_of (sym e)
-
--- rows that collide with another fall into its bucket
-
-key-at : (key : List ℕ) (a b : List Value) (column : ℕ) → same_key key a b ≡ true → is_column_of key column ≡ true
-    → same_maybe (slice_get a column) (slice_get b column) ≡ true
-key-at [] a b column same in_key = absurd (cc)
-key-at (first ∷ rest) a b column same in_key =
-    let both = and_parts (same_maybe (slice_get a first) (slice_get b first)) (same_key rest a b) same in
-    elim (eqb_tells first column) [
-      | inl are ↦ rw (sym are.1) both.0
-      | inr other ↦ key-at rest a b column both.1 (sym (ap (λ t. t || is_column_of rest column) other.0) ∙ in_key)
-    ]
-
-falls-where_same : (o : Option Value) (y : Value) → same_maybe o (Some y) ≡ true
-    → unwrap_or (option_map (λ (v : Value). bucket_of v == bucket_of y) o) false ≡ true
-falls-where_same None y e = absurd (cc)
-falls-where_same (Some x) y e = eq-eqb (bucket_of x) (bucket_of y) (ap bucket_of (same_value_is x y e))
-
-pub near-bucket : (vs : List Version) (index : Index) (key : List ℕ) (other : Draft) (value : Value) (places : List ℕ)
-    → IsIndex vs index → is_column_of key index.column ≡ true → slice_get other.values index.column ≡ Some value
-    → bucket_of value < bucket_count → places ≡ get_or index.buckets.items (bucket_of value) []
-    → AreNear key other vs places
-near-bucket vs index key other value places is in_key has few at =
-    near-listed key other vs (falls_into index.column (bucket_of value)) places (rw at (is.each (bucket_of value) few))
-    (λ v meets.
-    let both = and_parts (same_key key v.row.values other.values) (is_some (meet v.row.period other.period)) meets in
-    falls-where_same (slice_get v.row.values index.column) value
-    (ap (same_maybe (slice_get v.row.values index.column)) (sym has)
-    ∙ key-at key v.row.values other.values index.column both.0 in_key))
-
-pub near-all : (vs : List Version) (key : List ℕ) (other : Draft) (places : List ℕ) → ListsOpen vs any_row places
-    → AreNear key other vs places
-near-all vs key other places h = near-listed key other vs any_row places h (λ v meets. refl)

@@ -1,5 +1,6 @@
 pub mod FindingLemmas
 pub mod IndexLemmas
+pub mod KeyIndexLemmas
 pub mod KeyLemmas
 pub mod ListLemmas
 pub mod MakingLemmas

@@ -1,5 +1,5 @@
 -- Lists of places, by which a change finds the versions that it closes.
-use Rattle.std.specs.Prelude.{◌≡◌, ℕ, ◌+◌, ◌<◌, List, [], length, filter, Bool, ◌&&◌, if◌then◌else◌, option_map, slice_get, unwrap_or, Option, ◌*◌, ◌%◌, ◌≤◌, get_or, fold, All, true, false, None, ◌==◌, unsigned_abs, is_some, map}
+use Rattle.std.specs.Prelude.{◌≡◌, ℕ, ◌+◌, ◌<◌, List, [], length, filter, Bool, ◌&&◌, if◌then◌else◌, option_map, slice_get, unwrap_or, Option, ◌*◌, ◌%◌, ◌≤◌, get_or, fold, All, true, false, None, ◌==◌, unsigned_abs, is_some, map, IfSome}
 use Rattle.period_core.specs.Period.{meet}
 use Rattle.period_core.specs.declared.period.Period.{Period}
 use Rattle.row_core.specs.Schema.{column_of}
@@ -8,6 +8,7 @@ use Rattle.row_core.specs.declared.schema.Column.{Column}
 use Rattle.row_core.specs.declared.value.Value.{Value}
 use Rattle.row_core.specs.declared.value.Value.TheVariants.{Int, Text}
 use Rattle.version_core.specs.Limits.{bucket_count, sought_limit}
+use Rattle.version_core.specs.KeyIndex.{IsKeyIndex}
 use Rattle.version_core.specs.Rows.{Pair, removes}
 use Rattle.version_core.specs.OpenVersions.{is_open, places_from, is_taken}
 use Rattle.version_core.specs.declared.change.Change.{Change}
@@ -15,6 +16,7 @@ use Rattle.version_core.specs.declared.change.Change.TheVariants.{Make, Load, Up
 use Rattle.version_core.specs.declared.version.Version.{Version}
 use Rattle.version_core.specs.declared.index.Index.{Index}
 use Rattle.version_core.specs.declared.index.Lookup.{Lookup}
+use Rattle.version_core.specs.declared.key_index.KeyIndex.{KeyIndex}
 
 -- the version at the place passes the test
 abbrev pub passes : List Version → (Version → Bool) → ℕ → Bool
@@ -75,9 +77,12 @@ abbrev pub ArePeriods : List Version → List Period → Type 0
 ArePeriods vs periods = periods ≡ map row_period vs
 
 -- what is kept beside versions: their periods, and what finds the open ones
-pub record AreBeside (vs : List Version) (periods : List Period) (places : List ℕ) (indexes : List Index) : Type 0 where
+pub record AreBeside
+    (vs : List Version) (periods : List Period) (places : List ℕ) (indexes : List Index) (key_index : Option KeyIndex)
+    : Type 0 where
   pub times : ArePeriods vs periods
   pub found : AreFound vs places indexes
+  pub by_key : IfSome key_index (IsKeyIndex vs)
 
 -- the change is one of a portion that shares an instant with the period
 abbrev pub reaches : Change → Period → Bool

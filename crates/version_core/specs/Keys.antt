@@ -1,5 +1,5 @@
 -- The rows that a change leaves and makes, as their key is tested.
-use Rattle.std.specs.Prelude.{ℕ, List, [], ◌∷◌, ◌++◌, length, map, filter, Bool, false, ◌&&◌, not, ◌≡◌, ◌<◌, ◌==◌, All}
+use Rattle.std.specs.Prelude.{ℕ, List, [], ◌∷◌, ◌++◌, map, filter, Bool, false, ◌&&◌, not, ◌==◌}
 use Rattle.std.specs.List.{list_any}
 use Rattle.std.specs.Option.{option_map_or}
 use Rattle.row_core.specs.Schema.{column_of, key_of}
@@ -8,7 +8,6 @@ use Rattle.row_core.specs.declared.row.Row.{Row}
 use Rattle.row_core.specs.declared.schema.Column.{Column}
 use Rattle.key_core.specs.Keys.{have_collision, collide}
 use Rattle.version_core.specs.Rows.{Pair, removes, drafts_of, unnumbered}
-use Rattle.version_core.specs.Finding.{passes}
 use Rattle.version_core.specs.OpenVersions.{current, is_open}
 use Rattle.version_core.specs.Made.{draft_of}
 use Rattle.version_core.specs.declared.change.Change.{Change}
@@ -45,10 +44,3 @@ sets_key schema key pair = option_map_or (is_column_of key) (column_of schema pa
 -- the version is open, the change leaves its row, and that collides with the other
 abbrev pub collides_left : Change → List Column → List ℕ → Draft → Version → Bool
 collides_left c schema key other v = is_left c schema v && collide key (draft_of v) other
-
--- among the places are those of all open versions whose rows collide with that one
-pub record AreNear (key : List ℕ) (other : Draft) (vs : List Version) (places : List ℕ) : Type 0 where
-  pub inside : All (λ place. place < length vs) places
-  pub found : (left : Version → Bool)
-      → list_any (passes vs (λ v. (is_open v && left v) && collide key (draft_of v) other)) places
-      ≡ list_any (λ v. (is_open v && left v) && collide key (draft_of v) other) vs

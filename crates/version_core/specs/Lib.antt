@@ -1,7 +1,9 @@
 pub mod Finding
+pub mod KeyIndex
 pub mod Keys
 pub mod Limits
 pub mod Made
 pub mod OpenVersions
+pub mod Plans
 pub mod Rows
 pub mod Shown

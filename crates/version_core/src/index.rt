@@ -1,19 +1,16 @@
 //! Indexes of open versions by the values of a column, and what a change of a portion looks at.
 
-ghost use Rattle.std.specs.Prelude.{◌≡◌, ◌==◌, ◌+◌, ◌<◌, ◌≤◌, ℕ, List, [], true, length, position, slice_get, take, All, IfOk, IfSome, OnOk, ◌⊎◌};
+ghost use Rattle.std.specs.Prelude.{◌≡◌, ◌==◌, ◌+◌, ◌<◌, ◌≤◌, List, [], true, length, position, take, All, IfOk, IfSome, OnOk, ◌⊎◌};
 ghost use Rattle.std.specs.List.{list_all};
 ghost use Rattle.row_core.specs.declared.row.Row.{Row};
 ghost use Rattle.row_core.specs.declared.schema.Column.{Column};
-ghost use Rattle.version_core.specs.Finding.{AreCandidates, AreFound, IsIndex, IsLookupOf, ListsOpen, any_row, bucket_in, bucket_of, bucket_of_bytes, falls_into};
-ghost use Rattle.version_core.specs.Keys.{AreNear, is_column_of};
+ghost use Rattle.version_core.specs.Finding.{AreCandidates, AreFound, IsIndex, IsLookupOf, bucket_in, bucket_of, bucket_of_bytes, falls_into};
 ghost use Rattle.version_core.specs.Limits.{bucket_count, version_limit};
-ghost use Rattle.version_core.specs.Made.{draft_of};
 ghost use Rattle.version_core.specs.Rows.{conds_of, is_equal_at};
 ghost use Rattle.version_core.specs.declared.change.Change.{Change};
 ghost use Rattle.version_core.specs.declared.version.Version.{Version};
 
 use crate::change::Change;
-use crate::keys::is_column_of;
 use crate::places::Places;
 use crate::version::Version;
 use row_core::{Name, NoMemory, Schema, Value};
@@ -78,35 +75,6 @@ impl Index {
             self.buckets[bucket].push(place)?;
         }
         Ok(())
-    }
-
-    /// The places of the open versions that have the row's value in the column: those of its bucket, or
-    /// all where it has none.
-    pub(crate) fn places_near<'a>(&'a self, open_at: &'a [usize], version: &Version) -> &'a [usize]
-        requires { length self.now.buckets.items ≡ bucket_count }
-        ensures { (vs : List Version) (key : List ℕ)
-            → IsIndex vs self.now → ListsOpen vs any_row open_at.now
-            → is_column_of key self.now.column ≡ true
-            → AreNear key (draft_of version.now) vs result.now }
-    {
-        match version.row.values.get(self.column as usize) {
-            Some(value) => self.buckets[bucket_of(value)].as_slice(),
-            None => open_at,
-        }
-    }
-
-    /// To how many places the rows lead, one after another.
-    fn count_near(&self, open: usize, versions: &[Version]) -> usize
-        requires { length self.now.buckets.items ≡ bucket_count }
-    {
-        let mut count: usize = 0;
-        for version in versions {
-            count = count.saturating_add(match version.row.values.get(self.column as usize) {
-                Some(value) => self.buckets[bucket_of(value)].len(),
-                None => open,
-            });
-        }
-        count
     }
 
     /// Leaves the places of open versions in that bucket.
@@ -284,33 +252,6 @@ pub(crate) fn candidates<'a>(
     }
 }
 
-/// The place of the index that leads from new rows to the fewest others of their key, unless it is
-/// cheaper to put all open ones in order.
-pub(crate) fn index_near(
-    indexes: &[Index],
-    key: &[u32],
-    open: usize,
-    new: &[Version],
-) -> Option<usize>
-    requires { All (λ index. length index.buckets.items ≡ bucket_count) indexes.now }
-    ensures inside { IfSome result (λ i. i < length indexes.now) }
-    ensures column { IfSome result (λ i. IfSome (slice_get indexes.now i)
-        (λ index. is_column_of key.now index.column ≡ true)) }
-{
-    let mut best = None;
-    let mut least = open.saturating_add(new.len());
-    for i in 0..indexes.len() {
-        if is_column_of(key, indexes[i].column) {
-            let count = indexes[i].count_near(open, new);
-            if count < least {
-                least = count;
-                best = Some(i);
-            }
-        }
-    }
-    best
-}
-
 /// Makes an index of each column that the change's conditions name, where memory is there.
 pub(crate) fn make_indexes(
     alloc: Global,
@@ -330,25 +271,6 @@ pub(crate) fn make_indexes(
         if let Some(column) = schema.column(pair.0) {
             make_index(alloc, indexes, versions, column);
         }
-    }
-}
-
-/// Makes an index of each column of the key, where memory is there.
-pub(crate) fn make_key_indexes(
-    alloc: Global,
-    indexes: &mut Vec<Index>,
-    versions: &[Version],
-    key: &[u32],
-)
-    requires few { length versions.now ≤ version_limit }
-    requires before { All (IsIndex versions.now) indexes.old.items }
-    ensures { All (IsIndex versions.now) indexes.new.items }
-{
-    if versions.len() < FEW {
-        return;
-    }
-    for column in key {
-        make_index(alloc, indexes, versions, *column);
     }
 }
 

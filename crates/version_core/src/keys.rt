@@ -5,8 +5,8 @@ ghost use Rattle.std.specs.List.{list_any};
 ghost use Rattle.key_core.specs.Keys.{collide, have_collision};
 ghost use Rattle.key_core.specs.Order.{tested_row};
 ghost use Rattle.row_core.specs.Schema.{key_of};
-ghost use Rattle.version_core.specs.Finding.{ListsOpen, any_row, AreSought};
-ghost use Rattle.version_core.specs.Keys.{AreNear, collides_left, is_column_of, is_left, overlap_after, rows_left, sets_key, break_key};
+ghost use Rattle.version_core.specs.Finding.{ListsOpen, any_row, AreSought, passes};
+ghost use Rattle.version_core.specs.Keys.{collides_left, is_column_of, is_left, overlap_after, rows_left, sets_key, break_key};
 ghost use Rattle.version_core.specs.Made.{draft_of};
 ghost use Rattle.version_core.specs.OpenVersions.{current};
 ghost use Rattle.version_core.specs.Rows.{conds_of, unnumbered};
@@ -62,7 +62,7 @@ fn sets_key(schema: &Schema, key: &[u32], pair: &(Name, Value)) -> bool
 }
 
 /// Whether the column is one of the key.
-pub(crate) fn is_column_of(key: &[u32], column: u32) -> bool
+fn is_column_of(key: &[u32], column: u32) -> bool
     ensures { result ≡ is_column_of key.now column }
 {
     key.iter().any(|other| *other == column)
@@ -162,31 +162,29 @@ fn push_rows<'a>(rows: &mut Vec<KeyedRow<'a>>, versions: &'a [Version]) -> Resul
     Ok(())
 }
 
-/// Whether a row that the change leaves collides with the new one. The places are those of all that
-/// could.
-pub(crate) fn any_collides(
+/// Whether an open version has that place, the change leaves its row, and that collides with the new
+/// one.
+pub(crate) fn collides_at(
     schema: &Schema,
     change: &Change,
+    columns: &[Option<u32>; SOUGHT_LIMIT],
     key: &[u32],
     versions: &[Version],
-    places: &[usize],
+    place: usize,
     new: &Version,
 ) -> bool
-    requires { AreNear key.now (draft_of new.now) versions.now places.now }
-    ensures { result ≡ list_any (λ left. collide key.now left (draft_of new.now))
-        (rows_left change.now schema.now (current versions.now)) }
+    requires { AreSought schema.now (conds_of change.now) columns.now }
+    ensures { result ≡ passes versions.now
+        (collides_left change.now schema.now key.now (draft_of new.now)) place }
 {
-    let columns = columns_sought(schema, change);
-    for place in places {
-        if collides_at(schema, change, &columns, key, &versions[*place], new) {
-            return true;
-        }
+    match versions.get(place) {
+        Some(version) => collides_left(schema, change, columns, key, version, new),
+        None => false,
     }
-    false
 }
 
 /// Whether the version is open, the change leaves its row, and that collides with the new one.
-fn collides_at(
+fn collides_left(
     schema: &Schema,
     change: &Change,
     columns: &[Option<u32>; SOUGHT_LIMIT],

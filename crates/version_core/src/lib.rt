@@ -4,6 +4,7 @@
 
 mod change;
 mod index;
+mod key_index;
 mod keys;
 mod making;
 mod places;

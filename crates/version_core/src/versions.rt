@@ -1,6 +1,6 @@
 //! All versions of a table, with the places of the open ones.
 
-ghost use Rattle.std.specs.Prelude.{◌≡◌, ◌≢◌, ◌+◌, ◌≤◌, ◌<◌, ◌++◌, List, [], true, false, length, map, filter, fold, count_by, All, IfOk, IfErr, IfSome, OnErr, OnOk};
+ghost use Rattle.std.specs.Prelude.{◌≡◌, ◌≢◌, ◌+◌, ◌≤◌, ◌<◌, ◌++◌, List, [], true, false, length, map, filter, fold, take, count_by, All, IfOk, IfErr, IfSome, OnErr, OnOk};
 ghost use Rattle.std.specs.List.{list_any, range_with_len};
 ghost use Rattle.key_core.specs.Keys.{collide, have_collision};
 ghost use Rattle.period_core.specs.Period.{holds_at};
@@ -9,20 +9,23 @@ ghost use Rattle.row_core.specs.declared.failure.Failure.TheVariants.{NoMemory};
 ghost use Rattle.row_core.specs.declared.row.Row.{Row};
 ghost use Rattle.row_core.specs.declared.schema.Column.{Column};
 ghost use Rattle.version_core.specs.Finding.{AreCandidates, ArePeriods, IsIndex, IsLookupOf, AreSought, row_period};
-ghost use Rattle.version_core.specs.Keys.{is_column_of, overlap_after, rows_left, break_key};
+ghost use Rattle.version_core.specs.KeyIndex.{IsKeyIndex};
+ghost use Rattle.version_core.specs.Keys.{overlap_after, rows_left, break_key};
 ghost use Rattle.version_core.specs.Limits.{bucket_count, version_limit};
 ghost use Rattle.version_core.specs.Made.{made, draft_of};
 ghost use Rattle.version_core.specs.OpenVersions.{closed_at, current, is_taken, places_from, versions_after};
+ghost use Rattle.version_core.specs.Plans.{IsPlanOf};
 ghost use Rattle.version_core.specs.Rows.{conds_of, drafts_of, numbered, parts_of_all, removes, unnumbered};
 ghost use Rattle.version_core.specs.Shown.{shown};
 ghost use Rattle.version_core.specs.declared.change.Change.{Change};
 
 use crate::change::Change;
 use crate::index::{
-    Index, Lookup, candidates, drop_closed_at, extend_indexes, index_near, lookup_of, make_indexes,
-    make_key_indexes, sweep_indexes,
+    Index, Lookup, candidates, drop_closed_at, extend_indexes, lookup_of, make_indexes,
+    sweep_indexes,
 };
-use crate::keys::{KeyOverlap, any_collides, collide_among, collide_among_all, may_overlap};
+use crate::key_index::KeyIndex;
+use crate::keys::{KeyOverlap, collide_among, collide_among_all, may_overlap};
 use crate::making::{NewVersions, versions_of};
 use crate::places::Places;
 use crate::portion::{SOUGHT_LIMIT, columns_sought, count_of, is_removed, push_parts, reaches};
@@ -55,6 +58,8 @@ pub struct Versions {
     closed: usize,
     /// What finds open ones by their values. Without them a change goes over all open ones.
     indexes: Vec<Index>,
+    /// What finds open ones of a key by their time. Without it all open ones are put in order.
+    key_index: Option<KeyIndex>,
 }
 
 impl Model for Versions {
@@ -66,7 +71,7 @@ impl Model for Versions {
 
     ghost view = { λ v. v.items.items };
 
-    ghost invariant = { λ v. AreBeside v.items.items v.periods.items v.open_at v.indexes.items };
+    ghost invariant = { λ v. AreBeside v.items.items v.periods.items v.open_at v.indexes.items v.key_index };
 }
 
 impl DeepCopy for Versions {
@@ -78,6 +83,7 @@ impl DeepCopy for Versions {
             open_at: self.open_at.copy(alloc)?,
             closed: self.closed,
             indexes: Vec::new(alloc),
+            key_index: None,
         })
     }
 }
@@ -93,6 +99,7 @@ impl Versions {
             open_at: Places::new(alloc),
             closed: 0,
             indexes: Vec::new(alloc),
+            key_index: None,
         }
     }
 
@@ -158,23 +165,13 @@ impl Versions {
             → overlap_after change.now schema.now self.old ≡ true) }
         ensures err { OnErr result (self.new ≡ self.old) }
     {
-        let columns = schema.key_places(alloc)?;
-        self.make_indexes(alloc, schema, change, &columns);
+        let key = schema.key_places(alloc)?;
+        make_indexes(alloc, &mut self.indexes, &self.items, schema, change);
         let lookup = lookup_of(&self.indexes, schema, change);
         self.drop_closed(lookup);
-        self.carry_out(alloc, schema, &columns, commit, change, lookup)
-    }
-
-    /// Makes the indexes that help the change, and the test of the key with those columns.
-    fn make_indexes(&mut self, alloc: Global, schema: &Schema, change: &Change, columns: &[u32])
-        requires few { length self.old ≤ version_limit }
-        requires columns { columns.now ≡ key_of schema.now }
-        ensures { self.new ≡ self.old }
-    {
-        make_indexes(alloc, &mut self.indexes, &self.items, schema, change);
-        if may_overlap(schema, change, columns) {
-            make_key_indexes(alloc, &mut self.indexes, &self.items, columns);
-        }
+        let plan = self.plan(alloc, schema, commit, change, lookup)?;
+        self.prepare_key_index(alloc, schema, change, &key, &plan);
+        self.carry_out(alloc, schema, &key, commit, change, plan)
     }
 
     /// Drops places of closed versions where a change with that lookup looks: in its bucket, or, where many
@@ -195,22 +192,77 @@ impl Versions {
         }
     }
 
-    /// What `apply` does, by the places where the lookup finds rows.
+    /// Works out the change by the places where the lookup finds rows.
+    fn plan(
+        &self,
+        alloc: Global,
+        schema: &Schema,
+        commit: u64,
+        change: &Change,
+        lookup: Option<Lookup>,
+    ) -> Result<Plan, NoMemory>
+        requires few { length self.now ≤ version_limit }
+        requires bucket { IfSome lookup (λ lookup. lookup.bucket < bucket_count) }
+        requires lookup { IfSome lookup (IsLookupOf change.now schema.now) }
+        ensures { IfOk result (IsPlanOf commit change.now schema.now self.now) }
+    {
+        let places = candidates(self.open_at.as_slice(), &self.indexes, lookup);
+        plan_change(
+            alloc,
+            schema,
+            &self.items,
+            &self.periods,
+            places,
+            commit,
+            change,
+        )
+    }
+
+    /// Makes the index of the key where it helps to test the plan, and drops it where that isn't small.
+    fn prepare_key_index(
+        &mut self,
+        alloc: Global,
+        schema: &Schema,
+        change: &Change,
+        key: &[u32],
+        plan: &Plan,
+    )
+        requires { key.now ≡ key_of schema.now }
+        ensures { self.new ≡ self.old }
+    {
+        if !is_small(plan, self.items.len()) {
+            self.key_index = None;
+        } else if self.key_index_by(key).is_none() && may_overlap(schema, change, key) {
+            self.key_index = KeyIndex::of(alloc, &self.items, key).ok();
+        }
+    }
+
+    /// The index by the key of those columns, where it is there.
+    fn key_index_by(&self, key: &[u32]) -> Option<&KeyIndex>
+        ensures index { IfSome result (λ index. IsKeyIndex self.now index.now) }
+        ensures key { IfSome result (λ index. index.now.columns.items ≡ key.now) }
+    {
+        match &self.key_index {
+            Some(index) => { if index.is_by(key) { Some(index) } else { None } }
+            None => None,
+        }
+    }
+
+    /// Carries out the change as it was planned, unless it would leave an overlap.
     fn carry_out(
         &mut self,
         alloc: Global,
         schema: &Schema,
-        columns: &[u32],
+        key: &[u32],
         commit: u64,
         change: &Change,
-        lookup: Option<Lookup>,
+        plan: Plan,
     ) -> Result<VersionCounts, Failure<KeyOverlap>>
-        requires columns { columns.now ≡ key_of schema.now }
+        requires key { key.now ≡ key_of schema.now }
         requires room { length self.old
             + length (drafts_of change.now schema.now (current self.old)) ≤ version_limit }
         requires unbroken { break_key (key_of schema.now) (map unnumbered (current self.old)) ≡ false }
-        requires bucket { IfSome lookup (λ lookup. lookup.bucket < bucket_count) }
-        requires lookup { IfSome lookup (IsLookupOf change.now schema.now) }
+        requires plan { IsPlanOf commit change.now schema.now self.old plan }
         ensures ok { OnOk result (self.new ≡ versions_after commit change.now schema.now self.old) }
         ensures counts { IfOk result (λ counts.
             (counts.added ≡ length (drafts_of change.now schema.now (current self.old)))
@@ -220,20 +272,10 @@ impl Versions {
             → overlap_after change.now schema.now self.old ≡ true) }
         ensures err { OnErr result (self.new ≡ self.old) }
     {
-        let before = self.items.len();
-        let places = candidates(self.open_at.as_slice(), &self.indexes, lookup);
-        let plan = plan_change(
-            alloc,
-            schema,
-            &self.items,
-            &self.periods,
-            places,
-            commit,
-            change,
-        )?;
-        if self.leaves_overlap(alloc, schema, columns, change, &plan.new)? {
+        if self.leaves_overlap(alloc, schema, key, change, &plan.new)? {
             return Err(Failure::Refused(KeyOverlap));
         }
+        let before = self.items.len();
         let Plan { new, taken } = plan;
         let counts = VersionCounts {
             added: new.len() as u64,
@@ -242,7 +284,14 @@ impl Versions {
         add_versions(&mut self.items, &mut self.periods, &mut self.open_at, new)?;
         close_all(&mut self.items, &taken, commit);
         self.closed = self.closed.saturating_add(taken.len());
-        extend_indexes(&mut self.indexes, &self.items, before);
+        let versions = self.items.as_slice();
+        keep_indexes(
+            &mut self.indexes,
+            &mut self.key_index,
+            versions,
+            before,
+            &taken,
+        );
         Ok(counts)
     }
 
@@ -268,8 +317,7 @@ impl Versions {
     }
 
     /// Whether one of the new rows collides with another, or with a row that the change leaves. Of
-    /// these only the rows are looked at that an index of a column of the key leads to, if that is
-    /// cheaper.
+    /// these only the rows are looked at that the index of the key leads to, where it is there.
     fn find_overlap(
         &self,
         alloc: Global,
@@ -282,10 +330,10 @@ impl Versions {
         ensures { IfOk result (λ overlap. overlap ≡ have_collision columns.now
             (rows_left change.now schema.now (current self.now) ++ map draft_of new.now)) }
     {
-        match index_near(&self.indexes, columns, self.open_at.len(), new) {
-            Some(i) => {
+        match self.key_index_by(columns) {
+            Some(index) => {
                 let among_new = collide_among(alloc, columns, new)?;
-                Ok(among_new || self.any_meets(schema, columns, change, &self.indexes[i], new))
+                Ok(among_new || self.any_meets(schema, change, index, new))
             }
             None => {
                 let open_at = self.open_at.as_slice();
@@ -295,22 +343,16 @@ impl Versions {
     }
 
     /// Whether a new row collides with one that the change leaves.
-    fn any_meets(
-        &self,
-        schema: &Schema,
-        columns: &[u32],
-        change: &Change,
-        index: &Index,
-        new: &[Version],
-    ) -> bool
-        requires index { IsIndex self.now index.now }
-        requires column { is_column_of columns.now index.now.column ≡ true }
-        ensures { result ≡ list_any (λ other. list_any (λ left. collide columns.now left other)
+    fn any_meets(&self, schema: &Schema, change: &Change, index: &KeyIndex, new: &[Version]) -> bool
+        requires index { IsKeyIndex self.now index.now }
+        requires unbroken { have_collision index.now.columns.items
+            (map unnumbered (current self.now)) ≡ false }
+        ensures { result ≡ list_any (λ other. list_any
+            (λ left. collide index.now.columns.items left other)
             (rows_left change.now schema.now (current self.now))) (map draft_of new.now) }
     {
         for version in new {
-            let places = index.places_near(self.open_at.as_slice(), version);
-            if any_collides(schema, change, columns, &self.items, places, version) {
+            if index.any_collides(schema, change, &self.items, version) {
                 return true;
             }
         }
@@ -326,6 +368,17 @@ struct Plan {
     taken: Vec<usize>,
 }
 
+/// Among so many versions of a table a small plan adds or closes one.
+const VERSIONS_FOR_ONE: usize = 8;
+
+/// Whether a plan is small beside that many versions of its table. The key of a small one is tested by
+/// the index, and its versions are added there and taken out, each in a time that grows as the logarithm
+/// of the open ones. A larger one is done sooner where all open rows are put in order, and no index is
+/// kept; and it costs so much itself that the index may be made anew behind it.
+fn is_small(plan: &Plan, versions: usize) -> bool {
+    plan.new.len().saturating_add(plan.taken.len()) <= versions / VERSIONS_FOR_ONE
+}
+
 /// Works out a change without making it, so that a refusal leaves all as it was.
 fn plan_change(
     alloc: Global,
@@ -339,10 +392,7 @@ fn plan_change(
     requires few { length versions.now ≤ version_limit }
     requires periods { ArePeriods versions.now periods.now }
     requires places { AreCandidates change.now schema.now versions.now places.now }
-    ensures new { IfOk result (λ plan. plan.new.items ≡ made commit
-        (numbered (length versions.now) (drafts_of change.now schema.now (current versions.now)))) }
-    ensures taken { IfOk result (λ plan. plan.taken.items
-        ≡ places_from (is_taken change.now schema.now) 0 versions.now) }
+    ensures { IfOk result (IsPlanOf commit change.now schema.now versions.now) }
 {
     match change {
         Change::Make { .. } => Ok(Plan::of(alloc, Vec::new(alloc))),
@@ -447,6 +497,47 @@ fn is_taken(
     reaches(change, period)
         && version.systo.is_none()
         && is_removed(schema, change, columns, &version.row)
+}
+
+/// Adds the versions from that place on to all indexes. Those at the places, which are closed, stay in
+/// the indexes by a column, until a change comes across them.
+fn keep_indexes(
+    indexes: &mut Vec<Index>,
+    key_index: &mut Option<KeyIndex>,
+    versions: &[Version],
+    from: usize,
+    taken: &[usize],
+)
+    requires few { length versions.now ≤ version_limit }
+    requires inside { from ≤ length versions.now }
+    requires by_value { All (IsIndex (take from versions.now)) indexes.old.items }
+    requires by_key { IfSome key_index.old (IsKeyIndex (take from versions.now)) }
+    ensures by_value { All (IsIndex versions.now) indexes.new.items }
+    ensures by_key { IfSome key_index.new (IsKeyIndex versions.now) }
+{
+    extend_indexes(indexes, versions, from);
+    keep_key_index(key_index, versions, from, taken);
+}
+
+/// Adds the versions from that place on to the index of the key, and takes out those at the places
+/// that are closed. Where memory is refused there is none.
+fn keep_key_index(
+    key_index: &mut Option<KeyIndex>,
+    versions: &[Version],
+    from: usize,
+    taken: &[usize],
+)
+    requires inside { from ≤ length versions.now }
+    requires before { IfSome key_index.old (IsKeyIndex (take from versions.now)) }
+    ensures { IfSome key_index.new (IsKeyIndex versions.now) }
+{
+    let Some(mut index) = key_index.take() else {
+        return;
+    };
+    if index.extend(versions, from).is_ok() {
+        index.drop_closed(versions, taken);
+        *key_index = Some(index);
+    }
 }
 
 /// Adds versions, their periods and their places. On refusal there are none more.

@@ -1,10 +1,20 @@
-use Rattle.std.proofs.Common.{◌∙◌, sym}
+use Rattle.std.proofs.Common.{◌∙◌, ap, length, sym}
+use Rattle.version_core.specs.Made.{made}
+use Rattle.version_core.specs.Rows.{numbered}
 use Rattle.version_core.proofs.OpenLemmas.{none-taken}
 use Rattle.version_core.proofs.versions.plan_change.Goals as goal
 
-pub returns-in-Make-clause-taken : goal.returns-in-Make-clause-taken
-returns-in-Make-clause-taken c = rw c.in-Make.is (c.of.ensures.taken ∙ sym (none-taken 0 c.args.versions.now))
+pub returns-in-Make : goal.returns-in-Make
+returns-in-Make c =
+    rw c.in-Make.is (record {
+      new = ap (λ v. v.items) c.of.ensures.new ∙ c.new.ensures.items;
+      taken = c.of.ensures.taken ∙ sym (none-taken 0 c.args.versions.now);
+    })
 
-pub returns-in_ok-new-in-Load-clause-taken : goal.returns-in_ok-new-in-Load-clause-taken
-returns-in_ok-new-in-Load-clause-taken c =
-    rw c.in-Load.is (c.of-in-Load.ensures.taken ∙ sym (none-taken 0 c.args.versions.now))
+pub returns-in_ok-new-in-Load : goal.returns-in_ok-new-in-Load
+returns-in_ok-new-in-Load c =
+    rw c.in-Load.is (record {
+      new = ap (λ v. v.items) c.of-in-Load.ensures.new ∙ c.in_ok-new-in-Load.ensures
+          ∙ ap (λ ds. made c.args.commit (numbered (length c.args.versions.now) ds)) c.as_slice.ensures;
+      taken = c.of-in-Load.ensures.taken ∙ sym (none-taken 0 c.args.versions.now);
+    })

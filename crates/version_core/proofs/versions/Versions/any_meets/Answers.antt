@@ -13,12 +13,12 @@ use Rattle.version_core.proofs.versions.Versions.any_meets.Goals as goal
 pub returns-then-any_collides : goal.returns-then-any_collides
 returns-then-any_collides c =
     let meets : Draft
-    → Bool = λ other. list_any (λ left. collide c.args.columns.now left other)
+    → Bool = λ other. list_any (λ left. collide c.args.index.now.columns.items left other)
     (rows_left c.args.change.now c.args.schema.now (current c.args.self.now)) in
     let version = c.version-item.result in
     let met : meets (draft_of version) ≡ c.any_collides.result =
     sym (c.any_collides.ensures
-    ∙ ap (λ vs. list_any (λ left. collide c.args.columns.now left (draft_of version))
+    ∙ ap (λ vs. list_any (λ left. collide c.args.index.now.columns.items left (draft_of version))
     (rows_left c.args.change.now c.args.schema.now (current vs))) (c.deref.ensures.value ∙ c.self.view_is)) in
     sym (list_any-map meets draft_of c.args.new.now
     ∙ list_any_at

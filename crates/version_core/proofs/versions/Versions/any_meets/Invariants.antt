@@ -9,5 +9,5 @@ use Rattle.version_core.proofs.versions.Versions.any_meets.Given as goal
 -- none so far
 abbrev pub invariant-loop-version : goal.invariant-loop-version
 invariant-loop-version l =
-    list_any (λ other. list_any (λ left. collide l.columns left other) (rows_left l.change l.schema (current l.self)))
+    list_any (λ other. list_any (λ left. collide l.index.columns.items left other) (rows_left l.change l.schema (current l.self)))
     (map draft_of (take l.version-index l.new)) ≡ false

@@ -16,4 +16,5 @@ invariant_of-self-then-self-len c =
             swept (ListsOpen-swept c.self.inside.items.items any_row c.self.inside.open_at c.self.invariant.found.all);
         by_value = rw c.deref-then-self-len-2.ensures.value at c.sweep_indexes.ensures;
       };
+      by_key = c.self.invariant.by_key;
     }

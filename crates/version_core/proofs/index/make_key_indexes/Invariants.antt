@@ -1,7 +1,0 @@
-use Rattle.std.specs.Prelude.{All}
-use Rattle.version_core.specs.Finding.{IsIndex}
-use Rattle.version_core.proofs.index.make_key_indexes.Given as goal
-
--- each is an index of the versions
-abbrev pub invariant-loop-column : goal.invariant-loop-column
-invariant-loop-column l = All (IsIndex l.versions) l.indexes.items

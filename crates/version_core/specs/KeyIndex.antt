@@ -1,0 +1,58 @@
+-- The open versions by key and time.
+use Rattle.std.specs.Prelude.{◌≡◌, ℕ, ◌+◌, ◌*◌, ◌%◌, ◌^◌, List, true, Some, fold, option_map, slice_get, unwrap_or}
+use Rattle.std.specs.Int.{cast_unsigned, w64}
+use Rattle.std.specs.declared.cmp.Ordering.{Ordering}
+use Rattle.std.specs.declared.cmp.Ordering.TheVariants.{Less}
+use Rattle.std.specs.Ordering.{nat_cmp, int_cmp, ordering_then}
+use Rattle.std.specs.BTreeSet.{contains}
+use Rattle.row_core.specs.declared.draft.Draft.{Draft}
+use Rattle.row_core.specs.declared.value.Value.{Value}
+use Rattle.row_core.specs.declared.value.Value.TheVariants.{Int, Text}
+use Rattle.key_core.specs.Keys.{collide}
+use Rattle.version_core.specs.Made.{draft_of}
+use Rattle.version_core.specs.OpenVersions.{is_open}
+use Rattle.version_core.specs.declared.key_index.Entry.{Entry}
+use Rattle.version_core.specs.declared.key_index.KeyIndex.{KeyIndex}
+use Rattle.version_core.specs.declared.version.Version.{Version}
+
+-- one number for two, of 64 bits
+abbrev pub mixed : ℕ → ℕ → ℕ
+mixed number next = (number * 1099511628211 + next) % 2 ^ 64
+
+-- the number of a text's bytes
+unfoldable pub number_of_bytes : List ℕ → ℕ
+number_of_bytes bytes = fold mixed 0 bytes
+
+-- the number of a value
+unfoldable pub number_of : Value → ℕ
+number_of (Int number) = cast_unsigned w64 number
+number_of (Text bytes) = number_of_bytes bytes
+
+-- the number of the value in a column, and 0 where there is none
+abbrev pub number_in : List Value → ℕ → ℕ
+number_in values column = unwrap_or (option_map number_of (slice_get values column)) 0
+
+-- the number of the values in the key's columns: values of one key have one number
+unfoldable pub key_number : List ℕ → List Value → ℕ
+key_number key values = fold (λ number column. mixed number (number_in values column)) 0 key
+
+-- the entry of the version at that place
+abbrev pub entry_of : List ℕ → ℕ → Version → Entry
+entry_of key place v = record { number = key_number key v.row.values; from = v.row.period.from; place = place }
+
+-- the order of entries: by number, then by start
+abbrev pub entry_cmp : Entry → Entry → Ordering
+entry_cmp a b = ordering_then (nat_cmp a.number b.number)
+    (ordering_then (int_cmp a.from b.from) (nat_cmp a.place b.place))
+
+-- the index has an entry for each open version
+abbrev pub IsKeyIndex : List Version → KeyIndex → Type 0
+IsKeyIndex vs index =
+    (place : ℕ) (v : Version) → slice_get vs place ≡ Some v → is_open v ≡ true
+    → contains entry_cmp index.entries (entry_of index.columns.items place v) ≡ true
+
+-- no open version whose entry stands before that one collides with the row
+abbrev pub IsLastNear : List ℕ → Draft → List Version → Entry → Type 0
+IsLastNear key other vs entry =
+    (place : ℕ) (v : Version) → slice_get vs place ≡ Some v → is_open v ≡ true → collide key (draft_of v) other ≡ true
+    → entry_cmp (entry_of key place v) entry ≡ Less → ⊥

@@ -1,0 +1,255 @@
+//! The index of open versions by key and time, by which the key of a new row is tested.
+
+ghost use Rattle.std.specs.Prelude.{◌≡◌, ◌+◌, ◌≤◌, ◌<◌, ◌≤ℤ◌, true, false, length, map, take, IfOk, OnOk};
+ghost use Rattle.std.specs.List.{list_any};
+ghost use Rattle.key_core.specs.Keys.{collide, have_collision, same_key};
+ghost use Rattle.version_core.specs.KeyIndex.{IsKeyIndex, IsLastNear, entry_of, key_number, mixed, number_in, number_of, number_of_bytes};
+ghost use Rattle.version_core.specs.Keys.{rows_left};
+ghost use Rattle.version_core.specs.Made.{draft_of};
+ghost use Rattle.version_core.specs.OpenVersions.{current, is_open};
+ghost use Rattle.version_core.specs.Rows.{unnumbered};
+
+use crate::change::Change;
+use crate::keys::collides_at;
+use crate::portion::columns_sought;
+use crate::version::Version;
+use key_core::same_key;
+use period_core::Point;
+use row_core::{NoMemory, Schema, Value};
+use std::alloc::{AllocError, Global};
+use std::collections::BTreeSet;
+
+/// What spreads the numbers of texts, and of the columns of a key, over 64 bits.
+const FACTOR: u64 = 1_099_511_628_211;
+
+/// What the index has of a version: a number that rows of one key share, its start, and its place.
+#[derive(Clone, Copy, Debug, PartialEq, Eq, PartialOrd, Ord)]
+pub(crate) struct Entry {
+    pub number: u64,
+    pub from: Point,
+    pub place: usize,
+}
+
+/// The open versions by the number of their key, those of one number by start. Rows of one key share
+/// no instant, so of those that begin before the end of a new row only the last can share one with it.
+/// Others are looked at only where a change takes them out, or two keys have one number.
+#[derive(Debug, Drop)]
+pub(crate) struct KeyIndex {
+    pub columns: Vec<u32>,
+    pub entries: BTreeSet<Entry>,
+}
+
+impl KeyIndex {
+    /// The index of versions by the key of those columns.
+    pub(crate) fn of(alloc: Global, versions: &[Version], key: &[u32]) -> Result<KeyIndex, NoMemory>
+        ensures { IfOk result (IsKeyIndex versions.now) }
+    {
+        let mut index = KeyIndex {
+            columns: Vec::from_slice(alloc, key)?,
+            entries: BTreeSet::new(alloc),
+        };
+        index.extend(versions, 0)?;
+        Ok(index)
+    }
+
+    /// Whether it is one by the key of those columns.
+    pub(crate) fn is_by(&self, key: &[u32]) -> bool
+        ensures { result ≡ true → self.now.columns.items ≡ key.now }
+    {
+        self.columns.as_slice() == key
+    }
+
+    /// Adds the open ones of the versions from that place on.
+    pub(crate) fn extend(&mut self, versions: &[Version], from: usize) -> Result<(), NoMemory>
+        requires inside { from ≤ length versions.now }
+        requires before { IsKeyIndex (take from versions.now) self.old }
+        ensures { OnOk result (IsKeyIndex versions.now self.new) }
+    {
+        for place in from..versions.len() {
+            self.add(versions, place)?;
+        }
+        Ok(())
+    }
+
+    /// Adds the version at that place, where it is open.
+    fn add(&mut self, versions: &[Version], place: usize) -> Result<(), NoMemory>
+        requires inside { place < length versions.now }
+        requires before { IsKeyIndex (take place versions.now) self.old }
+        ensures { OnOk result (IsKeyIndex (take (place + 1) versions.now) self.new) }
+    {
+        let version = &versions[place];
+        if version.systo.is_none() {
+            let entry = entry_of(&self.columns, place, version);
+            if let Err(_) = self.entries.insert(entry) {
+                return Err(AllocError);
+            }
+        }
+        Ok(())
+    }
+
+    /// Takes out those of the versions at the places that are closed.
+    pub(crate) fn drop_closed(&mut self, versions: &[Version], places: &[usize])
+        requires { IsKeyIndex versions.now self.old }
+        ensures { IsKeyIndex versions.now self.new }
+    {
+        for place in places {
+            self.drop_closed_at(versions, *place);
+        }
+    }
+
+    /// Takes out the version at that place, where it is closed.
+    fn drop_closed_at(&mut self, versions: &[Version], place: usize)
+        requires { IsKeyIndex versions.now self.old }
+        ensures { IsKeyIndex versions.now self.new }
+    {
+        if let Some(version) = versions.get(place) {
+            if version.systo.is_some() {
+                let entry = entry_of(&self.columns, place, version);
+                self.entries.remove(&entry);
+            }
+        }
+    }
+
+    /// Whether a row that the change leaves collides with the new one. The open rows are gone through
+    /// from its end back, until no earlier one can.
+    pub(crate) fn any_collides(
+        &self,
+        schema: &Schema,
+        change: &Change,
+        versions: &[Version],
+        new: &Version,
+    ) -> bool
+        requires index { IsKeyIndex versions.now self.now }
+        requires unbroken { have_collision self.now.columns.items
+            (map unnumbered (current versions.now)) ≡ false }
+        ensures { result ≡ list_any (λ left. collide self.now.columns.items left (draft_of new.now))
+            (rows_left change.now schema.now (current versions.now)) }
+    {
+        let key = self.columns.as_slice();
+        let sought = columns_sought(schema, change);
+        let end = end_of(key, new);
+        let number = end.number;
+        for entry in self.entries.range(..end).rev() {
+            let place = entry.place;
+            if collides_at(schema, change, &sought, key, versions, place, new) {
+                return true;
+            }
+            if is_last_near(key, versions, entry, number, new) {
+                return false;
+            }
+        }
+        false
+    }
+}
+
+/// The entry of the version at that place.
+fn entry_of(key: &[u32], place: usize, version: &Version) -> Entry
+    ensures { result ≡ entry_of key.now place version.now }
+{
+    Entry {
+        number: key_number(key, version.row.values.as_slice()),
+        from: version.row.period.from,
+        place,
+    }
+}
+
+/// Where a search ends that is for rows of its key: they begin before its end.
+fn end_of(key: &[u32], version: &Version) -> Entry
+    ensures number { result.number ≡ key_number key.now version.now.row.values }
+    ensures from { result.from ≡ version.now.row.period.to }
+{
+    Entry {
+        number: key_number(key, version.row.values.as_slice()),
+        from: version.row.period.to,
+        place: 0,
+    }
+}
+
+/// Whether no open version before the entry collides with the new row, whose key has that number: all
+/// before it are of other keys, or its own version is open, of the row's key, and begins no later.
+fn is_last_near(
+    key: &[u32],
+    versions: &[Version],
+    entry: &Entry,
+    number: u64,
+    new: &Version,
+) -> bool
+    requires number { number ≡ key_number key.now new.now.row.values }
+    requires unbroken { have_collision key.now (map unnumbered (current versions.now)) ≡ false }
+    ensures { result ≡ true → IsLastNear key.now (draft_of new.now) versions.now entry.now }
+{
+    if entry.number != number {
+        return entry.number < number;
+    }
+    match versions.get(entry.place) {
+        Some(version) => is_open_before(key, version, entry.from, new),
+        None => false,
+    }
+}
+
+/// Whether the version is open, of the new row's key, and begins where the entry says, which is no
+/// later than the new row does.
+fn is_open_before(key: &[u32], version: &Version, from: Point, new: &Version) -> bool
+    ensures open { result ≡ true → is_open version.now ≡ true }
+    ensures begins { result ≡ true → version.now.row.period.from ≡ from }
+    ensures before { result ≡ true → from ≤ℤ new.now.row.period.from }
+    ensures key { result ≡ true → same_key key.now version.now.row.values new.now.row.values ≡ true }
+{
+    version.systo.is_none()
+        && version.row.period.from == from
+        && from <= new.row.period.from
+        && same_key(
+            key,
+            version.row.values.as_slice(),
+            new.row.values.as_slice(),
+        )
+}
+
+/// A number of the values in the key's columns. Values of one key have one number.
+fn key_number(key: &[u32], values: &[Value]) -> u64
+    ensures { result ≡ key_number key.now values.now }
+{
+    let mut number = 0;
+    for column in key {
+        number = mixed(number, number_in(values, *column));
+    }
+    number
+}
+
+/// One number for two.
+fn mixed(number: u64, next: u64) -> u64
+    ensures { result ≡ mixed number next }
+{
+    number.wrapping_mul(FACTOR).wrapping_add(next)
+}
+
+/// The number of the value in a column, and 0 where there is none.
+fn number_in(values: &[Value], column: u32) -> u64
+    ensures { result ≡ number_in values.now column }
+{
+    match values.get(column as usize) {
+        Some(value) => number_of(value),
+        None => 0,
+    }
+}
+
+/// The number of a value.
+fn number_of(value: &Value) -> u64
+    ensures { result ≡ number_of value.now }
+{
+    match value {
+        Value::Int(number) => number.cast_unsigned(),
+        Value::Text(text) => number_of_bytes(text.as_bytes()),
+    }
+}
+
+/// The number of a text's bytes.
+fn number_of_bytes(bytes: &[u8]) -> u64
+    ensures { result ≡ number_of_bytes bytes.now }
+{
+    let mut number = 0;
+    for byte in bytes {
+        number = mixed(number, *byte as u64);
+    }
+    number
+}
