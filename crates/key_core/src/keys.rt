@@ -18,9 +18,11 @@ pub struct KeyedRow<'a> {
 }
 
 /// Whether two rows at different places are equal in each of the key's columns and share an instant.
-/// The rows are left in the order of their keys.
+/// The rows are left by rising key, those of one key by rising start.
 pub fn have_collision(key: &[u32], rows: &mut Vec<KeyedRow<'_>>) -> bool
-    ensures { result ≡ have_collision key.now (map tested_row rows.old.items) }
+    ensures collision { result ≡ have_collision key.now (map tested_row rows.old.items) }
+    ensures permutation { IsPermutation rows.old.items rows.new.items }
+    ensures ordered { IsSortedBy (λ a b. is_lt (row_cmp key.now a b)) rows.new.items }
 {
     sort_rows(key, rows);
     neighbours_collide(key, rows)

@@ -1,6 +1,6 @@
 //! Lists in chunks.
 
-ghost use Rattle.std.specs.Prelude.{◌≡◌, ◌∷◌, ◌++◌, [], List, IfOk, MatchOption, length, slice_get};
+ghost use Rattle.std.specs.Prelude.{◌≡◌, ◌<◌, ◌∷◌, ◌++◌, [], All, List, IfOk, MatchOption, length, slice_get};
 ghost use Rattle.std.specs.Option.{option_copied};
 ghost use Rattle.list_core.specs.Chunks.{all_in};
 
@@ -36,7 +36,8 @@ impl<T> ChunkedList<T> {
 
     /// The chunks, none of which is empty.
     pub fn chunks(&self) -> &[Vec<T>]
-        ensures { all_in result.now ≡ self.now }
+        ensures items { all_in result.now ≡ self.now }
+        ensures some { All (λ chunk. 0 < length chunk.items) result.now }
     {
         &self.chunks
     }

@@ -1,5 +1,6 @@
 //! Commands, each done alone, and queries on a snapshot, in a block of commands or out of it.
-ghost use Rattle.std.specs.Prelude.{◌≡◌, ℕ, ◌+◌, ◌≤◌, ◌<◌, ◌^◌, List, [], length, true, IfErr, IfOk, Ok};
+ghost use Rattle.std.specs.Prelude.{◌≡◌, ℕ, ◌+◌, ◌≤◌, ◌<◌, ◌^◌, List, [], length, true, Err, IfErr, IfOk, Ok};
+ghost use Rattle.row_core.specs.declared.failure.Failure.TheVariants.{NoMemory};
 ghost use Rattle.command_core.specs.Command.{meaning_of};
 ghost use Rattle.command_core.specs.Meaning.{behind_length};
 ghost use Rattle.command_core.specs.Statement.{is_allowed};
@@ -161,9 +162,10 @@ pub(crate) fn perform<T: Threads + Wait + Sync>(
     }
 }
 
-/// The answer that a command's outcome is: a refusal is one too.
+/// The answer that a command's outcome is: a refusal is one too, and only want of memory is none.
 pub(crate) fn answer_of(outcome: Result<Answer, Failure>) -> Result<Answer, NoMemory>
-    ensures { IfOk result (IsAnswerOf outcome) }
+    ensures answer { IfOk result (IsAnswerOf outcome) }
+    ensures memory { IfErr result (λ _. outcome ≡ Err NoMemory) }
 {
     match outcome {
         Ok(answer) => Ok(answer),

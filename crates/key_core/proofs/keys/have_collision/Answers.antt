@@ -5,8 +5,8 @@ use Rattle.key_core.specs.declared.keys.KeyedRow.{KeyedRow}
 use Rattle.key_core.proofs.Collisions.{collision-from_neighbours}
 use Rattle.key_core.proofs.keys.have_collision.Goals as goal
 
-pub returns : goal.returns
-returns c =
+pub returns-clause-collision : goal.returns-clause-collision
+returns-clause-collision c =
     c.neighbours_collide.ensures
     ∙ ap (have_neighbours (λ (a b : KeyedRow). collide c.args.key.now (tested_row a) (tested_row b)))
     c.deref.ensures.value

@@ -10,5 +10,5 @@ returns-clause-printed g c =
     (λ errors printed.
     command-printed (ledger_history c.args.ledger.now) c.args.number (meaning_of c.args.command) c.perform.result
     (ledger_history c.perform.new.ledger) c.answer_of-answer.result c.args.printer.now c.print_given.new.printer
-    errors c.perform.ensures.performs c.answer_of-answer.ensures printed)
+    errors c.perform.ensures.performs c.answer_of-answer.ensures.answer printed)
     c.print_given.ensures.printed

@@ -10,5 +10,5 @@ returns-clause-printed g c =
     IfOk-weaker c.print_given.result _ _
     (λ errors printed.
     command-printed before c.args.number (meaning_of c.args.command) c.query.result before c.answer_of-answer.result
-    c.args.printer.now c.print_given.new.printer errors c.query.ensures c.answer_of-answer.ensures printed)
+    c.args.printer.now c.print_given.new.printer errors c.query.ensures c.answer_of-answer.ensures.answer printed)
     c.print_given.ensures.printed
