@@ -4,7 +4,7 @@ ghost use Rattle.std.specs.Prelude.{IsTrue};
 ghost use Rattle.std.specs.Option.{ForSome};
 ghost use Rattle.dip_core.specs.Item.{IsBelow};
 
-use dip_core::{Item, Part, Placer, create_dip};
+use dip_core::{Division, Item, Part, Placer, create_dip};
 use jiff::civil::Date;
 use period_core::{Period, Point};
 use std::alloc::Global;
@@ -40,30 +40,43 @@ fn may_follow(last: Option<Item>, item: &Item) -> bool
     }
 }
 
-// The numbers of the parts that a placer puts the items into, and the division that comes of it. Only the
-// first item takes no look at a last end.
+// The division that comes of placing the items, each of which goes into the part of that number. Only the first takes
+// no look at a last end.
+fn placed(
+    rt: &(impl Abort + Alloc<A = Global>),
+    items: &[Item],
+    places: &[u32],
+) -> Result<Division, Fail> {
+    let mut placer = Placer::new(rt.alloc());
+    for (item, place) in items.iter().zip(places) {
+        assert!(rt; may_follow(placer.last(), item));
+        assert!(rt; placer.len() < 1_000_000);
+        assert!(rt; placer.place(*item)? == *place);
+        assert!(rt; (placer.looks() == 0) == (placer.len() == 1));
+    }
+    assert!(rt; placer.len() == items.len() as u64);
+    Ok(placer.finish())
+}
+
+// Both divisions have the same parts.
+fn check_same(rt: &impl Abort, one: &Division, other: &Division) {
+    assert!(rt; one.instant() == other.instant());
+    assert!(rt; one.parts() == other.parts());
+    for number in 0..one.parts() {
+        assert!(rt; number < other.parts());
+        assert!(rt; one.part(number).items() == other.part(number).items());
+    }
+}
+
+// A placer puts the items into the parts of these numbers, and what comes of it is their division.
 fn check_placing(
     rt: &(impl Abort + Alloc<A = Global> + Threads + Sync),
     items: &[Item],
     places: &[u32],
 ) -> Result<(), Fail> {
-    let mut placer = Placer::new(rt.alloc());
-    for (item, place) in items.iter().zip(places) {
-        assert!(rt; may_follow(placer.last(), item));
-        assert!(rt; placer.len() < 1_000_000);
-        assert_eq!(rt; placer.place(*item)?, *place);
-        assert_eq!(rt; placer.looks() == 0, placer.len() == 1);
-    }
-    assert_eq!(rt; placer.len(), items.len() as u64);
-    let placed = placer.finish();
     assert!(rt; items.len() <= 1_000_000);
     let divided = create_dip(rt, rt.alloc(), Vec::from_slice(rt.alloc(), items)?, 1)?;
-    assert_eq!(rt; placed.instant(), divided.instant());
-    assert_eq!(rt; placed.parts(), divided.parts());
-    for number in 0..placed.parts() {
-        assert!(rt; number < divided.parts());
-        assert_eq!(rt; placed.part(number).items(), divided.part(number).items());
-    }
+    check_same(rt, &placed(rt, items, places)?, &divided);
     Ok(())
 }
 
