@@ -1,0 +1,74 @@
+//! Why a trial ended early.
+
+ghost use Rattle.std.specs.Prelude.{IfOk, IsTrue};
+
+use period_core::{BadPeriod, BadPoint};
+use row_core::{BadName, Failure};
+use std::alloc::{AllocError, AllocFailed};
+
+/// Why a trial ended early: memory was refused, or what it met isn't what is due.
+#[derive(Clone, Copy, Debug, PartialEq, Eq)]
+pub enum Ended {
+    /// Memory was refused.
+    NoMemory,
+    /// An answer, or what stands after a refusal, isn't what is due.
+    Wrong,
+}
+
+impl<E: Drop> From<Failure<E>> for Ended {
+    fn from(failure: Failure<E>) -> Ended {
+        match failure {
+            Failure::Refused(_) => Ended::Wrong,
+            Failure::NoMemory => Ended::NoMemory,
+        }
+    }
+}
+
+impl From<AllocError> for Ended {
+    fn from(_error: AllocError) -> Ended {
+        Ended::NoMemory
+    }
+}
+
+impl<T: Drop> From<AllocFailed<T>> for Ended {
+    fn from(_error: AllocFailed<T>) -> Ended {
+        Ended::NoMemory
+    }
+}
+
+impl From<BadName> for Ended {
+    fn from(_error: BadName) -> Ended {
+        Ended::Wrong
+    }
+}
+
+impl From<BadPoint> for Ended {
+    fn from(_error: BadPoint) -> Ended {
+        Ended::Wrong
+    }
+}
+
+impl From<BadPeriod> for Ended {
+    fn from(_error: BadPeriod) -> Ended {
+        Ended::Wrong
+    }
+}
+
+/// Ends the trial where something isn't so.
+pub fn holds(is_so: bool) -> Result<(), Ended>
+    ensures { IfOk result (λ _. IsTrue is_so) }
+{
+    if is_so { Ok(()) } else { Err(Ended::Wrong) }
+}
+
+/// Ends the trial where the call isn't refused by this name.
+pub fn refuses<T: Drop, E: Drop + PartialEq>(
+    answer: Result<T, Failure<E>>,
+    want: E,
+) -> Result<(), Ended> {
+    match answer {
+        Err(Failure::Refused(name)) => holds(name == want),
+        Err(Failure::NoMemory) => Err(Ended::NoMemory),
+        Ok(_) => Err(Ended::Wrong),
+    }
+}
