@@ -1,0 +1,83 @@
+//! A counted reader or writer hands each call on once, with its answer.
+
+ghost use Rattle.std.specs.Prelude.{◌≤◌, IfOk};
+
+use script_core::Counted;
+use std::io::{self, ErrorKind, Read, Write};
+use std::process::Abort;
+
+// What the reader or writer underneath answers, one call behind another: so many bytes, or an error of that kind.
+const ANSWERS: [Result<usize, ErrorKind>; 6] = [
+    Ok(2),
+    Err(ErrorKind::Interrupted),
+    Ok(0),
+    Err(ErrorKind::BrokenPipe),
+    Err(ErrorKind::Interrupted),
+    Ok(1),
+];
+
+// Answers its calls so, and counts them.
+#[derive(Drop)]
+struct Told {
+    calls: usize,
+}
+
+impl Told {
+    fn answer(&mut self, most: usize) -> io::Result<usize>
+        ensures { IfOk result (λ size. size ≤ most) }
+    {
+        let answer = ANSWERS.get(self.calls).copied();
+        self.calls = self.calls.saturating_add(1);
+        match answer {
+            Some(Ok(size)) => Ok(size.min(most)),
+            Some(Err(kind)) => Err(io::Error::from(kind)),
+            None => Err(io::Error::from(ErrorKind::UnexpectedEof)),
+        }
+    }
+}
+
+impl Read for Told {
+    fn read(&mut self, buf: &mut [u8]) -> io::Result<usize> {
+        self.answer(buf.len())
+    }
+}
+
+impl Write for Told {
+    fn write(&mut self, buf: &[u8]) -> io::Result<usize> {
+        self.answer(buf.len())
+    }
+
+    fn flush(&mut self) -> io::Result<()> {
+        Ok(())
+    }
+}
+
+// The call gave the answer of that number.
+fn check_answer(rt: &impl Abort, answer: io::Result<usize>, number: usize) {
+    let given = answer.map_err(|error| error.kind());
+    assert_eq!(rt; Some(given), ANSWERS.get(number).copied(), "call {number}");
+}
+
+// A read that gives no bytes has not failed: it tells the end.
+#[test]
+fn a_counted_read_is_one_read(rt: HostRuntime) {
+    let mut reader = Counted::new(Told { calls: 0 });
+    for (number, failures) in [0u64, 1, 1, 2, 3, 3].iter().enumerate() {
+        check_answer(&rt, reader.read(&mut [0; 4]), number);
+        assert_eq!(rt; reader.failures(), *failures);
+    }
+    assert_eq!(rt; reader.into_inner().calls, 6);
+}
+
+// A write that takes none of some bytes has failed; of no bytes there are none to take.
+#[test]
+fn a_counted_write_is_one_write(rt: HostRuntime) {
+    let mut writer = Counted::new(Told { calls: 0 });
+    for (number, failures) in [0u64, 1, 2, 3, 4, 4].iter().enumerate() {
+        check_answer(&rt, writer.write(b"ok,1"), number);
+        assert_eq!(rt; writer.failures(), *failures);
+    }
+    assert_eq!(rt; writer.into_inner().calls, 6);
+    let mut idle = Counted::new(Told { calls: 0 });
+    assert!(rt; idle.write(b"").is_ok() && idle.failures() == 0);
+}
