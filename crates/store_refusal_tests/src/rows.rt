@@ -1,0 +1,147 @@
+//! Points, columns, keys, values and rows.
+
+use crate::fixtures::{day, name, text};
+use list_core::DeepCopy;
+use period_core::Point;
+use refusal_core::{Ended, Fault, holds, refuses, try_each};
+use row_core::{
+    Draft, Drafts, Field, KeyRefused, Kind, Row, RowList, RowRefused, Schema, SchemaRefused, Value,
+    Values,
+};
+use std::alloc::Global;
+use std::convert::AsSlice;
+
+// Writes points behind a text that is there; once more where memory was refused, and then that text alone is there.
+fn write_points(alloc: Global) -> Result<(), Ended> {
+    for text in [
+        &b"1970-01-01"[..],
+        b"2024-01-01",
+        b"2024-02-29",
+        b"0001-01-01",
+        b"9999-12-31",
+        b"9999-12-31T23:59:59",
+        b"1969-12-31T23:59:59",
+    ] {
+        let point = Point::parse(text)?;
+        let mut out = Vec::with_capacity(alloc, 1)?;
+        out.push(b'!')?;
+        if point.write(&mut out).is_err() {
+            holds(out.as_slice() == b"!".as_slice())?;
+            point.write(&mut out)?;
+        }
+        holds(out.get(1..) == Some(text))?;
+    }
+    Ok(())
+}
+
+#[test]
+fn points_are_written_later(rt: HostRuntime) -> Result<(), Fault> {
+    try_each(&rt, write_points)
+}
+
+// Columns `c` of numbers and `d` of texts.
+fn columns(alloc: Global) -> Result<Schema, Ended> {
+    let columns = [(name(b"c")?, Kind::Int), (name(b"d")?, Kind::Text)];
+    Ok(Schema::new(alloc, &columns)?)
+}
+
+// Makes columns and copies them, and refuses those that can't be.
+fn make_columns(alloc: Global) -> Result<(), Ended> {
+    let schema = columns(alloc)?;
+    let copy = schema.copy(alloc)?;
+    holds(copy.as_slice() == schema.as_slice())?;
+    let many = [(name(b"c")?, Kind::Int); 17];
+    refuses(Schema::new(alloc, &many[..2]), SchemaRefused::TwiceNamed)?;
+    refuses(Schema::new(alloc, &many), SchemaRefused::TooMany)
+}
+
+// Gives columns a key, and refuses one that can't be.
+fn make_key(alloc: Global) -> Result<(), Ended> {
+    let (c, d) = (name(b"c")?, name(b"d")?);
+    let keyed = columns(alloc)?.with_key(alloc, &[d, c])?;
+    let places = keyed.key_places(alloc)?;
+    holds(places.as_slice() == [1, 0].as_slice())?;
+    let copy = keyed.copy(alloc)?;
+    holds(copy.as_slice() == keyed.as_slice())?;
+    refuses(
+        columns(alloc)?.with_key(alloc, &[c, c]),
+        KeyRefused::TwiceNamed,
+    )
+}
+
+#[test]
+fn columns_and_keys_are_made_or_memory_is_refused(rt: HostRuntime) -> Result<(), Fault> {
+    try_each(&rt, make_columns)?;
+    try_each(&rt, make_key)
+}
+
+// The fields of these bytes.
+fn fields(alloc: Global, texts: &[&[u8]]) -> Result<Vec<Field>, Ended> {
+    let mut fields = Vec::new(alloc);
+    for text in texts {
+        fields.push(Field::new(alloc, text)?)?;
+    }
+    Ok(fields)
+}
+
+// Reads a row, and refuses two: one has too few fields, and one ends before it begins.
+fn read_rows(alloc: Global) -> Result<(), Ended> {
+    let schema = columns(alloc)?;
+    let right = fields(alloc, &[b"2024-01-01", b"2024-01-02", b"-7", b"y"])?;
+    let draft = schema.read_row(alloc, &right)?;
+    let want = [Value::Int(-7), text(alloc, b"y")?];
+    holds(draft.period == day()? && draft.values.as_slice() == want.as_slice())?;
+    let backwards = fields(alloc, &[b"2024-01-02", b"2024-01-01", b"x", b"y"])?;
+    let narrow = backwards.get(..3).ok_or(Ended::Wrong)?;
+    refuses(schema.read_row(alloc, narrow), RowRefused::WrongWidth)?;
+    refuses(schema.read_row(alloc, &backwards), RowRefused::BadPeriod)
+}
+
+// Values of a number and a text; each is added once more where memory was refused, and then none was.
+fn values(alloc: Global) -> Result<Values, Ended> {
+    let schema = columns(alloc)?;
+    holds(schema.width() == 2)?;
+    let mut values = Values::new(alloc);
+    if values.push(schema.read_value(alloc, 0, b"7")?).is_err() {
+        holds(values.is_empty())?;
+        values.push(schema.read_value(alloc, 0, b"7")?)?;
+    }
+    let text = schema.read_value(alloc, 1, b"7")?;
+    if values.push(text.copy(alloc)?).is_err() {
+        holds(values.len() == 1)?;
+        values.push(text.copy(alloc)?)?;
+    }
+    holds(values.as_slice() == [Value::Int(7), text].as_slice())?;
+    Ok(values)
+}
+
+// Adds rows to lists, once more where memory was refused; then none was added.
+fn add_rows(alloc: Global) -> Result<(), Ended> {
+    let period = day()?;
+    let row = Row {
+        id: 5,
+        period,
+        values: values(alloc)?,
+    };
+    let mut drafts = Drafts::new(alloc);
+    let values = row.values.copy(alloc)?;
+    if drafts.push(Draft { period, values }).is_err() {
+        let values = row.values.copy(alloc)?;
+        holds(drafts.is_empty())?;
+        drafts.push(Draft { period, values })?;
+    }
+    let mut rows = RowList::new(alloc);
+    if rows.push(row.copy(alloc)?).is_err() {
+        holds(rows.is_empty())?;
+        rows.push(row.copy(alloc)?)?;
+    }
+    holds(drafts.len() == 1 && rows.len() == 1)?;
+    let copy = rows.get(0).ok_or(Ended::Wrong)?;
+    holds(copy.id == 5 && copy.values.as_slice() == row.values.as_slice())
+}
+
+#[test]
+fn rows_are_read_and_added_or_memory_is_refused(rt: HostRuntime) -> Result<(), Fault> {
+    try_each(&rt, read_rows)?;
+    try_each(&rt, add_rows)
+}

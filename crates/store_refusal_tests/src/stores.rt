@@ -1,0 +1,129 @@
+//! A store whose snapshot is alive, and what its calls leave.
+
+ghost use Rattle.std.specs.Prelude.{IfOk};
+ghost use Rattle.store_core.specs.Passes.{IsPassOf};
+
+use crate::fixtures::{day, name};
+use book_core::Change;
+use refusal_core::{Ended, Fault, holds, take_all, try_each};
+use row_core::{Draft, Drafts, Failure, Schema, Values};
+use std::alloc::Global;
+use std::sync::Wait;
+use std::test::Fail;
+use store_core::{Pass, Snapshot, Store};
+
+// The change that makes the table, which has no columns.
+fn make(alloc: Global) -> Result<Change, Ended> {
+    Ok(Change::Make {
+        table: name(b"t")?,
+        schema: Schema::new(alloc, &[])?,
+    })
+}
+
+// The change that adds a row of one day.
+fn load(alloc: Global) -> Result<Change, Ended> {
+    let mut rows = Drafts::new(alloc);
+    rows.push(Draft {
+        period: day()?,
+        values: Values::new(alloc),
+    })?;
+    Ok(Change::Load {
+        table: name(b"t")?,
+        rows,
+    })
+}
+
+// A store with one pass of a hundred calls.
+fn one_pass(alloc: Global) -> Result<(Store, Pass), Ended>
+    ensures { IfOk result (λ made. IsPassOf made.0 made.1) }
+{
+    let (store, mut passes) = Store::new(alloc, 1, 100)?;
+    match passes.pop() {
+        Some(pass) => Ok((store, pass)),
+        None => unreachable!(),
+    }
+}
+
+// A store whose table has one row, and its one pass.
+fn one_row<R: Wait>(rt: &R, alloc: Global) -> Result<(Store, Pass), Ended>
+    ensures { IfOk result (λ made. IsPassOf made.0 made.1) }
+{
+    let (store, mut pass) = one_pass(alloc)?;
+    store.commit(rt, &mut pass, make(alloc)?)?;
+    store.commit(rt, &mut pass, load(alloc)?)?;
+    Ok((store, pass))
+}
+
+// The number of a snapshot, and how many rows its table has.
+fn shown(snapshot: &Snapshot) -> Result<(u64, usize), Ended> {
+    Ok((snapshot.number(), snapshot.rows(name(b"t")?)?.len()))
+}
+
+// Asks for the newest snapshot and the log: its number, its rows and the log's entries. Each counts one call.
+fn look<R: Wait>(rt: &R, store: &Store, pass: &mut Pass) -> Result<(u64, usize, usize), Ended>
+    requires { IsPassOf store.now pass.old }
+    ensures { IsPassOf store.now pass.new }
+{
+    let left = pass.left();
+    let snapshot = store.snapshot(rt, pass, None)?;
+    let log = store.log(rt, pass)?;
+    let (number, rows) = shown(&snapshot)?;
+    holds(pass.left().checked_add(2) == Some(left))?;
+    Ok((number, rows, log.len()))
+}
+
+// Commits a load while a snapshot is alive; once more where memory was refused, and then nothing was changed but that a
+// call is counted.
+fn commit_beside<R: Wait>(rt: &R, alloc: Global) -> Result<(), Ended> {
+    let (store, mut pass) = one_row(rt, alloc)?;
+    let kept = store.snapshot(rt, &mut pass, None)?;
+    let (change, left) = (load(alloc)?, pass.left());
+    let reply = store.commit(rt, &mut pass, change);
+    holds(pass.left().checked_add(1) == Some(left))?;
+    let reply = match reply {
+        Err(Failure::NoMemory) => {
+            holds(look(rt, &store, &mut pass)? == (2, 1, 2))?;
+            store.commit(rt, &mut pass, load(alloc)?)
+        }
+        reply => reply,
+    };
+    holds(reply? == 3 && look(rt, &store, &mut pass)? == (3, 2, 3))?;
+    holds(shown(&kept)? == (2, 1))
+}
+
+#[test]
+fn a_refused_commit_is_made_later(rt: HostRuntime) -> Result<(), Fault> {
+    try_each(&rt, |alloc| commit_beside(&rt, alloc))
+}
+
+// What a snapshot of the first commit shows.
+fn ask_snapshot<R: Wait>(rt: &R, alloc: Global) -> Result<(), Ended> {
+    let (store, mut pass) = one_row(rt, alloc)?;
+    let snapshot = store.snapshot(rt, &mut pass, Some(1))?;
+    let table = name(b"t")?;
+    holds(snapshot.between(0, 9, table)?.is_empty())?;
+    holds(snapshot.from_to(0, 9, table)?.is_empty())?;
+    holds(shown(&snapshot)? == (1, 0) && shown(&snapshot.as_of(0)?)? == (0, 0))
+}
+
+#[test]
+fn a_snapshot_answers_or_memory_is_refused(rt: HostRuntime) -> Result<(), Fault> {
+    try_each(&rt, |alloc| ask_snapshot(&rt, alloc))
+}
+
+// While no memory is left.
+#[test]
+fn looking_and_hearing_need_no_memory(rt: HostRuntime) -> Result<(), Fail> {
+    let alloc = rt.alloc();
+    let (store, mut pass) = one_row(&rt, alloc)?;
+    let taken = take_all(alloc)?;
+    let snapshot = store.snapshot(&rt, &mut pass, None);
+    let note = store.note(&mut pass);
+    store.hear(&mut pass, note);
+    let refused = Vec::<u8>::with_capacity(alloc, 1).is_err();
+    drop(taken);
+    assert!(rt; refused);
+    assert_eq!(rt; shown(&snapshot?)?, (2, 1));
+    assert_eq!(rt; pass.left(), 97);
+    Ok(())
+}
