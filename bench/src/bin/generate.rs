@@ -10,6 +10,7 @@
 //! - `rows`, `at`, `dip`, `log`: a load of the rows, and so many queries;
 //! - `between`: a load of the rows, a change of all of them, and queries for all versions;
 //! - `singles`: so many loads of one row;
+//! - `turns`: so many loads of one row, all of one name, each on the day behind the one before;
 //! - `named`: a load of the rows, and so many updates of one row, found by its name;
 //! - `renamed`: a load of the rows, and so many updates that give one row another name;
 //! - `portions`: a load of the rows, and so many updates of a portion of 30 days, without conditions;
@@ -149,6 +150,15 @@ impl<W: Write> Script<W> {
             writeln!(self.out, "load,t")?;
             self.row(number)?;
             writeln!(self.out, "end")?;
+        }
+        Ok(())
+    }
+
+    fn turns(&mut self) -> io::Result<()> {
+        for number in 0..self.options.updates {
+            let (from, to) = (self.day(number), self.day(number + 1));
+            let name = name_of(0);
+            writeln!(self.out, "load,t\nrow,{from},{to},{name},{number}\nend")?;
         }
         Ok(())
     }
@@ -323,6 +333,7 @@ impl<W: Write> Script<W> {
             "dip" => self.load(rows).and_then(|()| self.queries("dip,t")),
             "log" => self.singles().and_then(|()| self.queries("log")),
             "singles" => self.singles(),
+            "turns" => self.turns(),
             "named" => self.load(rows).and_then(|()| self.named()),
             "renamed" => self.load(rows).and_then(|()| self.renamed()),
             "portions" => self.load(rows).and_then(|()| self.portions()),
