@@ -22,10 +22,14 @@
 //! there are 0. One of `payroll-join` or `payroll-anti` has contracts and pay of so many persons, nearly all of whom hold
 //! at once for ten years: one to three contracts of each person, one after another, and ten rows of pay; joined by the
 //! person, or the pay without a contract. One of `together` has two tables to join whose rows all hold on one day, so
-//! each row is a part of its own, and without columns each row joins each. One of `apart` has two tables without columns, whose rows all hold on
-//! one day, another one for each table: so each row is a part of its own, and no two rows join.
+//! each row is a part of its own, and without columns each row joins each. One of `apart` has two tables without columns,
+//! whose rows all hold on one day, another one for each table: so each row is a part of its own, and no two rows join.
+//! One of `random` has a few tables, and changes and queries of all kinds, some of which are refused; one of `damaged` is
+//! such a script of which bytes were changed, records cut or left out.
 
+use bench::numbers::Numbers;
 use bench::point::Point;
+use bench::random;
 use std::collections::BTreeSet;
 use std::fmt::Display;
 use std::io::{self, BufWriter, Write};
@@ -50,23 +54,6 @@ const SURNAMES: [&str; 8] = [
     "Turing",
     "Wilkes",
 ];
-
-/// Numbers that look random (SplitMix64).
-struct Numbers(u64);
-
-impl Numbers {
-    fn draw(&mut self) -> u64 {
-        self.0 = self.0.wrapping_add(0x9E37_79B9_7F4A_7C15);
-        let mut z = self.0;
-        z = (z ^ (z >> 30)).wrapping_mul(0xBF58_476D_1CE4_E5B9);
-        z = (z ^ (z >> 27)).wrapping_mul(0x94D0_49BB_1331_11EB);
-        z ^ (z >> 31)
-    }
-
-    fn below(&mut self, bound: u64) -> u64 {
-        self.draw() % bound
-    }
-}
 
 struct Options {
     rows: u64,
@@ -317,6 +304,8 @@ impl<W: Write> Script<W> {
             "payroll-anti",
             "together",
             "apart",
+            "random",
+            "damaged",
         ];
         if !makes_its_tables.contains(&kind) {
             self.table()?;
@@ -328,6 +317,12 @@ impl<W: Write> Script<W> {
             "payroll-join" => self.payroll("join,contract,pay,on,person,person"),
             "payroll-anti" => self.payroll("anti,pay,contract,on,person,person"),
             "apart" => self.apart(),
+            "random" => self.out.write_all(&random::script(&mut self.numbers)),
+            "damaged" => {
+                let script = random::script(&mut self.numbers);
+                self.out
+                    .write_all(&random::damaged(&mut self.numbers, script))
+            }
             "rows" => self.load(rows).and_then(|()| self.queries("rows,t")),
             "at" => self.load(rows).and_then(|()| self.days()),
             "dip" => self.load(rows).and_then(|()| self.queries("dip,t")),
