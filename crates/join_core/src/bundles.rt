@@ -43,8 +43,20 @@ impl FoundRows {
     }
 }
 
-/// Fewer advances than these are made before another worker has started.
-const ADVANCES_FOR_WORKERS: u64 = 32_768;
+/// Fewer pairs of a left and a right item are read beside each other before another worker has started.
+const ITEM_PAIRS_FOR_WORKERS: usize = 16_384;
+
+/// How many workers join a bundle: one where it is small, and isn't all that there is.
+fn workers_for(left: &[Item], right: &[Item], all: &[Item], workers: u32) -> u32
+    requires { 0 < workers }
+    ensures { (0 < result) × (result ≤ workers) }
+{
+    if left.len() < all.len() && left.len().saturating_mul(right.len()) < ITEM_PAIRS_FOR_WORKERS {
+        1
+    } else {
+        workers
+    }
+}
 
 /// Adds the rows of a bundle, and returns the advances for them.
 fn add_rows_of_bundle<R: Threads + Sync, G: Gate>(
@@ -68,12 +80,6 @@ fn add_rows_of_bundle<R: Threads + Sync, G: Gate>(
     let rights = divided(rt, alloc, right, workers)?;
     let left_parts = lefts.parts() as u64;
     let right_parts = rights.parts() as u64;
-    let most = right_parts * left.len() as u64 + left_parts * right.len() as u64;
-    let workers = if most < ADVANCES_FOR_WORKERS {
-        1
-    } else {
-        workers
-    };
     let pairs = JoinPairs::new(&lefts, &rights);
     let made = add_rows_of_pairs(rt, alloc, &pairs, workers, gate, rows)?;
     Ok(Advances {
@@ -110,7 +116,8 @@ fn rows_of_bundles<R: Threads + Sync, G: Gate>(
         let class = last_class(first, lefts, rights);
         let (low_lefts, high_lefts) = parted_behind(class, lefts);
         let (low_rights, high_rights) = parted_behind(class, rights);
-        let more = add_rows_of_bundle(rt, alloc, low_lefts, low_rights, workers, gate, &mut rows)?;
+        let few = workers_for(low_lefts, low_rights, left, workers);
+        let more = add_rows_of_bundle(rt, alloc, low_lefts, low_rights, few, gate, &mut rows)?;
         advances = advances.plus(more);
         lefts = high_lefts;
         rights = high_rights;
