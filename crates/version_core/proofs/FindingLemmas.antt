@@ -1,11 +1,11 @@
 -- Lists of places stay true as versions are closed and added.
-use Rattle.std.proofs.Common.{◌≡◌, ℕ, ◌+◌, ◌<◌, ◌≤◌, List, [], ◌∷◌, ◌++◌, Bool, true, false, ◌&&◌, not, cond, Option, Some, None, length, get_or, map, take, drop, ◌*◌, zero, suc, refl, ap, sym, ◌∙◌, arith, length-append}
+use Rattle.std.proofs.Common.{◌≡◌, ℕ, ◌+◌, ◌<◌, ◌≤◌, List, [], ◌∷◌, ◌++◌, Bool, true, false, ◌&&◌, not, cond, Option, Some, None, length, map, take, drop, ◌*◌, zero, suc, refl, ap, sym, ◌∙◌, arith, length-append}
 use Rattle.std.specs.Prelude.{slice_get, filter, unwrap_or, option_map, is_none, fold, All}
 use Rattle.std.specs.List.{AllByRecursion, range_with_len}
 use Rattle.std.proofs.lemmas.List.{append-nil, length-map, map-append, take_at}
 use Rattle.std.proofs.lemmas.List.Elements.{filter-append, filter_agree, All-append, All-filter, All-from_recursion, All-weaker, recursion_from_All}
 use Rattle.std.proofs.lemmas.List.Sums.{count_by-le-length, length-filter}
-use Rattle.std.proofs.lemmas.Option.{slice_get-get_or, slice_get-map}
+use Rattle.std.proofs.lemmas.Option.{slice_get-map}
 use Rattle.std.proofs.Math.Bool.{and-true}
 use Rattle.list_core.proofs.PlaceLemmas.{slice_get-before, slice_get-seam}
 use Rattle.row_core.specs.declared.row.Row.{Row}
@@ -123,12 +123,6 @@ candidates-listed c schema vs test places h covers = record {
       ∙ places_from-agree (λ v. (is_open v && test v.row) && removes c schema v.row) (is_taken c schema)
       (λ v. narrowed (is_open v) (test v.row) (removes c schema v.row) (covers v.row)) 0 vs;
 }
-
--- the test of the version at a place
-pub passes-at : (vs : List Version) (test : Version → Bool) (place : ℕ) (v : Version) (b : Bool) → place < length vs
-    → v ≡ get_or vs place v → b ≡ test v → passes vs test place ≡ b
-passes-at vs test place v b inside e h =
-    ap (λ o. unwrap_or (option_map test o) false) (slice_get-get_or vs place v inside ∙ ap Some (sym e)) ∙ sym h
 
 -- versions are closed
 

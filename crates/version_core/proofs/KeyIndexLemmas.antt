@@ -328,10 +328,6 @@ key_index-dropped vs place w old new at shut columns dropped before q u there op
         let never : true ≡ false = sym opened ∙ ap is_open own ∙ shut in
         absurd (cc)
 
--- no versions
-pub key_index-none : (index : KeyIndex) → IsKeyIndex [] index
-key_index-none index place v at opened = absurd (cc)
-
 -- versions are closed
 pub key_index-closed : (n : ℕ) (goes : Row → Bool) (vs : List Version) (index : KeyIndex) → IsKeyIndex vs index
     → IsKeyIndex (map (closed n goes) vs) index
