@@ -44,7 +44,7 @@ meet-flips x y = same_bool (is_some (meet x y)) (is_some (meet y x))
     (λ e. (let at = shared y x e in shares x y at.0 at.2 at.1))
 
 -- a period that begins between two that share an instant shares one with the first
-meet-between : (x y z : Period) → x.from ≤ℤ y.from → y.from ≤ℤ z.from → is_some (meet x z) ≡ true
+pub meet-between : (x y z : Period) → x.from ≤ℤ y.from → y.from ≤ℤ z.from → is_some (meet x z) ≡ true
     → is_some (meet x y) ≡ true
 meet-between x y z low high e =
     let at = shared x z e in

@@ -27,7 +27,7 @@ use Rattle.row_core.specs.declared.value.Value.TheVariants.{Int, Text}
 use Rattle.row_core.proofs.ValueLemmas.{maybe_decides}
 use Rattle.key_core.specs.Keys.{collide, have_collision, have_pair, same_key}
 use Rattle.key_core.proofs.Replaced.{append-parts}
-use Rattle.key_core.proofs.Collisions.{collide-flips, shared, shares}
+use Rattle.key_core.proofs.Collisions.{collide-flips, meet-between, shared}
 use Rattle.version_core.specs.Finding.{passes}
 use Rattle.version_core.specs.KeyIndex.{IsKeyIndex, IsLastNear, entry_cmp, entry_of, key_number, mixed, number_in, number_of, number_of_bytes}
 use Rattle.version_core.specs.Keys.{collides_left, is_left}
@@ -134,17 +134,6 @@ less-end : (a b : Entry) → a.number ≡ b.number → a.from <ℤ b.from → en
 less-end a b same before = grind (arith, ints)
 
 -- rows of one key share no instant
-
--- a row that begins between two that share an instant shares one with the first
-meet-between : (x y z : Period) → x.from ≤ℤ y.from → y.from ≤ℤ z.from → is_some (meet x z) ≡ true
-    → is_some (meet x y) ≡ true
-meet-between x y z low high e =
-    let at = shared x z e in
-    let t = at.0 in
-    let in_x : t <ℤ x.to = at.1.1 in
-    let in_z : z.from ≤ℤ t = at.2.0 in
-    let proper : y.from <ℤ y.to = y.ordered in
-    shares x y y.from (low, omega (arith, ints)) (omega (arith, ints), proper)
 
 -- of two that share an instant each begins before the other's end
 meet-ends : (x y : Period) → is_some (meet x y) ≡ true → x.from <ℤ y.to
