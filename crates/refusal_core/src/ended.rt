@@ -1,6 +1,8 @@
 //! Why a trial ended early.
 
-ghost use Rattle.std.specs.Prelude.{IfOk, IsTrue};
+ghost use Rattle.std.specs.Prelude.{◌≡◌, false, Err, IfErr, IfOk, IsTrue};
+ghost use Rattle.row_core.specs.declared.failure.Failure.TheVariants.{Refused};
+ghost use Rattle.refusal_core.specs.declared.ended.Ended.TheVariants.{Wrong};
 
 use period_core::{BadPeriod, BadPoint};
 use row_core::{BadName, Failure};
@@ -56,7 +58,8 @@ impl From<BadPeriod> for Ended {
 
 /// Ends the trial where something isn't so.
 pub fn holds(is_so: bool) -> Result<(), Ended>
-    ensures { IfOk result (λ _. IsTrue is_so) }
+    ensures ok { IfOk result (λ _. IsTrue is_so) }
+    ensures wrong { IfErr result (λ ended. (ended ≡ Wrong) × (is_so ≡ false)) }
 {
     if is_so { Ok(()) } else { Err(Ended::Wrong) }
 }
@@ -65,7 +68,9 @@ pub fn holds(is_so: bool) -> Result<(), Ended>
 pub fn refuses<T: Drop, E: Drop + PartialEq>(
     answer: Result<T, Failure<E>>,
     want: E,
-) -> Result<(), Ended> {
+) -> Result<(), Ended>
+    ensures { IfOk result (λ _. (name : E) × (answer ≡ Err (Refused name))) }
+{
     match answer {
         Err(Failure::Refused(name)) => holds(name == want),
         Err(Failure::NoMemory) => Err(Ended::NoMemory),
