@@ -4,6 +4,7 @@ use Rattle.std.specs.Prelude.{IsPermutation}
 use Rattle.std.proofs.lemmas.List.Elements.{All-append, All-contains, All-nil, Contains-append_cases, Contains-append_left, Contains-append_right}
 use Rattle.std.proofs.lemmas.List.Sorted.{IsPermutation-append, IsPermutation-refl, length_permutation}
 use Rattle.std.proofs.lemmas.List.Sums.{sum_by-append}
+use Rattle.std.proofs.Math.Nat.{mul_comm}
 use Rattle.std.proofs.lemmas.Nat.{mul-le}
 use Rattle.period_core.specs.Period.{holds_at}
 use Rattle.dip_core.specs.declared.item.Item.{Item}
@@ -19,7 +20,7 @@ use Rattle.grid_core.proofs.BundleLemmas.{high-rise}
 use Rattle.join_core.specs.declared.advances.Advances.{Advances}
 use Rattle.join_core.specs.declared.bundles.FoundRows.{FoundRows}
 use Rattle.join_core.specs.declared.rows.JoinRow.{JoinRow}
-use Rattle.join_core.specs.Found.{AddsItemsRows, AreMade, HasParts, HoldAtMost, IsFound, MatchNothing, both_made}
+use Rattle.join_core.specs.Found.{AddsItemsRows, AreMade, FitTogether, HasParts, HoldAtMost, IsFound, MatchNothing, both_made}
 use Rattle.join_core.specs.ItemJoin.{AreItemsRows}
 use Rattle.join_core.specs.PairValues.{AddsFirstPairs}
 use Rattle.join_core.proofs.ItemLemmas.{AreItemsRows-append, AreItemsRows-none}
@@ -66,6 +67,11 @@ parts-few items n has =
     let same = length_permutation items (all_of has.division) has.divides.together in
     let number = has.len in
     omega (arith, all, same, number)
+
+division-few : (items : List Item) (parts : List (List Item)) → IsLeastDivision items parts
+    → length parts ≤ length items
+division-few items parts divided =
+    parts-few items (length parts) (record { division = parts; divides = divided.division; len = refl })
 
 -- no more items than there are parts hold at once
 parts-hold : (items : List Item) (n : ℕ) → HasParts items n → HoldAtMost n items
@@ -134,7 +140,7 @@ AreMade-append left right p q one other is more = record {
       (more.at_most k m (HoldAtMost-back k left p lefts) (HoldAtMost-back m right q rights));
 }
 
--- they fit a number
+-- they are few
 pub AreMade-few : (left right : List Item) (advances : Advances) → AreMade left right advances
     → length left ≤ item_limit → length right ≤ item_limit
     → (advances.left_parts ≤ item_limit) × (advances.right_parts ≤ item_limit)
@@ -150,47 +156,70 @@ AreMade-few left right advances are left_few right_few =
     in
     (lefts, rights, omega (arith, most, left_few, right_few))
 
+-- those for items and for others fit a number together
+FitTogether-append : (left right p q : List Item) (one other : Advances) → AreMade left right one
+    → AreMade p q other → length (left ++ p) ≤ item_limit → length (right ++ q) ≤ item_limit
+    → FitTogether one other
+FitTogether-append left right p q one other is more left_few right_few =
+    let few = AreMade-few (left ++ p) (right ++ q) (both_made one other)
+    (AreMade-append left right p q one other is more) left_few right_few in
+    record { made = omega (arith, few.2); lefts = omega (arith, few.0); rights = omega (arith, few.1) }
+
 -- ---- one bundle
 
 module _ (left right : List Item) (lefts rights : List (List Item)) (one : IsLeastDivision left lefts)
-    (other : IsLeastDivision right rights) (old new : List JoinRow) (made : ℕ)
-    (adds : AddsFirstPairs lefts rights (length lefts * length rights) old new made) where
-  made-few : made ≤ length rights * length left + length lefts * length right
-  made-few =
-      let within = all_turns-within lefts rights adds.are.outs adds.are.len adds.are.values one.division.filled
-      other.division.filled in
-      let is = adds.are.turns_are in
-      let most : made ≤ length rights * length (all_of lefts) + length lefts * length (all_of rights) =
-      (let upto = within.at_most in omega (arith, is, upto)) in
-      subst (λ (n : ℕ). made ≤ length rights * n + length lefts * length right)
-      (length_permutation left (all_of lefts) one.division.together)
-      (subst (λ (n : ℕ). made ≤ length rights * length (all_of lefts) + length lefts * n)
-      (length_permutation right (all_of rights) other.division.together) most)
-
-  -- its advances
-  pub AreMade-one : (advances : Advances) → advances.made ≡ made → advances.left_parts ≡ length lefts
-      → advances.right_parts ≡ length rights → AreMade left right advances
-  AreMade-one advances made_is lefts_are rights_are = record {
+    (other : IsLeastDivision right rights) where
+  -- advances that are no more than where each part of one side is read against each of the other
+  pub AreMade-within : (advances : Advances)
+      → advances.made ≤ advances.right_parts * length left + advances.left_parts * length right
+      → advances.left_parts ≡ length lefts → advances.right_parts ≡ length rights → AreMade left right advances
+  AreMade-within advances most lefts_are rights_are = record {
     lefts = record { division = lefts; divides = one.division; len = sym lefts_are };
     rights = record { division = rights; divides = other.division; len = sym rights_are };
     at_most = λ k m left_most right_most.
-        (let few = made-few in
-        let a = mul-le (length rights) (length left) m (length left) (least-upto right rights m other right_most)
-        (omega arith) in
-        let b = mul-le (length lefts) (length right) k (length right) (least-upto left lefts k one left_most)
-        (omega arith) in
-        omega (arith, made_is, few, a, b));
+        (let a = mul-le advances.right_parts (length left) m (length left)
+        (subst (λ (n : ℕ). n ≤ m) (sym rights_are) (least-upto right rights m other right_most)) (omega arith) in
+        let b = mul-le advances.left_parts (length right) k (length right)
+        (subst (λ (n : ℕ). n ≤ k) (sym lefts_are) (least-upto left lefts k one left_most)) (omega arith) in
+        omega (arith, most, a, b));
   }
 
-  -- its rows
-  pub AddsItemsRows-one : HasDistinctIds left → HasDistinctIds right → AddsItemsRows left right old new
-  AddsItemsRows-one left_ids right_ids = record {
-    added = adds.added;
-    split = adds.split;
-    rows = subst (AreItemsRows left right) (sym adds.are.rows_are)
-        (AreItemsRows-of_pairs left right lefts rights adds.are.outs adds.are.len adds.are.values
-        one.division.together other.division.together left_ids right_ids);
-  }
+  module _ (old new : List JoinRow) (made : ℕ)
+      (adds : AddsFirstPairs lefts rights (length lefts * length rights) old new made) where
+    -- the advances of all pairs of parts are
+    pub made-few : made ≤ length rights * length left + length lefts * length right
+    made-few =
+        let within = all_turns-within lefts rights adds.are.outs adds.are.len adds.are.values one.division.filled
+        other.division.filled in
+        let is = adds.are.turns_are in
+        let most : made ≤ length rights * length (all_of lefts) + length lefts * length (all_of rights) =
+        (let upto = within.at_most in omega (arith, is, upto)) in
+        subst (λ (n : ℕ). made ≤ length rights * n + length lefts * length right)
+        (length_permutation left (all_of lefts) one.division.together)
+        (subst (λ (n : ℕ). made ≤ length rights * length (all_of lefts) + length lefts * n)
+        (length_permutation right (all_of rights) other.division.together) most)
+
+    -- and so are no more than where each item of one side is read beside each of the other
+    pub made-fewer : made ≤ 2 * (length left * length right)
+    made-fewer =
+        let few = made-few in
+        let a = mul-le (length rights) (length left) (length right) (length left) (division-few right rights other)
+        (omega arith) in
+        let b = mul-le (length lefts) (length right) (length left) (length right) (division-few left lefts one)
+        (omega arith) in
+        let turned : length right * length left ≡ length left * length right =
+        mul_comm (length right) (length left) in
+        omega (arith, few, a, b, turned)
+
+    -- the rows of all pairs of parts are those of the items
+    pub AddsItemsRows-one : HasDistinctIds left → HasDistinctIds right → AddsItemsRows left right old new
+    AddsItemsRows-one left_ids right_ids = record {
+      added = adds.added;
+      split = adds.split;
+      rows = subst (AreItemsRows left right) (sym adds.are.rows_are)
+          (AreItemsRows-of_pairs left right lefts rights adds.are.outs adds.are.len adds.are.values
+          one.division.together other.division.together left_ids right_ids);
+    }
 
 -- ---- items that match none of others
 
@@ -265,14 +294,10 @@ IsFound-parted class left low_left high_left right low_right high_right lefts ri
 pub parted-fits : (class : ℕ) (left low_left high_left right low_right high_right : List Item)
     → ArePartedBehind class left low_left high_left → ArePartedBehind class right low_right high_right
     → (low high : FoundRows) → IsFound low_left low_right low → IsFound high_left high_right high
-    → length left ≤ item_limit → length right ≤ item_limit
-    → (low.advances.left_parts + high.advances.left_parts ≤ item_limit)
-    × (low.advances.right_parts + high.advances.right_parts ≤ item_limit)
-    × (low.advances.made + high.advances.made ≤ 2_000_000_000_000)
+    → length left ≤ item_limit → length right ≤ item_limit → FitTogether low.advances high.advances
 parted-fits class left low_left high_left right low_right high_right lefts rights low high one other left_few
     right_few =
-    AreMade-few (low_left ++ high_left) (low_right ++ high_right) (both_made low.advances high.advances)
-    (AreMade-append low_left low_right high_left high_right low.advances high.advances one.advances other.advances)
+    FitTogether-append low_left low_right high_left high_right low.advances high.advances one.advances other.advances
     (subst (λ (xs : List Item). length xs ≤ item_limit) lefts.whole left_few)
     (subst (λ (xs : List Item). length xs ≤ item_limit) rights.whole right_few)
 
@@ -361,12 +386,9 @@ module _ (left right lefts rights low_left high_left low_right high_right : List
 
   -- whose advances fit a number
   pub finding-fits : (more : Advances) → AreMade low_left low_right more → length left ≤ item_limit
-      → length right ≤ item_limit
-      → (advances.left_parts + more.left_parts ≤ item_limit) × (advances.right_parts + more.right_parts ≤ item_limit)
-      × (advances.made + more.made ≤ 2_000_000_000_000)
+      → length right ≤ item_limit → FitTogether advances more
   finding-fits more made left_few right_few =
-      AreMade-few (is.front_left ++ low_left) (is.front_right ++ low_right) (both_made advances more)
-      (AreMade-append is.front_left is.front_right low_left low_right advances more is.made made)
+      FitTogether-append is.front_left is.front_right low_left low_right advances more is.made made
       (front-few left (is.front_left ++ low_left) high_left left_whole left_few)
       (front-few right (is.front_right ++ low_right) high_right right_whole right_few)
 
@@ -386,11 +408,8 @@ module _ (left right lefts rights : List Item) (old : List JoinRow) (advances : 
       }))
 
   pub last-fits : (more : Advances) → AreMade lefts rights more → length left ≤ item_limit
-      → length right ≤ item_limit
-      → (advances.left_parts + more.left_parts ≤ item_limit) × (advances.right_parts + more.right_parts ≤ item_limit)
-      × (advances.made + more.made ≤ 2_000_000_000_000)
+      → length right ≤ item_limit → FitTogether advances more
   last-fits more made left_few right_few =
-      AreMade-few (is.front_left ++ lefts) (is.front_right ++ rights) (both_made advances more)
-      (AreMade-append is.front_left is.front_right lefts rights advances more is.made made)
+      FitTogether-append is.front_left is.front_right lefts rights advances more is.made made
       (subst (λ (xs : List Item). length xs ≤ item_limit) is.left_is left_few)
       (subst (λ (xs : List Item). length xs ≤ item_limit) is.right_is right_few)

@@ -1,5 +1,6 @@
 pub mod AdvanceLemmas
 pub mod CrowdSweep
+pub mod CutLemmas
 pub mod FoundLemmas
 pub mod ItemLemmas
 pub mod JoinExistence
@@ -12,5 +13,7 @@ pub mod PairLemmas
 pub mod PartLemmas
 pub mod RowLemmas
 pub mod StretchLemmas
+pub mod TileLemmas
+pub mod TileRowLemmas
 pub mod TurnLemmas
 pub mod ValueLemmas

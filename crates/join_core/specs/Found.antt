@@ -1,5 +1,5 @@
 -- What is found of a join bundle by bundle: its rows in any order, and the advances by which they were found.
-use Rattle.std.specs.Prelude.{◌≡◌, ◌≢◌, ℕ, ◌+◌, ◌*◌, ◌≤◌, ℤ, List, ◌++◌, length, Contains}
+use Rattle.std.specs.Prelude.{◌≡◌, ◌≢◌, ℕ, ◌+◌, ◌*◌, ◌^◌, ◌<◌, ◌≤◌, ℤ, List, ◌++◌, length, Contains}
 use Rattle.dip_core.specs.declared.item.Item.{Item}
 use Rattle.dip_core.specs.Item.{crowd}
 use Rattle.dip_core.specs.Division.{IsDivision}
@@ -33,6 +33,12 @@ both_made one other = record {
   left_parts = one.left_parts + other.left_parts;
   right_parts = one.right_parts + other.right_parts;
 }
+
+-- those for some items and those for others fit a number
+pub record FitTogether (one other : Advances) : Type 0 where
+  pub made : one.made + other.made < 2 ^ 64
+  pub lefts : one.left_parts + other.left_parts < 2 ^ 64
+  pub rights : one.right_parts + other.right_parts < 2 ^ 64
 
 -- the rows of items, and the advances by which they were found
 pub record IsFound (left right : List Item) (found : FoundRows) : Type 0 where

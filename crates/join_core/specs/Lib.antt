@@ -3,3 +3,4 @@ pub mod Found
 pub mod Join
 pub mod ItemJoin
 pub mod PairValues
+pub mod Tiles

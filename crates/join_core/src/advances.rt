@@ -1,11 +1,11 @@
 //! The advances that a join answers: those that were made, or as many as there would be pairs of parts if each side were
 //! divided as a whole, whichever is more.
 
-ghost use Rattle.std.specs.Prelude.{◌≡◌, ◌+◌, ◌<◌, ◌≤◌, ◌*◌, ◌^◌, ℕ, length, map, IfOk, IsTrue};
+ghost use Rattle.std.specs.Prelude.{◌≡◌, ◌≤◌, ◌*◌, ℕ, length, map, IfOk, IsTrue};
 ghost use Rattle.dip_core.specs.Division.{IsLeast};
 ghost use Rattle.dip_core.specs.Item.{item_limit, HasDistinctIds};
 ghost use Rattle.match_core.specs.Items.{unclassed};
-ghost use Rattle.join_core.specs.Found.{AreMade, both_made};
+ghost use Rattle.join_core.specs.Found.{AreMade, FitTogether, both_made};
 ghost use Rattle.join_core.specs.Join.{IsWithin};
 
 use crate::crowds::least_parts;
@@ -36,9 +36,7 @@ impl Advances {
 
     /// Those for these items and for others.
     pub(crate) fn plus(self, more: Advances) -> Advances
-        requires made { self.made + more.made < 2 ^ 64 }
-        requires lefts { self.left_parts + more.left_parts < 2 ^ 64 }
-        requires rights { self.right_parts + more.right_parts < 2 ^ 64 }
+        requires { FitTogether self more }
         ensures { result ≡ both_made self more }
     {
         Advances {

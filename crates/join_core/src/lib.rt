@@ -12,6 +12,7 @@ mod pairs;
 mod parted;
 mod rows;
 mod stretches;
+mod tiles;
 
 pub use joins::join;
 pub use laws::join_has_one_list;

@@ -112,3 +112,47 @@ fn joins_few_values_of_one_day(rt: HostRuntime) {
     assert!(rt; answer.turns == 360_000);
     assert!(rt; gate.run.load(Ordering::SeqCst) < 12_000);
 }
+
+// 800 rows of that day, and a row of the whole month, all of one number.
+fn of_a_day_and_a_month(rt: &(impl Abort + Alloc<A = Global>), day: u8) -> Vec<(u8, u8, i64)> {
+    let mut rows = Vec::new(rt.alloc());
+    for _ in 0..800 {
+        rows.push((day, day + 1, 7)).expect(rt, "memory");
+    }
+    rows.push((1, 31, 7)).expect(rt, "memory");
+    rows
+}
+
+// Rows of different days don't meet: each meets the other side's row of the month, the last one.
+fn check_month(rt: &impl Abort, row: &JoinRow) {
+    assert!(rt; row.left == 801 || row.right == 801);
+    let (from, to) = if row.left < 801 {
+        (3, 4)
+    } else if row.right < 801 {
+        (20, 21)
+    } else {
+        (1, 31)
+    };
+    assert!(rt; row.period == january(rt, from, to));
+}
+
+// Either side has as many parts as rows, 801. Nearly none of their pairs is run: rows of one day are read beside the row
+// of the month alone.
+#[test]
+fn joins_a_value_of_different_days(rt: HostRuntime) {
+    let lefts = of_a_day_and_a_month(&rt, 3);
+    let rights = of_a_day_and_a_month(&rt, 20);
+    let pair = number_pair(&rt, &lefts, &rights);
+    for workers in [1, 2, 7] {
+        let gate = Pairs {
+            run: AtomicU64::new(0),
+        };
+        let answer = joined(&rt, &pair, workers, &gate);
+        assert!(rt; answer.rows.len() == 1_601, "with {workers} workers");
+        for row in answer.rows.as_slice() {
+            check_month(&rt, row);
+        }
+        assert!(rt; answer.turns == 641_601);
+        assert!(rt; gate.run.load(Ordering::SeqCst) < 2_000);
+    }
+}

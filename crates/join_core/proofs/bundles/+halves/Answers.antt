@@ -76,32 +76,13 @@ join-low-requires-after_bounds g t c κs within =
       ),
     )
 
-pub followed_by-requires-clause-made : goal.followed_by-requires-clause-made
-followed_by-requires-clause-made g t c =
-    let fits = parted-fits c.in-Some.class c.args.left.now c.parted_behind.result.0.now c.parted_behind.result.1.now
+pub followed_by-requires : goal.followed_by-requires
+followed_by-requires g t c =
+    parted-fits c.in-Some.class c.args.left.now c.parted_behind.result.0.now c.parted_behind.result.1.now
     c.args.right.now c.parted_behind-2.result.0.now c.parted_behind-2.result.1.now c.parted_behind.ensures
     c.parted_behind-2.ensures c.in_ok-low.field-0 c.in_ok-high.field-0
     (IfOk-at_ok (IsFound _ _) c.in_ok-low.was c.join-low.ensures.first)
-    (IfOk-at_ok (IsFound _ _) c.in_ok-high.was c.join-low.ensures.second) c.requires.left_few c.requires.right_few in
-    omega (arith, fits.2)
-
-pub followed_by-requires-clause-lefts : goal.followed_by-requires-clause-lefts
-followed_by-requires-clause-lefts g t c =
-    let fits = parted-fits c.in-Some.class c.args.left.now c.parted_behind.result.0.now c.parted_behind.result.1.now
-    c.args.right.now c.parted_behind-2.result.0.now c.parted_behind-2.result.1.now c.parted_behind.ensures
-    c.parted_behind-2.ensures c.in_ok-low.field-0 c.in_ok-high.field-0
-    (IfOk-at_ok (IsFound _ _) c.in_ok-low.was c.join-low.ensures.first)
-    (IfOk-at_ok (IsFound _ _) c.in_ok-high.was c.join-low.ensures.second) c.requires.left_few c.requires.right_few in
-    omega (arith, fits.0)
-
-pub followed_by-requires-clause-rights : goal.followed_by-requires-clause-rights
-followed_by-requires-clause-rights g t c =
-    let fits = parted-fits c.in-Some.class c.args.left.now c.parted_behind.result.0.now c.parted_behind.result.1.now
-    c.args.right.now c.parted_behind-2.result.0.now c.parted_behind-2.result.1.now c.parted_behind.ensures
-    c.parted_behind-2.ensures c.in_ok-low.field-0 c.in_ok-high.field-0
-    (IfOk-at_ok (IsFound _ _) c.in_ok-low.was c.join-low.ensures.first)
-    (IfOk-at_ok (IsFound _ _) c.in_ok-high.was c.join-low.ensures.second) c.requires.left_few c.requires.right_few in
-    omega (arith, fits.1)
+    (IfOk-at_ok (IsFound _ _) c.in_ok-high.was c.join-low.ensures.second) c.requires.left_few c.requires.right_few
 
 pub returns : goal.returns
 returns g t c =

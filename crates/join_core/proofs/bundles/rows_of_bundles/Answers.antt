@@ -1,4 +1,3 @@
-use Rattle.std.proofs.Common.{arith}
 use Rattle.join_core.proofs.FoundLemmas.{finding_end, finding_more, finding_start, finding-fits, front-ids, last-fits, rest-ids}
 use Rattle.join_core.proofs.bundles.rows_of_bundles.Goals as goal
 
@@ -21,32 +20,13 @@ add_rows_of_bundle-requires-clause-right_ids g c κs within =
     (rest-ids c.args.right.now c.bundles.invariant.front_right c.bundles.rights.now c.bundles.invariant.right_is
     c.requires.right_ids)
 
-pub plus-advances-requires-clause-made : goal.plus-advances-requires-clause-made
-plus-advances-requires-clause-made g c =
-    let fits = finding-fits c.args.left.now c.args.right.now c.bundles.lefts.now c.bundles.rights.now
+pub plus-advances-requires : goal.plus-advances-requires
+plus-advances-requires g c =
+    finding-fits c.args.left.now c.args.right.now c.bundles.lefts.now c.bundles.rights.now
     c.parted_behind.result.0.now c.parted_behind.result.1.now c.parted_behind-in-Some.result.0.now
     c.parted_behind-in-Some.result.1.now c.last_class-class.result c.parted_behind.ensures
     c.parted_behind-in-Some.ensures c.bundles.rows.items c.bundles.advances c.bundles.invariant c.in_ok-more.more
-    c.in_ok-more.ensures.advances c.requires.left_few c.requires.right_few in
-    omega (arith, fits.2)
-
-pub plus-advances-requires-clause-lefts : goal.plus-advances-requires-clause-lefts
-plus-advances-requires-clause-lefts g c =
-    let fits = finding-fits c.args.left.now c.args.right.now c.bundles.lefts.now c.bundles.rights.now
-    c.parted_behind.result.0.now c.parted_behind.result.1.now c.parted_behind-in-Some.result.0.now
-    c.parted_behind-in-Some.result.1.now c.last_class-class.result c.parted_behind.ensures
-    c.parted_behind-in-Some.ensures c.bundles.rows.items c.bundles.advances c.bundles.invariant c.in_ok-more.more
-    c.in_ok-more.ensures.advances c.requires.left_few c.requires.right_few in
-    omega (arith, fits.0)
-
-pub plus-advances-requires-clause-rights : goal.plus-advances-requires-clause-rights
-plus-advances-requires-clause-rights g c =
-    let fits = finding-fits c.args.left.now c.args.right.now c.bundles.lefts.now c.bundles.rights.now
-    c.parted_behind.result.0.now c.parted_behind.result.1.now c.parted_behind-in-Some.result.0.now
-    c.parted_behind-in-Some.result.1.now c.last_class-class.result c.parted_behind.ensures
-    c.parted_behind-in-Some.ensures c.bundles.rows.items c.bundles.advances c.bundles.invariant c.in_ok-more.more
-    c.in_ok-more.ensures.advances c.requires.left_few c.requires.right_few in
-    omega (arith, fits.1)
+    c.in_ok-more.ensures.advances c.requires.left_few c.requires.right_few
 
 pub bundles-preserved : goal.bundles-preserved
 bundles-preserved g c =
@@ -62,26 +42,11 @@ add_rows_of_bundle-requires-2-clause-right_ids g c κs within =
     rest-ids c.args.right.now c.bundles.invariant.front_right c.bundles.rights.now c.bundles.invariant.right_is
     c.requires.right_ids
 
-pub plus-requires-clause-made : goal.plus-requires-clause-made
-plus-requires-clause-made g c =
-    let fits = last-fits c.args.left.now c.args.right.now c.bundles.lefts.now c.bundles.rights.now
-    c.bundles.rows.items c.bundles.advances c.bundles.invariant c.in_ok-more-2.more c.in_ok-more-2.ensures.advances
-    c.requires.left_few c.requires.right_few in
-    omega (arith, fits.2)
-
-pub plus-requires-clause-lefts : goal.plus-requires-clause-lefts
-plus-requires-clause-lefts g c =
-    let fits = last-fits c.args.left.now c.args.right.now c.bundles.lefts.now c.bundles.rights.now
-    c.bundles.rows.items c.bundles.advances c.bundles.invariant c.in_ok-more-2.more c.in_ok-more-2.ensures.advances
-    c.requires.left_few c.requires.right_few in
-    omega (arith, fits.0)
-
-pub plus-requires-clause-rights : goal.plus-requires-clause-rights
-plus-requires-clause-rights g c =
-    let fits = last-fits c.args.left.now c.args.right.now c.bundles.lefts.now c.bundles.rights.now
-    c.bundles.rows.items c.bundles.advances c.bundles.invariant c.in_ok-more-2.more c.in_ok-more-2.ensures.advances
-    c.requires.left_few c.requires.right_few in
-    omega (arith, fits.1)
+pub plus-requires : goal.plus-requires
+plus-requires g c =
+    last-fits c.args.left.now c.args.right.now c.bundles.lefts.now c.bundles.rights.now c.bundles.rows.items
+    c.bundles.advances c.bundles.invariant c.in_ok-more-2.more c.in_ok-more-2.ensures.advances
+    c.requires.left_few c.requires.right_few
 
 pub returns : goal.returns
 returns g c =
