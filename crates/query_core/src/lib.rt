@@ -1,11 +1,16 @@
 #![tactic(auto)]
 
-//! Queries over the rows of tables: what held at a point, the division of a table's rows, and rows by their ids.
+//! Queries over the rows of tables: what held at a point, the division of a table's rows, and rows by their ids; and, by
+//! the crates that answer them, joins, anti-joins and aggregates, with the jobs that their workers run.
 
 mod query;
 mod rows_by_id;
 
-pub use match_core::{Side, items};
+pub use agg_core::{AggRow, AggRows, AggShare, Func, agg};
+pub use anti_core::{AntiRow, AntiRows, GapPairs, anti};
+pub use join_core::{JoinAnswer, JoinOut, JoinPairs, JoinRow, JoinRows, join};
+pub use match_core::{QueryRefused, Side, items};
 pub use period_core::NoMemory;
 pub use query::{at, dip};
+pub use round_core::TallyRound;
 pub use rows_by_id::RowsById;

@@ -2,8 +2,8 @@
 
 use crate::queries::joined;
 use crate::tables::{Table, TablePair, compared, days, january, number_pair, numbers_of};
-use join_core::JoinRow;
 use period_core::{Period, Point};
+use query_core::JoinRow;
 use std::alloc::Global;
 use std::process::Abort;
 use std::sync::atomic::{AtomicU64, Ordering};

@@ -3,10 +3,8 @@
 use crate::joins::{worked_join, worked_rows};
 use crate::queries::{Question, check_aggs, check_antis, check_joins, joined, ungrouped};
 use crate::tables::{TablePair, days, january, periods_twice, without_columns};
-use agg_core::Func;
-use anti_core::AntiRow;
-use join_core::JoinRow;
 use period_core::{Period, Point};
+use query_core::{AntiRow, Func, JoinRow};
 use std::alloc::Global;
 use std::process::Abort;
 use std::sync::atomic::{AtomicU64, Ordering};

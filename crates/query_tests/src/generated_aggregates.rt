@@ -5,8 +5,8 @@ use crate::generated::{
 };
 use crate::queries::{Question, check_aggs, ungrouped};
 use crate::tables::{Table, days, table_of};
-use agg_core::{AggRow, Func};
 use period_core::Point;
+use query_core::{AggRow, Func};
 use rand_core::SeedableRng;
 use rand_pcg::Pcg32;
 use row_core::{Name, Value};

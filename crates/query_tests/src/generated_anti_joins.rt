@@ -3,8 +3,8 @@
 use crate::generated::{DAYS, Pair, PlainRow, period, runs};
 use crate::queries::check_antis;
 use crate::tables::{days, january, number_pair};
-use anti_core::AntiRow;
 use period_core::Point;
+use query_core::AntiRow;
 use rand_core::SeedableRng;
 use rand_pcg::Pcg32;
 use std::alloc::Global;

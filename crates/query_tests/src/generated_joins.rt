@@ -3,8 +3,8 @@
 use crate::generated::{DAYS, Pair, PlainRow, period};
 use crate::queries::check_joins;
 use crate::tables::days;
-use join_core::JoinRow;
 use period_core::Point;
+use query_core::JoinRow;
 use rand_core::SeedableRng;
 use rand_pcg::Pcg32;
 use std::alloc::Global;

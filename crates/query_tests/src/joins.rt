@@ -2,8 +2,7 @@
 
 use crate::queries::{check_joins, joined};
 use crate::tables::{Table, TablePair, january, number_pair, periods_twice, side, table_of};
-use join_core::{JoinRow, join};
-use match_core::QueryRefused;
+use query_core::{JoinRow, QueryRefused, join};
 use row_core::{Failure, Kind, Name, RowList, Schema};
 use std::alloc::Global;
 use std::process::Abort;

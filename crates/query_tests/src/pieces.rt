@@ -4,11 +4,9 @@ ghost use Rattle.std.specs.Prelude.{◌≡◌};
 ghost use Rattle.round_core.specs.Together.{all_weight};
 
 use crate::tables::{item, january, steps_of};
-use anti_core::GapPairs;
 use dip_core::{Division, Item, create_dip};
-use join_core::{JoinOut, JoinPairs};
 use merge_core::{Gap, Gaps, Hit, Step, Steps, Tally};
-use round_core::TallyRound;
+use query_core::{GapPairs, JoinOut, JoinPairs, TallyRound};
 use std::alloc::Global;
 use std::process::Abort;
 use std::thread::Threads;

@@ -1,9 +1,7 @@
 //! Queries of tables by so many workers, beside the rows that are to come out.
 
 use crate::tables::{Table, TablePair, january, listed, side};
-use agg_core::{AggRow, Func, agg};
-use anti_core::{AntiRow, anti};
-use join_core::{JoinAnswer, JoinRow, join};
+use query_core::{AggRow, AntiRow, Func, JoinAnswer, JoinRow, agg, anti, join};
 use row_core::Name;
 use std::alloc::Global;
 use std::process::Abort;

@@ -3,11 +3,10 @@
 ghost use Rattle.std.specs.Prelude.{◌≡◌, All, IsTrue};
 ghost use Rattle.row_core.specs.Schema.{fits};
 
-use anti_core::{AntiRow, AntiRows};
 use dip_core::{Item, Part};
-use match_core::Side;
 use merge_core::Steps;
 use period_core::{BadPoint, Period, Point};
+use query_core::{AntiRow, AntiRows, Side};
 use row_core::{Kind, Name, Row, RowList, RowOrder, Schema, Value, Values};
 use std::alloc::Global;
 use std::process::Abort;

@@ -5,8 +5,7 @@ ghost use Rattle.store_core.specs.Passes.{IsPassOf};
 
 use crate::changes::{load, make};
 use crate::meetings::two_passes;
-use join_core::join;
-use query_core::Side;
+use query_core::{Side, join};
 use row_core::Name;
 use std::alloc::Global;
 use std::sync::Wait;
