@@ -23,7 +23,7 @@
 //! at once for ten years: one to three contracts of each person, one after another, and ten rows of pay; joined by the
 //! person, or the pay without a contract. One of `together` has two tables to join whose rows all hold on one day, so
 //! each row is a part of its own, and without columns each row joins each. One of `apart` has two tables without columns,
-//! whose rows all hold on one day, another one for each table: so each row is a part of its own, and no two rows join.
+//! whose rows hold on one day, another one for each table, but for one row of either that holds on both days.
 //! One of `random` has a few tables, and changes and queries of all kinds, some of which are refused; one of `damaged` is
 //! such a script of which bytes were changed, records cut or left out.
 
@@ -267,9 +267,10 @@ impl<W: Write> Script<W> {
         for (day, table) in ["t", "u"].into_iter().enumerate() {
             writeln!(self.out, "table,{table}\nload,{table}")?;
             let (from, to) = (self.day(day as u64), self.day(day as u64 + 1));
-            for _ in 0..self.options.rows {
+            for _ in 1..self.options.rows {
                 writeln!(self.out, "row,{from},{to}")?;
             }
+            writeln!(self.out, "row,{},{}", self.day(0), self.day(2))?;
             writeln!(self.out, "end")?;
         }
         self.queries("join,t,u")
