@@ -22,6 +22,7 @@ mod divide;
 mod fields;
 mod join;
 mod key;
+pub mod large;
 pub mod numbers;
 pub mod point;
 mod queries;

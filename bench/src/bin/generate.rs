@@ -26,7 +26,12 @@
 //! whose rows hold on one day, another one for each table, but for one row of either that holds on both days.
 //! One of `random` has a few tables, and changes and queries of all kinds, some of which are refused; one of `damaged` is
 //! such a script of which bytes were changed, records cut or left out.
+//!
+//! A script of `large-bare`, `large-few`, `large-many`, `large-half`, `large-each`, `large-at-once` or `large-apart` has two
+//! tables of so many rows each, a join of them, an anti-join of either, and all aggregates; one of `large-groups` has one
+//! table, and its aggregates. How their rows lie among values and in time is told where they are made.
 
+use bench::large::{self, Shape};
 use bench::numbers::Numbers;
 use bench::point::Point;
 use bench::random;
@@ -308,7 +313,8 @@ impl<W: Write> Script<W> {
             "random",
             "damaged",
         ];
-        if !makes_its_tables.contains(&kind) {
+        let large = Shape::of_kind(kind);
+        if !makes_its_tables.contains(&kind) && large.is_none() {
             self.table()?;
         }
         match kind {
@@ -343,7 +349,12 @@ impl<W: Write> Script<W> {
                 self.change_all()?;
                 self.queries("between,t,2,3")
             }
-            _ => Err(io::Error::other("no such kind of script")),
+            _ => match large {
+                Some(shape) => self
+                    .out
+                    .write_all(&large::script(&mut self.numbers, shape, rows)),
+                None => Err(io::Error::other("no such kind of script")),
+            },
         }?;
         self.out.flush()
     }
