@@ -7,3 +7,5 @@ mod pieces;
 mod runs;
 #[cfg(test)]
 mod sums;
+#[cfg(test)]
+mod watched;

@@ -11,9 +11,9 @@ use std::thread::Threads;
 use work_core::{Gate, OpenGate, PairName, run_pairs};
 
 // Seven numbers, each a pair with the number 10.
-const SEVEN: &[u32] = &[1, 2, 3, 4, 5, 6, 7];
+pub(crate) const SEVEN: &[u32] = &[1, 2, 3, 4, 5, 6, 7];
 
-const TEN: &[u32] = &[10];
+pub(crate) const TEN: &[u32] = &[10];
 
 // Counts how often it was entered and left: `entered` and `left` by the pair's left half.
 #[derive(Drop)]
@@ -22,7 +22,7 @@ struct Counts {
     left: [AtomicU64; 7],
 }
 
-fn zeros() -> [AtomicU64; 7] {
+pub(crate) fn zeros() -> [AtomicU64; 7] {
     [
         AtomicU64::new(0),
         AtomicU64::new(0),
