@@ -15,7 +15,7 @@ use store_core::{
 };
 
 // A store with one pass of so many calls.
-fn one_pass(alloc: Global, calls: u64) -> Result<(Store, Pass), Fail>
+pub(crate) fn one_pass(alloc: Global, calls: u64) -> Result<(Store, Pass), Fail>
     ensures { IfOk result (λ made. IsPassOf made.0 made.1) }
 {
     let (store, mut passes) = Store::new(alloc, 1, calls)?;
@@ -90,8 +90,24 @@ fn refuses_calls_of_a_pass_that_is_spent(rt: HostRuntime) -> Result<(), Fail> {
     Ok(())
 }
 
+// However often a spent pass calls, it is refused, and what it has seen can still be told.
+#[test]
+fn refuses_each_call_past_the_last(rt: HostRuntime) -> Result<(), Fail> {
+    let (store, mut pass) = one_pass(rt.alloc(), 2)?;
+    check_make(&rt, &store, &mut pass, b"t", Ok(1));
+    check_load(&rt, &store, &mut pass, Ok(2));
+    assert!(rt; pass.left() == 0);
+    check_load(&rt, &store, &mut pass, Err(StoreRefused::PassSpent));
+    check_make(&rt, &store, &mut pass, b"t", Err(StoreRefused::PassSpent));
+    check_load(&rt, &store, &mut pass, Err(StoreRefused::PassSpent));
+    let note = store.note(&mut pass);
+    store.hear(&mut pass, note);
+    assert!(rt; pass.left() == 0);
+    Ok(())
+}
+
 // Checks the number of a snapshot, and how many rows of `t` it shows.
-fn check_snapshot(rt: &impl Abort, snapshot: &Snapshot, number: u64, rows: usize) {
+pub(crate) fn check_snapshot(rt: &impl Abort, snapshot: &Snapshot, number: u64, rows: usize) {
     assert!(rt; snapshot.number() == number);
     let table = Name::parse(b"t").expect(rt, "a name");
     assert!(rt; snapshot.rows(table).expect(rt, "rows").len() == rows);
