@@ -6,6 +6,8 @@ mod changes;
 #[cfg(test)]
 mod crowds;
 #[cfg(test)]
+mod gatherings;
+#[cfg(test)]
 mod limits;
 #[cfg(test)]
 mod meetings;

@@ -24,7 +24,7 @@ pub(crate) fn two_passes(alloc: Global) -> Result<(Store, Pass, Pass), Fail>
 }
 
 // Makes a table, and takes a snapshot, which has it: the pass, and the commit's number.
-fn make_and_look<R: Wait>(
+pub(crate) fn make_and_look<R: Wait>(
     rt: &R,
     alloc: Global,
     store: &Store,
