@@ -1,19 +1,21 @@
-//! A join on a snapshot, while another caller commits a change.
+//! A join on a snapshot, while another caller commits a change, and while others query other snapshots.
 
 ghost use Rattle.std.specs.Prelude.{IfOk};
 ghost use Rattle.store_core.specs.Passes.{IsPassOf};
 
 use crate::changes::{load, make};
 use crate::meetings::two_passes;
-use query_core::{Side, join};
-use row_core::Name;
+use period_core::{Period, Point};
+use query_core::{JoinAnswer, JoinRow, Side, at, join};
+use row_core::{Name, Row, RowList};
 use std::alloc::Global;
+use std::process::Abort;
 use std::sync::Wait;
 use std::sync::atomic::{AtomicU64, Ordering};
 use std::test::Fail;
 use std::thread;
 use std::thread::Threads;
-use store_core::{Pass, Store};
+use store_core::{Pass, Snapshot, Store};
 use work_core::{Gate, PairName};
 
 // How often a thread looks whether another has come so far.
@@ -30,12 +32,22 @@ fn comes(flag: &AtomicU64) -> bool {
     false
 }
 
-// Holds each pair of a join until another caller has ended.
+// Holds each pair of a join until another caller, or all others, have ended.
 #[derive(Drop)]
 struct Holds {
     entered: AtomicU64,
     ended: AtomicU64,
     failed: AtomicU64,
+}
+
+impl Holds {
+    fn new() -> Holds {
+        Holds {
+            entered: AtomicU64::new(0),
+            ended: AtomicU64::new(0),
+            failed: AtomicU64::new(0),
+        }
+    }
 }
 
 impl Gate for Holds {
@@ -49,6 +61,22 @@ impl Gate for Holds {
     fn leave(&self, _pair: PairName) {}
 }
 
+// Joins a snapshot's table with itself.
+fn join_itself<R: Threads + Sync>(
+    rt: &R,
+    alloc: Global,
+    snapshot: &Snapshot,
+    gate: &Holds,
+) -> Option<JoinAnswer> {
+    let table = Name::parse(b"t").ok()?;
+    let (schema, rows) = (snapshot.schema(table).ok()?, snapshot.rows(table).ok()?);
+    let side = Side {
+        schema,
+        rows: &rows,
+    };
+    join(rt, alloc, side, side, &[], 2, gate).ok()
+}
+
 // How many rows a snapshot's table has, and how many its join with itself.
 fn join_rows<R: Threads + Wait + Sync>(
     rt: &R,
@@ -59,15 +87,10 @@ fn join_rows<R: Threads + Wait + Sync>(
 ) -> Option<(usize, usize)>
     requires { IsPassOf store.now pass }
 {
-    let table = Name::parse(b"t").ok()?;
     let snapshot = store.snapshot(rt, &mut pass, None).ok()?;
-    let (schema, rows) = (snapshot.schema(table).ok()?, snapshot.rows(table).ok()?);
-    let side = Side {
-        schema,
-        rows: &rows,
-    };
-    let joined = join(rt, alloc, side, side, &[], 2, gate).ok()?;
-    Some((snapshot.rows(table).ok()?.len(), joined.rows.len()))
+    let joined = join_itself(rt, alloc, &snapshot, gate)?;
+    let rows = snapshot.rows(Name::parse(b"t").ok()?).ok()?;
+    Some((rows.len(), joined.rows.len()))
 }
 
 // Once the join is held, commits a load and takes a snapshot: its number, and how many rows it shows.
@@ -104,11 +127,7 @@ fn one_row<R: Wait>(rt: &R, alloc: Global) -> Result<(Store, Pass, Pass), Fail>
 fn a_join_holds_no_commit_up(rt: HostRuntime) -> Result<(), Fail> {
     let alloc = rt.alloc();
     let (store, first, second) = one_row(&rt, alloc)?;
-    let gate = Holds {
-        entered: AtomicU64::new(0),
-        ended: AtomicU64::new(0),
-        failed: AtomicU64::new(0),
-    };
+    let gate = Holds::new();
     let (joined, committed) = thread::join(
         &rt,
         || join_rows(&rt, alloc, &store, first, &gate),
@@ -117,5 +136,104 @@ fn a_join_holds_no_commit_up(rt: HostRuntime) -> Result<(), Fail> {
     assert_eq!(rt; gate.failed.load(Ordering::SeqCst), 0);
     assert_eq!(rt; committed, Some((3, 2)));
     assert_eq!(rt; joined, Some((1, 1)));
+    Ok(())
+}
+
+// The rows of a snapshot's table that hold on the day of the tests' rows.
+fn rows_of_day(alloc: Global, snapshot: &Snapshot) -> Option<RowList> {
+    let table = Name::parse(b"t").ok()?;
+    let point = Point::parse(b"2024-01-01").ok()?;
+    let (schema, rows) = (snapshot.schema(table).ok()?, snapshot.rows(table).ok()?);
+    let side = Side {
+        schema,
+        rows: &rows,
+    };
+    at(alloc, side, point).ok()
+}
+
+// Once the join is held, queries two snapshots at once.
+fn query_two<R: Threads + Sync>(
+    rt: &R,
+    alloc: Global,
+    early: &Snapshot,
+    late: &Snapshot,
+    gate: &Holds,
+) -> (Option<RowList>, Option<RowList>) {
+    if !comes(&gate.entered) {
+        return (None, None);
+    }
+    let found = thread::join(
+        rt,
+        || rows_of_day(alloc, early),
+        || rows_of_day(alloc, late),
+    );
+    gate.ended.store(1, Ordering::SeqCst);
+    found
+}
+
+// The snapshots of a store's second and third commit, each of which added a row of one day.
+fn two_snapshots<R: Wait>(rt: &R, alloc: Global) -> Result<(Snapshot, Snapshot), Fail> {
+    let (store, mut first, mut second) = one_row(rt, alloc)?;
+    store.commit(rt, &mut first, load(alloc, b"t")?)?;
+    let early = store.snapshot(rt, &mut second, Some(2))?;
+    let late = store.snapshot(rt, &mut second, None)?;
+    Ok((early, late))
+}
+
+// Checks that rows of the tests' day were found, which have the ids from 1 on.
+fn check_rows(rt: &impl Abort, found: Option<RowList>, count: usize) {
+    let rows = found.expect(rt, "rows");
+    assert!(rt; rows.len() == count);
+    assert!(rt;
+        rows.as_slice()
+            .iter()
+            .zip(1..=2u64)
+            .all(|(row, id)| is_row(row, id))
+    );
+}
+
+fn is_row(row: &Row, id: u64) -> bool {
+    row.id == id && is_day(row.period) && row.values.len() == 0
+}
+
+// Whether the period is the day of the tests' rows.
+fn is_day(period: Period) -> bool {
+    match (Point::parse(b"2024-01-01"), Point::parse(b"2024-01-02")) {
+        (Ok(from), Ok(to)) => Period::new(from, to) == Ok(period),
+        _ => false,
+    }
+}
+
+// Checks that each of the two rows was joined with each.
+fn check_pairs(rt: &impl Abort, joined: Option<JoinAnswer>) {
+    let rows = joined.expect(rt, "a join").rows;
+    let pairs = [(1, 1), (1, 2), (2, 1), (2, 2)];
+    assert!(rt; rows.len() == pairs.len());
+    assert!(rt;
+        rows.as_slice()
+            .iter()
+            .zip(pairs)
+            .all(|(row, pair)| is_pair(row, pair))
+    );
+}
+
+fn is_pair(row: &JoinRow, pair: (u64, u64)) -> bool {
+    (row.left, row.right) == pair && is_day(row.period)
+}
+
+#[test]
+fn a_join_holds_no_query_of_other_snapshots_up(rt: HostRuntime) -> Result<(), Fail> {
+    let alloc = rt.alloc();
+    let (early, late) = two_snapshots(&rt, alloc)?;
+    let gate = Holds::new();
+    let (joined, (of_early, of_late)) = thread::join(
+        &rt,
+        || join_itself(&rt, alloc, &late, &gate),
+        || query_two(&rt, alloc, &early, &late, &gate),
+    );
+    assert!(rt; gate.failed.load(Ordering::SeqCst) == 0);
+    check_pairs(&rt, joined);
+    check_rows(&rt, of_early, 1);
+    check_rows(&rt, of_late, 2);
     Ok(())
 }
