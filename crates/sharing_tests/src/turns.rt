@@ -14,16 +14,16 @@ use turn_core::{Kept, Seat, Turn};
 
 // A number, and the caller that added it.
 #[derive(Clone, Copy, Debug, PartialEq, Eq)]
-struct Added {
-    by: u32,
-    number: u64,
+pub(crate) struct Added {
+    pub by: u32,
+    pub number: u64,
 }
 
 // The numbers that callers added, for so many seats.
 #[derive(Drop)]
-struct Numbers {
-    seats: u32,
-    list: Vec<Added>,
+pub(crate) struct Numbers {
+    pub seats: u32,
+    pub list: Vec<Added>,
 }
 
 impl Kept for Numbers {
@@ -38,7 +38,7 @@ impl Kept for Numbers {
 
 impl Numbers {
     // Adds a number; false where memory is refused.
-    fn add(&mut self, by: u32, number: u64) -> bool
+    pub fn add(&mut self, by: u32, number: u64) -> bool
         ensures seats { self.new.seats ≡ self.old.seats }
         ensures adds { AddsAtMostOne (λ added. added.by) by self.old.list.items self.new.list.items }
         ensures added { IsTrue result
@@ -113,7 +113,11 @@ fn add_alone<R: Wait>(
 }
 
 // A copy of the numbers, which begin with those that the seat has seen; None where memory is refused.
-fn look<R: Wait>(rt: &R, turn: &Turn<Numbers>, seat: &mut Seat<Numbers>) -> Option<Vec<Added>>
+pub(crate) fn look<R: Wait>(
+    rt: &R,
+    turn: &Turn<Numbers>,
+    seat: &mut Seat<Numbers>,
+) -> Option<Vec<Added>>
     requires turn { IsSeatOf turn.now seat.old }
     requires caller { 0 < (view_of seat.old).number }
     requires left { 0 < (view_of seat.old).left }
@@ -148,7 +152,7 @@ fn tell(turn: &Turn<Numbers>, first: &mut Seat<Numbers>, second: &mut Seat<Numbe
 }
 
 // How often the list has a number of that caller.
-fn count(list: &[Added], by: u32, number: u64) -> usize {
+pub(crate) fn count(list: &[Added], by: u32, number: u64) -> usize {
     let wanted = Added { by, number };
     list.iter().filter(|added| **added == wanted).count()
 }
