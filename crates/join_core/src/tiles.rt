@@ -31,8 +31,8 @@ struct Span<'a> {
 /// Items are cut by time where each would else be read more often than this.
 const READS: u64 = 256;
 
-/// So many items more start between two cuts than hold at the second one, at least.
-const MORE_STARTED: usize = 16;
+/// So many items more have started since a cut, or have ended, than hold at the next one, at least.
+const MORE_PASSED: usize = 16;
 
 /// Adds the starts and the ends of some items.
 fn add_ends(
@@ -47,21 +47,23 @@ fn add_ends(
     Ok(())
 }
 
-/// The starts at which to cut, by all starts and all ends in their order: more items have started since the cut before
-/// than hold there.
+/// The starts at which to cut, by all starts and all ends in their order: where no more hold than have started since the
+/// cut before, and where half of those that held at once since then have ended. So those that go on over cuts are no more
+/// than all starts and ends.
 fn cuts_of(alloc: Global, starts: &[Point], ends: &[Point]) -> Result<Vec<Point>, NoMemory> {
     let mut cuts = Vec::new(alloc);
-    let mut cut = 0;
-    let mut started = 0;
-    let mut ended = 0;
+    let (mut cut, mut most) = (0, 0);
+    let (mut started, mut ended) = (0, 0);
     while started < starts.len() {
         if ended < ends.len() && ends[ended] <= starts[started] {
             ended += 1;
         } else {
             let holding = started.saturating_sub(ended);
-            if started.saturating_sub(cut) >= holding.saturating_add(MORE_STARTED) {
+            most = most.max(holding);
+            let passed = started.saturating_sub(cut).max(most / 2);
+            if holding.saturating_add(MORE_PASSED) <= passed {
                 cuts.push(starts[started])?;
-                cut = started;
+                (cut, most) = (started, holding);
             }
             started += 1;
         }
