@@ -113,11 +113,15 @@ fn joins_few_values_of_one_day(rt: HostRuntime) {
     assert!(rt; gate.run.load(Ordering::SeqCst) < 12_000);
 }
 
-// 800 rows of that day, and a row of the whole month, all of one number.
-fn of_a_day_and_a_month(rt: &(impl Abort + Alloc<A = Global>), day: u8) -> Vec<(u8, u8, i64)> {
+// 800 rows of those days, and a row of the whole month, all of one number.
+fn of_days_and_a_month(
+    rt: &(impl Abort + Alloc<A = Global>),
+    from: u8,
+    to: u8,
+) -> Vec<(u8, u8, i64)> {
     let mut rows = Vec::new(rt.alloc());
     for _ in 0..800 {
-        rows.push((day, day + 1, 7)).expect(rt, "memory");
+        rows.push((from, to, 7)).expect(rt, "memory");
     }
     rows.push((1, 31, 7)).expect(rt, "memory");
     rows
@@ -140,8 +144,8 @@ fn check_month(rt: &impl Abort, row: &JoinRow) {
 // of the month alone.
 #[test]
 fn joins_a_value_of_different_days(rt: HostRuntime) {
-    let lefts = of_a_day_and_a_month(&rt, 3);
-    let rights = of_a_day_and_a_month(&rt, 20);
+    let lefts = of_days_and_a_month(&rt, 3, 4);
+    let rights = of_days_and_a_month(&rt, 20, 21);
     let pair = number_pair(&rt, &lefts, &rights);
     for workers in [1, 2, 7] {
         let gate = Pairs {
