@@ -1,115 +1,135 @@
 //! The heap of last ends.
 
 ghost use Rattle.std.specs.Prelude.{◌≡◌, ℕ, ◌+◌, ◌-◌, ◌*◌, ◌^◌, ◌<◌, ◌≤◌, ◌<ℤ◌, [], ◌∷◌, ◌++◌, MatchOption, OnErr, OnOk, All, length, set, IsPermutation};
-ghost use Rattle.dip_core.specs.Heap.{ComesFirstBelow, IsFirstOver, IsHeap, IsHeapButAbove, IsHeapButBelow};
+ghost use Rattle.dip_core.specs.Heap.{ComesFirstBelow, IsFirstOver, IsHeap, IsHeapButAbove, IsHeapButBelow, with_looks};
 
 use crate::NoMemory;
-use crate::last_end::LastEnd;
+use crate::last_ends::{LastEnd, LastEnds};
 use period_core::Point;
 use std::alloc::Global;
 use std::marker::Model;
 
-/// Last ends in a binary heap, with that of the part that ends first at its root. Contracts see their list,
-/// in which the root is the first.
+/// Last ends in a binary heap, with that of the part that ends first at its root. Contracts see their list, in which
+/// the root is the first, and how many looks there were.
 #[derive(Drop)]
 pub(crate) struct Heap {
-    ends: Vec<LastEnd>,
+    ends: LastEnds,
 }
 
 impl Model for Heap {
-    ghost use Rattle.std.specs.Prelude.{List};
-    ghost use Rattle.dip_core.specs.Heap.{Ending, IsHeap};
+    ghost use Rattle.dip_core.specs.Heap.{Endings, IsHeap};
 
-    ghost Value = { List Ending };
+    ghost Value = { Endings };
 
-    ghost view = { λ h. h.ends.items };
+    ghost view = { λ h. h.ends };
 
-    ghost invariant = { λ h. IsHeap h.ends.items };
+    ghost invariant = { λ h. IsHeap h.ends.ends };
 }
 
 impl Heap {
     /// A heap without last ends.
     pub fn new(alloc: Global) -> Heap
-        ensures { result ≡ [] }
+        ensures { result ≡ record { ends = []; looks = 0 } }
     {
         Heap {
-            ends: Vec::new(alloc),
+            ends: LastEnds::new(alloc),
         }
+    }
+
+    /// How many looks there were, but for those that were taken back.
+    pub fn looks(&self) -> u64
+        ensures { result ≡ self.now.looks }
+    {
+        self.ends.looks()
     }
 
     /// The number of the part that ends first, where that part has ended by the start; where it goes on, all
     /// do.
-    pub fn first_over(&self, start: Point, looks: &mut u64) -> Option<usize>
-        requires { looks.old + 1 < 2 ^ 64 }
-        ensures over { MatchOption result (All (λ e. start <ℤ e.end) self.now) (IsFirstOver self.now start) }
-        ensures none { length self.now ≡ 0 → looks.new ≡ looks.old }
-        ensures some { 0 < length self.now → looks.new ≡ looks.old + 1 }
+    pub fn first_over(&mut self, start: Point) -> Option<usize>
+        requires { self.old.looks + 1 < 2 ^ 64 }
+        ensures over { MatchOption result (All (λ e. start <ℤ e.end) self.old.ends)
+            (IsFirstOver self.old.ends start) }
+        ensures same { self.new.ends ≡ self.old.ends }
+        ensures none { length self.old.ends ≡ 0 → self.new.looks ≡ self.old.looks }
+        ensures some { 0 < length self.old.ends → self.new.looks ≡ self.old.looks + 1 }
     {
-        first_over(&self.ends, start, looks)
+        first_over(&mut self.ends, start)
     }
 
     /// Puts that last end into the place of the first.
-    pub fn replace_first(&mut self, last_end: LastEnd, looks: &mut u64)
-        requires some { 0 < length self.old }
-        requires room { looks.old + 2 * length self.old < 2 ^ 64 }
-        ensures same { IsPermutation (set self.old 0 last_end) self.new }
-        ensures grows { looks.old ≤ looks.new }
-        ensures few { (digits : ℕ) → length self.old < 2 ^ digits → looks.new + 2 ≤ looks.old + 2 * digits }
+    pub fn replace_first(&mut self, last_end: LastEnd)
+        requires some { 0 < length self.old.ends }
+        requires room { self.old.looks + 2 * length self.old.ends < 2 ^ 64 }
+        ensures same { IsPermutation (set self.old.ends 0 last_end) self.new.ends }
+        ensures grows { self.old.looks ≤ self.new.looks }
+        ensures few { (digits : ℕ) → length self.old.ends < 2 ^ digits
+            → self.new.looks + 2 ≤ self.old.looks + 2 * digits }
     {
-        self.ends[0] = last_end;
-        sift_down(&mut self.ends, looks);
+        self.ends.replace(0, last_end);
+        sift_down(&mut self.ends);
     }
 
     /// Adds a last end. On NoMemory nothing is changed.
-    pub fn push(&mut self, last_end: LastEnd, looks: &mut u64) -> Result<(), NoMemory>
-        requires { looks.old + length self.old + 1 < 2 ^ 64 }
-        ensures same { OnOk result (IsPermutation (self.old ++ last_end ∷ []) self.new) }
-        ensures grows { looks.old ≤ looks.new }
-        ensures few { OnOk result ((digits : ℕ) → length self.old < 2 ^ digits → looks.new ≤ looks.old + digits) }
+    pub fn push(&mut self, last_end: LastEnd) -> Result<(), NoMemory>
+        requires { self.old.looks + length self.old.ends + 1 < 2 ^ 64 }
+        ensures same { OnOk result (IsPermutation (self.old.ends ++ last_end ∷ []) self.new.ends) }
+        ensures grows { self.old.looks ≤ self.new.looks }
+        ensures few { OnOk result ((digits : ℕ) → length self.old.ends < 2 ^ digits
+            → self.new.looks ≤ self.old.looks + digits) }
         ensures err { OnErr result (self.new ≡ self.old) }
     {
         self.ends.push(last_end)?;
-        sift_up(&mut self.ends, looks);
+        sift_up(&mut self.ends);
         Ok(())
+    }
+
+    /// Sets the count of looks back to what it was before a placement that was refused memory, which counts none.
+    pub fn take_back(&mut self, looks: u64)
+        ensures { self.new ≡ with_looks self.old looks }
+    {
+        self.ends.take_back(looks);
     }
 }
 
 /// Only the root is looked at: no other part ends before its.
-fn first_over(ends: &[LastEnd], start: Point, looks: &mut u64) -> Option<usize>
-    requires heap { IsHeap ends.now }
-    requires room { looks.old + 1 < 2 ^ 64 }
-    ensures over { MatchOption result (All (λ e. start <ℤ e.end) ends.now) (IsFirstOver ends.now start) }
-    ensures none { length ends.now ≡ 0 → looks.new ≡ looks.old }
-    ensures some { 0 < length ends.now → looks.new ≡ looks.old + 1 }
+fn first_over(ends: &mut LastEnds, start: Point) -> Option<usize>
+    requires heap { IsHeap ends.old.ends }
+    requires room { ends.old.looks + 1 < 2 ^ 64 }
+    ensures over { MatchOption result (All (λ e. start <ℤ e.end) ends.old.ends)
+        (IsFirstOver ends.old.ends start) }
+    ensures same { ends.new.ends ≡ ends.old.ends }
+    ensures none { length ends.old.ends ≡ 0 → ends.new.looks ≡ ends.old.looks }
+    ensures some { 0 < length ends.old.ends → ends.new.looks ≡ ends.old.looks + 1 }
 {
-    if ends.is_empty() {
+    if ends.len() == 0 {
         return None;
     }
-    let first = &ends[0];
-    if first.is_over(start, looks) {
-        Some(first.number())
+    if ends.is_over(0, start) {
+        Some(ends.number(0))
     } else {
         None
     }
 }
 
 /// Of the two places below a place, that of the one that comes first.
-fn first_below(ends: &[LastEnd], place: usize, looks: &mut u64) -> usize
-    requires below { place * 2 + 1 < length ends.now }
-    requires room { looks.old + 1 < 2 ^ 64 }
+fn first_below(ends: &mut LastEnds, place: usize) -> usize
+    requires below { place * 2 + 1 < length ends.old.ends }
+    requires room { ends.old.looks + 1 < 2 ^ 64 }
     ensures from { place * 2 + 1 ≤ result }
     ensures to { result ≤ place * 2 + 2 }
-    ensures within { result < length ends.now }
-    ensures first { ComesFirstBelow ends.now place result }
-    ensures grows { looks.old ≤ looks.new }
-    ensures few { looks.new ≤ looks.old + 1 }
+    ensures within { result < length ends.old.ends }
+    ensures first { ComesFirstBelow ends.old.ends place result }
+    ensures same { ends.new.ends ≡ ends.old.ends }
+    ensures grows { ends.old.looks ≤ ends.new.looks }
+    ensures few { ends.new.looks ≤ ends.old.looks + 1 }
 {
+    let len = ends.len();
     let left = place * 2 + 1;
     let right = left + 1;
-    if right == ends.len() {
+    if right == len {
         return left;
     }
-    if ends[right].comes_first(&ends[left], looks) {
+    if ends.comes_first(right, left) {
         right
     } else {
         left
@@ -117,19 +137,20 @@ fn first_below(ends: &[LastEnd], place: usize, looks: &mut u64) -> usize
 }
 
 /// Makes a heap of one whose first may come after others: it moves down past them.
-fn sift_down(ends: &mut [LastEnd], looks: &mut u64)
-    requires some { 0 < length ends.old }
-    requires heap { IsHeapButBelow ends.old 0 }
-    requires room { looks.old + 2 * length ends.old < 2 ^ 64 }
-    ensures heap { IsHeap ends.new }
-    ensures same { IsPermutation ends.old ends.new }
-    ensures grows { looks.old ≤ looks.new }
-    ensures few { (digits : ℕ) → length ends.old < 2 ^ digits → looks.new + 2 ≤ looks.old + 2 * digits }
+fn sift_down(ends: &mut LastEnds)
+    requires some { 0 < length ends.old.ends }
+    requires heap { IsHeapButBelow ends.old.ends 0 }
+    requires room { ends.old.looks + 2 * length ends.old.ends < 2 ^ 64 }
+    ensures heap { IsHeap ends.new.ends }
+    ensures same { IsPermutation ends.old.ends ends.new.ends }
+    ensures grows { ends.old.looks ≤ ends.new.looks }
+    ensures few { (digits : ℕ) → length ends.old.ends < 2 ^ digits
+        → ends.new.looks + 2 ≤ ends.old.looks + 2 * digits }
 {
     let mut place = 0;
     while place < ends.len() / 2 {
-        let below = first_below(ends, place, looks);
-        if ends[place].comes_first(&ends[below], looks) {
+        let below = first_below(ends, place);
+        if ends.comes_first(place, below) {
             return;
         }
         ends.swap(place, below);
@@ -138,19 +159,20 @@ fn sift_down(ends: &mut [LastEnd], looks: &mut u64)
 }
 
 /// Makes a heap of one whose last may come before others: it moves up past them.
-fn sift_up(ends: &mut [LastEnd], looks: &mut u64)
-    requires some { 0 < length ends.old }
-    requires heap { IsHeapButAbove ends.old (length ends.old - 1) }
-    requires room { looks.old + length ends.old < 2 ^ 64 }
-    ensures heap { IsHeap ends.new }
-    ensures same { IsPermutation ends.old ends.new }
-    ensures grows { looks.old ≤ looks.new }
-    ensures few { (digits : ℕ) → length ends.old ≤ 2 ^ digits → looks.new ≤ looks.old + digits }
+fn sift_up(ends: &mut LastEnds)
+    requires some { 0 < length ends.old.ends }
+    requires heap { IsHeapButAbove ends.old.ends (length ends.old.ends - 1) }
+    requires room { ends.old.looks + length ends.old.ends < 2 ^ 64 }
+    ensures heap { IsHeap ends.new.ends }
+    ensures same { IsPermutation ends.old.ends ends.new.ends }
+    ensures grows { ends.old.looks ≤ ends.new.looks }
+    ensures few { (digits : ℕ) → length ends.old.ends ≤ 2 ^ digits
+        → ends.new.looks ≤ ends.old.looks + digits }
 {
     let mut place = ends.len() - 1;
     while place > 0 {
         let above = (place - 1) / 2;
-        if ends[above].comes_first(&ends[place], looks) {
+        if ends.comes_first(above, place) {
             return;
         }
         ends.swap(above, place);

@@ -7,7 +7,7 @@ mod division;
 mod heap;
 mod ids;
 mod item;
-mod last_end;
+mod last_ends;
 mod laws;
 mod part;
 mod part_items;

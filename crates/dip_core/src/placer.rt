@@ -23,7 +23,6 @@ pub struct Placer {
     ends: Heap,
     last: Option<Item>,
     len: u64,
-    looks: u64,
 }
 
 impl Model for Placer {
@@ -32,9 +31,9 @@ impl Model for Placer {
 
     ghost Value = { Placing };
 
-    ghost view = { λ p. record { parts = p.parts.items; last = p.last; looks = p.looks } };
+    ghost view = { λ p. record { parts = p.parts.items; last = p.last; looks = p.ends.looks } };
 
-    ghost invariant = { λ p. IsPlacing p.parts.items p.ends p.last p.len p.looks };
+    ghost invariant = { λ p. IsPlacing p.parts.items p.ends p.last p.len };
 }
 
 impl Placer {
@@ -48,7 +47,6 @@ impl Placer {
             ends: Heap::new(alloc),
             last: None,
             len: 0,
-            looks: 0,
         }
     }
 
@@ -73,7 +71,7 @@ impl Placer {
     pub fn looks(&self) -> u64
         ensures { result ≡ self.now.looks }
     {
-        self.looks
+        self.ends.looks()
     }
 
     /// Places the item, and answers the number of its part: of those that have ended by its start the one
@@ -92,18 +90,18 @@ impl Placer {
         ensures few_looks { OnOk result ((digits : ℕ) × HasBinaryDigits (length self.old.parts) digits
             × (self.new.looks ≤ self.old.looks + 2 * digits)) }
     {
-        let mut looks = self.looks;
-        let number = place_item(
-            self.alloc,
-            &mut self.parts,
-            &mut self.ends,
-            &item,
-            &mut looks,
-        )?;
-        self.looks = looks;
-        self.last = Some(item);
-        self.len += 1;
-        Ok(number as u32)
+        let looks = self.ends.looks();
+        match place_item(self.alloc, &mut self.parts, &mut self.ends, &item) {
+            Ok(number) => {
+                self.last = Some(item);
+                self.len += 1;
+                Ok(number as u32)
+            }
+            Err(refused) => {
+                self.ends.take_back(looks);
+                Err(refused)
+            }
+        }
     }
 
     /// The parts as a division of all items that were placed.
@@ -118,7 +116,6 @@ impl Placer {
             ends: _,
             last: _,
             len: _,
-            looks: _,
         } = self;
         Division::from_parts(parts)
     }

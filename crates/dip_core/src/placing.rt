@@ -6,7 +6,7 @@ ghost use Rattle.dip_core.specs.Placing.{IsPlaceFor, added};
 ghost use Rattle.dip_core.specs.Heap.{HoldLastEnds};
 
 use crate::heap::Heap;
-use crate::last_end::LastEnd;
+use crate::last_ends::LastEnd;
 use crate::part_items::PartItems;
 use crate::{Item, NoMemory};
 use std::alloc::Global;
@@ -17,22 +17,22 @@ fn join_part(
     ends: &mut Heap,
     number: usize,
     item: &Item,
-    looks: &mut u64,
 ) -> Result<usize, NoMemory>
-    requires some { 0 < length ends.old }
-    requires first { HoldsAt (λ e. e.number ≡ number) ends.old 0 }
-    requires last_ends { HoldLastEnds parts.old.items ends.old }
-    requires room { looks.old + 2 * length ends.old < 2 ^ 64 }
+    requires some { 0 < length ends.old.ends }
+    requires first { HoldsAt (λ e. e.number ≡ number) ends.old.ends 0 }
+    requires last_ends { HoldLastEnds parts.old.items ends.old.ends }
+    requires room { ends.old.looks + 2 * length ends.old.ends < 2 ^ 64 }
     ensures number { IfOk result (λ k. k ≡ number) }
     ensures added { OnOk result (parts.new.items ≡ added parts.old.items number item.now) }
-    ensures last_ends { OnOk result (HoldLastEnds parts.new.items ends.new) }
-    ensures grows { looks.old ≤ looks.new }
-    ensures few { OnOk result ((digits : ℕ) → length ends.old < 2 ^ digits → looks.new + 2 ≤ looks.old + 2 * digits) }
+    ensures last_ends { OnOk result (HoldLastEnds parts.new.items ends.new.ends) }
+    ensures grows { ends.old.looks ≤ ends.new.looks }
+    ensures few { OnOk result ((digits : ℕ) → length ends.old.ends < 2 ^ digits
+        → ends.new.looks + 2 ≤ ends.old.looks + 2 * digits) }
     ensures parts_err { OnErr result (parts.new.items ≡ parts.old.items) }
     ensures ends_err { OnErr result (ends.new ≡ ends.old) }
 {
     parts[number].push(item)?;
-    ends.replace_first(LastEnd::new(item.period.to, number), looks);
+    ends.replace_first(LastEnd::new(item.period.to, number));
     Ok(number)
 }
 
@@ -42,49 +42,49 @@ fn open_part(
     parts: &mut Vec<PartItems>,
     ends: &mut Heap,
     item: &Item,
-    looks: &mut u64,
 ) -> Result<usize, NoMemory>
-    requires last_ends { HoldLastEnds parts.old.items ends.old }
-    requires room { looks.old + length ends.old + 1 < 2 ^ 64 }
+    requires last_ends { HoldLastEnds parts.old.items ends.old.ends }
+    requires room { ends.old.looks + length ends.old.ends + 1 < 2 ^ 64 }
     ensures number { IfOk result (λ k. k ≡ vec_len parts.old) }
     ensures added { OnOk result (parts.new.items ≡ added parts.old.items (vec_len parts.old) item.now) }
-    ensures last_ends { OnOk result (HoldLastEnds parts.new.items ends.new) }
-    ensures grows { looks.old ≤ looks.new }
-    ensures few { OnOk result ((digits : ℕ) → length ends.old < 2 ^ digits → looks.new ≤ looks.old + digits) }
+    ensures last_ends { OnOk result (HoldLastEnds parts.new.items ends.new.ends) }
+    ensures grows { ends.old.looks ≤ ends.new.looks }
+    ensures few { OnOk result ((digits : ℕ) → length ends.old.ends < 2 ^ digits
+        → ends.new.looks ≤ ends.old.looks + digits) }
     ensures parts_err { OnErr result (parts.new.items ≡ parts.old.items) }
     ensures ends_err { OnErr result (ends.new ≡ ends.old) }
 {
     let number = parts.len();
     let part = PartItems::open(alloc, item)?;
     parts.reserve(1)?;
-    ends.push(LastEnd::new(item.period.to, number), looks)?;
+    ends.push(LastEnd::new(item.period.to, number))?;
     match parts.push(part) {
         Ok(()) => Ok(number),
         Err(_) => unreachable!(),
     }
 }
 
-/// Adds the item where the placing rule says, and answers the number of that part.
+/// Adds the item where the placing rule says, and answers the number of that part. On NoMemory the last ends may have
+/// been looked at.
 pub(crate) fn place_item(
     alloc: Global,
     parts: &mut Vec<PartItems>,
     ends: &mut Heap,
     item: &Item,
-    looks: &mut u64,
 ) -> Result<usize, NoMemory>
-    requires last_ends { HoldLastEnds parts.old.items ends.old }
-    requires room { looks.old + 2 * vec_len parts.old + 2 < 2 ^ 64 }
+    requires last_ends { HoldLastEnds parts.old.items ends.old.ends }
+    requires room { ends.old.looks + 2 * vec_len parts.old + 2 < 2 ^ 64 }
     ensures place { IfOk result (IsPlaceFor parts.old.items item.now.period.from) }
     ensures added { IfOk result (λ k. parts.new.items ≡ added parts.old.items k item.now) }
-    ensures last_ends { OnOk result (HoldLastEnds parts.new.items ends.new) }
-    ensures looked { 0 < vec_len parts.old → looks.old < looks.new }
-    ensures grows { looks.old ≤ looks.new }
-    ensures few { OnOk result ((digits : ℕ) → vec_len parts.old < 2 ^ digits → looks.new ≤ looks.old + 2 * digits) }
+    ensures last_ends { OnOk result (HoldLastEnds parts.new.items ends.new.ends) }
+    ensures looked { 0 < vec_len parts.old → ends.old.looks < ends.new.looks }
+    ensures few { OnOk result ((digits : ℕ) → vec_len parts.old < 2 ^ digits
+        → ends.new.looks ≤ ends.old.looks + 2 * digits) }
     ensures parts_err { OnErr result (parts.new.items ≡ parts.old.items) }
-    ensures ends_err { OnErr result (ends.new ≡ ends.old) }
+    ensures ends_err { OnErr result (ends.new.ends ≡ ends.old.ends) }
 {
-    match ends.first_over(item.period.from, looks) {
-        Some(number) => join_part(parts, ends, number, item, looks),
-        None => open_part(alloc, parts, ends, item, looks),
+    match ends.first_over(item.period.from) {
+        Some(number) => join_part(parts, ends, number, item),
+        None => open_part(alloc, parts, ends, item),
     }
 }

@@ -1,8 +1,8 @@
-use Rattle.std.proofs.Common.{arith, ◌≡◌, ◌+◌, ◌*◌, ◌^◌, ◌<◌, length, get_or}
-use Rattle.std.proofs.lemmas.List.Elements.{pair_read}
-use Rattle.std.proofs.lemmas.List.Sorted.{IsPermutation-trans}
-use Rattle.dip_core.specs.Heap.{Ending}
-use Rattle.dip_core.specs.Heap.{ComesFirst}
+use Rattle.std.proofs.Common.{arith, ◌≡◌, ◌∙◌, ◌+◌, ◌*◌, ◌^◌, ◌<◌, length, subst}
+use Rattle.std.specs.Prelude.{IsPermutation}
+use Rattle.std.specs.List.{SwappedAt}
+use Rattle.std.proofs.lemmas.List.Sorted.{IsPermutation-trans, length_permutation}
+use Rattle.dip_core.specs.Heap.{ComesFirstAt}
 use Rattle.dip_core.proofs.DigitsLemmas.{exponent-less, power-more}
 use Rattle.dip_core.proofs.HeapLemmas.{down-goes}
 use Rattle.dip_core.proofs.heap.sift_down.Goals as goal
@@ -16,25 +16,26 @@ returns-then-comes_first-clause-few c = λ digits short.
 
 pub loop-place-preserved : goal.loop-place-preserved
 loop-place-preserved c =
-    let xs = c.loop-place.ends in
-    let ys = c.swap.new.self in
+    let xs = c.loop-place.ends.ends in
+    let ys = c.swap.new.self.ends in
     let place = c.loop-place.place in
     let below = c.first_below-below.result in
     let found = c.first_below-below.ensures in
     let was = c.loop-place.invariant in
-    let inside : below < length xs = found.within in
-    let before : (d : Ending) → ComesFirst (get_or xs below d) (get_or xs place d) =
-    pair_read xs ComesFirst below place c.index-ends-below.result c.index-ends-place.result inside was.within
-    c.index-ends-below.is c.index-ends-place.is c.if-comes_first.ensures.first in
+    let unmoved : c.comes_first.new.self.ends ≡ xs = c.comes_first.ensures.same ∙ found.same in
+    let swapped : SwappedAt xs ys place below =
+    subst (λ l. SwappedAt l ys place below) unmoved c.swap.ensures.swapped in
+    let moved : IsPermutation xs ys = subst (λ l. IsPermutation l ys) unmoved c.swap.ensures.same in
+    let long : length ys ≡ length xs = length_permutation xs ys moved in
+    let before : ComesFirstAt xs below place =
+    subst (λ l. ComesFirstAt l below place) found.same c.if-comes_first.ensures.first in
     let (level, power, few) = was.levels in
     let next : 2 ^ (level + 1) ≡ 2 * 2 ^ level = power-more level in
     record {
       long = omega arith;
       within = omega arith;
-      heap =
-          down-goes xs ys place below c.swap.ensures.by_index c.swap.ensures.len found.from found.to inside before
-          found.first was.heap;
-      same = IsPermutation-trans c.args.ends.now xs ys was.same c.swap.ensures.permutation;
+      heap = down-goes xs ys place below swapped long found.from found.to found.within before found.first was.heap;
+      same = IsPermutation-trans c.args.ends.now.ends xs ys was.same moved;
       grows = omega arith;
       room = omega arith;
       levels = (level + 1, omega arith, omega arith);

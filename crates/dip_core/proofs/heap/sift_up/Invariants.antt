@@ -6,14 +6,14 @@ use Rattle.dip_core.proofs.heap.sift_up.Given as goal
 -- each place further up costs one look, and leaves one level less above it
 abbrev pub invariant-loop-place : goal.invariant-loop-place
 invariant-loop-place l = record {
-  long : length l.ends ≡ length l.initial.ends;
-  within : l.place < length l.ends;
-  heap : IsHeapButAbove l.ends l.place;
-  same : IsPermutation l.initial.ends l.ends;
-  grows : l.initial.looks ≤ l.looks;
-  room : l.looks + l.place < l.initial.looks + length l.ends;
-  levels : (digits : ℕ) → length l.ends ≤ 2 ^ digits
-      → (levels : ℕ) × (l.place + 1 ≤ 2 ^ levels) × (l.looks + levels ≤ l.initial.looks + digits);
+  long : length l.ends.ends ≡ length l.initial.ends.ends;
+  within : l.place < length l.ends.ends;
+  heap : IsHeapButAbove l.ends.ends l.place;
+  same : IsPermutation l.initial.ends.ends l.ends.ends;
+  grows : l.initial.ends.looks ≤ l.ends.looks;
+  room : l.ends.looks + l.place < l.initial.ends.looks + length l.ends.ends;
+  levels : (digits : ℕ) → length l.ends.ends ≤ 2 ^ digits
+      → (levels : ℕ) × (l.place + 1 ≤ 2 ^ levels) × (l.ends.looks + levels ≤ l.initial.ends.looks + digits);
 }
 
 abbrev pub decreases-loop-place : goal.decreases-loop-place
