@@ -16,3 +16,9 @@ times_below-next x n = grind (arith, nat_tests)
 
 pub times_below-inside : (x n : ℕ) → x < n → times_below x n ≡ 1
 times_below-inside x n h = grind (arith, nat_tests)
+
+pub times-last : (x : ℕ) (xs : List ℕ) → 0 < times x (xs ++ x ∷ [])
+times-last x xs =
+    let both = times-append x xs (x ∷ []) in
+    let one : times x (x ∷ []) ≡ 1 = grind (arith, nat_tests) in
+    omega (arith, both, one)

@@ -1,5 +1,5 @@
 -- What workers are given and what they hand back: values of pairs, of each pair whose number they drew.
-use Rattle.std.specs.Prelude.{◌≡◌, ℕ, ◌+◌, ◌<◌, ◌≤◌, ◌==◌, if◌then◌else◌, All, List, [], ◌∷◌, ◌++◌, length, map, replicate, IfOk, Option, Some, None, is_some, slice_index_or, slice_set}
+use Rattle.std.specs.Prelude.{◌≡◌, ℕ, ◌+◌, ◌<◌, ◌≤◌, ◌==◌, if◌then◌else◌, All, List, [], ◌∷◌, ◌++◌, length, map, replicate, IfOk, IsErr, Result, Ok, Option, Some, None, is_some, slice_index_or, slice_set}
 use Rattle.atomic_table.specs.Seated.{TableId}
 use Rattle.atomic_table.specs.declared.shared.Seat.{Seat}
 use Rattle.work_core.specs.declared.job.PairWork as PairWork
@@ -62,6 +62,12 @@ module _ {W Out : Type 0} (g : PairWork.Ghosts W Out) (w : W) where
     pub gives : Gives g w (g.name_of w n) value
     pub keeps : KeepsValue n value old new
 
+  -- no run was refused before, and the pair of number n was run
+  pub record IsRunAfter {E : Type 0} (n : ℕ) (old : Result (KeptValues Out) E) (new : KeptValues Out) : Type 0 where
+    pub before : KeptValues Out
+    pub was : old ≡ Ok before
+    pub run : IsRun n before new
+
   -- what is kept are values of their pairs, and one of each pair whose number was drawn; the numbers in `more` are
   -- drawn and still to be run
   pub record AreOfDrawn (drawn more : List ℕ) (kept : KeptValues Out) : Type 0 where
@@ -70,8 +76,12 @@ module _ {W Out : Type 0} (g : PairWork.Ghosts W Out) (w : W) where
     pub whole : g.pairs w ≤ length kept.places.items → kept.values.items ≡ []
     pub each : (x : ℕ) → x < g.pairs w → 0 < times x drawn → 0 < count_kept kept x + times x more
 
+  -- a pair's number is among the numbers drawn
+  abbrev pub HasDrawnPair : List ℕ → Type 0
+  HasDrawnPair drawn = (x : ℕ) × (x < g.pairs w) × (0 < times x drawn)
+
   -- a worker with n places drew until a number was past the pairs, and its values, if no run was refused, are of the
-  -- numbers drawn
+  -- numbers drawn; where one was, it has drawn a pair
   pub record IsWorkerAnswer (table : TableId) (n : ℕ) (answer : WorkerAnswer Out) : Type 0 where
     pub table_is : answer.seat.table_id ≡ table
     pub free : answer.seat.me.1 ≡ []
@@ -79,6 +89,7 @@ module _ {W Out : Type 0} (g : PairWork.Ghosts W Out) (w : W) where
     pub past : g.pairs w < answer.seat.me.0.least
     pub places : IfOk answer.kept (λ kept. length kept.places.items ≡ n)
     pub values : IfOk answer.kept (λ kept. AreOfDrawn answer.seat.me.0.drawn [] kept)
+    pub refused : IsErr answer.kept → HasDrawnPair answer.seat.me.0.drawn
 
   -- the answers of a team whose last worker has a place for each pair
   abbrev pub AreAnswers : TableId → List (WorkerAnswer Out) → Type 0

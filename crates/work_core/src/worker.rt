@@ -1,7 +1,7 @@
 //! One worker: it draws the number of a pair, runs that pair, and draws again.
 
-ghost use Rattle.std.specs.Prelude.{◌≡◌, ◌<◌, false, length, OnOk};
-ghost use Rattle.work_core.specs.Workers.{IsFreshWorker, IsRun, IsWorkerAnswer};
+ghost use Rattle.std.specs.Prelude.{◌<◌, length, IfOk};
+ghost use Rattle.work_core.specs.Workers.{IsFreshWorker, IsRun, IsRunAfter, IsWorkerAnswer};
 
 use crate::claims::{ClaimSeat, Claims};
 use crate::gate::Gate;
@@ -23,38 +23,40 @@ pub(crate) struct WorkerAnswer<T> {
     pub kept: Result<KeptValues<T>, AllocError>,
 }
 
-// Runs the pair of that number, between the calls of its gate, and keeps its value.
+// Runs the pair of that number, between the calls of its gate, and keeps its value with the others.
 fn run_pair<W: PairWork, G: Gate>(
     alloc: Global,
     job: &W,
     gate: &G,
     number: u64,
-    kept: &mut KeptValues<W::Out>,
-) -> Result<(), AllocError>
+    mut kept: KeptValues<W::Out>,
+) -> Result<KeptValues<W::Out>, AllocError>
     requires { number < W.pairs job.now }
-    ensures { OnOk result (IsRun W.PairWork job.now number kept.old kept.new) }
+    ensures { IfOk result (IsRun W.PairWork job.now number kept) }
 {
     let name = job.name(number);
     gate.enter(name);
     let run = job.run(alloc, name);
     gate.leave(name);
-    kept.put(number, run?)
+    kept.put(number, run?)?;
+    Ok(kept)
 }
 
-// Runs one more pair, unless a run was refused before; says whether one was.
+// Runs one more pair. Where a run was refused before there are no values to keep its value with, so it isn't run.
 fn run_next<W: PairWork, G: Gate>(
     alloc: Global,
     job: &W,
     gate: &G,
     number: u64,
-    kept: &mut KeptValues<W::Out>,
-    refused: bool,
-) -> bool
+    kept: Result<KeptValues<W::Out>, AllocError>,
+) -> Result<KeptValues<W::Out>, AllocError>
     requires { number < W.pairs job.now }
-    ensures { result ≡ false → (refused ≡ false)
-        × IsRun W.PairWork job.now number kept.old kept.new }
+    ensures { IfOk result (λ new. IsRunAfter W.PairWork job.now number kept new) }
 {
-    refused || run_pair(alloc, job, gate, number, kept).is_err()
+    match kept {
+        Ok(kept) => run_pair(alloc, job, gate, number, kept),
+        Err(refused) => Err(refused),
+    }
 }
 
 /// Draws numbers, and runs their pairs, until a number is past the pairs. After a refused run it goes on
@@ -69,14 +71,13 @@ pub(crate) fn work<W: PairWork, G: Gate>(
     requires { IsFreshWorker claims.now worker }
     ensures { IsWorkerAnswer W.PairWork job.now claims.now (length worker.kept.places.items) result }
 {
-    let Worker { mut seat, mut kept } = worker;
+    let Worker { mut seat, kept } = worker;
     let count = job.count();
-    let mut refused = false;
+    let mut kept = Ok(kept);
     let mut number = claims.draw(&mut seat);
     while number < count {
-        refused = run_next(alloc, job, gate, number, &mut kept, refused);
+        kept = run_next(alloc, job, gate, number, kept);
         number = claims.draw(&mut seat);
     }
-    let kept = if refused { Err(AllocError) } else { Ok(kept) };
     WorkerAnswer { seat, kept }
 }
