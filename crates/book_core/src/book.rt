@@ -128,7 +128,7 @@ impl Book {
     }
 
     /// What refuses a change before its rows' keys are tested, if anything does.
-    fn refusal(&self, change: &Change) -> Option<BookRefused>
+    pub fn refusal(&self, change: &Change) -> Option<BookRefused>
         ensures { result ≡ first_refusal (length self.now) (state_after self.now) change.now }
     {
         let commits = self.history.len();

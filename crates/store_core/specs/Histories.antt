@@ -1,5 +1,5 @@
 -- The history of a store: whose changes it has, and what one more does to it.
-use Rattle.std.specs.Prelude.{◌≡◌, ℕ, [], ◌∷◌, ◌++◌, length, take, Option, None, Some, Result, Ok, Err, refl, ⊤}
+use Rattle.std.specs.Prelude.{◌≡◌, ℕ, [], ◌∷◌, ◌++◌, length, take, Option, None, Some, Result, Ok, Err, refl, ◌⊎◌}
 use Rattle.std.proofs.Common.{sym, ◌∙◌, ap}
 use mathlib.Core.Path.{path_j'}
 use Rattle.std.specs.Coded.{Π_prop, →_prop, Unit-prop}
@@ -9,6 +9,7 @@ use Rattle.version_core.specs.declared.change.Change.{Change}
 use Rattle.book_core.specs.History.{History, IsLegal, state_after}
 use Rattle.book_core.specs.State.{refusal_of}
 use Rattle.book_core.specs.declared.refusal.BookRefused.{BookRefused}
+use Rattle.book_core.specs.declared.refusal.BookRefused.TheVariants.{KeyOverlap}
 use Rattle.book_core.specs.declared.commit.Commit.{Commit}
 
 -- the number of the pass that made a change
@@ -23,10 +24,11 @@ commit by change = record { by = by; change = change }
 abbrev pub refusal_after : History → Change → Option BookRefused
 refusal_after h change = refusal_of (length h) (state_after h) change
 
--- the change is refused by the first name that applies after the history, or memory is
+-- the change is refused by the first name that applies after the history; memory is only where none does, or where the
+-- test of keys would refuse the change
 abbrev pub RefusesCommit : History → Change → Failure BookRefused → Type 0
 RefusesCommit h change (Refused why) = refusal_after h change ≡ Some why
-RefusesCommit h change NoMemory = ⊤
+RefusesCommit h change NoMemory = (refusal_after h change ≡ None) ⊎ (refusal_after h change ≡ Some KeyOverlap)
 
 -- what a change of a pass does to the history, and is answered: it is accepted, and its number is how many changes
 -- there are with it, or the history stays

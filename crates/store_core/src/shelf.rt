@@ -42,7 +42,7 @@ impl Kept for Shelf {
     ghost mark = { passes_in };
 }
 
-// A copy of a book, with one more change.
+// A copy of a book, with one more change. What is refused by name is told before anything is copied.
 fn changed_copy(
     alloc: Global,
     book: &Book,
@@ -53,6 +53,9 @@ fn changed_copy(
         × (arc_value changed ≡ book.now ++ commit by change ∷ [])) }
     ensures err { IfErr result (RefusesCommit book.now change) }
 {
+    if let Some(refused) = book.refusal(&change) {
+        return Err(Failure::Refused(refused));
+    }
     let mut copy = book.copy(alloc)?;
     copy.apply(by, change)?;
     Ok(Arc::new(alloc, copy)?)
@@ -101,12 +104,12 @@ impl Shelf {
     }
 
     /// Makes a change of the pass with the number `by`, and answers the commit's number, from 1 on. Where a
-    /// snapshot shares the book it is copied first; else nothing is copied.
+    /// snapshot shares the book a copy is changed, unless the change is refused; else nothing is copied.
     ///
     /// # Errors
     ///
-    /// `NoMemory` where that copy is refused; then as for the book. After a refusal the shelf is unchanged, and
-    /// the change is dropped.
+    /// As for the book, in this order; `NoMemory` also where the copy is refused. After a refusal the shelf is
+    /// unchanged, and the change is dropped.
     pub fn commit(&mut self, by: u32, change: Change) -> Result<u64, Failure<BookRefused>>
         requires { (0 < by) × (by ≤ passes_in self.old) }
         ensures reply { CommitsTo (shelf_history self.old) by change result (shelf_history self.new) }
