@@ -24,10 +24,11 @@ use Rattle.round_core.specs.declared.plateau.Plateau.{Plateau}
 use Rattle.round_core.specs.Plateaus.{HasValue, IsPlateau, PlateauBefore, of_class}
 use Rattle.round_core.proofs.PlateauExistence.{some_plateaus}
 use Rattle.agg_core.specs.declared.rows.AggRow.{AggRow}
-use Rattle.agg_core.specs.Agg.{AggHasSomeList, AreAggRows, IsAggRow, amount_in, amount_item, items_of_group, measure_of, value_in}
+use Rattle.agg_core.specs.Agg.{AggHasSomeList, AreAggRows, IsAggRow, amount_in, measure_of, value_in}
 use Rattle.agg_core.specs.Groups.{AggRowBefore, agg_row_cmp, rows_of_group}
+use Rattle.agg_core.specs.Grouping.{amount_item}
 use Rattle.agg_core.proofs.OrderLemmas.{agg_row_total}
-use Rattle.agg_core.proofs.PlateauLemmas.{filtered_in, filtered_passes, period_held, row_of_group}
+use Rattle.agg_core.proofs.PlateauLemmas.{filtered_in, filtered_passes, maximal_of_items, maximal_of_rows, period_held, row_of_group}
 
 -- a row is determined by its fields
 AggRow-same : (a b : AggRow) → a.group ≡ b.group → a.period ≡ b.period → a.value ≡ b.value → a ≡ b
@@ -68,7 +69,7 @@ tied_rows a b e =
 module _ (measure : Measure) (amount_of : Row → ℤ) (group_of : Row → Option Value) (rows : List Row) where
   -- a group's rows, as items
   abbrev items_of : Option Value → List Item
-  items_of group = items_of_group amount_of group_of group rows
+  items_of group = map (amount_item amount_of 0) (rows_of_group group_of group rows)
 
   -- a row for the group
   abbrev IsRowFor : Option Value → AggRow → Type 0
@@ -106,9 +107,10 @@ module _ (measure : Measure) (amount_of : Row → ℤ) (group_of : Row → Optio
     refl,
     record {
       maximal =
-          subst (λ l. IsMaximal (HasValue measure l p.value) p.period)
+          maximal_of_items measure amount_of 0 (rows_of_group group_of group rows) p.value p.period
+          (subst (λ l. IsMaximal (HasValue measure l p.value) p.period)
           (ap (λ c. of_class c (items_of group)) (plateau_class group p is)
-          ∙ of_one_class (rows_of_group group_of group rows)) is.maximal;
+          ∙ of_one_class (rows_of_group group_of group rows)) is.maximal);
     },
   )
 
@@ -119,7 +121,8 @@ module _ (measure : Measure) (amount_of : Row → ℤ) (group_of : Row → Optio
       record {
         maximal =
             subst (λ l. IsMaximal (HasValue measure l row.value) row.period)
-            (ap items_of same ∙ sym (of_one_class (rows_of_group group_of group rows))) is.maximal;
+            (ap items_of same ∙ sym (of_one_class (rows_of_group group_of group rows)))
+            (maximal_of_rows measure amount_of 0 (rows_of_group group_of row.group rows) row.value row.period is.maximal);
       }
 
   -- all rows for a group

@@ -1,5 +1,5 @@
 -- The rows of an aggregate are those of the plateaus of its groups' numbers.
-use Rattle.std.proofs.Common.{◌≡◌, ◌<◌, ◌==◌, ℕ, ℤ, Bool, true, List, [], ◌∷◌, length, map, All, Option, Some, None, inl, inr, refl, sym, ap, subst, ◌∙◌, arith}
+use Rattle.std.proofs.Common.{◌≡◌, ◌<◌, ◌==◌, ℕ, ℤ, pos, Bool, true, List, [], ◌∷◌, length, map, All, Option, Some, None, inl, inr, refl, sym, ap, subst, ◌∙◌, arith}
 use Rattle.std.specs.Prelude.{filter, slice_get, slice_index_or, ◌<ℤ◌, Contains}
 use Rattle.std.specs.declared.cmp.Ordering.{Ordering}
 use Rattle.std.specs.declared.cmp.Ordering.TheVariants.{Less}
@@ -19,20 +19,23 @@ use Rattle.row_core.specs.declared.value.Value.{Value}
 use Rattle.row_core.proofs.ValueLemmas.{maybe_decides, maybe_total}
 use Rattle.dip_core.specs.declared.item.Item.{Item}
 use Rattle.list_core.proofs.MadeLemmas.{AllPairs-map, Contains-map, Contains-map_source}
+use Rattle.list_core.proofs.RisingLemmas.{Contains-head}
 use Rattle.merge_core.specs.declared.tally.Tally.{Tally}
 use Rattle.merge_core.specs.Gaps.{IsMaximal}
-use Rattle.merge_core.specs.Tallies.{IsTally, amounts, holding, total}
+use Rattle.merge_core.specs.Tallies.{IsTally, IsTallyAt, amounts, holding}
 use Rattle.merge_core.proofs.SharedLemmas.{first_held}
 use Rattle.merge_core.proofs.SweepLemmas.{IsMaximal-same}
 use Rattle.round_core.specs.declared.measure.Measure.{Measure}
+use Rattle.round_core.specs.declared.measure.Measure.TheVariants.{Count, Sum, Min, Max}
 use Rattle.round_core.specs.declared.plateau.Plateau.{Plateau}
-use Rattle.round_core.specs.Plateaus.{HasValue, IsPlateau, PlateauBefore, of_class}
+use Rattle.round_core.specs.Plateaus.{HasValue, IsPlateau, PlateauBefore, measured, of_class}
+use Rattle.round_core.proofs.PlateauExistence.{some_tally}
 use Rattle.agg_core.specs.declared.rows.AggRow.{AggRow}
 use Rattle.agg_core.specs.declared.func.Func.{Func}
-use Rattle.agg_core.specs.Agg.{AreAggRows, IsAgg, IsAggRow, amount_in, amount_item, measure_of, number_column, amount_of_value, value_in}
+use Rattle.agg_core.specs.Agg.{AreAggRows, ComeTo, HoldAndComeTo, IsAgg, IsAggRow, amount_in, measure_of, number_column, amount_of_value, rows_on, value_in}
 use Rattle.agg_core.specs.Entries.{amount_at, place_in, value_at_place}
 use Rattle.agg_core.specs.Groups.{AggRowBefore, rows_of_group}
-use Rattle.agg_core.specs.Grouping.{ArePlateauRows, IsGrouping, agg_row_of}
+use Rattle.agg_core.specs.Grouping.{ArePlateauRows, IsGrouping, agg_row_of, amount_item}
 use Rattle.agg_core.proofs.EntryLemmas.{filter-map}
 
 -- ---- lists
@@ -67,47 +70,94 @@ amounts-amount_item : (amount_of : Row → ℤ) (class : ℕ) (rows : List Row)
 amounts-amount_item amount_of class [] = refl
 amounts-amount_item amount_of class (r ∷ rows) = ap (λ l. amount_of r ∷ l) (amounts-amount_item amount_of class rows)
 
--- what items come to doesn't depend on their class
-tally_classed : (amount_of : Row → ℤ) (c d : ℕ) (rows : List Row) (tally : Tally)
-    → IsTally (map (amount_item amount_of c) rows) tally → IsTally (map (amount_item amount_of d) rows) tally
-tally_classed amount_of c d rows tally is =
-    let same : amounts (map (amount_item amount_of c) rows) ≡ amounts (map (amount_item amount_of d) rows) =
-    amounts-amount_item amount_of c rows ∙ sym (amounts-amount_item amount_of d rows) in
-    record {
-      count = is.count ∙ length-map rows (amount_item amount_of c) ∙ sym (length-map rows (amount_item amount_of d));
-      sum = is.sum ∙ ap total same;
-      min_in = subst (λ l. Contains l tally.min) same is.min_in;
-      min_least = λ a h. is.min_least a (subst (λ l. Contains l a) (sym same) h);
-      max_in = subst (λ l. Contains l tally.max) same is.max_in;
-      max_greatest = λ a h. is.max_greatest a (subst (λ l. Contains l a) (sym same) h);
-    }
-
 -- the items that hold an instant are those of the rows that do
 holding-amount_item : (amount_of : Row → ℤ) (c : ℕ) (rows : List Row) (t : ℤ)
-    → holding (map (amount_item amount_of c) rows) t
-    ≡ map (amount_item amount_of c) (filter (λ (r : Row). holds_at t r.period) rows)
+    → holding (map (amount_item amount_of c) rows) t ≡ map (amount_item amount_of c) (rows_on t rows)
 holding-amount_item amount_of c rows t = filter-map (amount_item amount_of c) (λ (x : Item). holds_at t x.period) rows
 
--- nor does their value at an instant
-value_classed : (measure : Measure) (amount_of : Row → ℤ) (c d : ℕ) (rows : List Row) (value t : ℤ)
-    → HasValue measure (map (amount_item amount_of c) rows) value t
-    → HasValue measure (map (amount_item amount_of d) rows) value t
-value_classed measure amount_of c d rows value t has = record {
-  tally = has.tally;
-  is = subst (λ l. IsTally l has.tally) (sym (holding-amount_item amount_of d rows t))
-      (tally_classed amount_of c d (filter (λ (r : Row). holds_at t r.period) rows) has.tally
-      (subst (λ l. IsTally l has.tally) (holding-amount_item amount_of c rows t) has.is));
-  gives = has.gives;
-}
+-- so their amounts are those of these rows
+amounts_on : (amount_of : Row → ℤ) (c : ℕ) (rows : List Row) (t : ℤ)
+    → amounts (holding (map (amount_item amount_of c) rows) t) ≡ map amount_of (rows_on t rows)
+amounts_on amount_of c rows t =
+    ap amounts (holding-amount_item amount_of c rows t) ∙ amounts-amount_item amount_of c (rows_on t rows)
 
--- nor do its maximal periods
-maximal_classed : (measure : Measure) (amount_of : Row → ℤ) (c d : ℕ) (rows : List Row) (value : ℤ) (p : Period)
-    → IsMaximal (HasValue measure (map (amount_item amount_of c) rows) value) p
-    → IsMaximal (HasValue measure (map (amount_item amount_of d) rows) value) p
-maximal_classed measure amount_of c d rows value p =
-    IsMaximal-same (HasValue measure (map (amount_item amount_of c) rows) value)
-    (HasValue measure (map (amount_item amount_of d) rows) value) p (value_classed measure amount_of c d rows value)
-    (value_classed measure amount_of d c rows value)
+-- ---- what rows come to
+
+-- what is asked of a tally is what the amounts come to
+tally_comes : (measure : Measure) (items : List Item) (tally : Tally) → IsTally items tally
+    → ComeTo measure (amounts items) (measured measure tally)
+tally_comes Count items tally is =
+    ap (λ n. pos n) (is.count ∙ sym (length-map items (λ (x : Item). x.amount)))
+tally_comes Sum items tally is = is.sum
+tally_comes Min items tally is = (is.min_in, is.min_least)
+tally_comes Max items tally is = (is.max_in, is.max_greatest)
+
+-- numbers come to one value
+comes_once : (measure : Measure) (numbers : List ℤ) (v w : ℤ) → ComeTo measure numbers v → ComeTo measure numbers w
+    → v ≡ w
+comes_once Count numbers v w a b = a ∙ sym b
+comes_once Sum numbers v w a b = a ∙ sym b
+comes_once Min numbers v w a b = let f = a.1 w b.0 in let g = b.1 v a.0 in omega (arith, ints)
+comes_once Max numbers v w a b = let f = a.1 w b.0 in let g = b.1 v a.0 in omega (arith, ints)
+
+-- what has something has one thing at least
+some_inside : {X : Type 0} (xs : List X) (x : X) → Contains xs x → 0 < length xs
+some_inside xs x (i, inside, e) = omega (arith, inside)
+
+-- and the other way round
+inside_some : {X : Type 0} (xs : List X) → 0 < length xs → (x : X) × Contains xs x
+inside_some [] some = absurd (omega (arith, some))
+inside_some (x ∷ xs) some = (x, Contains-head x xs)
+
+module _ (measure : Measure) (amount_of : Row → ℤ) (c : ℕ) (rows : List Row) (value : ℤ) where
+  -- what rows come to as items, they come to
+  rows_come : (t : ℤ) → HasValue measure (map (amount_item amount_of c) rows) value t
+      → HoldAndComeTo measure amount_of rows value t
+  rows_come t has =
+      let same = amounts_on amount_of c rows t in
+      let (r, there, is) = Contains-map_source amount_of (rows_on t rows) has.tally.min
+      (subst (λ l. Contains l has.tally.min) same has.is.min_in) in
+      record {
+        some = some_inside (rows_on t rows) r there;
+        is =
+            subst (ComeTo measure (map amount_of (rows_on t rows))) has.gives
+            (subst (λ l. ComeTo measure l (measured measure has.tally)) same
+            (tally_comes measure (holding (map (amount_item amount_of c) rows) t) has.tally has.is));
+      }
+
+  -- what rows come to, they come to as items
+  items_come : (t : ℤ) → HoldAndComeTo measure amount_of rows value t
+      → HasValue measure (map (amount_item amount_of c) rows) value t
+  items_come t h = told (some_tally (map (amount_item amount_of c) rows) t)
+    where
+      told : ((o : Option Tally) × IsTallyAt (map (amount_item amount_of c) rows) t o)
+          → HasValue measure (map (amount_item amount_of c) rows) value t
+      told (None, none) = absurd (
+          let long = length-map (rows_on t rows) amount_of in
+          let empty : length (map amount_of (rows_on t rows)) ≡ 0 =
+          ap length (sym (amounts_on amount_of c rows t) ∙ ap amounts none) in
+          let some = h.some in omega (arith, long, empty, some))
+      told (Some tally, is) = record {
+        tally = tally;
+        is = is;
+        gives =
+            comes_once measure (map amount_of (rows_on t rows)) (measured measure tally) value
+            (subst (λ l. ComeTo measure l (measured measure tally)) (amounts_on amount_of c rows t)
+            (tally_comes measure (holding (map (amount_item amount_of c) rows) t) tally is)) h.is;
+      }
+
+  -- so the maximal periods of the one are those of the other
+  pub maximal_of_items : (p : Period) → IsMaximal (HasValue measure (map (amount_item amount_of c) rows) value) p
+      → IsMaximal (HoldAndComeTo measure amount_of rows value) p
+  maximal_of_items p =
+      IsMaximal-same (HasValue measure (map (amount_item amount_of c) rows) value)
+      (HoldAndComeTo measure amount_of rows value) p rows_come items_come
+
+  pub maximal_of_rows : (p : Period) → IsMaximal (HoldAndComeTo measure amount_of rows value) p
+      → IsMaximal (HasValue measure (map (amount_item amount_of c) rows) value) p
+  maximal_of_rows p =
+      IsMaximal-same (HoldAndComeTo measure amount_of rows value)
+      (HasValue measure (map (amount_item amount_of c) rows) value) p items_come rows_come
 
 -- ---- rows of plateaus
 
@@ -120,11 +170,10 @@ pub row_of_group : (measure : Measure) (amount_of : Row → ℤ) (group_of : Row
     (row : AggRow) → IsAggRow measure amount_of group_of rows row
     → (r : Row) × Contains rows r × (group_of r ≡ row.group)
 row_of_group measure amount_of group_of rows row is =
-    let (x, there) = period_held measure (map (amount_item amount_of 0) (rows_of_group group_of row.group rows))
-    row.value
-    row.period is.maximal in
-    let (r, within, made) = Contains-map_source (amount_item amount_of 0) (rows_of_group group_of row.group rows) x
-    there in
+    let group = rows_of_group group_of row.group rows in
+    let t = row.period.from in
+    let (r, there) = inside_some (rows_on t group) (is.maximal.inside t (first_held row.period)).some in
+    let within : Contains group r = filtered_in (λ (z : Row). holds_at t z.period) group r there in
     let test = filtered_passes (λ (z : Row). same_maybe (group_of z) row.group) rows r within in (
       r,
       filtered_in (λ (z : Row). same_maybe (group_of z) row.group) rows r within,
@@ -150,18 +199,18 @@ module _ (measure : Measure) (amount_of : Row → ℤ) (group_of : Row → Optio
   -- the plateaus of a group's number are maximal periods of its rows
   row_maximal : (c : ℕ) (g : Option Value) (value : ℤ) (p : Period) → slice_get groups c ≡ Some g
       → IsMaximal (HasValue measure (of_class c items) value) p
-      → IsMaximal (HasValue measure (map (amount_item amount_of 0) (rows_of_group group_of g rows)) value) p
+      → IsMaximal (HoldAndComeTo measure amount_of (rows_of_group group_of g rows) value) p
   row_maximal c g value p at maximal =
-      maximal_classed measure amount_of c 0 (rows_of_group group_of g rows) value p
+      maximal_of_items measure amount_of c (rows_of_group group_of g rows) value p
       (subst (λ l. IsMaximal (HasValue measure l value) p) (grouping.of_classes c g at) maximal)
 
   -- the maximal periods of a group's rows are plateaus of its number
   class_maximal : (c : ℕ) (g : Option Value) (value : ℤ) (p : Period) → slice_get groups c ≡ Some g
-      → IsMaximal (HasValue measure (map (amount_item amount_of 0) (rows_of_group group_of g rows)) value) p
+      → IsMaximal (HoldAndComeTo measure amount_of (rows_of_group group_of g rows) value) p
       → IsMaximal (HasValue measure (of_class c items) value) p
   class_maximal c g value p at maximal =
       subst (λ l. IsMaximal (HasValue measure l value) p) (sym (grouping.of_classes c g at))
-      (maximal_classed measure amount_of 0 c (rows_of_group group_of g rows) value p maximal)
+      (maximal_of_rows measure amount_of c (rows_of_group group_of g rows) value p maximal)
 
   -- the row of a plateau is wanted
   row_of_plateau : (p : Plateau) → IsPlateau measure items p

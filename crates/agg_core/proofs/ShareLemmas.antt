@@ -15,13 +15,12 @@ use Rattle.dip_core.specs.declared.item.Item.{Item}
 use Rattle.list_core.proofs.RisingLemmas.{Contains-cons, Contains-head}
 use Rattle.list_core.proofs.WantedLemmas.{IsListOf-append, IsListOf-same}
 use Rattle.merge_core.specs.Gaps.{IsMaximal}
-use Rattle.round_core.specs.Plateaus.{HasValue}
 use Rattle.round_core.specs.declared.measure.Measure.{Measure}
 use Rattle.agg_core.specs.declared.entries.Entry.{Entry}
 use Rattle.agg_core.specs.declared.ranges.Key.{Key}
 use Rattle.agg_core.specs.declared.ranges.KeyRange.{KeyRange}
 use Rattle.agg_core.specs.declared.rows.AggRow.{AggRow}
-use Rattle.agg_core.specs.Agg.{AreAggRows, IsAggRow, amount_item}
+use Rattle.agg_core.specs.Agg.{AreAggRows, HoldAndComeTo, IsAggRow}
 use Rattle.agg_core.specs.Groups.{AggRowBefore, rows_of_group}
 use Rattle.agg_core.specs.Entries.{AreEntries, AreEntriesSorted, AreInGroups, entry_row, value_at_place, value_of_key}
 use Rattle.agg_core.specs.Grouping.{AreItemsByGroup, ArePlateauRows, GroupBefore}
@@ -45,8 +44,7 @@ same_rows : (measure : Measure) (amount_of : Row → ℤ) (group_of : Row → Op
     → IsAggRow measure amount_of group_of some row → IsAggRow measure amount_of group_of other row
 same_rows measure amount_of group_of some other row same is = record {
   maximal =
-      subst (λ (l : List Row). IsMaximal (HasValue measure (map (amount_item amount_of 0) l) row.value) row.period) same
-      is.maximal;
+      subst (λ (l : List Row). IsMaximal (HoldAndComeTo measure amount_of l row.value) row.period) same is.maximal;
 }
 
 -- what some rows come to is what others do that are the same ones, group by group

@@ -13,7 +13,7 @@ use Rattle.round_core.specs.Plateaus.{ArePlateaus}
 use Rattle.round_core.specs.Spans.{AreApart}
 use Rattle.round_core.specs.declared.measure.Measure.{Measure}
 use Rattle.round_core.specs.declared.plateau.Plateau.{Plateau}
-use Rattle.agg_core.specs.Agg.{amount_item}
+use Rattle.agg_core.specs.Grouping.{amount_item}
 use Rattle.agg_core.specs.Spans.{ArePlateausWithin, AreWithin, HoldWithin, InSpan, IsWithin, Misses}
 use Rattle.agg_core.specs.declared.spans.Span.{Span}
 

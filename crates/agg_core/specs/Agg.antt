@@ -1,6 +1,7 @@
 -- What the rows of a table come to, group by group.
-use Rattle.std.specs.Prelude.{◌≡◌, ℕ, ℤ, pos, List, [], ◌∷◌, ◌++◌, map, Bool, Option, Some, None, is_none, option_and_then}
+use Rattle.std.specs.Prelude.{◌≡◌, ◌<◌, ◌≤ℤ◌, ℕ, ℤ, pos, List, [], ◌∷◌, ◌++◌, length, map, filter, Contains, Bool, Option, Some, None, is_none, option_and_then}
 use Rattle.list_core.specs.Wanted.{IsListOf}
+use Rattle.period_core.specs.Period.{holds_at}
 use Rattle.row_core.specs.Refusals.{first_of}
 use Rattle.row_core.specs.Schema.{kind_in}
 use Rattle.row_core.specs.declared.row.Row.{Row}
@@ -8,12 +9,11 @@ use Rattle.row_core.specs.declared.schema.Column.{Column}
 use Rattle.row_core.specs.declared.value.Kind.TheVariants as kind
 use Rattle.row_core.specs.declared.value.Value.{Value}
 use Rattle.row_core.specs.declared.value.Value.TheVariants.{Int, Text}
-use Rattle.dip_core.specs.declared.item.Item.{Item}
 use Rattle.merge_core.specs.Gaps.{IsMaximal}
+use Rattle.merge_core.specs.Tallies.{total}
 use Rattle.match_core.specs.Columns.{kinds_differ, value_under}
 use Rattle.match_core.specs.declared.columns.QueryRefused.{QueryRefused}
 use Rattle.match_core.specs.declared.columns.QueryRefused.TheVariants.{NoColumn, WrongKind}
-use Rattle.round_core.specs.Plateaus.{HasValue}
 use Rattle.round_core.specs.declared.measure.Measure.{Measure}
 use Rattle.round_core.specs.declared.measure.Measure.TheVariants as measure
 use Rattle.agg_core.specs.Groups.{AggRowBefore, rows_of_group}
@@ -21,7 +21,7 @@ use Rattle.agg_core.specs.declared.func.Func.{Func}
 use Rattle.agg_core.specs.declared.func.Func.TheVariants.{Count, Sum, Min, Max}
 use Rattle.agg_core.specs.declared.rows.AggRow.{AggRow}
 
--- what is asked of a tally
+-- what is asked of numbers
 abbrev pub measure_of : Func → Measure
 measure_of Count = measure.Count
 measure_of (Sum name) = measure.Sum
@@ -66,18 +66,26 @@ amount_of_value (Some (Text text)) = pos 0
 abbrev pub amount_in : List Column → Func → Row → ℤ
 amount_in columns func row = amount_of_value (value_in columns (number_column func) row)
 
--- a row with its amount, as an item of a class
-abbrev pub amount_item : (Row → ℤ) → ℕ → Row → Item
-amount_item amount_of class row = record { period = row.period; id = row.id; class = class; amount = amount_of row }
+-- the rows that hold t
+abbrev pub rows_on : ℤ → List Row → List Row
+rows_on t rows = filter (λ (row : Row). holds_at t row.period) rows
 
--- the rows of a group with their amounts, as items
-abbrev pub items_of_group : (Row → ℤ) → (Row → Option Value) → Option Value → List Row → List Item
-items_of_group amount_of group_of group rows = map (amount_item amount_of 0) (rows_of_group group_of group rows)
+-- numbers come to a value: how many they are, their sum, the least of them, the greatest of them
+abbrev pub ComeTo : Measure → List ℤ → ℤ → Type 0
+ComeTo measure.Count numbers value = value ≡ pos (length numbers)
+ComeTo measure.Sum numbers value = value ≡ total numbers
+ComeTo measure.Min numbers value = Contains numbers value × ((n : ℤ) → Contains numbers n → value ≤ℤ n)
+ComeTo measure.Max numbers value = Contains numbers value × ((n : ℤ) → Contains numbers n → n ≤ℤ value)
+
+-- some of the rows hold t, and the amounts of those that do come to the value
+pub record HoldAndComeTo (measure : Measure) (amount_of : Row → ℤ) (rows : List Row) (value t : ℤ) : Type 0 where
+  pub some : 0 < length (rows_on t rows)
+  pub is : ComeTo measure (map amount_of (rows_on t rows)) value
 
 -- a group, and a maximal period at each instant of which some of its rows hold and come to one value, and that value
 pub record IsAggRow (measure : Measure) (amount_of : Row → ℤ) (group_of : Row → Option Value) (rows : List Row)
     (row : AggRow) : Type 0 where
-  pub maximal : IsMaximal (HasValue measure (items_of_group amount_of group_of row.group rows) row.value) row.period
+  pub maximal : IsMaximal (HoldAndComeTo measure amount_of (rows_of_group group_of row.group rows) row.value) row.period
 
 -- all of them, each once, by group and start
 abbrev pub AreAggRows : Measure → (Row → ℤ) → (Row → Option Value) → List Row → List AggRow → Type 0

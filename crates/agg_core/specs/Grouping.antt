@@ -11,10 +11,13 @@ use Rattle.dip_core.specs.declared.item.Item.{Item}
 use Rattle.round_core.specs.declared.plateau.Plateau.{Plateau}
 use Rattle.round_core.specs.declared.measure.Measure.{Measure}
 use Rattle.round_core.specs.Plateaus.{ArePlateaus, of_class}
-use Rattle.agg_core.specs.Agg.{amount_item}
 use Rattle.agg_core.specs.Groups.{rows_of_group}
 use Rattle.agg_core.specs.declared.entries.Entry.{Entry}
 use Rattle.agg_core.specs.declared.rows.AggRow.{AggRow}
+
+-- a row with its amount, as an item of a class
+abbrev pub amount_item : (Row → ℤ) → ℕ → Row → Item
+amount_item amount_of class row = record { period = row.period; id = row.id; class = class; amount = amount_of row }
 
 -- each row has a value at the place, if one is given
 abbrev pub HaveValues : Option ℕ → List Row → Type 0

@@ -1,7 +1,6 @@
 //! Rows by group: each is an item whose class is the number of its group.
 
 ghost use Rattle.std.specs.Prelude.{◌≡◌, ◌≢◌, IfOk, MatchBool, Some};
-ghost use Rattle.agg_core.specs.Agg.{amount_item};
 ghost use Rattle.agg_core.specs.Entries.{AreRising, amount_at};
 ghost use Rattle.agg_core.specs.Grouping.{
   AreItemsByGroup,
@@ -9,6 +8,7 @@ ghost use Rattle.agg_core.specs.Grouping.{
   IsClassOf,
   IsLast,
   RisesByGroup,
+  amount_item,
   groups_of,
 };
 

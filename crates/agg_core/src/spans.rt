@@ -5,8 +5,9 @@ ghost use Rattle.std.specs.Prelude.{◌≡◌, ◌↔◌, ℤ, ◌<◌, ◌≤�
 ghost use Rattle.std.specs.Thread.{IsSync};
 ghost use Rattle.dip_core.specs.Item.{item_limit};
 ghost use Rattle.work_core.specs.Limits.{worker_limit};
-ghost use Rattle.agg_core.specs.Agg.{AreAggRows, amount_item};
+ghost use Rattle.agg_core.specs.Agg.{AreAggRows};
 ghost use Rattle.agg_core.specs.Entries.{amount_at, value_at_place};
+ghost use Rattle.agg_core.specs.Grouping.{amount_item};
 ghost use Rattle.agg_core.specs.Spans.{ArePlateausWithin, AreWithin, InSpan, IsBefore, IsFrom, IsPartWithin, IsWithin, Misses};
 
 use crate::groups::amount_item;

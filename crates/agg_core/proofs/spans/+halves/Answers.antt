@@ -2,7 +2,7 @@ use Rattle.std.proofs.Common.{◌≡◌, ◌∙◌, ◌++◌, Global, Vec, ap, m
 use Rattle.std.proofs.lemmas.List.{map-append, take-append-drop}
 use Rattle.std.proofs.lemmas.Result.{IfOk-at_ok}
 use Rattle.dip_core.specs.declared.item.Item.{Item}
-use Rattle.agg_core.specs.Agg.{amount_item}
+use Rattle.agg_core.specs.Grouping.{amount_item}
 use Rattle.agg_core.specs.Entries.{amount_at}
 use Rattle.agg_core.specs.Spans.{AreWithin}
 use Rattle.agg_core.proofs.SpanLemmas.{within_append}

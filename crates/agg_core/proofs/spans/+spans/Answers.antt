@@ -2,7 +2,7 @@ use Rattle.std.proofs.Common.{◌≤◌, ◌++◌, ℤ, Option, Some, List, map,
 use Rattle.std.specs.Prelude.{IfSome}
 use Rattle.std.proofs.lemmas.Result.{IfOk-at_ok, IfOk-weaker}
 use Rattle.round_core.specs.declared.plateau.Plateau.{Plateau}
-use Rattle.agg_core.specs.Agg.{amount_item}
+use Rattle.agg_core.specs.Grouping.{amount_item}
 use Rattle.agg_core.specs.Entries.{amount_at}
 use Rattle.agg_core.specs.Spans.{ArePlateausWithin, InSpan}
 use Rattle.agg_core.proofs.SpanLemmas.{apart, hold_both}

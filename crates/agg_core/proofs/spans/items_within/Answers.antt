@@ -1,7 +1,7 @@
 use Rattle.std.proofs.Common.{◌≡◌, ◌∙◌, ◌+◌, Global, [], ◌∷◌, ◌++◌, Vec, map, take, sym, refl, subst, ap, append-nil}
 use Rattle.std.proofs.lemmas.List.{map-append, take_more}
 use Rattle.dip_core.specs.declared.item.Item.{Item}
-use Rattle.agg_core.specs.Agg.{amount_item}
+use Rattle.agg_core.specs.Grouping.{amount_item}
 use Rattle.agg_core.specs.Entries.{amount_at}
 use Rattle.agg_core.specs.Spans.{AreWithin}
 use Rattle.agg_core.proofs.SpanLemmas.{within_append, within_off, within_one}

@@ -1,6 +1,6 @@
 -- What the rows so far hold is listed.
 use Rattle.std.proofs.Common.{map, take}
-use Rattle.agg_core.specs.Agg.{amount_item}
+use Rattle.agg_core.specs.Grouping.{amount_item}
 use Rattle.agg_core.specs.Entries.{amount_at}
 use Rattle.agg_core.specs.Spans.{AreWithin}
 use Rattle.agg_core.proofs.spans.items_within.Given as goal

@@ -1,9 +1,8 @@
 use Rattle.std.proofs.Common.{◌≡◌, ◌∙◌, ◌∷◌, ◌++◌, [], List, Option, None, ap, map, refl}
 use Rattle.std.proofs.lemmas.Result.{IfOk-weaker}
 use Rattle.row_core.specs.declared.value.Value.{Value}
-use Rattle.agg_core.specs.Agg.{amount_item}
 use Rattle.agg_core.specs.Entries.{amount_at, value_at_place}
-use Rattle.agg_core.specs.Grouping.{agg_row_of}
+use Rattle.agg_core.specs.Grouping.{agg_row_of, amount_item}
 use Rattle.agg_core.proofs.GroupLemmas.{grouping_of_one}
 use Rattle.agg_core.proofs.PlateauLemmas.{answer_of}
 use Rattle.agg_core.proofs.SpanLemmas.{plateaus_of_rows}
