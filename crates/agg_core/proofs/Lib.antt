@@ -5,3 +5,4 @@ pub mod PlateauLemmas
 pub mod AggExistence
 pub mod ShareLemmas
 pub mod SpanLemmas
+pub mod GetLemmas

@@ -17,4 +17,4 @@ pub use aggregates::agg;
 pub use func::Func;
 pub use laws::agg_has_one_list;
 pub use round_core::{Plateau, Plateaus};
-pub use rows::{AggRow, AggRows, AggShare};
+pub use rows::{AggRow, AggRowRef, AggRows, AggShare};

@@ -1,11 +1,11 @@
 //! The rows of an aggregate.
 
-ghost use Rattle.std.specs.Prelude.{◌≡◌, ◌<◌, ◌≤◌, ◌++◌, AllPairs, IfOk, OnOk, length, map};
+ghost use Rattle.std.specs.Prelude.{◌≡◌, ◌<◌, ◌≤◌, ◌++◌, AllPairs, IfOk, OnOk, length, map, option_map, slice_get};
 ghost use Rattle.std.specs.Option.{option_copied};
 ghost use Rattle.dip_core.specs.Item.{item_limit};
 ghost use Rattle.work_core.specs.Limits.{worker_limit};
 ghost use Rattle.agg_core.specs.Grouping.{ArePlateauRows, agg_row_of, groups_of};
-ghost use Rattle.agg_core.specs.Shares.{rows_in, rows_in_shares};
+ghost use Rattle.agg_core.specs.Shares.{lent_row, rows_in, rows_in_shares};
 
 use crate::groups::GroupedRows;
 use list_core::DeepCopy;
@@ -23,6 +23,17 @@ pub struct AggRow {
     /// The value of the group's rows in the column that they are grouped by; None where all rows are one group.
     pub group: Option<Value>,
     /// The period: just before it, and just behind it, the group comes to another value, or none of its rows holds.
+    pub period: Period,
+    /// How many of the group's rows hold, or the sum, the least or the greatest of their numbers.
+    pub value: i128,
+}
+
+/// A row as it stands among the others: its group's value is lent.
+#[derive(Clone, Copy, Debug, PartialEq, Eq)]
+pub struct AggRowRef<'a> {
+    /// The value of the group's rows in the column that they are grouped by; None where all rows are one group.
+    pub group: Option<&'a Value>,
+    /// The period at each instant of which the group comes to the value, as long as can be.
     pub period: Period,
     /// How many of the group's rows hold, or the sum, the least or the greatest of their numbers.
     pub value: i128,
@@ -47,6 +58,20 @@ impl AggShare {
             Some(Some(value)) => Some(value),
             Some(None) => None,
             None => None,
+        }
+    }
+
+    // The row at that place of the share.
+    fn row_at(&self, place: usize) -> Option<AggRowRef<'_>>
+        ensures { option_map lent_row result ≡ slice_get (rows_in self.now) place }
+    {
+        match self.plateaus.get(place) {
+            None => None,
+            Some(plateau) => Some(AggRowRef {
+                group: self.group(plateau),
+                period: plateau.period,
+                value: plateau.value,
+            }),
         }
     }
 }
@@ -89,6 +114,13 @@ impl AggRows {
         self.len
     }
 
+    /// The row at that place, from 0 on; None exactly behind the last. Shares before it are passed whole.
+    pub fn get(&self, place: usize) -> Option<AggRowRef<'_>>
+        ensures { option_map lent_row result ≡ slice_get self.now place }
+    {
+        row_in_shares(&self.shares, place)
+    }
+
     /// The shares, which have the rows of one group after the other.
     pub fn shares(&self) -> &[AggShare]
         ensures { rows_in_shares result.now ≡ self.now }
@@ -123,6 +155,21 @@ impl AggRows {
         }
         Ok(rows)
     }
+}
+
+// The row at that place of all shares.
+fn row_in_shares(shares: &[AggShare], place: usize) -> Option<AggRowRef<'_>>
+    ensures { option_map lent_row result ≡ slice_get (rows_in_shares shares.now) place }
+{
+    let mut left = place;
+    for share in shares {
+        let len = share.plateaus.len();
+        if left < len {
+            return share.row_at(left);
+        }
+        left -= len;
+    }
+    None
 }
 
 // Adds the rows of a share.
