@@ -1,6 +1,6 @@
 //! What items come to, instant by instant.
 
-ghost use Rattle.std.specs.Prelude.{◌≡◌, ◌+◌, ◌++◌, ◌≤◌, List, IfOk};
+ghost use Rattle.std.specs.Prelude.{◌≡◌, ◌==◌, ◌+◌, ◌++◌, ◌≤◌, List, IfOk, length, slice_get};
 ghost use Rattle.dip_core.specs.declared.item.Item.{Item};
 ghost use Rattle.dip_core.specs.Item.{item_limit};
 ghost use Rattle.merge_core.specs.Steps.{tally_at, IsStepListOf, IsBoth, IsStepList};
@@ -86,6 +86,27 @@ impl Steps {
         ensures { result ≡ self.now.weight }
     {
         self.weight
+    }
+
+    /// How many steps there are.
+    pub fn len(&self) -> usize
+        ensures { result ≡ length self.now.steps }
+    {
+        self.steps.len()
+    }
+
+    /// Whether there are none.
+    pub fn is_empty(&self) -> bool
+        ensures { result ≡ (length self.now.steps == 0) }
+    {
+        self.steps.is_empty()
+    }
+
+    /// The step at that place, from 0 on; None exactly past the last.
+    pub fn get(&self, place: usize) -> Option<Step>
+        ensures { result ≡ slice_get self.now.steps place }
+    {
+        self.steps.get(place).copied()
     }
 
     /// The steps, by rising start.
