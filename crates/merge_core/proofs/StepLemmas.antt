@@ -3,13 +3,13 @@ use Rattle.std.proofs.Common.{◌≡◌, List, [], ◌∷◌, Bool, true, false,
 use Rattle.std.specs.Prelude.{ℤ, ◌≤ℤ◌, ◌<ℤ◌, Contains, refl}
 use Rattle.std.proofs.lemmas.Int.{ints}
 use Rattle.period_core.specs.declared.period.Period.{Period}
-use Rattle.period_core.specs.Period.{holds_at}
-use Rattle.list_core.proofs.RisingLemmas.{AllPairs-head, AllPairs-tail, Contains-head, Contains-cons, Contains-cons_cases}
+use Rattle.period_core.specs.Period.{Holds, holds_at}
+use Rattle.list_core.proofs.RisingLemmas.{AllPairs-head, AllPairs-tail, Contains-head, Contains-cons, Contains-cons_cases, Contains-none}
 use Rattle.list_core.proofs.WantedLemmas.{AllPairs-before}
 use Rattle.merge_core.specs.declared.tally.Tally.{Tally}
 use Rattle.merge_core.specs.declared.step.Step.{Step}
 use Rattle.merge_core.specs.Tallies.{both}
-use Rattle.merge_core.specs.Steps.{tally_at, AreStepsApart}
+use Rattle.merge_core.specs.Steps.{tally_at, IsTallyHeldAt, AreStepsApart}
 use Rattle.merge_core.specs.Combining.{IsBothFrom}
 use Rattle.merge_core.proofs.SharedLemmas.{by_order}
 
@@ -58,6 +58,52 @@ pub at_first : (x : Step) (xs : List Step) (t : ℤ) → AreStepsApart (x ∷ xs
 at_first x xs t r early =
     ap (λ (o : Option Tally). cond (holds_at t x.period) (Some x.tally) o)
     (at_none xs t (λ s h. let after : x.period.to ≤ℤ s.period.from = apart_head x xs s r h in omega (arith, ints)))
+
+-- a step that doesn't hold t makes no difference
+held_more : (s : Step) (ss : List Step) (t : ℤ) (o : Option Tally) → (Holds s.period t → ⊥) → IsTallyHeldAt ss t o
+    → IsTallyHeldAt (s ∷ ss) t o
+held_more s ss t None out none = λ r h k.
+    elim (Contains-cons_cases s ss r h) [
+      | inl e ↦ out (subst (λ (v : Step). Holds v.period t) (sym e) k)
+      | inr l ↦ none r l k
+    ]
+held_more s ss t (Some a) out i =
+    record {
+      step = i.step;
+      step_in = Contains-cons s ss i.step i.step_in;
+      held = i.held;
+      same = i.same;
+      only = λ r h k. elim (Contains-cons_cases s ss r h) [
+        | inl e ↦ absurd (out (subst (λ (v : Step). Holds v.period t) (sym e) k))
+        | inr l ↦ i.only r l k
+      ];
+    }
+
+-- of steps that are apart one at most holds t, and gives the tally there
+pub tally_held : (ss : List Step) (t : ℤ) → AreStepsApart ss → IsTallyHeldAt ss t (tally_at ss t)
+tally_held [] t apart = λ r h k. Contains-none r h
+tally_held (s ∷ ss) t apart =
+    let rest : IsTallyHeldAt ss t (tally_at ss t) = tally_held ss t (apart_tail s ss apart) in
+    elim (by_order s.period.from t) [
+      | inr early ↦ subst (IsTallyHeldAt (s ∷ ss) t) (sym (at_early s ss t early))
+          (held_more s ss t (tally_at ss t) (λ k. let from : s.period.from ≤ℤ t = k.0 in omega (arith, ints)) rest)
+      | inl from ↦ elim (by_order s.period.to t) [
+        | inl late ↦ subst (IsTallyHeldAt (s ∷ ss) t) (sym (at_late s ss t late))
+            (held_more s ss t (tally_at ss t) (λ k. let to : t <ℤ s.period.to = k.1 in omega (arith, ints)) rest)
+        | inr to ↦ subst (IsTallyHeldAt (s ∷ ss) t) (sym (at_yes s ss t from to)) (record {
+          step = s;
+          step_in = Contains-head s ss;
+          held = (from, to);
+          same = refl;
+          only = λ r h k. elim (Contains-cons_cases s ss r h) [
+            | inl e ↦ sym e
+            | inr l ↦ absurd (
+                let after : s.period.to ≤ℤ r.period.from = apart_head s ss r apart l in
+                let on : r.period.from ≤ℤ t = k.0 in omega (arith, ints))
+          ];
+        })
+      ]
+    ]
 
 -- s comes first, and then what is left from its end on
 pub stepped : (at : ℤ) (xs ys xs' ys' : List Step) (s : Step) (rest : List Step) → at ≤ℤ s.period.from

@@ -1,6 +1,6 @@
 -- Tallies by instant, as periods at each instant of which the tally is one.
 use Rattle.std.specs.Prelude.{◌≡◌, ◌+◌, ◌*◌, ◌^◌, ◌≤◌, ℕ, if◌then◌else◌, Option, Some, None, List, [], ◌∷◌, length, ℤ, pos, neg_ℤ, ◌≤ℤ◌, AllPairs, Contains}
-use Rattle.period_core.specs.Period.{holds_at}
+use Rattle.period_core.specs.Period.{Holds, holds_at}
 use Rattle.dip_core.specs.declared.item.Item.{Item}
 use Rattle.merge_core.specs.declared.tally.Tally.{Tally}
 use Rattle.merge_core.specs.declared.step.Step.{Step}
@@ -10,6 +10,19 @@ use Rattle.merge_core.specs.Tallies.{IsTallyAt, both}
 abbrev pub tally_at : List Step → ℤ → Option Tally
 tally_at [] t = None
 tally_at (s ∷ steps) t = (if holds_at t s.period then Some s.tally else tally_at steps t)
+
+-- the tally of the one step that holds t
+pub record IsTallyHeld (steps : List Step) (t : ℤ) (tally : Tally) : Type 0 where
+  pub step : Step
+  pub step_in : Contains steps step
+  pub held : Holds step.period t
+  pub same : tally ≡ step.tally
+  pub only : (s : Step) → Contains steps s → Holds s.period t → s ≡ step
+
+-- the tally of the one step that holds t; None where no step holds it
+abbrev pub IsTallyHeldAt : List Step → ℤ → Option Tally → Type 0
+IsTallyHeldAt steps t None = (s : Step) → Contains steps s → Holds s.period t → ⊥
+IsTallyHeldAt steps t (Some tally) = IsTallyHeld steps t tally
 
 -- each step ends at or before the start of each later one
 abbrev pub AreStepsApart : List Step → Type 0

@@ -3,7 +3,7 @@
 ghost use Rattle.std.specs.Prelude.{◌≡◌, ◌==◌, ◌+◌, ◌++◌, ◌≤◌, List, IfOk, length, slice_get};
 ghost use Rattle.dip_core.specs.declared.item.Item.{Item};
 ghost use Rattle.dip_core.specs.Item.{item_limit};
-ghost use Rattle.merge_core.specs.Steps.{tally_at, IsStepListOf, IsBoth, IsStepList};
+ghost use Rattle.merge_core.specs.Steps.{tally_at, IsTallyHeldAt, IsStepListOf, IsBoth, IsStepList};
 ghost use Rattle.merge_core.specs.Combining.{IsLoneStep, AreLoneSteps};
 
 use crate::combining::combine_steps;
@@ -119,7 +119,8 @@ impl Steps {
 
     /// What the items that hold the instant come to; None where none does.
     pub fn tally_at(&self, at: Point) -> Option<Tally>
-        ensures { result ≡ tally_at self.now.steps at }
+        ensures value { result ≡ tally_at self.now.steps at }
+        ensures held { IsTallyHeldAt self.now.steps at result }
     {
         find_tally(&self.steps, at)
     }
