@@ -12,9 +12,11 @@ use Rattle.list_core.proofs.RisingLemmas.{Contains-head, Contains-cons, Contains
 use Rattle.list_core.proofs.WantedLemmas.{IsListOf-append, IsListOf-none, IsListOf-same}
 use Rattle.merge_core.specs.declared.gap.Gap.{Gap}
 use Rattle.merge_core.specs.Gaps.{IsUncovered, IsMaximal, IsGap, GapStartsBefore, ListsGaps}
-use Rattle.merge_core.specs.Sweep.{IsGapOf, IsBetween, IsGapFrom, ListsGapsFrom, Covers, HasGapBefore, PassesUpto, Extends}
+use Rattle.merge_core.specs.Sweep.{IsGapOf, IsBetween, IsGapFrom, ListsGapsFrom, Covers, HasGapBefore, PassesUpto, EndLater, Extends}
+use Rattle.merge_core.specs.Advances.{gap_advances_of}
 use Rattle.merge_core.proofs.SharedLemmas.{first_held}
 use Rattle.merge_core.proofs.PartLemmas.{chain_head}
+use Rattle.merge_core.proofs.AdvanceLemmas.{gap_advances_past, gap_advances_end}
 use Rattle.merge_core.proofs.SweepLemmas.{clear, clear_gap, gap_of_whole, gaps_of_whole, IsMaximal-same}
 
 -- what is there of the gaps of x when q is left of the right items Q, and x is swept up to `at`
@@ -94,6 +96,24 @@ last_later : (x y : Item) (q : List Item) → q ≡ y ∷ drop 1 q → IsChain q
 last_later x y q e part beyond z h =
     let after : y.period.to ≤ℤ z.period.from = chain_head y (drop 1 q) (subst IsChain e part) z h in
     omega (arith, ints)
+
+-- what starts no earlier than `end` ends later
+pub start_later : (end : ℤ) (q : List Item) → ((z : Item) → Contains q z → end ≤ℤ z.period.from) → EndLater end q
+start_later end q out z h =
+    let late : end ≤ℤ z.period.from = out z h in
+    let proper : z.period.from <ℤ z.period.to = z.period.ordered in
+    omega (arith, ints)
+
+-- so does y with what is behind it, where it ends later than x
+pub last_ends_later : (x y : Item) (q : List Item) → q ≡ y ∷ drop 1 q → IsChain q → x.period.to <ℤ y.period.to
+    → EndLater x.period.to q
+last_ends_later x y q e part beyond z h =
+    elim (Contains-cons_cases y (drop 1 q) z (subst (λ v. Contains v z) e h)) [
+      | inl same ↦ subst (λ (v : Item). x.period.to <ℤ v.period.to) same beyond
+      | inr k ↦ (
+          let upto : x.period.to ≤ℤ y.period.to = omega (arith, ints, beyond) in
+          start_later x.period.to (drop 1 q) (last_later x y q e part upto) z k)
+    ]
 
 -- y ends no earlier than x, and is not passed
 swept_last : (x : Item) (Q : List Item) (y : Item) (q : List Item) (at next : ℤ) (old mid now final : List Gap) (n : ℕ)
@@ -306,11 +326,12 @@ pub record IsGapped (P Q p q : List Item) (old now : List Gap) (n : ℕ) : Type 
   pub count : n + (length p + length q) ≡ length P + length Q
   pub at_least : length P ≤ n + length p
   pub within : (g : Gap) → IsGap p q g → IsGap P Q g
+  pub exact : n + gap_advances_of p q ≡ gap_advances_of P Q
 
 gapped_past : (P Q : List Item) (x : Item) (p q q' : List Item) (old mid now : List Gap) (n m : ℕ)
     → IsChain (x ∷ p) → AddsAll GapStartsBefore (IsGapOf q x) mid now → PassesUpto x.period.to q q' m
-    → IsGapped P Q (x ∷ p) q old mid n → IsGapped P Q p q' old now (n + m + 1)
-gapped_past P Q x p q q' old mid now n m part a w g =
+    → EndLater x.period.to q' → IsGapped P Q (x ∷ p) q old mid n → IsGapped P Q p q' old now (n + m + 1)
+gapped_past P Q x p q q' old mid now n m part a w later g =
     record {
       added = g.added ++ a.added;
       split = a.split ∙ ap (λ z. z ++ a.added) g.split ∙ append_assoc old g.added a.added;
@@ -319,13 +340,14 @@ gapped_past P Q x p q q' old mid now n m part a w g =
       count = omega (arith, g.count, w.count);
       at_least = omega (arith, g.at_least);
       within = λ h i. g.within h (later_gap x p q q' m part w h i);
+      exact = omega (arith, g.exact, gap_advances_past x p q q' m w later);
     }
 
 pub gapped_more : (P Q : List Item) (x : Item) (p q q' : List Item) (old mid now : List Gap) (n m : ℕ)
     → p ≡ x ∷ drop 1 p → IsChain p → AddsAll GapStartsBefore (IsGapOf q x) mid now → PassesUpto x.period.to q q' m
-    → IsGapped P Q p q old mid n → IsGapped P Q (drop 1 p) q' old now (n + m + 1)
-gapped_more P Q x p q q' old mid now n m e part a w g =
-    gapped_past P Q x (drop 1 p) q q' old mid now n m (subst IsChain e part) a w
+    → EndLater x.period.to q' → IsGapped P Q p q old mid n → IsGapped P Q (drop 1 p) q' old now (n + m + 1)
+gapped_more P Q x p q q' old mid now n m e part a w later g =
+    gapped_past P Q x (drop 1 p) q q' old mid now n m (subst IsChain e part) a w later
     (subst (λ z. IsGapped P Q z q old mid n) e g)
 
 -- a gap of the next left item is one of all
@@ -347,3 +369,8 @@ gapped_end P Q p q old now n over g =
       all = subst (ListsGaps P Q) (append-nil g.added) (g.goes_on [] (IsListOf-none GapStartsBefore (IsGap p q) (λ h i.
           Contains-none h.left (subst (λ z. Contains z h.left) over i.left_in))));
     }
+
+-- and all advances are made
+pub gapped_exact : (P Q p q : List Item) (old now : List Gap) (n : ℕ) → p ≡ [] → IsGapped P Q p q old now n
+    → n ≡ gap_advances_of P Q
+gapped_exact P Q p q old now n over g = omega (arith, g.exact, gap_advances_end p q over)

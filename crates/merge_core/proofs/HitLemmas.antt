@@ -1,6 +1,7 @@
 -- Hits as what a merge of two parts makes.
 use Rattle.std.proofs.Common.{◌≡◌, ℕ, ◌+◌, ◌≤◌, List, [], ◌∷◌, ◌⊎◌, length, drop, sym, subst, ap, ◌∙◌, arith}
-use Rattle.std.specs.Prelude.{◌≤ℤ◌, Contains}
+use Rattle.std.specs.Prelude.{◌≤ℤ◌, ◌<ℤ◌, Contains}
+use Rattle.std.proofs.lemmas.Int.{ints}
 use Rattle.period_core.specs.declared.period.Period.{Period}
 use Rattle.dip_core.specs.declared.item.Item.{Item}
 use Rattle.dip_core.specs.Item.{IsChain}
@@ -9,8 +10,10 @@ use Rattle.list_core.proofs.RisingLemmas.{Contains-head}
 use Rattle.list_core.proofs.WantedLemmas.{IsListOf-same, IsListOf-one}
 use Rattle.merge_core.specs.declared.hit.Hit.{Hit}
 use Rattle.merge_core.specs.Hits.{IsShared, IsHit, HitStartsBefore}
+use Rattle.merge_core.specs.Advances.{advances_of}
 use Rattle.merge_core.proofs.SharedLemmas.{shared_once}
 use Rattle.merge_core.proofs.PartLemmas.{AllPairs-from_chain}
+use Rattle.merge_core.proofs.AdvanceLemmas.{advances_left, advances_right, advances_end}
 use Rattle.merge_core.proofs.MergeLemmas.{Contains-only, IsMade, IsMerging, merging_start, merging_left, merging_right, merging_end}
 
 -- the hit of two items
@@ -83,6 +86,7 @@ pub record IsJoining (P Q p q : List Item) (old now : List Hit) (n : ℕ) : Type
   pub count : n + (length p + length q) ≡ length P + length Q
   pub left_shorter : length p ≤ length P
   pub right_shorter : length q ≤ length Q
+  pub exact : n + advances_of p q ≡ advances_of P Q
 
 pub joining_start : (P Q : List Item) (old : List Hit) → IsChain P → IsChain Q → IsJoining P Q P Q old old 0
 joining_start P Q old left right =
@@ -92,6 +96,7 @@ joining_start P Q old left right =
       count = omega arith;
       left_shorter = omega arith;
       right_shorter = omega arith;
+      exact = omega arith;
     }
 
 pub joining_left : (P Q : List Item) (x : Item) (p : List Item) (y : Item) (q : List Item) (old mid now : List Hit)
@@ -106,13 +111,15 @@ joining_left P Q x p y q old mid now n e f first a j =
       count = omega (arith, j.count);
       left_shorter = omega (arith, j.left_shorter);
       right_shorter = j.right_shorter;
+      exact = omega (arith, j.exact, advances_left x p y q e f j.merging.right_apart first);
     }
 
 pub joining_right : (P Q : List Item) (x : Item) (p : List Item) (y : Item) (q : List Item) (old mid now : List Hit)
-    (n : ℕ) → p ≡ x ∷ drop 1 p → q ≡ y ∷ drop 1 q → y.period.to ≤ℤ x.period.to
+    (n : ℕ) → p ≡ x ∷ drop 1 p → q ≡ y ∷ drop 1 q → y.period.to <ℤ x.period.to
     → AddsAll HitStartsBefore (IsHitOf x y) mid now
     → IsJoining P Q p q old mid n → IsJoining P Q p (drop 1 q) old now (n + 1)
-joining_right P Q x p y q old mid now n e f first a j =
+joining_right P Q x p y q old mid now n e f later a j =
+    let first : y.period.to ≤ℤ x.period.to = omega (arith, ints, later) in
     let size : length q ≡ length (y ∷ drop 1 q) = ap length f in
     record {
       merging = merging_right period_of period_of shared_of IsHitOf hit_shares
@@ -120,6 +127,7 @@ joining_right P Q x p y q old mid now n e f first a j =
       count = omega (arith, j.count);
       left_shorter = j.left_shorter;
       right_shorter = omega (arith, j.right_shorter);
+      exact = omega (arith, j.exact, advances_right x p y q e f j.merging.left_apart later);
     }
 
 -- where one part is used up, all hits are there
@@ -134,6 +142,11 @@ joining_end P Q p q old now n over j =
       all = IsListOf-same HitStartsBefore (IsMade IsHitOf P Q) (IsHit P Q) all.added
           (hit_from_made P Q) (made_from_hit P Q) all.all;
     }
+
+-- so are all advances
+pub joining_exact : (P Q p q : List Item) (old now : List Hit) (n : ℕ) → (p ≡ []) ⊎ (q ≡ [])
+    → IsJoining P Q p q old now n → n ≡ advances_of P Q
+joining_exact P Q p q old now n over j = omega (arith, j.exact, advances_end p q over)
 
 -- the hit of two items that are next is one of all
 pub joining_hit : (P Q p q : List Item) (x y : Item) (old now : List Hit) (n : ℕ) (h : Hit) → p ≡ x ∷ drop 1 p

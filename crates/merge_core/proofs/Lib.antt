@@ -1,6 +1,7 @@
 pub mod SharedLemmas
 pub mod PartLemmas
 pub mod MergeLemmas
+pub mod AdvanceLemmas
 pub mod HitLemmas
 pub mod SweepLemmas
 pub mod GapLemmas

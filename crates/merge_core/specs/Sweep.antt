@@ -50,6 +50,10 @@ pub record HasGapBefore (x y : Item) (at : ℤ) : Type 0 where
 abbrev pub has_ended : ℤ → Item → Bool
 has_ended end x = not (int_lt end x.period.to)
 
+-- each item ends later than at an instant
+abbrev pub EndLater : ℤ → List Item → Type 0
+EndLater end items = (y : Item) → Contains items y → end <ℤ y.period.to
+
 -- n items were passed, none of which ends later than at an instant
 pub record PassesUpto (end : ℤ) (old new : List Item) (n : ℕ) : Type 0 where
   pub passed : List Item

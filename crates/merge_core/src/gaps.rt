@@ -4,7 +4,8 @@ ghost use Rattle.std.specs.Prelude.{◌≡◌, ℤ, ◌<ℤ◌, IfOk, IsOk, OnOk
 ghost use Rattle.list_core.specs.Wanted.{AddsAll};
 ghost use Rattle.merge_core.specs.declared.gap.Gap.{Gap};
 ghost use Rattle.merge_core.specs.Gaps.{IsGap, GapStartsBefore, AreGapAdvances};
-ghost use Rattle.merge_core.specs.Sweep.{IsGapOf, IsBetween, Covers, HasGapBefore, PassesUpto, Extends};
+ghost use Rattle.merge_core.specs.Sweep.{IsGapOf, IsBetween, Covers, HasGapBefore, PassesUpto, EndLater, Extends};
+ghost use Rattle.merge_core.specs.Advances.{gap_advances_of};
 
 use crate::ends::{ends_before, follows, later};
 use crate::{Cursor, Gap};
@@ -42,12 +43,13 @@ fn cover(x: &Item, y: &Item, at: Point, gaps: &mut Vec<Gap>) -> Result<Point, No
 fn gaps_of(x: &Item, right: &mut Cursor, gaps: &mut Vec<Gap>) -> Result<u64, NoMemory>
     ensures gaps { OnOk result (AddsAll GapStartsBefore (IsGapOf right.old x.now) gaps.old.items gaps.new.items) }
     ensures passes { IfOk result (PassesUpto x.now.period.to right.old right.new) }
+    ensures leaves { OnOk result (EndLater x.now.period.to right.new) }
     ensures keeps { Extends gaps.old.items gaps.new.items }
     ensures gap { OnErr result ((gap : Gap) × IsGapOf right.old x.now gap) }
 {
     let most = right.len() as u64;
     let mut at = x.period.from;
-    let mut advances = 0u64;
+    let mut passed = 0u64;
     while let Some(y) = right.peek() {
         if follows(&y.period, &x.period) {
             break;
@@ -57,15 +59,16 @@ fn gaps_of(x: &Item, right: &mut Cursor, gaps: &mut Vec<Gap>) -> Result<u64, NoM
             break;
         }
         right.advance();
-        prove!(advances < most);
-        advances += 1;
+        prove!(passed < most);
+        passed += 1;
     }
     push_gap(x, at, x.period.to, gaps)?;
-    Ok(advances)
+    Ok(passed)
 }
 
 /// Adds the gaps of the left part against the right one by rising start, and answers how often a cursor
-/// advanced.
+/// advanced: once for each left item, and once for each right item that ends at or before the end of some left
+/// one.
 ///
 /// # Errors
 ///
@@ -73,6 +76,7 @@ fn gaps_of(x: &Item, right: &mut Cursor, gaps: &mut Vec<Gap>) -> Result<u64, NoM
 pub fn merge_gaps(mut left: Cursor, mut right: Cursor, gaps: &mut Vec<Gap>) -> Result<u64, NoMemory>
     ensures gaps { OnOk result (AddsAll GapStartsBefore (IsGap left.entry right.entry) gaps.old.items gaps.new.items) }
     ensures advances { IfOk result (AreGapAdvances left.entry right.entry) }
+    ensures exact { IfOk result (λ n. n ≡ gap_advances_of left.entry right.entry) }
     ensures unchanged { OnErr result (gaps.new.items ≡ gaps.old.items) }
     ensures no_gap { ((gap : Gap) → IsGap left.entry right.entry gap → ⊥) → IsOk result }
 {

@@ -5,6 +5,7 @@ ghost use Rattle.std.specs.Option.{option_to_list};
 ghost use Rattle.list_core.specs.Wanted.{IsListOf, AddsAll};
 ghost use Rattle.merge_core.specs.declared.hit.Hit.{Hit};
 ghost use Rattle.merge_core.specs.Hits.{IsHit, HitStartsBefore, AreAdvances, PassesFirst};
+ghost use Rattle.merge_core.specs.Advances.{advances_of};
 
 use crate::ends::ends_first;
 use crate::{Cursor, Hit};
@@ -62,7 +63,9 @@ fn pass_first(x: &Item, y: &Item, left: &mut Cursor, right: &mut Cursor)
     }
 }
 
-/// Adds the hits of two parts by rising start, and answers how often a cursor advanced.
+/// Adds the hits of two parts by rising start, and answers how often a cursor advanced: once for each left item
+/// that ends at or before the end of some right one, and once for each right item that ends before the end of
+/// some left one.
 ///
 /// # Errors
 ///
@@ -70,6 +73,7 @@ fn pass_first(x: &Item, y: &Item, left: &mut Cursor, right: &mut Cursor)
 pub fn merge_join(mut left: Cursor, mut right: Cursor, hits: &mut Vec<Hit>) -> Result<u64, NoMemory>
     ensures hits { OnOk result (AddsAll HitStartsBefore (IsHit left.entry right.entry) hits.old.items hits.new.items) }
     ensures advances { IfOk result (AreAdvances left.entry right.entry) }
+    ensures exact { IfOk result (λ n. n ≡ advances_of left.entry right.entry) }
     ensures unchanged { OnErr result (hits.new.items ≡ hits.old.items) }
     ensures no_hit { ((hit : Hit) → IsHit left.entry right.entry hit → ⊥) → IsOk result }
 {

@@ -1,7 +1,8 @@
-use Rattle.std.proofs.Common.{arith, ◌≤ℤ◌}
+use Rattle.std.proofs.Common.{arith, ◌≤ℤ◌, ◌<ℤ◌}
 use Rattle.std.proofs.lemmas.Int.{ints}
+use Rattle.merge_core.specs.Sweep.{EndLater}
 use Rattle.merge_core.proofs.ErrLemmas.{on_err}
-use Rattle.merge_core.proofs.GapLemmas.{swept_next, stop_end, stop_last, stopped_final, IsStopped, swept_gap, stopped_gap, none_left, all_later, Extends-more}
+use Rattle.merge_core.proofs.GapLemmas.{swept_next, stop_end, stop_last, stopped_final, IsStopped, swept_gap, stopped_gap, none_left, all_later, start_later, last_ends_later, Extends-more}
 use Rattle.merge_core.proofs.gaps.gaps_of.Goals as goal
 use Rattle.merge_core.proofs.gaps.gaps_of.Goals.{in-Some+then-follows, in-Some+else-follows+in_ok-at+then-ends_before, in_default, After-push_gap}
 
@@ -10,7 +11,7 @@ loop-y-preserved c =
     let over : c.in-Some.y.period.to ≤ℤ c.args.x.now.period.to = omega (arith, ints, c.if-ends_before.ensures) in
     rw c.advance.ensures
     (swept_next c.args.x.now c.args.right.now c.in-Some.y c.loop-y.right _ _ _ _ c.args.gaps.now.items
-    c.loop-y.gaps.items c.cover.new.gaps.items c.loop-y.advances (omega (arith, ints)) (omega (arith, ints))
+    c.loop-y.gaps.items c.cover.new.gaps.items c.loop-y.passed (omega (arith, ints)) (omega (arith, ints))
     c.in-Some.ensures.next c.in-Some.ensures.chain over c.in_ok-at.ensures.ok c.loop-y.invariant)
 
 -- however the loop ended, only the gap up to the end of x is left
@@ -37,6 +38,27 @@ stopped c =
           (none_left c.args.x.now c.loop-y.right w.in_default.ensures.next) c.loop-y.invariant)
     ]
 
+-- and each right item that is left ends later than x
+left_over : (c : After-push_gap) → EndLater c.args.x.now.period.to c.loop-y.right
+left_over c =
+    elim c.match-peek.branch [
+      | in-Some+then-follows w ↦
+          (let late : c.args.x.now.period.to ≤ℤ w.in-Some.y.period.from = omega (arith, ints, w.if-follows.ensures) in
+          start_later c.args.x.now.period.to c.loop-y.right
+          (all_later c.args.x.now w.in-Some.y c.loop-y.right w.in-Some.ensures.next w.in-Some.ensures.chain late))
+      | in-Some+else-follows+in_ok-at+then-ends_before w ↦
+          (let beyond : c.args.x.now.period.to <ℤ w.in-Some.y.period.to =
+          omega (arith, ints, w.if-ends_before.ensures) in
+          last_ends_later c.args.x.now w.in-Some.y c.loop-y.right w.in-Some.ensures.next w.in-Some.ensures.chain
+          beyond)
+      | in_default w ↦
+          start_later c.args.x.now.period.to c.loop-y.right
+          (none_left c.args.x.now c.loop-y.right w.in_default.ensures.next)
+    ]
+
+pub returns-clause-leaves : goal.returns-clause-leaves
+returns-clause-leaves c = left_over (goal.at.returns-clause-leaves c).After-push_gap
+
 pub returns-in_err-push_gap-clause-keeps : goal.returns-in_err-push_gap-clause-keeps
 returns-in_err-push_gap-clause-keeps c =
     rw c.in_err-push_gap.ensures.err (stopped (goal.at.returns-in_err-push_gap-clause-keeps c).After-push_gap).keeps
@@ -56,7 +78,7 @@ returns-in_err-at-clause-gap c =
     on_err _ c.from_residual.result (
       c.in_err-at.ensures.gap.gap,
       swept_gap c.args.x.now c.args.right.now c.in-Some.y c.loop-y.right _ _ c.args.gaps.now.items
-          c.loop-y.gaps.items c.loop-y.advances (omega (arith, ints)) c.in-Some.ensures.next c.in-Some.ensures.chain
+          c.loop-y.gaps.items c.loop-y.passed (omega (arith, ints)) c.in-Some.ensures.next c.in-Some.ensures.chain
           c.in_err-at.ensures.gap c.loop-y.invariant,
     )
 

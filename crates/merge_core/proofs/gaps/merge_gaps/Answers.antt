@@ -1,5 +1,5 @@
 use Rattle.std.proofs.Common.{arith, ◌+◌, ◌≡◌}
-use Rattle.merge_core.proofs.GapLemmas.{gapped_more, gapped_end, gapped_gap, passed_both, unended_gap, unended_gaps}
+use Rattle.merge_core.proofs.GapLemmas.{gapped_more, gapped_end, gapped_exact, gapped_gap, passed_both, unended_gap, unended_gaps}
 use Rattle.merge_core.proofs.gaps.merge_gaps.Goals as goal
 
 pub loop-x-preserved : goal.loop-x-preserved
@@ -16,10 +16,13 @@ loop-x-preserved c =
     c.pass_ended-ended.ensures c.in-Ok.ensures.gaps)
     (passed_both c.in-Some.x c.loop-x.right there c.gaps_of.new.right ended c.in-Ok.passed c.pass_ended-ended.ensures
     c.in-Ok.ensures.passes)
-    c.loop-x.invariant)
+    c.in-Ok.ensures.leaves c.loop-x.invariant)
 
 pub returns-clause-gaps : goal.returns-clause-gaps
 returns-clause-gaps c = gapped_end _ _ _ _ _ _ _ c.in_default.ensures.next c.loop-x.invariant
+
+pub returns-clause-exact : goal.returns-clause-exact
+returns-clause-exact c = gapped_exact _ _ _ _ _ _ _ c.in_default.ensures.next c.loop-x.invariant
 
 pub returns-in-Err-clause-no_gap : goal.returns-in-Err-clause-no_gap
 returns-in-Err-clause-no_gap c =
