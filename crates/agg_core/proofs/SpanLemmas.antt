@@ -19,13 +19,6 @@ use Rattle.agg_core.specs.declared.spans.Span.{Span}
 
 -- ---- items one after the other
 
--- nothing
-pub within_none : (span : Span) → AreWithin span [] []
-within_none span = record {
-  hold = record { same = λ t h. refl; none = λ t h. refl; own = All-nil (λ (x : Item). x.class ≡ 0) };
-  few = omega arith;
-}
-
 -- one item that holds something in the span
 pub within_one : (span : Span) (x cut : Item) → x.class ≡ 0 → IsWithin span x cut → AreWithin span (x ∷ []) (cut ∷ [])
 within_one span x cut zero i = record {

@@ -18,7 +18,7 @@ pub record AreSome (items some : List Item) : Type 0 where
   pub ids : HasDistinctIds some
   pub few : length some ≤ item_limit
 
--- each left and right item that share an instant stand together in one tile, no two items do in two
+-- each left and right item that share an instant stand together in one tile, no left and right item do in two
 pub record AreTiles (left right : List Item) (tiles : List Tile) : Type 0 where
   pub lefts : All (λ (tile : Tile). AreSome left tile.left.items) tiles
   pub rights : All (λ (tile : Tile). AreSome right tile.right.items) tiles

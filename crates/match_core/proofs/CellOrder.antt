@@ -3,10 +3,10 @@ use Rattle.std.proofs.Common.{◌≡◌, ℕ, ℤ, Bool, true, false, not, List,
 use Rattle.std.specs.Bool.{Decides}
 use Rattle.std.specs.Cmp.{IsTotalOrder}
 use Rattle.std.specs.Cmp.Lexicographic.{slice_cmp, bytes_decides, texts_ties}
-use Rattle.std.specs.Ordering.{eq_by_cmp, is_lt, is_eq, ordering_then, ordering_reverse, nat_cmp, int_cmp}
+use Rattle.std.specs.Ordering.{is_lt, is_eq, ordering_then, ordering_reverse, nat_cmp, int_cmp}
 use Rattle.std.specs.declared.cmp.Ordering.{Ordering}
 use Rattle.std.specs.declared.cmp.Ordering.TheVariants.{Less, Equal, Greater}
-use Rattle.std.proofs.lemmas.Bool.Decides.{Decides-eqb, Decides-int_eq, Decides-and, same_from_decides}
+use Rattle.std.proofs.lemmas.Bool.Decides.{Decides-eqb, Decides-int_eq, Decides-and}
 use Rattle.std.proofs.lemmas.Cmp.{then_total, on_total, int_cmp_total, nat_cmp_total, nat_list_cmp_total, tied_itself, ranked, int_ranked}
 use Rattle.match_core.specs.declared.cells.Cell.{Cell}
 use Rattle.match_core.specs.declared.cells.CellRange.{CellRange}
@@ -77,17 +77,6 @@ same_tied a b s =
 -- a cell is the same as itself
 pub SameCell-itself : (a : Cell) → SameCell a a
 SameCell-itself a = (refl, (refl, refl))
-
--- that cells are the same is that they tie
-pub same-tied : (a b : Cell) → same_cell a b ≡ eq_by_cmp cell_cmp a b
-same-tied a b =
-    same_from_decides (same_cell a b) (eq_by_cmp cell_cmp a b) (same_cell-decides a b)
-    ((λ e. tied_same a b (equal_from (cell_cmp a b) e)), (λ s. ap is_eq (same_tied a b s)))
-  where
-    equal_from : (o : Ordering) → is_eq o ≡ true → o ≡ Equal
-    equal_from Less e = absurd (cc)
-    equal_from Equal e = refl
-    equal_from Greater e = absurd (cc)
 
 -- cells that are not the same are told to differ
 pub told_apart : (a b : Cell) → (SameCell a b → ⊥) → same_cell a b ≡ false

@@ -5,74 +5,24 @@ use Rattle.std.proofs.lemmas.List.{get_or_default, length-append, length-map, ge
 use Rattle.std.proofs.lemmas.Bool.{cases_lt}
 use Rattle.std.proofs.lemmas.List.Elements.{All-append, All-push, Contains-append_left, Contains-append_right, Contains-push}
 use Rattle.std.proofs.lemmas.List.Sorted.{All-permutation, Contains-permutation}
-use Rattle.std.proofs.lemmas.Option.{slice_get_read, slice_get_within}
+use Rattle.std.proofs.lemmas.Option.{slice_get_read}
 use Rattle.row_core.specs.declared.row.Row.{Row}
-use Rattle.row_core.specs.declared.value.Kind.{Kind}
 use Rattle.row_core.specs.declared.value.Value.{Value}
 use Rattle.match_core.specs.declared.cells.Cell.{Cell}
 use Rattle.match_core.specs.declared.cells.CellRange.{CellRange}
 use Rattle.match_core.specs.declared.cells.CellRange.TheVariants as part
-use Rattle.match_core.specs.Cells.{AgreeOnPlaces, AreCells, AreOneKind, AreSorted, HasPlace, IsCellAt, IsOfKind, cell_cmp, column_at, has_cell, is_before, number_in, text_in}
-use Rattle.match_core.proofs.CellOrder.{SameCell, before-trans, has_cell-same, same_cell-decides}
+use Rattle.match_core.specs.Cells.{AreCells, AreSorted, HasPlace, IsCellAt, cell_cmp, column_at, has_cell, is_before, number_in, text_in}
+use Rattle.match_core.proofs.CellOrder.{SameCell, before-trans, has_cell-same}
 use Rattle.match_core.proofs.CellValues.{cells_same, one_value}
 use Rattle.match_core.proofs.Tell.{slice_get-map}
 
 -- ---- the values of a side
-
--- what holds of all holds of the first ones
-All-front : {X : Type 0} (P : X → Type 0) (xs ys : List X) → All P (xs ++ ys) → All P xs
-All-front P xs ys all k d lt =
-    let n : length (xs ++ ys) ≡ length xs + length ys = length-append xs ys in
-    subst P (get_or_append_left xs ys d k lt) (all k d (omega (arith, n)))
-
--- and of those behind them
-All-behind : {X : Type 0} (P : X → Type 0) (xs ys : List X) → All P (xs ++ ys) → All P ys
-All-behind P xs ys all k d lt =
-    let n : length (xs ++ ys) ≡ length xs + length ys = length-append xs ys in
-    let back : length xs + k - length xs ≡ k = omega arith in
-    let here : get_or (xs ++ ys) (length xs + k) d ≡ get_or ys k d =
-    get_or-append_right xs ys (length xs) (length xs + k) d refl (omega arith) ∙ ap (λ m. get_or ys m d) back in
-    subst P here (all (length xs + k) d (omega (arith, n)))
-
--- what holds of all holds of the one at a place
-All-slice_get : {X : Type 0} (P : X → Type 0) (xs : List X) (i : ℕ) (x : X) → All P xs → slice_get xs i ≡ Some x → P x
-All-slice_get P [] i x all h = cc
-All-slice_get P (y ∷ xs) zero x all h = let e : y ≡ x = cc in subst P e (all 0 y (omega arith))
-All-slice_get P (y ∷ xs) (suc i) x all h = All-slice_get P xs i x (λ k d lt. all (suc k) d (omega arith)) h
 
 -- the values of a row
 pub column_at-row : (place : ℕ) (rows : List Row) (i : ℕ) (x : Row) → i < length rows → x ≡ get_or rows i x
     → slice_get (column_at place rows) i ≡ Some (slice_get x.values place)
 column_at-row place rows i x h e =
     slice_get-map (λ (row : Row). slice_get row.values place) rows i x (slice_get_read rows (length rows) i x refl h e)
-
--- a place with a value lies within
-has_value : (kind : Kind) (values : List Value) (place : ℕ) → IsOfKind kind (slice_get values place)
-    → place < length values
-has_value kind [] place h = absurd h
-has_value kind (v ∷ values) zero h = omega arith
-has_value kind (v ∷ values) (suc place) h = let r = has_value kind values place h in omega (arith, r)
-
--- where all rows have a value, each row is wide enough
-pub room_at : (column : List (Option Value)) (i place : ℕ) (values : List Value) → AreOneKind column
-    → slice_get column i ≡ Some (slice_get values place) → place < length values
-room_at column i place values one h =
-    has_value one.0 values place (All-slice_get (IsOfKind one.0) column i (slice_get values place) one.1 h)
-
--- so all rows are
-pub wide_from : (place : ℕ) (rows : List Row) → AreOneKind (column_at place rows)
-    → All (λ (row : Row). place < length row.values) rows
-wide_from place rows one k d lt =
-    room_at (column_at place rows) k place (get_or rows k d).values one
-    (column_at-row place rows k (get_or rows k d) lt (get_or_default rows k d (get_or rows k d) lt))
-
--- the left side's values are of the kind of all
-pub kind-left : (xs ys : List (Option Value)) → AreOneKind (xs ++ ys) → AreOneKind xs
-kind-left xs ys one = (one.0, All-front (IsOfKind one.0) xs ys one.1)
-
--- and so are the right side's
-pub kind-right : (xs ys : List (Option Value)) → AreOneKind (xs ++ ys) → AreOneKind ys
-kind-right xs ys one = (one.0, All-behind (IsOfKind one.0) xs ys one.1)
 
 -- ---- the cells of a range
 
@@ -83,16 +33,6 @@ pub record Listed (range : CellRange) (classes : List ℕ) (column : List (Optio
   pub within : All (λ (cell : Cell). has_cell range cell ≡ true) cells
   pub each : (k : ℕ) (cell : Cell) → k < i → IsCellAt classes column k cell → has_cell range cell ≡ true
       → HasPlace cells k
-
--- none is listed yet
-pub none_listed : (range : CellRange) (classes : List ℕ) (column : List (Option Value)) (cells : List Cell)
-    → cells ≡ [] → Listed range classes column 0 cells
-none_listed range classes column cells none =
-    subst (Listed range classes column 0) (sym none) (record {
-      own = λ k d lt. absurd (omega arith);
-      within = λ k d lt. absurd (omega arith);
-      each = λ k cell lt at h. absurd (omega arith);
-    })
 
 -- a cell of one more row
 pub listed_more : (range : CellRange) (classes : List ℕ) (column : List (Option Value)) (i : ℕ) (cell : Cell)
@@ -259,19 +199,3 @@ sorted_halves classes column middle low high there lows up highs down = record {
         let (x, has, place) = highs.each i c lt at e in (x, Contains-append_right low high x has, place)
     by_test i c lt at false e =
         let (x, has, place) = lows.each i c lt at (ap not e) in (x, Contains-append_left low high x has, place)
-
--- sorted cells of one place are the same
-pub agree_on_places : (classes : List ℕ) (column : List (Option Value)) (cells : List Cell)
-    → AreSorted classes column cells → AgreeOnPlaces cells
-agree_on_places classes column cells sorted i j d hi hj e =
-    let x = get_or cells i d in
-    let y = get_or cells j d in
-    (same_cell-decides x y).1
-    (cells_of_place classes column x.place x y (sorted.own i d hi)
-    (subst (λ n. IsCellAt classes column n y) (sym e) (sorted.own j d hj)))
-
--- and their places are within
-pub places_within : (classes : List ℕ) (column : List (Option Value)) (cells : List Cell)
-    → AreSorted classes column cells → All (λ (cell : Cell). cell.place < length column) cells
-places_within classes column cells sorted k d lt =
-    let at = sorted.own k d lt in slice_get_within column (get_or cells k d).place (Some at.value) at.there

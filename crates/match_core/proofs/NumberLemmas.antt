@@ -5,7 +5,7 @@ use Rattle.std.proofs.lemmas.Bool.{cases_eq, cases_lt}
 use Rattle.std.proofs.lemmas.List.{get_or_default, get_or_push, get_or_append_left, length_push, length-take-le, take_more}
 use Rattle.std.proofs.lemmas.List.Elements.{All-push}
 use Rattle.match_core.specs.declared.cells.Cell.{Cell}
-use Rattle.match_core.specs.Cells.{AreMatched, AreRising, IsNumberOf, is_before, same_cell}
+use Rattle.match_core.specs.Cells.{AreRising, IsNumberOf, is_before, same_cell}
 use Rattle.match_core.proofs.CellOrder.{after-differs, after-from, before-differs, before-trans}
 
 -- the left cells up to a place come before a right one
@@ -66,16 +66,6 @@ pub record Numbering (lefts rights : List Cell) (right left : ℕ) (numbers : Li
   pub count : length numbers ≡ right
   pub each : (k : ℕ) → k < right → IsNumberOf lefts rights k (get_or numbers k 0)
 
--- none has one
-pub none_numbered : (lefts rights : List Cell) (numbers : List ℕ) → length numbers ≡ 0
-    → Numbering lefts rights 0 0 numbers
-none_numbered lefts rights numbers count = record {
-  within = omega arith;
-  before = λ k d low inside l e lt. absurd (omega arith);
-  count = count;
-  each = λ k lt. absurd (omega arith);
-}
-
 -- one more has one
 pub one_numbered : (lefts rights : List Cell) (right left next number : ℕ) (numbers new : List ℕ) (cell : Cell)
     → right < length rights → AreRising rights → cell ≡ get_or rights right cell → next ≤ length lefts
@@ -102,11 +92,3 @@ one_numbered lefts rights right left next number numbers new cell inside rise he
             (sym (get_or_push numbers number 0 right count)) is))
       ];
     })
-
--- all have one
-pub all_numbered : (lefts rights : List Cell) (right left : ℕ) (numbers : List ℕ) → right ≡ length rights
-    → Numbering lefts rights right left numbers → AreMatched lefts rights numbers
-all_numbered lefts rights right left numbers end was = record {
-  count = was.count ∙ end;
-  each = λ k lt. was.each k (omega (arith, end));
-}

@@ -84,15 +84,6 @@ pub record Ranking (cells : List Cell) (i : ℕ) (firsts : List Cell) (ranks : L
   pub last : (k j : ℕ) (d : Cell) → k + 1 ≡ length firsts → j + 1 ≡ i → SameCell (get_or firsts k d) (get_or cells j d)
   pub told : (k : ℕ) (d : Cell) → k < i → HasRank ranks firsts (get_or cells k d)
 
--- none has one yet
-pub none_ranked : (cells firsts : List Cell) (ranks : List ℕ) → firsts ≡ [] → Ranking cells 0 firsts ranks
-none_ranked cells firsts ranks none = record {
-  rise = λ i j d less within. absurd (let zero : length firsts ≡ 0 = ap length none in omega (arith, within, zero));
-  none = λ e. ap length none;
-  last = λ k j d e f. absurd (omega (arith, f));
-  told = λ k d lt. absurd (omega (arith, lt));
-}
-
 -- the next cell doesn't come before the last of those that differ
 pub next_from_last : (cells : List Cell) (i : ℕ) (firsts : List Cell) (ranks : List ℕ) (cell : Cell)
     → IsSorted cell_cmp cells → i < length cells
@@ -171,11 +162,6 @@ ranked_more cells i firsts new rank cell ranks inside here room agree was entere
                     ∙ ap (λ x. same_cell x y) (entered.kept (get_or ranks y.place 0) e within) ∙ had.same e;
               })
         ]
-
--- all rows have theirs
-pub all_ranked : (cells : List Cell) (i : ℕ) (firsts : List Cell) (ranks : List ℕ) → length cells ≡ i
-    → Ranking cells i firsts ranks → AreRanksOf cells ranks firsts
-all_ranked cells i firsts ranks end was k d lt = was.told k d (omega (arith, end, lt))
 
 -- ---- a side's ranks
 

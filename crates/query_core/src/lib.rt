@@ -6,7 +6,7 @@
 mod query;
 mod rows_by_id;
 
-pub use agg_core::{AggRow, AggRows, AggShare, Func, agg};
+pub use agg_core::{AggRow, AggRowRef, AggRows, AggShare, Func, agg};
 pub use anti_core::{AntiRow, AntiRows, GapPairs, anti};
 pub use join_core::{JoinAnswer, JoinOut, JoinPairs, JoinRow, JoinRows, join};
 pub use match_core::{QueryRefused, Side, items};

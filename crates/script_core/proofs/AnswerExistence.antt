@@ -38,7 +38,8 @@ use Rattle.answer_core.specs.declared.answer.Answer.{Answer}
 use Rattle.answer_core.specs.declared.answer.Answer.TheVariants as answer
 use Rattle.script_core.specs.Answer.{AnswersOne, AnswersChange, AnswersQuery, IsAggOf, IsAnswerTo, IsAntiOf, IsDipOf, IsJoinOf, IsVerdictOn, IsVersions, Refuses}
 use Rattle.script_core.specs.Refusal.{book_refusal}
-use Rattle.script_core.specs.Effects.{TableRows, aggregated_told, change_in, claim_of, columns_told, delete_in, agg_func, load_in, load_told, make_in, pairs_told, rows_on, rows_told, sides_told, update_in, versions_told}
+use Rattle.agg_core.specs.Agg.{rows_on}
+use Rattle.script_core.specs.Effects.{TableRows, aggregated_told, change_in, claim_of, columns_told, delete_in, agg_func, load_in, load_told, make_in, pairs_told, rows_told, sides_told, update_in, versions_told}
 use Rattle.script_core.proofs.AnswerUniqueness.{both_ok-first, not_Ok, rise-told}
 
 -- ---- a change that is made keeps the history legal

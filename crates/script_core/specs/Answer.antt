@@ -14,7 +14,7 @@ use Rattle.join_core.specs.Join.{IsJoin}
 use Rattle.join_core.specs.declared.rows.JoinRow.{JoinRow}
 use Rattle.anti_core.specs.Anti.{IsAnti}
 use Rattle.anti_core.specs.declared.rows.AntiRow.{AntiRow}
-use Rattle.agg_core.specs.Agg.{IsAgg}
+use Rattle.agg_core.specs.Agg.{IsAgg, rows_on}
 use Rattle.agg_core.specs.declared.rows.AggRow.{AggRow}
 use Rattle.command_core.specs.Fields.{both_ok}
 use Rattle.command_core.specs.Meaning.{Meaning, Refuse, Make, Load, Update, Delete, Rows, At, Between, FromTo, Dip, Join, Anti, Agg, Check, Log}
@@ -26,7 +26,7 @@ use Rattle.command_core.specs.declared.refusal.Fault.{Fault}
 use Rattle.answer_core.specs.PrintedRecords.{IsPrintedAs, together_record}
 use Rattle.answer_core.specs.declared.answer.Answer.{Answer}
 use Rattle.answer_core.specs.declared.answer.Answer.TheVariants as answer
-use Rattle.script_core.specs.Effects.{TableRows, aggregated_told, claim_of, delete_in, agg_func, load_in, make_in, rows_on, rows_told, sides_told, update_in, versions_told}
+use Rattle.script_core.specs.Effects.{TableRows, aggregated_told, claim_of, delete_in, agg_func, load_in, make_in, rows_told, sides_told, update_in, versions_told}
 
 -- the answer is the dip of the items
 pub record IsDipOf (items : List Item) (given : Answer) : Type 0 where

@@ -1,8 +1,7 @@
 -- What a script's changes make of the book, and what its queries read of it.
-use Rattle.std.specs.Prelude.{ℕ, ◌+◌, ℤ, List, [], ◌∷◌, ◌++◌, Bool, Option, Some, None, Result, Err, codes, drop, filter, length, option_map, unwrap_or, if◌then◌else◌}
+use Rattle.std.specs.Prelude.{ℕ, ◌+◌, ℤ, List, [], ◌∷◌, ◌++◌, Bool, Option, Some, None, Result, Err, codes, drop, length, option_map, unwrap_or, if◌then◌else◌}
 use Rattle.std.specs.List.{enumerate_from}
 use Rattle.std.specs.Option.{ok_or}
-use Rattle.period_core.specs.Period.{holds_at}
 use Rattle.period_core.specs.declared.period.Period.{Period}
 use Rattle.row_core.specs.Reading as reading
 use Rattle.row_core.specs.Refusals.{and_then, map_err, map_ok, read_each, refused_or}
@@ -151,10 +150,6 @@ aggregated_told number h asof asked =
     refused_or
     (option_map (λ refused. fault number (query_refusal refused)) (agg_refusal table.0 (agg_func asked.func) asked.by))
     table)
-
--- the rows that hold at a point
-abbrev pub rows_on : ℤ → List Row → List Row
-rows_on point rows = filter (λ row. holds_at point row.period) rows
 
 -- whether the versions of a table may be read, between two commits that are in order, or the fault of
 -- the command of this number

@@ -13,7 +13,8 @@ ghost use Rattle.script_core.specs.Answer.{IsAggOf, IsAntiOf, IsDipOf, IsJoinOf,
 ghost use Rattle.script_core.specs.Ledgers.{commit_shown, ShowsAll};
 ghost use Rattle.script_core.specs.Performing.{FailsToCompare, Gives, IsShown};
 ghost use Rattle.store_core.specs.Snapshots.{history};
-ghost use Rattle.script_core.specs.Effects.{agg_func, aggregated_told, claim_of, columns_told, rows_on, rows_told, sides_told, versions_told};
+ghost use Rattle.agg_core.specs.Agg.{rows_on};
+ghost use Rattle.script_core.specs.Effects.{agg_func, aggregated_told, claim_of, columns_told, rows_told, sides_told, versions_told};
 ghost use Rattle.answer_core.specs.declared.answer.Answer.TheVariants.{Rows};
 
 use crate::claims::read_claim;

@@ -8,7 +8,8 @@ use Rattle.command_core.specs.Meaning.{Agg, Anti, At, Check, Dip, Join, Rows}
 use Rattle.command_core.specs.PairsIn.{compared_in}
 use Rattle.answer_core.specs.declared.answer.Answer.TheVariants as answer
 use Rattle.script_core.specs.Answer.{IsAggOf, IsAntiOf, IsDipOf, IsJoinOf, IsVerdictOn}
-use Rattle.script_core.specs.Effects.{aggregated_told, claim_of, rows_on, rows_told, sides_told}
+use Rattle.agg_core.specs.Agg.{rows_on}
+use Rattle.script_core.specs.Effects.{aggregated_told, claim_of, rows_told, sides_told}
 use Rattle.store_core.specs.Snapshots.{history}
 use Rattle.script_core.proofs.Answering.{query-failed}
 use Rattle.script_core.proofs.Comparing.{aggregated-failed, both_ok-failed, sides-failed}

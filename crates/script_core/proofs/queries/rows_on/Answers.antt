@@ -4,7 +4,7 @@ use Rattle.row_core.specs.declared.row.Row.{Row}
 use Rattle.answer_core.specs.declared.answer.Answer.TheVariants.{Rows}
 use Rattle.store_core.specs.Snapshots.{history, number_shown, rows_of_snapshot}
 use Rattle.command_core.specs.Refusal.{fault}
-use Rattle.script_core.specs.Effects.{rows_on}
+use Rattle.agg_core.specs.Agg.{rows_on}
 use Rattle.script_core.specs.Refusal.{table_refusal}
 use Rattle.script_core.proofs.Showing.{rows-told}
 use Rattle.script_core.proofs.queries.rows_on.Goals as goal
