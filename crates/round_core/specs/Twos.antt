@@ -1,5 +1,5 @@
 -- Lists of steps in twos: pair i is lists 2i and 2i + 1.
-use Rattle.std.specs.Prelude.{ℕ, ◌+◌, ◌*◌, ◌-◌, ◌/◌, ◌%◌, List, [], Option, Some, None, if◌then◌else◌, ◌&&◌, nat_lt, nat_eq, slice_index_or}
+use Rattle.std.specs.Prelude.{ℕ, ◌+◌, ◌*◌, ◌/◌, Bool, List, [], Option, Some, None, if◌then◌else◌, ◌&&◌, nat_lt, nat_eq, slice_index_or}
 use Rattle.merge_core.specs.Steps.{StepList}
 use Rattle.work_core.specs.declared.name.PairName.{PairName}
 
@@ -15,7 +15,10 @@ list_at lists i = slice_index_or lists i no_steps
 abbrev pub two_name : ℕ → PairName
 two_name i = record { left = i * 2; right = i * 2 + 1 }
 
--- the number of a pair of n lists; None where they have no such pair
+-- whether that is the name of pair i
+abbrev pub has_two_name : ℕ → PairName → Bool
+has_two_name i p = nat_eq p.left (two_name i).left && nat_eq p.right (two_name i).right
+
+-- the number of the pair of n lists that has this name; None where no pair has it
 abbrev pub two_place : ℕ → PairName → Option ℕ
-two_place n p =
-    if (nat_lt p.right n && nat_eq (p.right % 2) 1) && nat_eq p.left (p.right - 1) then Some (p.right / 2) else None
+two_place n p = if nat_lt (p.right / 2) (n / 2) && has_two_name (p.right / 2) p then Some (p.right / 2) else None

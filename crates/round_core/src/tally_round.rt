@@ -69,11 +69,9 @@ impl<'a> PairWork for TallyRound<'a> {
     }
 
     fn place(&self, pair: PairName) -> Option<u64> {
-        if (pair.right as usize) < self.lists.len()
-            && pair.right % 2 == 1
-            && pair.left == pair.right - 1
-        {
-            Some(pair.right as u64 / 2)
+        let number = pair.right as u64 / 2;
+        if number < self.count() && self.name(number) == pair {
+            Some(number)
         } else {
             None
         }
