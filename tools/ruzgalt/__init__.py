@@ -1,0 +1,19 @@
+"""Reads a script of dipq beside its answers, for the tools beside this folder and for programs.
+
+    from ruzgalt import answers
+    for answer in answers.of("examples/pay.csv", "examples/pay.csv.stdout"):
+        print(answer.number, answer.line, answer.command.text, answer.table.names)
+
+Python 3.9 and its library are all that is needed. A module stands on those above it:
+
+    records, forms      CSV with the lines of its records; points, numbers and names
+    commands, tables    a script's commands; the columns of tables and of answers
+    answers, picks      the answers of a script, each with its command; chosen by number, line or name
+    fields, refusals    what each field is to be, and why a record was refused
+    store, overlaps     the changes done again, and rows of one key that hold at one point
+    changes, single     what really changed; a change of one row alone
+    export              CSV, SQLite and JSON
+    timeline, pictures  the axis of a picture, and what is drawn of an answer
+    terminal, svg       how it is drawn
+    program, cli        the program that answers; the words of tools/answers
+"""

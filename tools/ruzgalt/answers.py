@@ -1,0 +1,183 @@
+"""Reads a script beside its answers: of each answer the command, the record and its line, and what was answered."""
+from dataclasses import dataclass, field
+from pathlib import Path
+from typing import Dict, Iterator, List, Optional, Union
+
+from ruzgalt import commands, records, tables
+from ruzgalt.commands import Command
+from ruzgalt.errors import Misfit
+from ruzgalt.records import Record, short
+from ruzgalt.tables import Column, Schema, Table
+
+# Bytes, or the file that has them.
+Source = Union[bytes, str, Path]
+Rows = List[List[Optional[str]]]
+
+
+@dataclass(frozen=True)
+class Refusal:
+    """The name of a refusal, and the record that is at fault."""
+
+    name: str
+    record: Record
+
+
+@dataclass(frozen=True)
+class Answer:
+    """What a command was answered: a table, or a refusal. Commits are those that were there behind it."""
+
+    number: int
+    command: Command
+    commits: int
+    tables: Dict[str, Schema] = field(repr=False)
+    table: Table = field(default_factory=lambda: Table([]))
+    refusal: Optional[Refusal] = None
+
+    @property
+    def line(self) -> int:
+        return self.command.line
+
+    @property
+    def commit(self) -> int:
+        """The commit that a query reads."""
+        return self.commits if self.command.as_of is None else int(self.command.as_of)
+
+
+def of(script: Source, output: Source) -> List[Answer]:
+    """The answers in the output, which are those to the script. Raises Misfit where they can't be."""
+    return list(Reading(records.read(bytes_of(output))).answers(records.read(bytes_of(script))))
+
+
+def bytes_of(source: Source) -> bytes:
+    return source if isinstance(source, bytes) else Path(source).read_bytes()
+
+
+class Reading:
+    """The answers' records, of which some first ones are read, and the tables and commits of the store by then."""
+
+    def __init__(self, output: List[Record]):
+        self.output, self.place = output, 0
+        self.tables: Dict[str, Schema] = {}
+        self.commits = 0
+        # The queries of a block read the commit that it began with, and its load is the next.
+        self.held: Optional[int] = None
+
+    def answers(self, script: List[Record]) -> Iterator[Answer]:
+        for number, command in enumerate(commands.commands(script), 1):
+            if not command.in_together:
+                self.held = None
+            yield self.answer(number, command)
+        if self.place < len(self.output):
+            extra = self.output[self.place]
+            raise Misfit(f"the script has no command for the answer at line {extra.line}: {short(extra.text)}")
+
+    def answer(self, number: int, command: Command) -> Answer:
+        first = self.take(command, "an answer")
+        if first.word == "error":
+            return Answer(number, command, self.commits, self.tables, refusal=self.refusal(command, first))
+        table = self.table(command, first)
+        shown = self.commits if self.held is None or command.word == "load" else self.held
+        return Answer(number, command, shown, self.tables, table)
+
+    def table(self, command: Command, first: Record) -> Table:
+        """The answer that begins with this record, as a table."""
+        if command.word in ("table", "load", "update", "delete"):
+            return self.accepted(command, first)
+        if command.word == "together":
+            return self.opened(command, first)
+        if command.word not in READERS or not command.is_ended:
+            raise misfit(command, "error,RECORD,NAME", first)
+        try:
+            columns = tables.header(command, self.tables)
+        except (KeyError, IndexError, Misfit):
+            raise misfit(command, "error,RECORD,NAME, as its tables or columns aren't there", first) from None
+        return Table(columns, READERS[command.word](self, command, first, columns))
+
+    def take(self, command: Command, wanted: str) -> Record:
+        if self.place == len(self.output):
+            raise Misfit(f"line {command.line}: {short(command.text)}: the answers end before {wanted}")
+        self.place += 1
+        return self.output[self.place - 1]
+
+    def refusal(self, command: Command, record: Record) -> Refusal:
+        number = record.fields[1] if len(record.fields) == 3 else ""
+        at_fault = command.record_of(int(number)) if is_count(number) else None
+        if at_fault is None:
+            raise misfit(command, "a refusal of one of its records", record)
+        return Refusal(record.fields[2], at_fault)
+
+    def accepted(self, command: Command, record: Record) -> Table:
+        if list(record.fields) != ["ok", str(self.commits + 1)] or not command.is_ended:
+            raise misfit(command, f"ok,{self.commits + 1}", record)
+        if command.word == "table":
+            self.tables = {**self.tables, command.record.fields[1]: Schema.read(command.record.fields)}
+        self.commits += 1
+        return Table(tables.ints("commit"), [[record.fields[1]]])
+
+    def opened(self, command: Command, record: Record) -> Table:
+        is_right = command.is_ended and len(command.record.fields) == 1
+        if not is_right or list(record.fields) != ["together", str(self.commits)]:
+            raise misfit(command, f"together,{self.commits}", record)
+        self.held = self.commits
+        return Table(tables.ints("commit"), [[record.fields[1]]])
+
+    def listed(self, command: Command, first: Record, columns: List[Column]) -> Rows:
+        """The records of a list up to its end, which counts them."""
+        word = {"between": "version", "fromto": "version", "log": "commit"}.get(command.word, "row")
+        rows, record = [], first
+        while record.word == word and len(record.fields) == len(columns) + 1:
+            rows.append(list(record.fields[1:]))
+            record = self.take(command, "the list's end")
+        if list(record.fields) != ["end", str(len(rows))]:
+            names = ",".join(column.name for column in columns)
+            raise misfit(command, f"{word},{names} or end,{len(rows)}", record)
+        if word == "version":
+            return [[*row[:4], None if row[4] == "-" else row[4], *row[5:]] for row in rows]
+        return rows
+
+    def divided(self, command: Command, first: Record, _: List[Column]) -> Rows:
+        """A record for each row of each part, with the instant that all have."""
+        if first.word != "dip" or len(first.fields) != 4 or not all(map(is_count, first.fields[1:3])):
+            raise misfit(command, "dip,ROWS,PARTS,INSTANT", first)
+        _, count, parts, instant = first.fields
+        rows: Rows = []
+        for part in range(int(parts)):
+            record = self.take(command, f"part,{part}")
+            if list(record.fields[:2]) != ["part", str(part)]:
+                raise misfit(command, f"part,{part}", record)
+            rows.extend([str(part), row_id, instant] for row_id in record.fields[2:])
+        if len(rows) != int(count):
+            told = f"{count} rows are told, and {len(rows)} stand in parts"
+            raise Misfit(f"line {command.line}: {short(command.text)}: {told}")
+        return rows
+
+    def judged(self, command: Command, first: Record, _: List[Column]) -> Rows:
+        """A verdict, with its numbers under the names of what they count."""
+        fields = list(first.fields)
+        if fields == ["yes"]:
+            return [["yes", None, None, None, None, None]]
+        places = VERDICTS.get(fields[1]) if fields[0] == "no" and len(fields) > 2 else None
+        if places is None or len(fields) != 2 + len(places):
+            raise misfit(command, "yes, or no and its reason", first)
+        numbers: List[Optional[str]] = [None] * 4
+        for place, number in zip(places, fields[2:]):
+            numbers[place] = number
+        return [["no", fields[1], *numbers]]
+
+
+# Where the numbers of a verdict stand among count, part, row_id and other_row_id.
+VERDICTS = {
+    "WrongCount": [0], "EmptyPart": [1], "Unknown": [2], "Twice": [2], "Missing": [2], "Overlap": [2, 3],
+    "NotCrowded": [0],
+}
+LISTS = ("rows", "at", "between", "fromto", "join", "anti", "agg", "log")
+READERS = {**{word: Reading.listed for word in LISTS}, "dip": Reading.divided, "check": Reading.judged}
+
+
+def is_count(text: str) -> bool:
+    return text.isascii() and text.isdigit()
+
+
+def misfit(command: Command, wanted: str, found: Record) -> Misfit:
+    told = f"the answer at line {found.line} is {short(found.text)}, and not {wanted}"
+    return Misfit(f"line {command.line}: {short(command.text)}: {told}")

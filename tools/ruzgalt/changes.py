@@ -1,0 +1,56 @@
+"""What really changed between two answers: the time for which values hold in one of them alone."""
+from collections import Counter, defaultdict
+from typing import Counter as Counts
+from typing import DefaultDict, Iterator, List, Tuple
+
+from ruzgalt.answers import Answer
+from ruzgalt.errors import Misfit
+from ruzgalt.records import short
+from ruzgalt.tables import PERIOD, Column, Kind, Table, unique
+
+# Ids are new after each change, so they are left out of what is compared.
+IDS = {"rows": ("row_id",), "at": ("row_id",), "anti": ("row_id",), "join": ("left_id", "right_id"), "agg": ()}
+
+
+def between(before: Answer, after: Answer) -> Table:
+    """`-` with the time in which values held before and don't now, and `+` the other way round."""
+    kept = compared(before), compared(after)
+    names = [[column.name for column in columns] for columns, _ in kept]
+    if names[0] != names[1]:
+        raise Misfit(
+            f"lines {before.line} and {after.line}: {','.join(names[0])} can't be compared with {','.join(names[1])}"
+        )
+    columns = unique([Column("change", Kind.TEXT), *PERIOD, *kept[0][0]])
+    return Table(columns, list(changes(kept[0][1], kept[1][1])))
+
+
+Held = Tuple[str, str, Tuple[str, ...]]
+
+
+def compared(answer: Answer) -> Tuple[List[Column], List[Held]]:
+    """The columns that are compared, and of each record the period and the values."""
+    if answer.command.word not in IDS:
+        command = short(answer.command.text)
+        raise Misfit(f"line {answer.line}: {command}: its records aren't periods with values, so none is compared")
+    table = answer.table
+    start = table.names.index("valid_from")
+    left_out = {start, start + 1, *(table.names.index(name) for name in IDS[answer.command.word])}
+    places = [place for place in range(len(table.columns)) if place not in left_out]
+    held = [(record[start], record[start + 1], tuple(record[place] for place in places)) for record in table.texts()]
+    return [table.columns[place] for place in places], held
+
+
+def changes(before: List[Held], after: List[Held]) -> Iterator[List[str]]:
+    """The periods in which the one has more records of some values than the other."""
+    steps: DefaultDict[Tuple[str, ...], Counts[str]] = defaultdict(Counter)
+    for sign, rows in ((-1, before), (1, after)):
+        for start, end, values in rows:
+            steps[values][start] += sign
+            steps[values][end] -= sign
+    for values, step in sorted(steps.items()):
+        # The texts of points are in the order of time.
+        points = sorted(point for point in step if step[point])
+        more = 0
+        for start, end in zip(points, points[1:]):
+            more += step[start]
+            yield from [["+" if more > 0 else "-", start, end, *values]] * abs(more)

@@ -1,0 +1,274 @@
+"""The words of tools/answers: a subcommand for each thing that is done with a script and its answers."""
+import gc
+import shutil
+import signal
+import sqlite3
+import sys
+import textwrap
+from argparse import ArgumentParser, ArgumentTypeError, Namespace
+from pathlib import Path
+from typing import Callable, Dict, List, NamedTuple, Optional, Sequence, Tuple
+
+from ruzgalt import (
+    answers, changes, export, overlaps, picks, pictures, program, records, refusals, single, svg, terminal,
+)
+from ruzgalt.answers import Answer
+from ruzgalt.errors import Misfit
+
+NAME = "tools/answers"
+ABOUT = f"""Reads a script of dipq beside its answers, so that it knows of each answer its command and its columns.
+
+usage: {NAME} COMMAND SCRIPT ..
+
+SCRIPT is a file, or - for standard input. It is answered by ./dipq (or the program that DIPQ names in the
+environment), which is proved and built at its first use; or --answers names a file of its answers.
+
+{textwrap.fill(f"PICK is {picks.HELP}.", 110)}
+
+"""
+
+
+class Found(NamedTuple):
+    """What was read: all answers, and those to the questions that were put behind the script."""
+
+    answers: List[Answer]
+    asked: List[Answer]
+
+
+def read(options: Namespace) -> Found:
+    """The answers to the script. Ends where a command was refused, unless it is told to go on."""
+    if options.script == options.answers == "-":
+        raise Misfit("standard input is the script, or its answers, and not both")
+    script = bytes_of(options.script)
+    whole = program.asked(script, options.ask)
+    if options.answers is None:
+        output = program.output(options.program, whole)
+    else:
+        output = bytes_of(options.answers)
+    found = answers.of(whole, output)
+    refused = [answer for answer in found if answer.refusal]
+    if refused and not options.go_on:
+        more = f"{len(refused)} refused; `{NAME} refusals` explains, --go-on goes on"
+        raise Misfit(f"{refusals.told(refused[0])} ({more})")
+    behind = len(records.read(script))
+    return Found(found, [answer for answer in found if options.ask and answer.command.record.number > behind])
+
+
+def bytes_of(name: str) -> bytes:
+    return sys.stdin.buffer.read() if name == "-" else Path(name).read_bytes()
+
+
+def chosen(found: Found, words: Sequence[str]) -> List[picks.Pick]:
+    """The answers that were picked, or else all that were asked, or else all of the script."""
+    return picks.pick(found.answers if words or not found.asked else found.asked, words)
+
+
+def last(found: Found, words: Sequence[str], count: int) -> List[Answer]:
+    """So many answers: those that were picked, or else the last that are more than an `ok`."""
+    told = chosen(found, words)
+    if len(told) < count or words and len(told) != count:
+        raise Misfit(f"{len(told)} answers, and not {count}: tell which by PICK")
+    return [pick.answer for pick in told[-count:]]
+
+
+def show(text: str) -> None:
+    # Where what is printed isn't read to its end, as by `head`, the tool ends as other programs do.
+    signal.signal(signal.SIGPIPE, signal.SIG_DFL)
+    sys.stdout.buffer.write(records.encode(text))
+    sys.stdout.flush()
+
+
+def do_list(options: Namespace) -> None:
+    options.go_on = True
+    show(export.listing(read(options).answers))
+
+
+def do_csv(options: Namespace) -> None:
+    found = read(options)
+    if options.folder:
+        export.to_folder(chosen(found, options.pick), Path(options.folder))
+    else:
+        show(export.to_csv(last(found, options.pick, 1)[0].table))
+
+
+def do_json(options: Namespace) -> None:
+    show(export.to_json(chosen(read(options), options.pick)))
+
+
+def do_sqlite(options: Namespace) -> None:
+    found = chosen(read(options), options.pick)
+    database = sqlite3.connect(options.database)
+    export.to_sqlite(found, database)
+    for query in options.query:
+        show(export.ask(database, query))
+    database.close()
+
+
+def do_changed(options: Namespace) -> None:
+    before, after = last(read(options), options.pick, 2)
+    show(export.to_csv(changes.between(before, after)))
+
+
+def do_overlaps(options: Namespace) -> None:
+    [answer] = last(read(options), options.of, 1)
+    show(export.to_csv(overlaps.in_answer(answer, options.column)))
+
+
+def do_picture(options: Namespace) -> None:
+    found = read(options)
+    [answer] = last(found, [options.pick] if options.pick else [], 1)
+    wish = pictures.Wish(options.by, options.label, options.where, options.start, options.end)
+    picture = pictures.of(found.answers, answer, wish)
+    if options.svg:
+        show(svg.draw(picture, options.width))
+    else:
+        show(terminal.draw(picture, max(options.width or columns_of_terminal(), 40)))
+
+
+def columns_of_terminal() -> int:
+    """The terminal's width, or where there is none 80."""
+    return shutil.get_terminal_size((80, 24)).columns if sys.stdout.isatty() else 80
+
+
+def do_refusals(options: Namespace) -> int:
+    """Tells each refusal, and of one for a key the rows. The status is 1 where there is one."""
+    options.go_on = True
+    found = read(options).answers
+    refused = [answer for answer in found if answer.refusal]
+    for answer in refused:
+        show(refusals.told(answer) + "\n")
+        if answer.refusal.name == "KeyOverlap":
+            show("".join(f"  {line}\n" for line in overlaps.explained(found, answer)))
+    return 1 if refused else 0
+
+
+def do_only(options: Namespace) -> None:
+    found = read(options).answers
+    show(records.to_record(single.command_for(found, options.table, options.row_id, options.set)) + "\n")
+
+
+def do_faulty(options: Namespace) -> int:
+    lines = program.faulty(options.program, bytes_of(options.script))
+    show("".join(line + "\n" for line in lines))
+    return 1 if lines else 0
+
+
+def pair(word: str) -> Tuple[str, str]:
+    name, mark, value = word.partition("=")
+    if not mark:
+        raise ArgumentTypeError(f"{word}: not COLUMN=VALUE")
+    return name, value
+
+
+def with_picks(parser: ArgumentParser, count: str = "*") -> None:
+    parser.add_argument("pick", nargs=count, metavar="PICK", default=[], help=picks.HELP)
+
+
+def words_of_csv(parser: ArgumentParser) -> None:
+    with_picks(parser)
+    parser.add_argument("--folder", metavar="FOLDER", help="a file NAME.csv for each answer there, and not one table")
+
+
+def words_of_sqlite(parser: ArgumentParser) -> None:
+    parser.add_argument("database", metavar="DATABASE", help="a file, or :memory: for one that is gone afterwards")
+    with_picks(parser)
+    parser.add_argument(
+        "--query", action="append", default=[], metavar="SQL", help="prints what the database answers, as CSV",
+    )
+
+
+def words_of_picture(parser: ArgumentParser) -> None:
+    with_picks(parser, "?")
+    parser.add_argument("--svg", action="store_true", help="prints SVG for a browser, and not text")
+    parser.add_argument("--by", metavar="COLUMN", help="a lane for each of its values (of the first column)")
+    parser.add_argument("--label", metavar="COLUMN", help="what stands in the bars")
+    parser.add_argument(
+        "--where", type=pair, action="append", default=[], metavar="COLUMN=VALUE", help="only records with this value",
+    )
+    parser.add_argument("--from", dest="start", metavar="POINT", help="the first point that is shown")
+    parser.add_argument("--to", dest="end", metavar="POINT", help="the end of what is shown")
+    parser.add_argument("--width", type=int, help="how many columns of text (the terminal's, or 80), or pixels of SVG")
+
+
+def words_of_overlaps(parser: ArgumentParser) -> None:
+    parser.add_argument("column", nargs="+", metavar="COLUMN", help="a column of the key")
+    parser.add_argument("--of", action="append", default=[], metavar="PICK", help="the answer, where it isn't the last")
+
+
+def words_of_only(parser: ArgumentParser) -> None:
+    parser.add_argument("table", metavar="TABLE", help="a table of the script")
+    parser.add_argument("row_id", type=int, metavar="ID", help="the id of a row that is there at its end")
+    parser.add_argument(
+        "--set", type=pair, action="append", default=[], metavar="COLUMN=VALUE", help="an update, and no delete",
+    )
+
+
+class Tool(NamedTuple):
+    """A subcommand: what it does, what it is told beside the script, and whether it takes answers that are there."""
+
+    do: Callable[[Namespace], Optional[int]]
+    about: str
+    words: Callable[[ArgumentParser], None] = lambda _: None
+    has_answers: bool = True
+
+
+TOOLS: Dict[str, Tool] = {
+    "list": Tool(do_list, "tells of each answer its number, its line and its command"),
+    "csv": Tool(do_csv, "prints an answer (the last) as CSV with a header, or writes files", words_of_csv),
+    "sqlite": Tool(do_sqlite, "makes a table of each answer in an SQLite database", words_of_sqlite),
+    "json": Tool(do_json, "prints answers as JSON", with_picks),
+    "picture": Tool(do_picture, "draws a division, rows, an aggregate or versions, as text or SVG", words_of_picture),
+    "changed": Tool(do_changed, "tells what really changed between two answers (the last two)", with_picks),
+    "overlaps": Tool(do_overlaps, "finds the rows that a key of the columns would forbid", words_of_overlaps),
+    "refusals": Tool(do_refusals, "tells each refusal, its field and its reason; of keys, the rows"),
+    "only": Tool(do_only, "prints the command that deletes or updates the row of an id, and no other", words_of_only),
+    "faulty": Tool(do_faulty, "tells all faulty rows of all loads, where dipq tells the first", has_answers=False),
+}
+
+
+def parser_of(name: str, tool: Tool) -> ArgumentParser:
+    parser = ArgumentParser(prog=f"{NAME} {name}", description=f"{tool.about[0].upper()}{tool.about[1:]}.")
+    parser.add_argument("script", metavar="SCRIPT", help="a file, or - for standard input")
+    tool.words(parser)
+    parser.add_argument(
+        "--program", default=program.default(), metavar="PROGRAM", help="what answers the script, in place of ./dipq",
+    )
+    if tool.has_answers:
+        parser.add_argument("--answers", metavar="FILE", help="the answers, or - for standard input; no program is run")
+        parser.add_argument(
+            "--ask", action="append", default=[], metavar="COMMAND",
+            help="puts a command behind the script; where no PICK is told, the answers to these are taken",
+        )
+        parser.add_argument("--go-on", action="store_true", help="goes on where commands were refused")
+    return parser
+
+
+def usage() -> str:
+    return ABOUT + "".join(f"  {name:10}{tool.about}\n" for name, tool in TOOLS.items()) + (
+        f"\n{NAME} COMMAND --help tells the words of each. The status is 1 where something was refused or isn't"
+        "\nunderstood, and 2 where the words are wrong.\n"
+    )
+
+
+def main(words: Sequence[str]) -> int:
+    # What is read is kept to the end, so nothing is won by looking for what can be dropped.
+    gc.disable()
+    if not words or words[0] in ("-h", "--help"):
+        (sys.stdout if words else sys.stderr).write(usage())
+        return 0 if words else 2
+    if words[0] not in TOOLS:
+        sys.stderr.write(f"answers: no command {words[0]}, but {', '.join(TOOLS)}\n")
+        return 2
+    tool = TOOLS[words[0]]
+    options = parser_of(words[0], tool).parse_intermixed_args(words[1:])
+    try:
+        return tool.do(options) or 0
+    except OSError as error:
+        return fail(f"{error.filename}: {error.strerror}" if error.filename else str(error))
+    except (Misfit, sqlite3.Error) as error:
+        return fail(str(error))
+
+
+def fail(told: str) -> int:
+    sys.stderr.write(f"answers: {told}\n".encode("utf-8", "replace").decode())
+    return 1

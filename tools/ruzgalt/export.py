@@ -1,0 +1,94 @@
+"""Writes answers as CSV with a header, as tables of SQLite, and as JSON."""
+import json
+import sqlite3
+from pathlib import Path
+from typing import Any, Dict, List, Sequence
+
+from ruzgalt.answers import Answer
+from ruzgalt.errors import Misfit
+from ruzgalt.picks import Pick
+from ruzgalt.records import encode, to_text
+from ruzgalt.tables import Kind, Table
+
+
+def to_csv(table: Table) -> str:
+    return to_text([table.names, *table.texts()])
+
+
+def to_folder(picks: Sequence[Pick], folder: Path) -> None:
+    """A file NAME.csv for each answer."""
+    folder.mkdir(parents=True, exist_ok=True)
+    for pick in picks:
+        if "/" in pick.name or pick.name.startswith("."):
+            raise Misfit(f"{pick.name}: no name of a file")
+        (folder / f"{pick.name}.csv").write_bytes(encode(to_csv(pick.answer.table)))
+
+
+def to_sqlite(picks: Sequence[Pick], database: sqlite3.Connection) -> None:
+    """A table for each answer, in place of one that has its name. Numbers are integers, all else is text."""
+    with database:
+        for pick in picks:
+            table, name = pick.answer.table, quoted(pick.name)
+            declared = ", ".join(f"{quoted(column.name)} {kind}" for column, kind in zip(table.columns, kinds(table)))
+            database.execute(f"drop table if exists {name}")
+            database.execute(f"create table {name} ({declared})")
+            # SQLite turns a number's text into an integer where the column is one.
+            places = ", ".join("?" * len(table.columns))
+            database.executemany(f"insert into {name} values ({places})", table.records)
+
+
+def kinds(table: Table) -> List[str]:
+    """The kinds of the table's columns in SQLite, which has no integer for the longest sums: they are texts."""
+    limit = 1 << 63
+    return [
+        "integer" if column.kind is Kind.INT and all(number is None or -limit <= number < limit for number in values)
+        else "text"
+        for column, values in zip(table.columns, zip(*table.values()) if table.records else ((),) * len(table.columns))
+    ]
+
+
+def quoted(name: str) -> str:
+    return '"' + name.replace('"', '""') + '"'
+
+
+def ask(database: sqlite3.Connection, query: str) -> str:
+    """The answer to a query, as CSV with a header."""
+    found = database.execute(query)
+    header = [name for name, *_ in found.description or []]
+    return to_text([header, *(["" if field is None else str(field) for field in row] for row in found)])
+
+
+def to_json(picks: Sequence[Pick]) -> str:
+    return json.dumps([as_object(pick) for pick in picks], indent=1, ensure_ascii=False) + "\n"
+
+
+def as_object(pick: Pick) -> Dict[str, Any]:
+    answer = pick.answer
+    names = answer.table.names
+    return {
+        "name": pick.name,
+        "number": answer.number,
+        "line": answer.line,
+        "record": answer.command.record.number,
+        "command": list(answer.command.record.fields),
+        "columns": [{"name": column.name, "kind": column.kind.value} for column in answer.table.columns],
+        "records": [dict(zip(names, values)) for values in answer.table.values()],
+    }
+
+
+def listing(answers: Sequence[Answer]) -> str:
+    """A record for each answer: its number, its command and where that stands, and what was answered."""
+    header = ["number", "line", "record", "answer", "records", "command"]
+    return to_text([header, *map(listed, answers)])
+
+
+def listed(answer: Answer) -> List[str]:
+    command = answer.command
+    told, count = command.word, str(len(answer.table.records))
+    if answer.refusal:
+        told, count = answer.refusal.name, ""
+    elif answer.table.names == ["commit"]:
+        told, count = f"commit {answer.table.records[0][0]}", ""
+    elif command.word == "check":
+        told = " ".join(field for field in answer.table.records[0] if field is not None)
+    return [str(answer.number), str(command.line), str(command.record.number), told, count, command.text]

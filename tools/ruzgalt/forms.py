@@ -1,0 +1,65 @@
+"""The forms of what stands in a field: points, numbers and names, as docs/LANGUAGE.md tells them."""
+import re
+from datetime import datetime, timedelta
+from typing import Optional
+
+POINT = re.compile(r"(\d{4})-(\d\d)-(\d\d)(?:T(\d\d):(\d\d):(\d\d))?", re.ASCII)
+INTEGER = re.compile(r"0|-?[1-9]\d*", re.ASCII)
+NAME = re.compile(r"[a-z][a-z0-9_]{0,31}", re.ASCII)
+RESERVED = ("asof", "by", "key", "on", "set", "where")
+TEXT_LIMIT = 4096
+BEGINNING = datetime(1, 1, 1)
+
+
+def read_point(text: str) -> Optional[datetime]:
+    told = POINT.fullmatch(text)
+    try:
+        return datetime(*(int(part or 0) for part in told.groups())) if told else None
+    except ValueError:
+        return None
+
+
+def print_point(point: datetime) -> str:
+    """The shortest text of a point: that of a midnight is its date. Texts are in the order of time."""
+    text = point.isoformat()
+    return text[:10] if text.endswith("T00:00:00") else text
+
+
+def printed(text: str) -> str:
+    """The text of a point as dipq prints it."""
+    point = read_point(text)
+    return print_point(point) if point else text
+
+
+def seconds(point: str) -> int:
+    """The seconds from the first point that there is."""
+    read = read_point(point)
+    return round((read - BEGINNING).total_seconds()) if read else 0
+
+
+def at_second(number: int) -> datetime:
+    return BEGINNING + timedelta(seconds=number)
+
+
+def is_integer(text: str) -> bool:
+    return bool(INTEGER.fullmatch(text)) and -(1 << 63) <= int(text) < 1 << 63
+
+
+def is_count(text: str) -> bool:
+    return is_integer(text) and int(text) >= 0
+
+
+def is_name(text: str) -> bool:
+    return bool(NAME.fullmatch(text)) and text not in RESERVED
+
+
+def is_utf8(text: str) -> bool:
+    try:
+        text.encode("utf-8")
+        return True
+    except UnicodeEncodeError:
+        return False
+
+
+def is_short(text: str) -> bool:
+    return len(text.encode("utf-8", "surrogateescape")) <= TEXT_LIMIT

@@ -1,0 +1,98 @@
+"""Rows of one key that hold at one point: in an answer, or those for which a change was refused."""
+from collections import defaultdict
+from dataclasses import dataclass
+from itertools import islice
+from typing import Dict, Generic, Iterable, Iterator, List, Sequence, Tuple, TypeVar, Union
+
+from ruzgalt.answers import Answer
+from ruzgalt.errors import Misfit
+from ruzgalt.records import to_record
+from ruzgalt.store import Change, Row, Store, Version, behind
+from ruzgalt.tables import PERIOD, Table, ints, unique
+
+Thing = TypeVar("Thing")
+# A row that would come, or one that is there.
+Held = Union[Row, Version]
+# So many pairs of rows are told of one refusal.
+TOLD = 20
+
+
+@dataclass(frozen=True)
+class Pair(Generic[Thing]):
+    """Two that overlap, with the time that they share."""
+
+    first: Thing
+    second: Thing
+    start: str
+    end: str
+
+
+def pairs(rows: Iterable[Tuple[str, str, Thing]]) -> Iterator[Pair[Thing]]:
+    """The pairs of these rows, each with its start and end, that share a point."""
+    running: List[Tuple[str, str, Thing]] = []
+    for start, end, thing in sorted(rows, key=lambda row: row[0]):
+        running = [other for other in running if other[1] > start]
+        for _, other_end, other in running:
+            yield Pair(other, thing, start, min(end, other_end))
+        running.append((start, end, thing))
+
+
+def in_answer(answer: Answer, key: Sequence[str]) -> Table:
+    """The pairs of rows of an answer that a key of these columns would forbid."""
+    if answer.command.word not in ("rows", "at"):
+        raise Misfit(f"line {answer.line}: {answer.command.text}: no list of rows")
+    table, schema = answer.table, answer.tables[answer.command.front[1]]
+    places = [3 + schema.place(name) for name in key]
+    by_key: Dict[Tuple[str, ...], List[Tuple[str, str, str]]] = defaultdict(list)
+    for record in table.texts():
+        by_key[tuple(record[place] for place in places)].append((record[1], record[2], record[0]))
+    columns = unique([*ints("row_id", "other_row_id"), *PERIOD, *(schema.columns[place - 3] for place in places)])
+    found = [
+        [pair.first, pair.second, pair.start, pair.end, *values]
+        for values, rows in sorted(by_key.items()) for pair in pairs(rows)
+    ]
+    return Table(columns, found)
+
+
+def explained(answers: Sequence[Answer], answer: Answer) -> List[str]:
+    """Which key, and which rows: lines for a person on a load or an update that was refused for a key."""
+    store = behind(answers[:answer.number - 1])
+    name = answer.command.record.fields[1]
+    schema = answer.tables[name]
+    found = collisions(store, name, store.change(answer), schema.key)
+    lines = []
+    for pair in islice(found, TOLD):
+        values = row_in(pair.first).values
+        key = ", ".join(f"{schema.names[place]} {to_record([values[place]])}" for place in schema.key)
+        lines.append(f"{key}: both hold from {pair.start} to {pair.end}")
+        lines.extend(f"  {told(one)}" for one in (pair.first, pair.second))
+    return lines + (["and more pairs of rows"] if next(found, None) else [])
+
+
+def collisions(store: Store, name: str, change: Change, key: Sequence[int]) -> Iterator[Pair[Held]]:
+    """The pairs of rows of one key that a change would leave, of which one at least is new."""
+    closed = {version.row_id for version in change.closed}
+    stay = [version for row_id, version in store.open[name].by_id.items() if row_id not in closed]
+    by_key: Dict[Tuple[str, ...], List[Held]] = defaultdict(list)
+    for row in change.added:
+        by_key[tuple(row.values[place] for place in key)].append(row)
+    for version in stay:
+        values = tuple(version.row.values[place] for place in key)
+        if values in by_key:
+            by_key[values].append(version)
+    for things in by_key.values():
+        yield from pairs((row_in(thing).start, row_in(thing).end, thing) for thing in things)
+
+
+def row_in(thing: Held) -> Row:
+    return thing.row if isinstance(thing, Version) else thing
+
+
+def told(thing: Held) -> str:
+    """A row that is there by its id and commit, and one that would come by its line."""
+    row = row_in(thing)
+    text = to_record([row.start, row.end, *row.values])
+    if isinstance(thing, Version):
+        return f"row {thing.row_id}, made by commit {thing.made}: {text}"
+    place = f" in place of row {row.in_place_of}" if row.in_place_of else ""
+    return f"line {row.source.line}{place}: {text}"

@@ -1,0 +1,63 @@
+"""Chooses answers by their number, by their line, or from the last one back, and gives them names."""
+import re
+from dataclasses import dataclass
+from typing import List, Sequence
+
+from ruzgalt.answers import Answer
+from ruzgalt.errors import Misfit
+
+HELP = (
+    "an answer: its NUMBER in `tools/answers list`, @LINE of its command in the script, `last`, or `last-N` for the "
+    "N-th before that; with =NAME behind it, it gets that name"
+)
+# What these are answered is a number of a commit, and nothing that one would ask for.
+BARE = ("table", "load", "update", "delete", "together")
+
+
+@dataclass(frozen=True)
+class Pick:
+    name: str
+    answer: Answer
+
+
+def pick(answers: Sequence[Answer], words: Sequence[str]) -> List[Pick]:
+    """The answers that the words tell, or all that are tables where there are no words."""
+    if not words:
+        return [Pick(name_of(answer), answer) for answer in answers if is_asked(answer)]
+    picks = []
+    for word in words:
+        which, _, name = word.partition("=")
+        answer = find(answers, which)
+        if answer.refusal:
+            raise Misfit(f"{which}: line {answer.line}: {answer.command.text} was refused: {answer.refusal.name}")
+        picks.append(Pick(name or name_of(answer), answer))
+    names = [one.name for one in picks]
+    twice = [name for name in names if names.count(name) > 1]
+    if twice:
+        raise Misfit(f"two answers have the name {twice[0]}")
+    return picks
+
+
+def is_asked(answer: Answer) -> bool:
+    return not answer.refusal and answer.command.word not in BARE
+
+
+def name_of(answer: Answer) -> str:
+    """A name that no other answer has: the command's word, its tables, and the answer's number."""
+    front = answer.command.front
+    tables = front[1:3] if front[0] in ("join", "anti") else front[1:2]
+    return "_".join([front[0], *tables, str(answer.number)])
+
+
+def find(answers: Sequence[Answer], which: str) -> Answer:
+    told = re.fullmatch(r"(?P<number>\d+)|@(?P<line>\d+)|last(-(?P<back>\d+))?", which, re.ASCII)
+    if not told:
+        raise Misfit(f"{which}: neither a number, nor @LINE, nor last or last-N")
+    if told["line"]:
+        found = [answer for answer in answers if answer.line == int(told["line"])]
+    else:
+        place = int(told["number"]) - 1 if told["number"] else len(answers) - 1 - int(told["back"] or 0)
+        found = [answers[place]] if 0 <= place < len(answers) else []
+    if not found:
+        raise Misfit(f"{which}: no such answer; there are {len(answers)}, which `tools/answers list` numbers")
+    return found[0]

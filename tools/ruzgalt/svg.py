@@ -1,0 +1,125 @@
+"""Draws pictures as SVG, which a browser shows. Each bar tells its record where the pointer rests on it."""
+from collections import Counter
+from html import escape
+from typing import Iterator, List, Optional, Sequence
+
+from ruzgalt.forms import print_point, at_second, seconds
+from ruzgalt.pictures import Bar, Bars, Picture, Steps
+from ruzgalt.timeline import Span, levels_of, ticks
+
+# Light enough for black letters, and told apart by readers who see few colours.
+SHADES = ["#9ecae1", "#fdd0a2", "#c7e9c0", "#dadaeb", "#fee391", "#d9d9d9", "#fcbba1", "#ccece6"]
+HEIGHT, LETTER, EDGE, TOP = 20, 7.0, 12, 66
+NARROW, WIDE, FOR_BAR, DEPTH = 760, 12_000, 26, 240
+
+
+def draw(picture: Picture, width: Optional[int] = None) -> str:
+    return draw_bars(picture, width) if isinstance(picture, Bars) else draw_steps(picture, width)
+
+
+def draw_bars(picture: Bars, width: Optional[int]) -> str:
+    """The lanes below each other, in a drawing as wide as the fullest lane needs."""
+    margin = margin_for(picture.lanes)
+    fullest = max(Counter(bar.lane for bar in picture.bars).values(), default=0)
+    across = max((width or 0) - margin - EDGE, 100) if width else min(max(fullest * FOR_BAR, NARROW), WIDE)
+    bottom = TOP + len(picture.lanes) * HEIGHT
+    parts = [*axis(picture.span, margin, across, bottom)]
+    for place, name in enumerate(picture.lanes):
+        if name:
+            parts.append(text(margin - 6, TOP + place * HEIGHT + 14, fitting(name, margin - 8), "end"))
+            parts.append(line(margin, TOP + place * HEIGHT, margin + across, TOP + place * HEIGHT, "#eee"))
+    shown = (bar for bar in picture.bars if picture.span.shows(bar.start, bar.end))
+    parts.extend(part for bar in shown for part in bar_parts(bar, picture.span, margin, across))
+    if picture.instant and picture.span.start <= seconds(picture.instant) < picture.span.end:
+        place = margin + picture.span.place(seconds(picture.instant), across)
+        parts.append(line(place, TOP - 6, place, bottom + 6, "#c00", 2))
+        parts.append(text(place, TOP - 10, picture.instant, side_of(place, margin, across), "#c00"))
+    return document(margin + across + EDGE, bottom + 30, picture.title, parts)
+
+
+def draw_steps(picture: Steps, width: Optional[int]) -> str:
+    """An area under the values, with a line at each level."""
+    values = picture.values
+    foot, levels = levels_of(values, 12)
+    margin = margin_for([str(level) for level in (foot, *levels)])
+    across = max(width - margin - EDGE, 100) if width else min(max(len(values) * 6, NARROW), WIDE)
+    bottom = TOP + DEPTH
+    for_one = DEPTH / (max([*values, levels[-1]]) - foot)
+    parts = [*axis(picture.span, margin, across, bottom)]
+    for level in (foot, *levels):
+        top = round(bottom - (level - foot) * for_one, 1)
+        parts.append(line(margin, top, margin + across, top, "#ddd"))
+        parts.append(text(margin - 6, top + 4, str(level), "end"))
+    for start, end, value in picture.steps:
+        left, right = (margin + picture.span.place(second, across) for second in (start, end))
+        top, right = round(bottom - (value - foot) * for_one, 1), max(right, left + 1)
+        told = f"{print_point(at_second(start))} to {print_point(at_second(end))}: {value}"
+        parts.append(box(left, top, right - left, bottom - top, SHADES[0], told))
+        parts.append(line(left, top, right, top, "#08519c", 2))
+    return document(margin + across + EDGE, bottom + 30, picture.title, parts)
+
+
+def margin_for(names: Sequence[str]) -> int:
+    return max(int(min(max((len(name) for name in names), default=0), 28) * LETTER) + 2 * EDGE, 44)
+
+
+def side_of(place: int, margin: int, across: int) -> str:
+    """On which side of a point its text stands, so that it stays inside."""
+    return "start" if place < margin + across // 2 else "end"
+
+
+def axis(span: Span, margin: int, across: int, bottom: int) -> Iterator[str]:
+    """Ticks through the whole drawing, with their texts above and below, since a drawing may be long."""
+    for second, told in ticks(span, max(across // 90, 1)):
+        place = margin + span.place(second, across)
+        yield line(place, TOP - 4, place, bottom + 4, "#ccc")
+        if place + 40 <= margin + across + EDGE:
+            yield text(place, bottom + 18, told, "middle", "#555")
+            yield text(place, TOP - 26, told, "middle", "#555")
+    yield line(margin, bottom, margin + across, bottom, "#555")
+
+
+def bar_parts(bar: Bar, span: Span, margin: int, across: int) -> List[str]:
+    left, right = (margin + span.place(second, across) for second in (bar.start, bar.end))
+    # What goes on past an edge is drawn past it.
+    left, right = left - 4 * (bar.start < span.start), right + EDGE // 2 * (bar.end > span.end)
+    top, height = TOP + bar.lane * HEIGHT + 2, bar.lanes * HEIGHT - 4
+    width = max(right - left, 1)
+    parts = [box(left, top, width, height, SHADES[bar.shade % len(SHADES)], bar.told, "#666")]
+    label = fitting(bar.label, width - 6)
+    return parts + ([text(left + 4, top + height // 2 + 4, label)] if label else [])
+
+
+def fitting(label: str, width: float) -> str:
+    """The label, or its front where there is room for three letters; a number isn't cut."""
+    room = int(width / LETTER)
+    if len(label) <= room:
+        return label
+    return label[:room - 1] + "\u2026" if room > 3 and not label.isdigit() else ""
+
+
+def line(left: float, top: float, right: float, bottom: float, colour: str, width: int = 1) -> str:
+    return f'<line x1="{left}" y1="{top}" x2="{right}" y2="{bottom}" stroke="{colour}" stroke-width="{width}"/>'
+
+
+def text(left: float, top: float, words: str, anchor: str = "start", colour: str = "#000") -> str:
+    return f'<text x="{left}" y="{top}" text-anchor="{anchor}" fill="{colour}">{clean(words)}</text>'
+
+
+def box(left: float, top: float, width: float, height: float, colour: str, told: str, edge: str = "none") -> str:
+    place = f'x="{left}" y="{top}" width="{width}" height="{height}"'
+    return f'<rect {place} fill="{colour}" stroke="{edge}"><title>{clean(told)}</title></rect>'
+
+
+def clean(words: str) -> str:
+    """The words for XML, without characters that it can't have."""
+    return escape("".join(one if one.isprintable() else "\ufffd" for one in words))
+
+
+def document(width: int, height: int, title: str, parts: Sequence[str]) -> str:
+    head = (
+        f'<svg xmlns="http://www.w3.org/2000/svg" width="{width}" height="{height}" viewBox="0 0 {width} {height}"'
+        ' font-family="sans-serif" font-size="12">'
+    )
+    back = f'<rect width="{width}" height="{height}" fill="#fff"/>'
+    return "\n".join([head, back, text(EDGE, 18, title), *parts, "</svg>"]) + "\n"

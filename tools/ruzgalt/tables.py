@@ -1,0 +1,130 @@
+"""Which columns a table of the store has, and which the answer to each command."""
+from dataclasses import dataclass, field
+from enum import Enum
+from typing import Dict, Iterable, List, Optional, Sequence, Tuple, Union
+
+from ruzgalt.commands import Command
+from ruzgalt.errors import Misfit
+
+
+class Kind(Enum):
+    INT = "int"
+    TEXT = "text"
+    POINT = "point"
+
+
+@dataclass(frozen=True)
+class Column:
+    name: str
+    kind: Kind
+
+
+@dataclass(frozen=True)
+class Schema:
+    """A table of the store: its name, its columns, and the places of those of its key."""
+
+    name: str
+    columns: Tuple[Column, ...]
+    key: Tuple[int, ...] = ()
+
+    @property
+    def names(self) -> List[str]:
+        return [column.name for column in self.columns]
+
+    def place(self, name: str) -> int:
+        if name not in self.names:
+            raise Misfit(f"the table {self.name} has no column {name}, but {', '.join(self.names) or 'none'}")
+        return self.names.index(name)
+
+    @staticmethod
+    def read(fields: Sequence[str]) -> "Schema":
+        """The table that a `table` record makes which was accepted."""
+        ends = [place for place in range(2, len(fields), 2) if fields[place] == "key"]
+        end = ends[0] if ends else len(fields)
+        columns = tuple(Column(name, Kind(kind)) for name, kind in zip(fields[2:end:2], fields[3:end:2]))
+        names = [column.name for column in columns]
+        return Schema(fields[1], columns, tuple(names.index(name) for name in fields[end + 1:]))
+
+
+Value = Union[int, str, None]
+
+
+@dataclass(frozen=True)
+class Table:
+    """An answer as a table. A field that isn't told, as the end of a version that is open, is None."""
+
+    columns: List[Column]
+    records: List[List[Optional[str]]] = field(default_factory=list)
+
+    @property
+    def names(self) -> List[str]:
+        return [column.name for column in self.columns]
+
+    def values(self) -> List[List[Value]]:
+        """The records with numbers as numbers."""
+        is_int = [column.kind is Kind.INT for column in self.columns]
+        return [
+            [int(text) if number and text is not None else text for number, text in zip(is_int, record)]
+            for record in self.records
+        ]
+
+    def texts(self) -> List[List[str]]:
+        return [["" if text is None else text for text in record] for record in self.records]
+
+    def place(self, name: str) -> int:
+        if name not in self.names:
+            raise Misfit(f"the answer has no column {name}, but {', '.join(self.names)}")
+        return self.names.index(name)
+
+
+def ints(*names: str) -> List[Column]:
+    return [Column(name, Kind.INT) for name in names]
+
+
+PERIOD = [Column("valid_from", Kind.POINT), Column("valid_to", Kind.POINT)]
+COMMIT = [*ints("number", "caller"), Column("kind", Kind.TEXT), Column("of_table", Kind.TEXT), *ints("added", "closed")]
+VERDICT = [Column("verdict", Kind.TEXT), Column("reason", Kind.TEXT), *ints("count", "part", "row_id", "other_row_id")]
+DIVISION = [*ints("part", "row_id"), Column("instant", Kind.POINT)]
+
+
+def header(command: Command, tables: Dict[str, Schema]) -> List[Column]:
+    """The columns of the answer to a command that wasn't refused."""
+    word, front = command.word, command.front
+    if word in ("rows", "at", "anti"):
+        return unique([*ints("row_id"), *PERIOD, *tables[front[1]].columns])
+    if word in ("between", "fromto"):
+        return unique([*ints("row_id"), *PERIOD, *ints("sys_from", "sys_to"), *tables[front[1]].columns])
+    if word == "join":
+        left, right = tables[front[1]].columns, tables[front[2]].columns
+        sides = [*prefixed("left", left), *prefixed("right", right)]
+        return unique([*PERIOD, *ints("left_id", "right_id"), *sides])
+    if word == "agg":
+        return aggregate_header(front, tables[front[1]])
+    return {"log": COMMIT, "dip": DIVISION, "check": VERDICT}.get(word, ints("commit"))
+
+
+def aggregate_header(front: Sequence[str], table: Schema) -> List[Column]:
+    """The group's column under its own name, the period, and the value under that of what it is."""
+    named = front[2] if front[2] == "count" else "_".join(front[2:4])
+    group = [table.columns[table.place(front[-1])]] if group_of(front) else []
+    return unique([*group, *PERIOD, *ints(named)])
+
+
+def group_of(front: Sequence[str]) -> Optional[str]:
+    """The column behind `by`, where an aggregate has one."""
+    return front[-1] if len(front) in (5, 6) and front[-2] == "by" else None
+
+
+def prefixed(side: str, columns: Iterable[Column]) -> List[Column]:
+    return [Column(f"{side}_{column.name}", column.kind) for column in columns]
+
+
+def unique(columns: Iterable[Column]) -> List[Column]:
+    """The columns, each under a name of its own: one that has a name that stood before has `_` behind it."""
+    taken: List[str] = []
+    for column in columns:
+        name = column.name
+        while name in taken:
+            name += "_"
+        taken.append(name)
+    return [Column(name, column.kind) for name, column in zip(taken, columns)]
