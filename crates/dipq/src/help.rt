@@ -8,6 +8,7 @@ pub const HELP: &str = "\
 dipq answers what held at a time, and what was said of it when.
 
 usage: dipq [--workers N] < SCRIPT
+       dipq --help
 
 It reads a script of CSV records on standard input, and writes the answers to
 its commands on standard output, as CSV records too. Each run begins with no
