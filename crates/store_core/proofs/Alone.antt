@@ -1,12 +1,12 @@
 -- A store with one pass: all changes are its own, and each call is one of a book that no other caller changes.
 use Rattle.std.proofs.Common.{◌≡◌, ℕ, suc, [], ◌∷◌, ◌++◌, Bool, cond, Ok, Err, None, Some, refl, sym, ap, subst, ◌∙◌, append-nil, arith, eq-eqb}
 use Rattle.std.proofs.lemmas.List.{same_from_push}
-use Rattle.row_core.specs.declared.failure.Failure.TheVariants.{Refused}
+use Rattle.row_core.specs.declared.failure.Failure.TheVariants.{NoMemory, Refused}
 use Rattle.version_core.specs.declared.change.Change.{Change}
 use Rattle.book_core.specs.History.{History}
 use Rattle.book_core.specs.declared.refusal.BookRefused.{BookRefused}
 use Rattle.turn_core.specs.Entries.{own, AreOfCallers}
-use Rattle.store_core.specs.Histories.{by_of, commit, CommitsTo, refusal_after}
+use Rattle.store_core.specs.Histories.{by_of, commit, CommitsTo, refusal_after, RefusesCommit}
 use Rattle.store_core.specs.Passes.{Commits, Counts, mine, pass_number, passes_of, seen}
 use Rattle.store_core.specs.declared.pass.Pass.{Pass}
 use Rattle.store_core.specs.declared.refusal.StoreRefused.TheVariants as store
@@ -62,3 +62,10 @@ module _ (p q : Pass) (one : passes_of p ≡ 1) where
       → CommitsTo (seen p) 1 change (Err (Refused why)) (seen q)
   refuses-alone change why (counts, refused) =
       let same = keeps-alone counts in (same, subst (λ (h : History). refusal_after h change ≡ Some why) same refused)
+
+  -- and for want of memory so
+  pub runs_out-alone : (change : Change) → Commits p change (Err NoMemory) q
+      → CommitsTo (seen p) 1 change (Err NoMemory) (seen q)
+  runs_out-alone change (counts, unrefused) =
+      let same = keeps-alone counts in
+      (same, subst (λ (h : History). RefusesCommit h change NoMemory) same unrefused)

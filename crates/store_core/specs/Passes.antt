@@ -11,7 +11,7 @@ use Rattle.book_core.specs.declared.log.Entry.{Entry}
 use Rattle.turn_core.specs.Entries.{own, AreOfCallers}
 use Rattle.turn_core.specs.Seats.{IsSeatOf, view_of}
 use Rattle.turn_core.specs.declared.view.View.{View}
-use Rattle.store_core.specs.Histories.{by_of, commit, refusal_after}
+use Rattle.store_core.specs.Histories.{by_of, commit, refusal_after, RefusesCommit}
 use Rattle.store_core.specs.Snapshots.{Shows}
 use Rattle.store_core.specs.declared.pass.Note.{Note}
 use Rattle.store_core.specs.declared.pass.Pass.{Pass}
@@ -72,7 +72,7 @@ abbrev pub IsSpent : Pass → Pass → Type 0
 IsSpent p q = (calls_left p ≡ 0) × (q ≡ p)
 
 -- what a pass is replied when it commits a change: its change is the last that it has seen, accepted in its place,
--- or it is refused as after all that it has seen
+-- or it is refused as after all that it has seen, by name or for want of memory
 abbrev pub Commits : Pass → Change → Result ℕ (Failure StoreRefused) → Pass → Type 0
 Commits p change (Ok n) q = Counts p q (commit (pass_number p) change ∷ [])
     × ((before : History)
@@ -80,7 +80,7 @@ Commits p change (Ok n) q = Counts p q (commit (pass_number p) change ∷ [])
     × (n ≡ length (seen q))
 Commits p change (Err (Refused store.PassSpent)) q = IsSpent p q
 Commits p change (Err (Refused (store.Book why))) q = Counts p q [] × (refusal_after (seen q) change ≡ Some why)
-Commits p change (Err NoMemory) q = Counts p q []
+Commits p change (Err NoMemory) q = Counts p q [] × RefusesCommit (seen q) change NoMemory
 
 -- and when it takes a snapshot: one of all that it has seen
 abbrev pub TakesSnapshot : Pass → Option ℕ → Result Snapshot (Failure SnapshotRefused) → Pass → Type 0

@@ -69,13 +69,13 @@ impl Store {
         Ok((Store { turn }, list))
     }
 
-    /// Commits a change, and answers the commit's number, from 1 on. Where a snapshot shares the book it is copied
-    /// first; else nothing is copied.
+    /// Commits a change, and answers the commit's number, from 1 on. Where a snapshot shares the book a copy is
+    /// changed, unless the change is refused; else nothing is copied.
     ///
     /// # Errors
     ///
-    /// `PassSpent`, which counts no call; `NoMemory` where the copy of a shared book is refused; then as for the
-    /// book. A refused change is dropped, and the history is as it was.
+    /// `PassSpent`, which counts no call; then as for the book, and `NoMemory` also where the copy is refused. A
+    /// refused change is dropped, and the history is as it was.
     pub fn commit<R: Wait>(
         &self,
         rt: &R,

@@ -1,4 +1,4 @@
-use Rattle.store_core.proofs.Alone.{commits-alone, keeps-alone, refuses-alone}
+use Rattle.store_core.proofs.Alone.{commits-alone, refuses-alone, runs_out-alone}
 use Rattle.script_core.proofs.ledger.Ledger.commit.Goals as goal
 
 pub returns-in-Ok-clause-made : goal.returns-in-Ok-clause-made
@@ -15,5 +15,5 @@ returns-in-Err-Refused-Book-clause-made g c =
 
 pub returns-in-Err-NoMemory-clause-made : goal.returns-in-Err-NoMemory-clause-made
 returns-in-Err-NoMemory-clause-made g c =
-    let counts = rw c.in-Err-NoMemory.field-0-is at c.in-Err-NoMemory.ensures.reply in
-    (keeps-alone c.args.self.now.pass c.commit.new.pass c.args.self.now.one counts, tt)
+    let reply = rw c.in-Err-NoMemory.field-0-is at c.in-Err-NoMemory.ensures.reply in
+    runs_out-alone c.args.self.now.pass c.commit.new.pass c.args.self.now.one c.args.change reply
