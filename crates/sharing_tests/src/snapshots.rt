@@ -225,6 +225,7 @@ fn is_pair(row: &JoinRow, pair: (u64, u64)) -> bool {
 fn a_join_holds_no_query_of_other_snapshots_up(rt: HostRuntime) -> Result<(), Fail> {
     let alloc = rt.alloc();
     let (early, late) = two_snapshots(&rt, alloc)?;
+    assert!(rt; (early.number(), early.commits()) == (2, 3));
     let gate = Holds::new();
     let (joined, (of_early, of_late)) = thread::join(
         &rt,

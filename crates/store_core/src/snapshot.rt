@@ -56,6 +56,13 @@ impl Snapshot {
         self.number
     }
 
+    /// How many commits there were when it was taken; it shows the first `number` of them.
+    pub fn commits(&self) -> u64
+        ensures { result ≡ length (history self.now) }
+    {
+        self.book.commits()
+    }
+
     /// What the first n of its commits show, of the same book, which is shared once more, not copied.
     ///
     /// # Errors
