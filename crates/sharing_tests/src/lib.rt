@@ -12,6 +12,8 @@ mod limits;
 #[cfg(test)]
 mod meetings;
 #[cfg(test)]
+mod posts;
+#[cfg(test)]
 mod queues;
 #[cfg(test)]
 mod rounds;

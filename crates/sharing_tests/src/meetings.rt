@@ -43,7 +43,7 @@ pub(crate) fn make_and_look<R: Wait>(
 }
 
 // Whether the first caller made that commit alone, and the second each other.
-fn are_by(log: &[Entry], number: u64) -> bool {
+pub(crate) fn are_by(log: &[Entry], number: u64) -> bool {
     log.iter().all(|entry| entry.by == if entry.number == number { 1 } else { 2 })
 }
 

@@ -1,2 +1,3 @@
 pub mod Alone
+mod Posting
 mod Refusing

@@ -6,8 +6,11 @@
 //! A commit, a snapshot or a log answers what the book of one thread answers after what the pass has then seen,
 //! and all that a pass has seen is one legal history. A `Snapshot` shares its book and holds nothing up. A `Note`
 //! tells another pass what one has seen; who hears it sees no less from then on.
+//!
+//! A `Post` takes a note to a thread that runs, and keeps that it is of the store.
 
 mod pass;
+mod post;
 mod refusal;
 mod shelf;
 mod snapshot;
@@ -15,6 +18,7 @@ mod store;
 
 pub use book_core::NoTable;
 pub use pass::{Note, Pass};
+pub use post::Post;
 pub use refusal::{BadCount, Future, PassSpent, RangeRefused, SnapshotRefused, StoreRefused};
 pub use shelf::Shelf;
 pub use snapshot::Snapshot;
