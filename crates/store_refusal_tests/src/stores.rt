@@ -4,13 +4,13 @@ ghost use Rattle.std.specs.Prelude.{IfOk};
 ghost use Rattle.store_core.specs.Passes.{IsPassOf};
 
 use crate::fixtures::{day, name};
-use book_core::Change;
+use book_core::{BookRefused, Change};
 use refusal_core::{Ended, Fault, holds, take_all, try_each};
 use row_core::{Draft, Drafts, Failure, Schema, Values};
 use std::alloc::Global;
 use std::sync::Wait;
 use std::test::Fail;
-use store_core::{Pass, Snapshot, Store};
+use store_core::{Pass, Snapshot, Store, StoreRefused};
 
 // The change that makes the table, which has no columns.
 fn make(alloc: Global) -> Result<Change, Ended> {
@@ -109,6 +109,40 @@ fn ask_snapshot<R: Wait>(rt: &R, alloc: Global) -> Result<(), Ended> {
 #[test]
 fn a_snapshot_answers_or_memory_is_refused(rt: HostRuntime) -> Result<(), Fault> {
     try_each(&rt, |alloc| ask_snapshot(&rt, alloc))
+}
+
+// Sends a note through a post.
+fn send_note<R: Wait>(rt: &R, alloc: Global) -> Result<(), Ended> {
+    let (store, mut pass) = one_pass(alloc)?;
+    let post = store.open_post(alloc)?;
+    let note = store.note(&mut pass);
+    holds(store.send(rt, &post, note).is_none())?;
+    holds(store.receive(rt, &post).is_some())
+}
+
+#[test]
+fn a_post_is_opened_or_memory_is_refused(rt: HostRuntime) -> Result<(), Fault> {
+    try_each(&rt, |alloc| send_note(&rt, alloc))
+}
+
+// A change that is refused by name copies no book, though a snapshot shares it: so it is answered while no memory is
+// left.
+#[test]
+fn a_refusal_by_name_needs_no_memory(rt: HostRuntime) -> Result<(), Fail> {
+    let alloc = rt.alloc();
+    let (store, mut pass) = one_row(&rt, alloc)?;
+    let kept = store.snapshot(&rt, &mut pass, None)?;
+    let change = Change::Load {
+        table: name(b"u")?,
+        rows: Drafts::new(alloc),
+    };
+    let taken = take_all(alloc)?;
+    let reply = store.commit(&rt, &mut pass, change);
+    drop(taken);
+    let refused = Failure::Refused(StoreRefused::Book(BookRefused::NoTable));
+    assert!(rt; reply == Err(refused));
+    assert_eq!(rt; shown(&kept)?, (2, 1));
+    Ok(())
 }
 
 // While no memory is left.
