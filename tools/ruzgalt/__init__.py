@@ -8,8 +8,10 @@ Python 3.9 and its library are all that is needed. A module stands on those abov
 
     records, forms      CSV with the lines of its records; points, numbers and names
     commands, tables    a script's commands; the columns of tables and of answers
+    questions           put behind a script
     answers, picks      the answers of a script, each with its command; chosen by number, line or name
-    fields, refusals    what each field is to be, and why a record was refused
+    fields, reasons     what each field is to be, and the words for what is wrong with it
+    refusals            why a record was refused
     store, overlaps     the changes done again, and rows of one key that hold at one point
     changes, single     what really changed; a change of one row alone
     export              CSV, SQLite and JSON

@@ -1,13 +1,14 @@
 """Reads a script beside its answers: of each answer the command, the record and its line, and what was answered."""
 from dataclasses import dataclass, field
 from pathlib import Path
-from typing import Dict, Iterator, List, Optional, Union
+from typing import Callable, Dict, Iterator, List, Optional, Sequence, Tuple, Union
 
 from ruzgalt import commands, records, tables
 from ruzgalt.commands import Command
 from ruzgalt.errors import Misfit
+from ruzgalt.forms import is_count, is_printed, is_sum
 from ruzgalt.records import Record, short
-from ruzgalt.tables import Column, Schema, Table
+from ruzgalt.tables import Column, Kind, Schema, Table
 
 # Bytes, or the file that has them.
 Source = Union[bytes, str, Path]
@@ -38,6 +39,10 @@ class Answer:
         return self.command.line
 
     @property
+    def place(self) -> str:
+        return self.command.place
+
+    @property
     def commit(self) -> int:
         """The commit that a query reads."""
         return self.commits if self.command.as_of is None else int(self.command.as_of)
@@ -45,7 +50,11 @@ class Answer:
 
 def of(script: Source, output: Source) -> List[Answer]:
     """The answers in the output, which are those to the script. Raises Misfit where they can't be."""
-    return list(Reading(records.read(bytes_of(output))).answers(records.read(bytes_of(script))))
+    return of_records(records.read(bytes_of(script)), bytes_of(output))
+
+
+def of_records(script: List[Record], output: bytes) -> List[Answer]:
+    return list(Reading(records.read(output)).answers(script))
 
 
 def bytes_of(source: Source) -> bytes:
@@ -74,7 +83,8 @@ class Reading:
     def answer(self, number: int, command: Command) -> Answer:
         first = self.take(command, "an answer")
         if first.word == "error":
-            return Answer(number, command, self.commits, self.tables, refusal=self.refusal(command, first))
+            shown = self.commits if self.held is None else self.held
+            return Answer(number, command, shown, self.tables, refusal=self.refusal(command, first))
         table = self.table(command, first)
         shown = self.commits if self.held is None or command.word == "load" else self.held
         return Answer(number, command, shown, self.tables, table)
@@ -85,7 +95,7 @@ class Reading:
             return self.accepted(command, first)
         if command.word == "together":
             return self.opened(command, first)
-        if command.word not in READERS or not command.is_ended:
+        if command.word not in READERS or not command.is_ended or not self.has_commits(command):
             raise misfit(command, "error,RECORD,NAME", first)
         try:
             columns = tables.header(command, self.tables)
@@ -93,22 +103,32 @@ class Reading:
             raise misfit(command, "error,RECORD,NAME, as its tables or columns aren't there", first) from None
         return Table(columns, READERS[command.word](self, command, first, columns))
 
+    def has_commits(self, command: Command) -> bool:
+        """Whether the commits that a query tells are numbers, and that of its suffix is there."""
+        if command.as_of is not None:
+            return is_count(command.as_of) and int(command.as_of) <= self.commits
+        if command.word not in ("between", "fromto"):
+            return True
+        return len(command.front) == 4 and all(map(is_count, command.front[2:]))
+
     def take(self, command: Command, wanted: str) -> Record:
         if self.place == len(self.output):
-            raise Misfit(f"line {command.line}: {short(command.text)}: the answers end before {wanted}")
+            raise Misfit(f"{command.place}: {short(command.text)}: the answers end before {wanted}")
         self.place += 1
         return self.output[self.place - 1]
 
     def refusal(self, command: Command, record: Record) -> Refusal:
         number = record.fields[1] if len(record.fields) == 3 else ""
         at_fault = command.record_of(int(number)) if is_count(number) else None
-        if at_fault is None:
+        if at_fault is None or not is_refusable(record.fields[2], command, self.tables):
             raise misfit(command, "a refusal of one of its records", record)
         return Refusal(record.fields[2], at_fault)
 
     def accepted(self, command: Command, record: Record) -> Table:
         if list(record.fields) != ["ok", str(self.commits + 1)] or not command.is_ended:
             raise misfit(command, f"ok,{self.commits + 1}", record)
+        if not is_doable(command, self.tables):
+            raise misfit(command, "error,RECORD,NAME, as its form is wrong, or its table isn't there", record)
         if command.word == "table":
             self.tables = {**self.tables, command.record.fields[1]: Schema.read(command.record.fields)}
         self.commits += 1
@@ -124,31 +144,31 @@ class Reading:
     def listed(self, command: Command, first: Record, columns: List[Column]) -> Rows:
         """The records of a list up to its end, which counts them."""
         word = {"between": "version", "fromto": "version", "log": "commit"}.get(command.word, "row")
-        rows, record = [], first
+        rows, record, tests = [], first, tests_of(columns)
         while record.word == word and len(record.fields) == len(columns) + 1:
-            rows.append(list(record.fields[1:]))
+            rows.append(row_in(command, record, tests))
             record = self.take(command, "the list's end")
         if list(record.fields) != ["end", str(len(rows))]:
             names = ",".join(column.name for column in columns)
             raise misfit(command, f"{word},{names} or end,{len(rows)}", record)
-        if word == "version":
-            return [[*row[:4], None if row[4] == "-" else row[4], *row[5:]] for row in rows]
         return rows
 
     def divided(self, command: Command, first: Record, _: List[Column]) -> Rows:
         """A record for each row of each part, with the instant that all have."""
         if first.word != "dip" or len(first.fields) != 4 or not all(map(is_count, first.fields[1:3])):
             raise misfit(command, "dip,ROWS,PARTS,INSTANT", first)
+        if first.fields[3] != "-" if first.fields[1] == "0" else not is_printed(first.fields[3]):
+            raise misfit(command, "dip,ROWS,PARTS,INSTANT with a point, or - where there are no rows", first)
         _, count, parts, instant = first.fields
         rows: Rows = []
         for part in range(int(parts)):
             record = self.take(command, f"part,{part}")
-            if list(record.fields[:2]) != ["part", str(part)]:
-                raise misfit(command, f"part,{part}", record)
+            if list(record.fields[:2]) != ["part", str(part)] or not all(map(is_count, record.fields[2:])):
+                raise misfit(command, f"part,{part} with ids", record)
             rows.extend([str(part), row_id, instant] for row_id in record.fields[2:])
         if len(rows) != int(count):
             told = f"{count} rows are told, and {len(rows)} stand in parts"
-            raise Misfit(f"line {command.line}: {short(command.text)}: {told}")
+            raise Misfit(f"{command.place}: {short(command.text)}: {told}")
         return rows
 
     def judged(self, command: Command, first: Record, _: List[Column]) -> Rows:
@@ -157,7 +177,7 @@ class Reading:
         if fields == ["yes"]:
             return [["yes", None, None, None, None, None]]
         places = VERDICTS.get(fields[1]) if fields[0] == "no" and len(fields) > 2 else None
-        if places is None or len(fields) != 2 + len(places):
+        if places is None or len(fields) != 2 + len(places) or not all(map(is_count, fields[2:])):
             raise misfit(command, "yes, or no and its reason", first)
         numbers: List[Optional[str]] = [None] * 4
         for place, number in zip(places, fields[2:]):
@@ -174,10 +194,46 @@ LISTS = ("rows", "at", "between", "fromto", "join", "anti", "agg", "log")
 READERS = {**{word: Reading.listed for word in LISTS}, "dip": Reading.divided, "check": Reading.judged}
 
 
-def is_count(text: str) -> bool:
-    return text.isascii() and text.isdigit()
+# The columns that have a kind's form, each with the place of its field in a record.
+Tests = List[Tuple[int, Column, Callable[[str], bool]]]
+FORMS: Dict[Kind, Callable[[str], bool]] = {Kind.INT: is_sum, Kind.POINT: is_printed}
+
+
+def tests_of(columns: Sequence[Column]) -> Tests:
+    return [(place, one, FORMS[one.kind]) for place, one in enumerate(columns, 1) if one.kind in FORMS]
+
+
+def row_in(command: Command, record: Record, tests: Tests) -> List[Optional[str]]:
+    """The fields behind the record's word. Raises Misfit where one is none of its column's kind."""
+    row: List[Optional[str]] = list(record.fields[1:])
+    if record.word == "version" and row[4] == "-":
+        row[4] = None
+    for place, column, has_form in tests:
+        text = row[place - 1]
+        if text is not None and not has_form(text):
+            told = f"field {place + 1} ({column.name}) of the answer at line {record.line}, {short(text)}"
+            raise Misfit(f"{command.place}: {short(command.text)}: {told}, is no {column.kind.value}")
+    return row
+
+
+def is_refusable(name: str, command: Command, there: Dict[str, Schema]) -> bool:
+    """Whether the table is there by whose key or columns the refusal is explained."""
+    if name == "KeyOverlap":
+        return command.word in ("load", "update") and is_doable(command, there)
+    return name != "WrongWidth" or command.word == "load" and [*command.record.fields, ""][1] in there
+
+
+def is_doable(command: Command, there: Dict[str, Schema]) -> bool:
+    """Whether a change that is answered by `ok` has the form that is needed to do it again."""
+    texts = command.record.fields
+    if command.word == "table":
+        return tables.is_schema(texts)
+    if len(texts) < 2 or texts[1] not in there:
+        return False
+    width = 3 + len(there[texts[1]].columns)
+    return all(len(row.fields) == width for row in command.block[:-1]) if command.word == "load" else len(texts) > 3
 
 
 def misfit(command: Command, wanted: str, found: Record) -> Misfit:
     told = f"the answer at line {found.line} is {short(found.text)}, and not {wanted}"
-    return Misfit(f"line {command.line}: {short(command.text)}: {told}")
+    return Misfit(f"{command.place}: {short(command.text)}: {told}")

@@ -31,7 +31,7 @@ def compared(answer: Answer) -> Tuple[List[Column], List[Held]]:
     """The columns that are compared, and of each record the period and the values."""
     if answer.command.word not in IDS:
         command = short(answer.command.text)
-        raise Misfit(f"line {answer.line}: {command}: its records aren't periods with values, so none is compared")
+        raise Misfit(f"{answer.place}: {command}: its records aren't periods with values, so none is compared")
     table = answer.table
     start = table.names.index("valid_from")
     left_out = {start, start + 1, *(table.names.index(name) for name in IDS[answer.command.word])}

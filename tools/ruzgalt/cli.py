@@ -10,7 +10,7 @@ from pathlib import Path
 from typing import Callable, Dict, List, NamedTuple, Optional, Sequence, Tuple
 
 from ruzgalt import (
-    answers, changes, export, overlaps, picks, pictures, program, records, refusals, single, svg, terminal,
+    answers, changes, export, overlaps, picks, pictures, program, questions, records, refusals, single, svg, terminal,
 )
 from ruzgalt.answers import Answer
 from ruzgalt.errors import Misfit
@@ -39,19 +39,17 @@ def read(options: Namespace) -> Found:
     """The answers to the script. Ends where a command was refused, unless it is told to go on."""
     if options.script == options.answers == "-":
         raise Misfit("standard input is the script, or its answers, and not both")
-    script = bytes_of(options.script)
-    whole = program.asked(script, options.ask)
+    script = questions.put_behind(bytes_of(options.script), options.ask)
     if options.answers is None:
-        output = program.output(options.program, whole)
+        output = program.output(options.program, script.text)
     else:
         output = bytes_of(options.answers)
-    found = answers.of(whole, output)
+    found = answers.of_records(script.records, output)
     refused = [answer for answer in found if answer.refusal]
     if refused and not options.go_on:
         more = f"{len(refused)} refused; `{NAME} refusals` explains, --go-on goes on"
         raise Misfit(f"{refusals.told(refused[0])} ({more})")
-    behind = len(records.read(script))
-    return Found(found, [answer for answer in found if options.ask and answer.command.record.number > behind])
+    return Found(found, [answer for answer in found if answer.command.record.is_asked])
 
 
 def bytes_of(name: str) -> bytes:
@@ -66,8 +64,10 @@ def chosen(found: Found, words: Sequence[str]) -> List[picks.Pick]:
 def last(found: Found, words: Sequence[str], count: int) -> List[Answer]:
     """So many answers: those that were picked, or else the last that are more than an `ok`."""
     told = chosen(found, words)
-    if len(told) < count or words and len(told) != count:
-        raise Misfit(f"{len(told)} answers, and not {count}: tell which by PICK")
+    if len(told) < count and not words:
+        raise Misfit(f"{count} wanted, and {len(told)} of the answers more than an `ok`: ask by --ask, as --ask rows,T")
+    if words and len(told) != count:
+        raise Misfit(f"{len(told)} answers, and not {count}: `csv --folder`, `sqlite` and `json` take several")
     return [pick.answer for pick in told[-count:]]
 
 
@@ -96,11 +96,15 @@ def do_json(options: Namespace) -> None:
 
 
 def do_sqlite(options: Namespace) -> None:
+    if picks.is_pick(options.database):
+        raise Misfit(f"{options.database}: the DATABASE is missing: it stands behind SCRIPT, and before the first PICK")
     found = chosen(read(options), options.pick)
     database = sqlite3.connect(options.database)
-    export.to_sqlite(found, database)
+    export.to_sqlite(found, database, options.replace)
     for query in options.query:
         show(export.ask(database, query))
+    if not options.query:
+        show(export.told_tables(found))
     database.close()
 
 
@@ -173,7 +177,11 @@ def words_of_sqlite(parser: ArgumentParser) -> None:
     parser.add_argument("database", metavar="DATABASE", help="a file, or :memory: for one that is gone afterwards")
     with_picks(parser)
     parser.add_argument(
-        "--query", action="append", default=[], metavar="SQL", help="prints what the database answers, as CSV",
+        "--query", action="append", default=[], metavar="SQL",
+        help="prints what the database answers, as CSV; without one the tables are told",
+    )
+    parser.add_argument(
+        "--replace", action="store_true", help="replaces tables of these names that this tool hasn't made",
     )
 
 
@@ -267,6 +275,8 @@ def main(words: Sequence[str]) -> int:
         return fail(f"{error.filename}: {error.strerror}" if error.filename else str(error))
     except (Misfit, sqlite3.Error) as error:
         return fail(str(error))
+    except UnicodeEncodeError as error:
+        return fail(f"SQLite has UTF-8 alone, and none is {records.visible(error.object)}")
 
 
 def fail(told: str) -> int:

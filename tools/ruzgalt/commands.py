@@ -28,6 +28,10 @@ class Command:
         return self.record.line
 
     @property
+    def place(self) -> str:
+        return self.record.place
+
+    @property
     def text(self) -> str:
         return self.record.text
 

@@ -24,17 +24,35 @@ def to_folder(picks: Sequence[Pick], folder: Path) -> None:
         (folder / f"{pick.name}.csv").write_bytes(encode(to_csv(pick.answer.table)))
 
 
-def to_sqlite(picks: Sequence[Pick], database: sqlite3.Connection) -> None:
-    """A table for each answer, in place of one that has its name. Numbers are integers, all else is text."""
+# Stands in the text of each table that is made here, which SQLite keeps.
+MARK = "/* made by tools/answers */"
+
+
+def to_sqlite(picks: Sequence[Pick], database: sqlite3.Connection, is_replacing: bool = False) -> None:
+    """A table for each answer, in place of one of its name that was made so. Numbers are integers, all else is text."""
+    if not is_replacing:
+        refuse_others(picks, database)
     with database:
         for pick in picks:
             table, name = pick.answer.table, quoted(pick.name)
             declared = ", ".join(f"{quoted(column.name)} {kind}" for column, kind in zip(table.columns, kinds(table)))
             database.execute(f"drop table if exists {name}")
-            database.execute(f"create table {name} ({declared})")
+            database.execute(f"create table {name} ({declared} {MARK})")
             # SQLite turns a number's text into an integer where the column is one.
             places = ", ".join("?" * len(table.columns))
             database.executemany(f"insert into {name} values ({places})", table.records)
+
+
+def refuse_others(picks: Sequence[Pick], database: sqlite3.Connection) -> None:
+    """A table or view that someone else has made is not to be lost."""
+    for name, made_by in database.execute("select name, sql from sqlite_master where type in ('table', 'view')"):
+        if MARK not in (made_by or "") and name.casefold() in (pick.name.casefold() for pick in picks):
+            raise Misfit(f"{name} is in the database, and wasn't made by this tool: --replace replaces it")
+
+
+def told_tables(picks: Sequence[Pick]) -> str:
+    """The tables that were made, and how many rows each has."""
+    return to_text([["table", "rows"], *([pick.name, str(len(pick.answer.table.records))] for pick in picks)])
 
 
 def kinds(table: Table) -> List[str]:

@@ -1,6 +1,7 @@
 """The forms of what stands in a field: points, numbers and names, as docs/LANGUAGE.md tells them."""
 import re
 from datetime import datetime, timedelta
+from functools import lru_cache
 from typing import Optional
 
 POINT = re.compile(r"(\d{4})-(\d\d)-(\d\d)(?:T(\d\d):(\d\d):(\d\d))?", re.ASCII)
@@ -8,6 +9,8 @@ INTEGER = re.compile(r"0|-?[1-9]\d*", re.ASCII)
 NAME = re.compile(r"[a-z][a-z0-9_]{0,31}", re.ASCII)
 RESERVED = ("asof", "by", "key", "on", "set", "where")
 TEXT_LIMIT = 4096
+# No number of a column has more characters; a sum of 1,000,000 of them has six more.
+LONGEST_INTEGER, LONGEST_SUM = 20, 26
 BEGINNING = datetime(1, 1, 1)
 
 
@@ -31,6 +34,13 @@ def printed(text: str) -> str:
     return print_point(point) if point else text
 
 
+@lru_cache(1 << 16)
+def is_printed(text: str) -> bool:
+    """Whether it is a point as dipq prints it."""
+    return read_point(text) is not None and printed(text) == text
+
+
+@lru_cache(1 << 16)
 def seconds(point: str) -> int:
     """The seconds from the first point that there is."""
     read = read_point(point)
@@ -42,7 +52,12 @@ def at_second(number: int) -> datetime:
 
 
 def is_integer(text: str) -> bool:
-    return bool(INTEGER.fullmatch(text)) and -(1 << 63) <= int(text) < 1 << 63
+    is_short_one = len(text) <= LONGEST_INTEGER and bool(INTEGER.fullmatch(text))
+    return is_short_one and -(1 << 63) <= int(text) < 1 << 63
+
+
+def is_sum(text: str) -> bool:
+    return len(text) <= LONGEST_SUM and bool(INTEGER.fullmatch(text))
 
 
 def is_count(text: str) -> bool:

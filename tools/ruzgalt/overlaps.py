@@ -40,7 +40,7 @@ def pairs(rows: Iterable[Tuple[str, str, Thing]]) -> Iterator[Pair[Thing]]:
 def in_answer(answer: Answer, key: Sequence[str]) -> Table:
     """The pairs of rows of an answer that a key of these columns would forbid."""
     if answer.command.word not in ("rows", "at"):
-        raise Misfit(f"line {answer.line}: {answer.command.text}: no list of rows")
+        raise Misfit(f"{answer.place}: {answer.command.text}: no list of rows")
     table, schema = answer.table, answer.tables[answer.command.front[1]]
     places = [3 + schema.place(name) for name in key]
     by_key: Dict[Tuple[str, ...], List[Tuple[str, str, str]]] = defaultdict(list)
@@ -95,4 +95,4 @@ def told(thing: Held) -> str:
     if isinstance(thing, Version):
         return f"row {thing.row_id}, made by commit {thing.made}: {text}"
     place = f" in place of row {row.in_place_of}" if row.in_place_of else ""
-    return f"line {row.source.line}{place}: {text}"
+    return f"{row.source.place}{place}: {text}"

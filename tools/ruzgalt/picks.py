@@ -10,6 +10,7 @@ HELP = (
     "an answer: its NUMBER in `tools/answers list`, @LINE of its command in the script, `last`, or `last-N` for the "
     "N-th before that; with =NAME behind it, it gets that name"
 )
+FORM = re.compile(r"(?P<number>\d{1,9})|@(?P<line>\d{1,9})|last(-(?P<back>\d{1,9}))?", re.ASCII)
 # What these are answered is a number of a commit, and nothing that one would ask for.
 BARE = ("table", "load", "update", "delete", "together")
 
@@ -29,13 +30,18 @@ def pick(answers: Sequence[Answer], words: Sequence[str]) -> List[Pick]:
         which, _, name = word.partition("=")
         answer = find(answers, which)
         if answer.refusal:
-            raise Misfit(f"{which}: line {answer.line}: {answer.command.text} was refused: {answer.refusal.name}")
+            raise Misfit(f"{which}: {answer.place}: {answer.command.text} was refused: {answer.refusal.name}")
         picks.append(Pick(name or name_of(answer), answer))
-    names = [one.name for one in picks]
-    twice = [name for name in names if names.count(name) > 1]
+    # SQLite, and some file systems, take small letters and capitals for one.
+    names = [one.name.casefold() for one in picks]
+    twice = [one.name for one in picks if names.count(one.name.casefold()) > 1]
     if twice:
-        raise Misfit(f"two answers have the name {twice[0]}")
+        raise Misfit(f"two answers have the name {' and '.join(dict.fromkeys(twice))}")
     return picks
+
+
+def is_pick(word: str) -> bool:
+    return bool(FORM.fullmatch(word.partition("=")[0]))
 
 
 def is_asked(answer: Answer) -> bool:
@@ -50,7 +56,7 @@ def name_of(answer: Answer) -> str:
 
 
 def find(answers: Sequence[Answer], which: str) -> Answer:
-    told = re.fullmatch(r"(?P<number>\d+)|@(?P<line>\d+)|last(-(?P<back>\d+))?", which, re.ASCII)
+    told = FORM.fullmatch(which)
     if not told:
         raise Misfit(f"{which}: neither a number, nor @LINE, nor last or last-N")
     if told["line"]:

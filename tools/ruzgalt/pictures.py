@@ -54,6 +54,7 @@ class Steps:
     title: str
     span: Span
     steps: List[Tuple[int, int, int]]
+    name: str
 
     @property
     def values(self) -> List[int]:
@@ -61,23 +62,40 @@ class Steps:
 
 
 Picture = Union[Bars, Steps]
+# Stands in place of a picture without anything in it.
+NOTHING = "nothing to draw: no record holds in what is shown"
 Record = Dict[str, str]
 
 
 def of(answers: Sequence[Answer], answer: Answer, wish: Wish) -> Picture:
     """The picture of an answer. Raises Misfit where there is none."""
     limits(wish)
+    refuse_unused(answer, wish)
     front = answer.command.front
     if front[0] == "dip":
         return division(answers, answer, wish)
     if front[0] in ("between", "fromto"):
         return square(answer, wish)
-    if front[0] == "agg" and group_of(front) is None:
+    if is_of_steps(answer):
         return steps(answer, wish)
     if front[0] in ("rows", "at", "anti", "join", "agg"):
         return by_value(answer, wish)
     drawn = "a division, rows, a join, an aggregate or versions"
-    raise Misfit(f"line {answer.line}: {short(answer.command.text)}: no picture; what is drawn is {drawn}")
+    raise Misfit(f"{answer.place}: {short(answer.command.text)}: no picture; what is drawn is {drawn}")
+
+
+def is_of_steps(answer: Answer) -> bool:
+    return answer.command.word == "agg" and group_of(answer.command.front) is None
+
+
+def refuse_unused(answer: Answer, wish: Wish) -> None:
+    """What a picture doesn't use would be taken for used."""
+    unused = {"dip": ["by"], "between": ["by"], "fromto": ["by"]}.get(answer.command.word, [])
+    if is_of_steps(answer):
+        unused = ["by", "label", "where"]
+    for word in unused:
+        if getattr(wish, word):
+            raise Misfit(f"{answer.place}: {short(answer.command.text)}: its picture has no use for --{word}")
 
 
 def division(answers: Sequence[Answer], answer: Answer, wish: Wish) -> Bars:
@@ -85,7 +103,7 @@ def division(answers: Sequence[Answer], answer: Answer, wish: Wish) -> Bars:
     versions = {str(version.row_id): version.row for version in store.rows_of(answers, answer)}
     names = answer.tables[answer.command.front[1]].names
     if {record[1] for record in answer.table.texts()} != set(versions):
-        raise Misfit(f"line {answer.line}: {short(answer.command.text)}: the ids aren't those of the table's rows")
+        raise Misfit(f"{answer.place}: {short(answer.command.text)}: the ids aren't those of the table's rows")
     parts, records, instant = [], [], "-"
     for part, row_id, instant in answer.table.texts():
         row = versions[row_id]
@@ -98,7 +116,8 @@ def division(answers: Sequence[Answer], answer: Answer, wish: Wish) -> Bars:
     label = wish.label or "row_id"
     bars = [bar_of(record, part, label_of(record, [label])) for part, record in zip(told, shown)]
     lanes = [f"part {part}" for part in range(max(parts, default=-1) + 1)]
-    title = f"{answer.command.text}: {counted(len(records), 'row')} in {counted(len(lanes), 'part')}, {instant}"
+    rows = counted(len(records), "row") if len(shown) == len(records) else f"{len(shown)} of {len(records)} rows"
+    title = f"{answer.command.text}: {rows} in {counted(len(lanes), 'part')}, {instant}"
     return Bars(title, span_for(bars, wish), lanes, bars, instant if read_point(instant) else None)
 
 
@@ -183,14 +202,16 @@ def refuse_overlaps(answer: Answer, bars: List[Bar]) -> None:
         inside = sorted((bar for bar in bars if bar.lane <= lane < bar.lane + bar.lanes), key=lambda bar: bar.start)
         for one, other in zip(inside, inside[1:]):
             if other.start < one.end:
-                raise Misfit(f"line {answer.line}: {one.told} and {other.told} hold together: tell one fact by --where")
+                both = f"{short(one.told)} and {short(other.told)}"
+                raise Misfit(f"{answer.place}: {both} hold together: tell one fact by --where")
 
 
 def steps(answer: Answer, wish: Wish) -> Steps:
     found = [(seconds(start), seconds(end), int(value)) for start, end, value in answer.table.texts()]
     span = span_of(((start, end) for start, end, _ in found), *limits(wish))
     shown = [step for step in found if span.shows(*step[:2])]
-    return Steps(f"{answer.command.text}: {counted(len(shown), 'period')}", span, shown)
+    name = answer.table.names[-1]
+    return Steps(f"{answer.command.text}: {counted(len(shown), 'period')}", span, shown, name)
 
 
 def wanted(table: Table, wish: Wish) -> List[Record]:
@@ -219,7 +240,7 @@ def bar_of(record: Record, lane: int, label: str) -> Bar:
 
 
 def told(record: Record) -> str:
-    return short(", ".join(value for value in record.values() if value))
+    return ", ".join(f"{name}: {' '.join(value.split())}" for name, value in record.items() if value)
 
 
 def label_of(record: Record, names: Sequence[str]) -> str:

@@ -63,9 +63,3 @@ def single_loads(script: List[records.Record]) -> Iterator[Tried]:
 def without_key(table: Command) -> Sequence[str]:
     texts = table.record.fields
     return next((texts[:place] for place in range(2, len(texts), 2) if texts[place] == "key"), texts)
-
-
-def asked(script: bytes, queries: Sequence[str]) -> bytes:
-    """The script with these commands behind it."""
-    is_open = script and not script.endswith((b"\n", b"\r"))
-    return script + (b"\n" if is_open else b"") + b"".join(records.encode(query) + b"\n" for query in queries)

@@ -1,78 +1,88 @@
 """Why a command was refused: the field that is at fault, and what is wrong with it, for a person."""
 from typing import Callable, Dict, List, Optional
 
-from ruzgalt import forms
+from ruzgalt import forms, reasons
 from ruzgalt.answers import Answer
+from ruzgalt.commands import BLOCKS
 from ruzgalt.fields import Field, Role, fields_of
-from ruzgalt.records import short, to_record
+from ruzgalt.reasons import kind_of
+from ruzgalt.records import Record, short, to_record, visible
 from ruzgalt.tables import Kind
-
-# What is told of a record, or of its field where one is at fault.
-REASONS = {
-    "Unended": "the block has no end, so the rest of the script was skipped",
-    "NotInBlock": "this stands in no block of commands",
-    "BadName": "is no name: 1 to 32 of a to z, 0 to 9 and _, the first a letter, and no word of the language",
-    "BadPoint": "is no point, as 2024-01-05 or 2024-01-05T08:30:00",
-    "BadNumber": "is no whole number in digits alone, as 5000 or -8",
-    "BadPeriod": "isn't before the field behind it",
-    "TooMany": "a table has at most 16 columns, and a script 64 tables",
-    "TwiceNamed": "stood before",
-    "TableExists": "is a table that is there",
-    "Future": "is a commit that isn't there yet",
-    "NoTable": "is no table that is there",
-    "NoColumn": "is no column of the table",
-    "WrongKind": "is no column of the kind that is wanted here",
-    "TooLong": "has more than 4,096 bytes",
-    "BadUtf8": "isn't UTF-8",
-    "Full": "1,000,000 changes, or versions of one table, are all that there can be",
-}
-FORMS = {
-    "table": "table,T,COLUMN,KIND.. (KIND is int or text), and then key,COLUMN..", "load": "load,T", "rows": "rows,T",
-    "update": "update,T,FROM,TO,set,COLUMN,VALUE.., and then where,COLUMN,VALUE..", "dip": "dip,T", "log": "log",
-    "delete": "delete,T,FROM,TO, and then where,COLUMN,VALUE..", "at": "at,T,POINT", "between": "between,T,M,N",
-    "fromto": "fromto,T,M,N", "join": "join,L,R, and then on,LCOL,RCOL..", "anti": "anti,L,R, and then on,LCOL,RCOL..",
-    "agg": "agg,T,count, or agg,T,FUNC,COLUMN (FUNC is sum, min or max), and then by,COLUMN",
-    "check": "check,T,PARTS,INSTANT", "together": "together",
-}
-
 
 def told(answer: Answer) -> str:
     """Line, command, field and reason of a refusal, in one line."""
     refusal, command = answer.refusal, answer.command
-    return f"line {refusal.record.line}: {short(command.text)}: {refusal.name}: {reason(answer)}"
+    return f"{refusal.record.place}: {short(command.text)}: {refusal.name}: {reason(answer)}"
 
 
 def reason(answer: Answer) -> str:
     refusal, command = answer.refusal, answer.command
-    if refusal.name == "BadCommand":
-        return bad_command(answer)
-    if refusal.name == "KeyOverlap":
-        schema = answer.tables[command.record.fields[1]]
-        key = ", ".join(schema.names[place] for place in schema.key)
-        return f"two rows that are equal in the key ({key}) would hold at one point"
-    if refusal.name == "WrongWidth":
-        columns = answer.tables[command.record.fields[1]].names
-        wanted = ",".join(["row", "FROM", "TO", *columns])
-        return f"{short(refusal.record.text)} has {len(refusal.record.fields)} fields, and not {wanted}"
+    if refusal.name in OF_RECORDS:
+        return OF_RECORDS[refusal.name](answer)
     field = at_fault(answer)
-    text = REASONS.get(refusal.name, "see docs/LANGUAGE.md")
-    if field is None:
-        return text
-    if refusal.name == "BadNumber" and field.role is not Role.VALUE:
-        text = "is no whole number from 0 on"
-    named = f" ({field.column.name})" if field.column else ""
-    return f"field {field.place + 1}{named}, {short(to_record([field.text]))}, {text}"
+    about = reasons.of_field(refusal.name, field, answer) if field else None
+    if about is None:
+        return reasons.REASONS.get(refusal.name, "see docs/LANGUAGE.md")
+    return f"{reasons.named(field)}, {about}"
+
+
+def key_overlap(answer: Answer) -> str:
+    schema = answer.tables[answer.command.record.fields[1]]
+    key = ", ".join(schema.names[place] for place in schema.key)
+    return f"two rows that are equal in the key ({key}) would hold at one point"
+
+
+def wrong_width(answer: Answer) -> str:
+    record = answer.refusal.record
+    wanted = ",".join(["row", "FROM", "TO", *answer.tables[answer.command.record.fields[1]].names])
+    return f"{visible(record.text)} has {len(record.fields)} fields, and not {wanted}"
 
 
 def bad_command(answer: Answer) -> str:
     record, command = answer.refusal.record, answer.command
     if record is not command.record:
         wanted = "row" if command.word == "load" else "part"
-        return f"a {command.word} has {wanted} records alone, and not {short(record.text)}"
+        end = "; its end is the one word end" if is_like_end(record) else ""
+        return f"a {command.word} has {wanted} records alone, and not {visible(record.text)}{end}"
     if command.word == "end":
         return "an end without a block"
-    form = FORMS.get(command.word)
-    return f"the form is {form}" if form else f"field 1, {short(to_record([command.word]))}, is no command"
+    if command.word == "table" and wrong_kinds(record):
+        place = wrong_kinds(record)[0]
+        return f"field {place + 1}, {visible(to_record([record.fields[place]]))}, is no KIND, int or text"
+    form = reasons.FORMS.get(command.word)
+    return f"the form is {form}" if form else f"field 1, {visible(to_record([command.word]))}, is no command"
+
+
+def wrong_kinds(table: Record) -> List[int]:
+    texts = table.fields
+    keys = [place for place in range(2, len(texts), 2) if texts[place] == "key"]
+    return [place for place in range(3, keys[0] if keys else len(texts), 2) if texts[place] not in ("int", "text")]
+
+
+def unended(answer: Answer) -> str:
+    like = next((record for record in answer.command.block if is_like_end(record)), None)
+    about = "the block has no end, so the rest of the script was skipped"
+    if like:
+        return f"{about}; {like.place}, {visible(to_record(like.fields))}, isn't the one word end"
+    has_inner = answer.command.word == "together" and any(record.word in BLOCKS for record in answer.command.block)
+    return f"{about}; a load or a check in it takes an end for itself" if has_inner else about
+
+
+def is_like_end(record: Record) -> bool:
+    """`END`, `end ` or `end,,`, as a spreadsheet writes it."""
+    return not record.is_end() and [field.strip().lower() for field in record.fields if field.strip()] == ["end"]
+
+
+def not_in_block(answer: Answer) -> str:
+    if answer.command.word == "load":
+        return "a second load between `together` and its `end`: put it behind, or its rows of one table into the first"
+    return f"{answer.command.word} isn't allowed between `together` and its `end`: put it before or behind"
+
+
+OF_RECORDS: Dict[str, Callable[[Answer], str]] = {
+    "BadCommand": bad_command, "KeyOverlap": key_overlap, "NotInBlock": not_in_block, "Unended": unended,
+    "WrongWidth": wrong_width,
+}
 
 
 def at_fault(answer: Answer) -> Optional[Field]:
@@ -122,11 +132,6 @@ def is_wrong_kind(answer: Answer, field: Field, fields: List[Field]) -> bool:
         return kind_of(field) is Kind.TEXT
     other = [one for one in fields if one.place == field.place - 1 and one.role is Role.COLUMN]
     return field.place % 2 == 1 and bool(other) and kind_of(field) is not kind_of(other[0])
-
-
-def kind_of(field: Field) -> Optional[Kind]:
-    columns = field.table.columns if field.table else ()
-    return next((column.kind for column in columns if column.name == field.text), None)
 
 
 Test = Callable[[Answer, Field, List[Field]], bool]

@@ -159,6 +159,6 @@ def rows_of(answers: Sequence[Answer], answer: Answer) -> List[Version]:
     """The rows that a query of one table reads: those of its commit."""
     texts = answer.command.front
     if len(texts) < 2 or texts[1] not in answer.tables:
-        raise Misfit(f"line {answer.line}: {answer.command.text}: no query of a table")
+        raise Misfit(f"{answer.place}: {answer.command.text}: no query of a table")
     before = [one for one in answers if one.number <= answer.number or one.commits <= answer.commit]
     return behind(before).rows(texts[1], answer.commit)

@@ -4,8 +4,8 @@ from html import escape
 from typing import Iterator, List, Optional, Sequence
 
 from ruzgalt.forms import print_point, at_second, seconds
-from ruzgalt.pictures import Bar, Bars, Picture, Steps
-from ruzgalt.timeline import Span, levels_of, ticks
+from ruzgalt.pictures import NOTHING, Bar, Bars, Picture, Steps
+from ruzgalt.timeline import Span, begun_at, levels_of, ticks
 
 # Light enough for black letters, and told apart by readers who see few colours.
 SHADES = ["#9ecae1", "#fdd0a2", "#c7e9c0", "#dadaeb", "#fee391", "#d9d9d9", "#fcbba1", "#ccece6"]
@@ -14,6 +14,8 @@ NARROW, WIDE, FOR_BAR, DEPTH = 760, 12_000, 26, 240
 
 
 def draw(picture: Picture, width: Optional[int] = None) -> str:
+    if not (picture.bars if isinstance(picture, Bars) else picture.steps):
+        return document(width or NARROW, TOP, picture.title, [text(EDGE, 44, NOTHING)])
     return draw_bars(picture, width) if isinstance(picture, Bars) else draw_steps(picture, width)
 
 
@@ -26,7 +28,7 @@ def draw_bars(picture: Bars, width: Optional[int]) -> str:
     parts = [*axis(picture.span, margin, across, bottom)]
     for place, name in enumerate(picture.lanes):
         if name:
-            parts.append(text(margin - 6, TOP + place * HEIGHT + 14, fitting(name, margin - 8), "end"))
+            parts.append(text(margin - 6, TOP + place * HEIGHT + 14, cut(name, margin - 8), "end"))
             parts.append(line(margin, TOP + place * HEIGHT, margin + across, TOP + place * HEIGHT, "#eee"))
     shown = (bar for bar in picture.bars if picture.span.shows(bar.start, bar.end))
     parts.extend(part for bar in shown for part in bar_parts(bar, picture.span, margin, across))
@@ -53,10 +55,11 @@ def draw_steps(picture: Steps, width: Optional[int]) -> str:
     for start, end, value in picture.steps:
         left, right = (margin + picture.span.place(second, across) for second in (start, end))
         top, right = round(bottom - (value - foot) * for_one, 1), max(right, left + 1)
-        told = f"{print_point(at_second(start))} to {print_point(at_second(end))}: {value}"
+        points = (print_point(at_second(second)) for second in (start, end))
+        told = "valid_from: {}, valid_to: {}, {}: {}".format(*points, picture.name, value)
         parts.append(box(left, top, right - left, bottom - top, SHADES[0], told))
         parts.append(line(left, top, right, top, "#08519c", 2))
-    return document(margin + across + EDGE, bottom + 30, picture.title, parts)
+    return document(margin + across + EDGE, bottom + 30, begun_at(picture.title, foot), parts)
 
 
 def margin_for(names: Sequence[str]) -> int:
@@ -70,12 +73,16 @@ def side_of(place: int, margin: int, across: int) -> str:
 
 def axis(span: Span, margin: int, across: int, bottom: int) -> Iterator[str]:
     """Ticks through the whole drawing, with their texts above and below, since a drawing may be long."""
+    taken = 0.0
     for second, told in ticks(span, max(across // 90, 1)):
         place = margin + span.place(second, across)
         yield line(place, TOP - 4, place, bottom + 4, "#ccc")
-        if place + 40 <= margin + across + EDGE:
-            yield text(place, bottom + 18, told, "middle", "#555")
-            yield text(place, TOP - 26, told, "middle", "#555")
+        is_long = len(told) > 10
+        left = place if is_long else place - 40
+        if left >= taken and place + (len(told) * LETTER if is_long else 40) <= margin + across + EDGE:
+            taken = left + len(told) * LETTER
+            for top in (bottom + 18, TOP - 26):
+                yield text(place, top, told, "start" if is_long else "middle", "#555")
     yield line(margin, bottom, margin + across, bottom, "#555")
 
 
@@ -96,6 +103,13 @@ def fitting(label: str, width: float) -> str:
     if len(label) <= room:
         return label
     return label[:room - 1] + "\u2026" if room > 3 and not label.isdigit() else ""
+
+
+def cut(name: str, width: float) -> str:
+    """The name, or its front and its end, since many names differ in their ends alone."""
+    room = int(width / LETTER)
+    front = (room - 1) // 2
+    return name if len(name) <= room else f"{name[:front]}\u2026{name[len(name) - (room - 1 - front):]}"
 
 
 def line(left: float, top: float, right: float, bottom: float, colour: str, width: int = 1) -> str:

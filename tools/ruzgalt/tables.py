@@ -5,6 +5,7 @@ from typing import Dict, Iterable, List, Optional, Sequence, Tuple, Union
 
 from ruzgalt.commands import Command
 from ruzgalt.errors import Misfit
+from ruzgalt.forms import is_name
 
 
 class Kind(Enum):
@@ -44,6 +45,15 @@ class Schema:
         columns = tuple(Column(name, Kind(kind)) for name, kind in zip(fields[2:end:2], fields[3:end:2]))
         names = [column.name for column in columns]
         return Schema(fields[1], columns, tuple(names.index(name) for name in fields[end + 1:]))
+
+
+def is_schema(fields: Sequence[str]) -> bool:
+    """Whether a `table` record has a name, a kind for each column, and a key of its columns."""
+    try:
+        made = Schema.read(fields)
+        return all(map(is_name, [made.name, *made.names]))
+    except (IndexError, ValueError):
+        return False
 
 
 Value = Union[int, str, None]
@@ -88,8 +98,11 @@ DIVISION = [*ints("part", "row_id"), Column("instant", Kind.POINT)]
 
 
 def header(command: Command, tables: Dict[str, Schema]) -> List[Column]:
-    """The columns of the answer to a command that wasn't refused."""
+    """The columns of the answer to a command that wasn't refused. Raises KeyError where its table isn't there."""
     word, front = command.word, command.front
+    for name in front[1:{"join": 3, "anti": 3, "log": 1}.get(word, 2)]:
+        if name not in tables:
+            raise KeyError(name)
     if word in ("rows", "at", "anti"):
         return unique([*ints("row_id"), *PERIOD, *tables[front[1]].columns])
     if word in ("between", "fromto"):

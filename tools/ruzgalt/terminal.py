@@ -1,20 +1,22 @@
 """Draws pictures as text: `[==)` is a period from its first cell on and before the one behind it.
 
 A period that goes on past the edge has `<` or `>` there. One that is shorter than a cell is `|`, several of them in one
-cell are `*`.
+cell are `*`. Of steps, `#` is a value up to the line's, and `.` one below the lowest line.
 """
 import unicodedata
 from typing import List, Optional, Sequence
 
 from ruzgalt.forms import seconds
-from ruzgalt.pictures import Bar, Bars, Picture, Steps
-from ruzgalt.timeline import Span, levels_of, ticks
+from ruzgalt.pictures import NOTHING, Bar, Bars, Picture, Steps
+from ruzgalt.timeline import Span, begun_at, levels_of, ticks
 
 # So many lines has the height of steps at most.
 LINES = 12
 
 
 def draw(picture: Picture, width: int) -> str:
+    if not (picture.bars if isinstance(picture, Bars) else picture.steps):
+        return f"{picture.title}\n{NOTHING}\n"
     return draw_bars(picture, width) if isinstance(picture, Bars) else draw_steps(picture, width)
 
 
@@ -31,7 +33,7 @@ def draw_bars(picture: Bars, width: int) -> str:
             for lane in range(bar.lane, bar.lane + bar.lanes):
                 by_lane[lane].append(bar)
     for name, bars in zip(picture.lanes, by_lane):
-        lines.append(to_width(name, margin - 1) + " " + lane_of(bars, picture.span, cells, mark))
+        lines.append(to_width(cut(name, margin - 1), margin - 1) + " " + lane_of(bars, picture.span, cells, mark))
     if mark is not None:
         lines.append(" " * margin + pointed(f"^ {picture.instant}", mark, cells))
     return "\n".join(line.rstrip() for line in [*lines, *axis(picture.span, margin, cells)]) + "\n"
@@ -40,6 +42,17 @@ def draw_bars(picture: Bars, width: int) -> str:
 def margin_for(names: Sequence[str], width: int) -> int:
     """The width of the lanes' names and a space, of a third of the picture at most."""
     return min(max((width_of(name) for name in names), default=0), width // 3) + 1
+
+
+def cut(name: str, width: int) -> str:
+    """The name, or its front and its end, since many names differ in their ends alone."""
+    if width_of(name) <= width:
+        return name
+    front = (width - 2) // 2
+    end = name[max(len(name) - width, 0):]
+    while width_of(end) > width - 2 - front:
+        end = end[1:]
+    return f"{''.join(to_cells(name, front))}..{end}"
 
 
 def pointed(text: str, place: int, cells: int) -> str:
@@ -100,7 +113,7 @@ def draw_steps(picture: Steps, width: int) -> str:
     margin = margin_for([str(level) for level in (foot, *levels)], width)
     cells = width - margin
     columns = columns_of(picture, cells)
-    lines = [picture.title]
+    lines = [begun_at(picture.title, foot)]
     for level in reversed(levels):
         below = "." if level == levels[0] else " "
         drawn = "".join(" " if value is None else "#" if value >= level else below for value in columns)

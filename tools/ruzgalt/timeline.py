@@ -50,12 +50,12 @@ def span_of(periods: Iterable[Tuple[int, int]], start: Optional[int] = None, end
 
 
 def ticks(span: Span, most: int) -> List[Tuple[int, str]]:
-    """At most so many points of equal steps, each with its text."""
+    """At most so many points of equal steps, each with its text; that of the first has its date."""
     length = span.end - span.start
     for step in STEPS:
         if length // step <= most:
             first = -(-span.start // step) * step
-            return [(second, text_of(second, step)) for second in range(first, span.end + 1, step)]
+            return [(second, text_of(second, step, second == first)) for second in range(first, span.end + 1, step)]
     months = next((step for step in MONTHS if length // (30 * DAY * step) <= most), MONTHS[-1])
     return list(month_ticks(span, months))
 
@@ -73,12 +73,17 @@ def month_ticks(span: Span, step: int) -> Iterable[Tuple[int, str]]:
         month += step
 
 
-def text_of(second: int, step: int) -> str:
-    """The time of day, and at a midnight the date."""
+def text_of(second: int, step: int, is_first: bool) -> str:
+    """The time of day, and at a midnight the date; at the first point both."""
     text = at_second(second).isoformat()
     if second % DAY == 0:
         return text[:10]
-    return text[11:19] if step < 60 else text[11:16]
+    return text[0 if is_first else 11:19 if step < 60 else 16]
+
+
+def begun_at(title: str, foot: int) -> str:
+    """The title of steps, which tells where their heights aren't in proportion to their values."""
+    return f"{title}; the scale begins at {foot}" if foot else title
 
 
 def levels_of(values: Sequence[int], most: int) -> Tuple[int, List[int]]:
