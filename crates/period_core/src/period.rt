@@ -4,6 +4,7 @@ ghost use Rattle.std.specs.Prelude.{◌≡◌, ℤ, ◌<ℤ◌, ◌≤ℤ◌, �
 ghost use Rattle.std.specs.Result.{result_ok};
 
 use crate::Point;
+use thiserror::Error;
 
 /// The instants from `from` on and before `to`, of which there is always one. Periods are ordered by
 /// start, then end.
@@ -17,7 +18,8 @@ pub struct Period {
 }
 
 /// The start of a period would not be before its end.
-#[derive(Clone, Copy, Debug, PartialEq, Eq)]
+#[derive(Clone, Copy, Debug, PartialEq, Eq, Error)]
+#[error("the start is not before the end")]
 pub struct BadPeriod;
 
 impl Period {

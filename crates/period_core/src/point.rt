@@ -1,7 +1,9 @@
 //! Points of time, as texts and as numbers.
 
 ghost use Rattle.std.specs.Prelude.{Some, ◌+◌, ◌%◌, vec_len, ◌≡◌, ◌≢◌, ◌↔◌, ◌<◌, ◌≤◌, ◌≤ℤ◌, ℕ, pos, length, ◌∷◌, [], ◌++◌, ◌⊎◌, List, IsOk, IfOk, OnOk, OnErr, MatchOption, unsigned_abs};
+ghost use Rattle.std.specs.Fmt.{WritesOnOk};
 ghost use Rattle.std.specs.Result.{result_ok};
+ghost use Rattle.std.specs.Str.{IsAscii};
 ghost use Rattle.std.specs.Vec.{vec_capacity};
 ghost use Rattle.jiff_core.specs.Date.{epoch_day};
 ghost use Rattle.period_core.specs.Point.{HourMinuteSecond, IsDate, IsPointNumber, IsPointText, IsSomePointText, IsTime, IsTimeText, YearMonthDay, date_text, day_of, digits, midnight, point_of, point_text, second_number, second_of, seconds_per_day, time_of_second, time_text, year_month_day};
@@ -10,9 +12,16 @@ use crate::NoMemory;
 use jiff::civil::Date;
 use jiff_core::civil;
 use std::alloc::Allocator;
+use std::fmt;
 use std::marker::Model;
+use thiserror::Error;
 
 const SECONDS_PER_DAY: i64 = 86_400;
+
+// The numbers of 0001-01-01 and of 9999-12-31T23:59:59.
+const FIRST_NUMBER: i64 = -62_135_596_800;
+
+const LAST_NUMBER: i64 = 253_402_300_799;
 
 /// A second of a date of the proleptic Gregorian calendar, in the years 0001 to 9999. Contracts see its
 /// number: the seconds from 1970-01-01T00:00:00. Points are ordered by it.
@@ -34,8 +43,10 @@ impl Model for Point {
     ghost inverse = { λ n. record { number = n } };
 }
 
-/// A text is no date of the years 0001 to 9999, with or without a time of the day.
-#[derive(Clone, Copy, Debug, PartialEq, Eq)]
+/// A text is no date of the years 0001 to 9999, with or without a time of the day, or a number is that
+/// of no such second.
+#[derive(Clone, Copy, Debug, PartialEq, Eq, Error)]
+#[error("no point of the years 0001 to 9999")]
 pub struct BadPoint;
 
 impl Point {
@@ -70,6 +81,22 @@ impl Point {
             number: date.to_unix_epoch_day() as i64 * SECONDS_PER_DAY
                 + second_number(hour, minute, second),
         })
+    }
+
+    /// The point with that number.
+    ///
+    /// # Errors
+    ///
+    /// `BadPoint` exactly where no point has it.
+    pub fn from_number(number: i64) -> Result<Point, BadPoint>
+        ensures succeeds { IsOk result ↔ IsPointNumber number }
+        ensures value { IfOk result (λ point. point ≡ number) }
+    {
+        if (FIRST_NUMBER..=LAST_NUMBER).contains(&number) {
+            Ok(Point { number })
+        } else {
+            Err(BadPoint)
+        }
     }
 
     /// The seconds from 1970-01-01T00:00:00, negative before it.
@@ -126,6 +153,32 @@ impl Point {
         ensures value { result ≡ second_of self.now }
     {
         self.number.rem_euclid(SECONDS_PER_DAY) as u32
+    }
+}
+
+/// The text that `write` appends.
+impl fmt::Display for Point {
+    ghost output = { λ p. Some (point_text p) };
+
+    fn fmt<W: fmt::Write>(&self, f: &mut fmt::Formatter<W>) -> fmt::Result {
+        let date = text_of(&self.date());
+        let second = self.second();
+        if second == 0 {
+            write_ascii(f, &date)
+        } else {
+            write_ascii(f, &with_time(&date, second))
+        }
+    }
+}
+
+// Writes bytes of ASCII.
+fn write_ascii<W: fmt::Write>(f: &mut fmt::Formatter<W>, bytes: &[u8]) -> fmt::Result
+    requires { IsAscii bytes.now }
+    ensures { WritesOnOk W.write_str_gives f.old result bytes.now f.new }
+{
+    match str::from_utf8(bytes) {
+        Ok(text) => f.write_str(text),
+        Err(_) => unreachable!(),
     }
 }
 
