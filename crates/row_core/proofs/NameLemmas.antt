@@ -1,8 +1,10 @@
 -- Names and the zeros behind them.
-use Rattle.std.proofs.Common.{◌≡◌, ℕ, zero, suc, ◌+◌, ◌-◌, ◌≤◌, List, [], ◌∷◌, ◌++◌, Bool, true, false, ◌&&◌, cond, not, ◌==◌, length, drop, take, refl, sym, ◌∙◌, ap, arith, ◌≢◌}
+use Rattle.std.proofs.Common.{◌≡◌, ℕ, zero, suc, ◌+◌, ◌-◌, ◌<◌, ◌≤◌, List, [], ◌∷◌, ◌++◌, true, ◌&&◌, cond, not, ◌==◌, length, drop, take, refl, sym, ◌∙◌, ap, arith, ◌≢◌}
 use Rattle.std.specs.Prelude.{replicate, nat_le}
 use Rattle.std.specs.List.{list_all, prefix_len}
+use Rattle.std.specs.Str.{IsAscii}
 use Rattle.std.proofs.lemmas.List.{drop-replicate}
+use Rattle.std.proofs.lemmas.Str.Ascii.{IsAscii-cons, IsAscii-nil}
 use Rattle.std.proofs.Math.Seq.{take-append_seam}
 use Rattle.std.proofs.lemmas.Bool.{and_parts, ne_eqb}
 use Rattle.std.proofs.lemmas.Bool.Decides.{nat_tests}
@@ -51,3 +53,16 @@ pub padded-kept : (text kept : List ℕ) → is_name text ≡ true
 padded-kept text kept name same =
     ap padded (unpadded-kept text kept name same)
     ∙ sym (same ∙ ap (λ zeros. text ++ zeros) (drop-replicate (length text) 32 0))
+
+-- a name is ASCII
+name_byte-ascii : (byte : ℕ) → is_name_byte byte ≡ true → byte < 128
+name_byte-ascii byte h = grind (arith, nat_tests)
+
+name_bytes-ascii : (text : List ℕ) → list_all is_name_byte text ≡ true → IsAscii text
+name_bytes-ascii [] h = IsAscii-nil
+name_bytes-ascii (c ∷ cs) h =
+    let both = and_parts (is_name_byte c) (list_all is_name_byte cs) h in
+    IsAscii-cons c cs (name_byte-ascii c both.0) (name_bytes-ascii cs both.1)
+
+pub IsAscii-name : (text : List ℕ) → is_name text ≡ true → IsAscii text
+IsAscii-name text h = name_bytes-ascii text (name-parts text h).0

@@ -1,6 +1,6 @@
 //! Names of tables and columns.
 
-ghost use Rattle.std.specs.Prelude.{◌≡◌, ◌&&◌, ◌≤◌, IsTrue, ◌==◌, bytes_eq, length, not, position};
+ghost use Rattle.std.specs.Prelude.{◌≡◌, ◌&&◌, ◌≤◌, IsTrue, ◌==◌, bytes_eq, length, not, position, Some};
 ghost use Rattle.std.specs.List.{list_all};
 ghost use Rattle.std.specs.Result.{result_ok};
 ghost use Rattle.std.specs.Cmp.{partial_equiv_from_equiv};
@@ -15,7 +15,9 @@ ghost use Rattle.row_core.specs.Name.{
   starts_with_letter,
 };
 
+use std::fmt;
 use std::marker::Model;
+use thiserror::Error;
 
 /// The most bytes of a name.
 const NAME_LIMIT: usize = 32;
@@ -48,7 +50,8 @@ impl Model for Name {
 }
 
 /// The bytes are no name.
-#[derive(Clone, Copy, Debug, PartialEq, Eq)]
+#[derive(Clone, Copy, Debug, PartialEq, Eq, Error)]
+#[error("no name")]
 pub struct BadName;
 
 impl Name {
@@ -87,6 +90,18 @@ impl PartialEq for Name {
 
 impl Eq for Name {
     ghost laws = { nat_list_eq_equiv };
+}
+
+/// The name's text.
+impl fmt::Display for Name {
+    ghost output = { λ name. Some name };
+
+    fn fmt<W: fmt::Write>(&self, f: &mut fmt::Formatter<W>) -> fmt::Result {
+        match str::from_utf8(self.as_bytes()) {
+            Ok(text) => f.write_str(text),
+            Err(_) => unreachable!(),
+        }
+    }
 }
 
 fn is_name(text: &[u8]) -> bool

@@ -4,8 +4,11 @@ ghost use Rattle.std.specs.Prelude.{◌≡◌, ◌≢◌, ℤ, MatchResult, IsTr
 ghost use Rattle.std.specs.Result.{result_ok};
 ghost use Rattle.row_core.specs.Number.{is_number, is_plain, is_leading, number_of, number_text};
 
+use thiserror::Error;
+
 /// The text is not what is printed of a number of 64 bits.
-#[derive(Clone, Copy, Debug, PartialEq, Eq)]
+#[derive(Clone, Copy, Debug, PartialEq, Eq, Error)]
+#[error("not what is printed of a number of 64 bits")]
 pub struct BadNumber;
 
 /// The number that is printed as the text: `0`, or an optional `-`, a digit from 1 to 9 and more

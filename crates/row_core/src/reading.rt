@@ -14,6 +14,7 @@ use period_core::{BadPeriod, BadPoint, Period, Point};
 use std::alloc::Global;
 use std::convert::AsSlice;
 use std::marker::Model;
+use thiserror::Error;
 
 /// The bytes of a record's field.
 #[derive(Debug, Drop)]
@@ -49,19 +50,25 @@ impl AsSlice<u8> for Field {
 }
 
 /// Why a record's fields are no row, in the order of the tests; the values are tested from the left.
-#[derive(Clone, Copy, Debug, PartialEq, Eq)]
+#[derive(Clone, Copy, Debug, PartialEq, Eq, Error)]
 pub enum RowRefused {
     /// There are not two fields more than columns.
+    #[error("not two fields more than columns")]
     WrongWidth,
     /// The first or the second field is no point.
+    #[error("the first or the second field is no point")]
     BadPoint,
     /// The first point is not before the second.
+    #[error("the first point is not before the second")]
     BadPeriod,
     /// The field of a number column is not what is printed of a number of 64 bits.
+    #[error("the field of a number column is not what is printed of a number of 64 bits")]
     BadNumber,
     /// The field of a text column has more than 4,096 bytes.
+    #[error("the field of a text column has more than 4,096 bytes")]
     TooLong,
     /// It is no UTF-8.
+    #[error("the field of a text column is not UTF-8")]
     BadUtf8,
 }
 

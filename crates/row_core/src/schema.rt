@@ -43,6 +43,7 @@ use crate::value::{Kind, Value, ValueRefused, Values};
 use list_core::DeepCopy;
 use std::alloc::Global;
 use std::marker::Model;
+use thiserror::Error;
 
 /// The most columns of a table.
 const COLUMN_LIMIT: usize = 16;
@@ -74,20 +75,24 @@ impl Model for Schema {
 }
 
 /// Why columns are no table's, in the order of the tests.
-#[derive(Clone, Copy, Debug, PartialEq, Eq)]
+#[derive(Clone, Copy, Debug, PartialEq, Eq, Error)]
 pub enum SchemaRefused {
     /// There are more than 16.
+    #[error("more than 16 columns")]
     TooMany,
     /// Two have one name.
+    #[error("two columns have one name")]
     TwiceNamed,
 }
 
 /// Why columns make no key, in the order of the tests; each name is tested for both before the next one.
-#[derive(Clone, Copy, Debug, PartialEq, Eq)]
+#[derive(Clone, Copy, Debug, PartialEq, Eq, Error)]
 pub enum KeyRefused {
     /// No column has that name.
+    #[error("no column has that name")]
     NoColumn,
     /// The name stands twice.
+    #[error("the name stands twice")]
     TwiceNamed,
 }
 

@@ -15,6 +15,7 @@ use list_core::DeepCopy;
 use std::alloc::Global;
 use std::cmp::Ordering;
 use std::marker::Model;
+use thiserror::Error;
 
 /// The most bytes of a text.
 const TEXT_LIMIT: usize = 4096;
@@ -38,11 +39,13 @@ impl Model for Text {
 }
 
 /// Why bytes are no text, in the order of the tests.
-#[derive(Clone, Copy, Debug, PartialEq, Eq)]
+#[derive(Clone, Copy, Debug, PartialEq, Eq, Error)]
 pub enum TextRefused {
     /// There are more than 4,096 bytes.
+    #[error("more than 4,096 bytes")]
     TooLong,
     /// The bytes are no UTF-8.
+    #[error("not UTF-8")]
     BadUtf8,
 }
 

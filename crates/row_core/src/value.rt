@@ -15,6 +15,7 @@ use list_core::{DeepCopy, copy_each};
 use std::alloc::Global;
 use std::marker::Model;
 use std::sync::Arc;
+use thiserror::Error;
 
 /// The kind of a value, and of a column.
 #[derive(Clone, Copy, Debug, PartialEq, Eq)]
@@ -31,13 +32,16 @@ pub enum Value {
 }
 
 /// Why bytes are no value of a kind, in the order of the tests.
-#[derive(Clone, Copy, Debug, PartialEq, Eq)]
+#[derive(Clone, Copy, Debug, PartialEq, Eq, Error)]
 pub enum ValueRefused {
     /// They are not what is printed of a number of 64 bits.
+    #[error("not what is printed of a number of 64 bits")]
     BadNumber,
     /// There are more than 4,096 bytes.
+    #[error("more than 4,096 bytes")]
     TooLong,
     /// They are no UTF-8.
+    #[error("not UTF-8")]
     BadUtf8,
 }
 
