@@ -18,9 +18,11 @@ use crate::version::Version;
 use key_core::{KeyedRow, collide, have_collision};
 use row_core::{Name, NoMemory, Schema, Value};
 use std::alloc::{AllocError, Global};
+use thiserror::Error;
 
 /// Two rows of one key would share an instant.
-#[derive(Clone, Copy, Debug, PartialEq, Eq)]
+#[derive(Clone, Copy, Debug, PartialEq, Eq, Error)]
+#[error("two rows of one key would share an instant")]
 pub struct KeyOverlap;
 
 /// Whether the change can leave rows of one key that share an instant, where none do before it. A load
