@@ -7,6 +7,7 @@ ghost use Rattle.book_core.specs.Versions.{change_kind};
 
 use list_core::List;
 use row_core::Name;
+use std::fmt;
 use version_core::{Change, VersionCounts};
 
 /// The kinds of change.
@@ -16,6 +17,18 @@ pub enum ChangeKind {
     Load,
     Update,
     Delete,
+}
+
+/// The word that stands in a printed log.
+impl fmt::Display for ChangeKind {
+    fn fmt<W: fmt::Write>(&self, f: &mut fmt::Formatter<W>) -> fmt::Result {
+        f.write_str(match self {
+            ChangeKind::Make => "table",
+            ChangeKind::Load => "load",
+            ChangeKind::Update => "update",
+            ChangeKind::Delete => "delete",
+        })
+    }
 }
 
 /// A commit in the log: its number, whose it is, and how many versions it made and closed.
