@@ -9,6 +9,7 @@
 //!
 //! A `Post` takes a note to a thread that runs, and keeps that it is of the store.
 
+mod error;
 mod pass;
 mod post;
 mod refusal;
@@ -17,6 +18,7 @@ mod snapshot;
 mod store;
 
 pub use book_core::NoTable;
+pub use error::StoreError;
 pub use pass::{Note, Pass};
 pub use post::Post;
 pub use refusal::{BadCount, Future, PassSpent, RangeRefused, SnapshotRefused, StoreRefused};
