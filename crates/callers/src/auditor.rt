@@ -2,10 +2,9 @@
 
 ghost use Rattle.store_core.specs.Passes.{IsPassOf};
 
-use crate::stopped::Stopped;
 use row_core::{Failure, Name};
 use std::sync::Wait;
-use store_core::{Pass, Snapshot, Store};
+use store_core::{NoTable, Pass, Snapshot, Store, StoreError};
 
 // How many snapshots the auditor takes. It keeps the middle one.
 const LOOKS: u32 = 100;
@@ -22,17 +21,17 @@ pub struct Watched {
 
 impl Watched {
     /// Whether the kept snapshot still shows as many rows as when it was taken.
-    pub fn stays(&self, table: Name) -> Result<bool, Stopped> {
+    pub fn stays(&self, table: Name) -> Result<bool, StoreError> {
         Ok(rows_shown(&self.kept, table)? == self.rows)
     }
 }
 
 /// How many rows of a table a snapshot shows: none where the table wasn't made yet.
-pub fn rows_shown(snapshot: &Snapshot, table: Name) -> Result<usize, Stopped> {
+pub fn rows_shown(snapshot: &Snapshot, table: Name) -> Result<usize, StoreError> {
     match snapshot.rows(table) {
         Ok(rows) => Ok(rows.len()),
-        Err(Failure::Refused(_)) => Ok(0),
-        Err(Failure::NoMemory) => Err(Stopped::NoMemory),
+        Err(Failure::Refused(NoTable)) => Ok(0),
+        Err(failure) => Err(failure.into()),
     }
 }
 
@@ -42,7 +41,7 @@ pub fn watch<R: Wait>(
     store: &Store,
     table: Name,
     pass: &mut Pass,
-) -> Result<Watched, Stopped>
+) -> Result<Watched, StoreError>
     requires { IsPassOf store.now pass.old }
     ensures { IsPassOf store.now pass.new }
 {

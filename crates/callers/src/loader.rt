@@ -3,13 +3,12 @@
 ghost use Rattle.std.specs.Prelude.{◌≡◌, ◌+◌, ◌≤◌, length, IfOk, OnOk};
 ghost use Rattle.store_core.specs.Passes.{IsNoteOf, IsPassOf, calls_left, mine, told_in};
 
-use crate::stopped::Stopped;
 use book_core::{Change, ChangeKind, Entry};
 use period_core::{Period, Point};
 use row_core::{Draft, Drafts, Kind, Name, Schema, Value, Values};
 use std::alloc::Global;
 use std::sync::Wait;
-use store_core::{Note, Pass, Store};
+use store_core::{Note, Pass, Store, StoreError};
 
 // How many rows there are to load.
 const ROWS: u32 = 1_000;
@@ -21,7 +20,7 @@ pub const COMMITS: u64 = 1_001;
 const LOADER: u32 = 1;
 
 /// The rows of one change: a single row of this number, which holds for a day.
-pub fn one_row(alloc: Global, number: u32) -> Result<Drafts, Stopped> {
+pub fn one_row(alloc: Global, number: u32) -> Result<Drafts, StoreError> {
     let period = Period::new(Point::parse(b"2024-01-08")?, Point::parse(b"2024-01-09")?)?;
     let mut values = Values::new(alloc);
     values.push(Value::Int(number as i64))?;
@@ -38,7 +37,7 @@ pub fn load<R: Wait>(
     store: &Store,
     table: Name,
     pass: &mut Pass,
-) -> Result<Note, Stopped>
+) -> Result<Note, StoreError>
     requires { IsPassOf store.now pass.old }
     ensures pass { IsPassOf store.now pass.new }
     ensures note { IfOk result (IsNoteOf store.now) }

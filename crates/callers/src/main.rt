@@ -9,7 +9,6 @@ ghost use Rattle.store_core.specs.Passes.{IsFresh, IsNoteOf, IsPassOf, calls_lef
 
 mod auditor;
 mod loader;
-mod stopped;
 
 use auditor::{Watched, rows_shown, watch};
 use book_core::Change;
@@ -18,8 +17,7 @@ use row_core::{Failure, Name};
 use std::alloc::Global;
 use std::sync::Wait;
 use std::thread::{Threads, join_mut};
-use stopped::Stopped;
-use store_core::{Note, Pass, Store, StoreRefused};
+use store_core::{Note, Pass, Store, StoreError, StoreRefused};
 
 /// Lets the loader load on a thread of its own while the auditor watches here, or after it where no thread can be
 /// made. Answers the loader's note, and what the auditor saw.
@@ -30,7 +28,7 @@ fn meanwhile<R: Threads + Wait + Sync>(
     table: Name,
     loader: &mut Pass,
     auditor: &mut Pass,
-) -> (Result<Note, Stopped>, Result<Watched, Stopped>)
+) -> (Result<Note, StoreError>, Result<Watched, StoreError>)
     requires loader { IsPassOf store.now loader.old }
     requires auditor { IsPassOf store.now auditor.old }
     ensures passes { IsPassOf store.now loader.new × IsPassOf store.now auditor.new }
@@ -38,14 +36,14 @@ fn meanwhile<R: Threads + Wait + Sync>(
     ensures told { IfOk result.0 (λ note. 1001 ≤ length (told_in note).seen) }
     ensures calls { OnOk result.0 (calls_left loader.new + 1001 ≡ calls_left loader.old) }
 {
-    let mut loading = || -> Result<Note, Stopped>
+    let mut loading = || -> Result<Note, StoreError>
         requires { IsSync R.row × IsPassOf store.now loader.now }
         ensures pass { IsPassOf store.entry.now loader.exit.now }
         ensures note { IfOk result (IsNoteOf store.entry.now) }
         ensures told { IfOk result (λ note. 1001 ≤ length (told_in note).seen) }
         ensures calls { OnOk result (calls_left loader.exit.now + 1001 ≡ calls_left loader.entry.now) }
     { load(rt, alloc, store, table, loader) };
-    let mut watching = || -> Result<Watched, Stopped>
+    let mut watching = || -> Result<Watched, StoreError>
         requires { IsSync R.row × IsPassOf store.now auditor.now }
         ensures { IsPassOf store.entry.now auditor.exit.now }
     { watch(rt, store, table, auditor) };
@@ -59,7 +57,7 @@ fn report<R: Print + Wait>(
     table: Name,
     auditor: &mut Pass,
     watched: &Watched,
-) -> Result<(), Stopped>
+) -> anyhow::Result<()>
     requires pass { IsPassOf store.now auditor.old }
     requires heard { 1001 ≤ length (seen auditor.old) }
     ensures { IsPassOf store.now auditor.new }
@@ -89,14 +87,14 @@ fn show_spent<R: Print + Wait>(
     store: &Store,
     table: Name,
     pass: &mut Pass,
-) -> Result<(), Stopped>
+) -> anyhow::Result<()>
     requires pass { IsPassOf store.now pass.old }
     requires spent { calls_left pass.old ≡ 0 }
 {
     let rows = one_row(alloc, 0)?;
     match store.commit(rt, pass, Change::Load { table, rows }) {
-        Err(Failure::Refused(StoreRefused::PassSpent)) => {
-            println!(rt; "one commit more: the pass is spent")?;
+        Err(Failure::Refused(spent @ StoreRefused::PassSpent)) => {
+            println!(rt; "one commit more: {spent}")?;
             Ok(())
         }
         _ => unreachable!(),
@@ -104,7 +102,7 @@ fn show_spent<R: Print + Wait>(
 }
 
 /// A store with two passes, the loader's and the auditor's. Each has as many calls as the loader needs.
-fn open(alloc: Global) -> Result<(Store, Pass, Pass), Stopped>
+fn open(alloc: Global) -> Result<(Store, Pass, Pass), StoreError>
     ensures loader { IfOk result (λ made. IsPassOf made.0 made.1 × IsFresh 1 2 1001 made.1) }
     ensures auditor { IfOk result (λ made. IsPassOf made.0 made.2 × IsFresh 2 2 1001 made.2) }
 {
@@ -116,7 +114,7 @@ fn open(alloc: Global) -> Result<(Store, Pass, Pass), Stopped>
 }
 
 /// Runs the two callers, hands over the note, and prints what the auditor finds.
-fn run<R: Print + Threads + Wait + Sync>(rt: &R, alloc: Global) -> Result<(), Stopped> {
+fn run<R: Print + Threads + Wait + Sync>(rt: &R, alloc: Global) -> anyhow::Result<()> {
     let table = Name::parse(b"posts")?;
     let (store, mut loader, mut auditor) = open(alloc)?;
     let (note, watched) = meanwhile(rt, alloc, &store, table, &mut loader, &mut auditor);
@@ -125,6 +123,6 @@ fn run<R: Print + Threads + Wait + Sync>(rt: &R, alloc: Global) -> Result<(), St
     show_spent(rt, alloc, &store, table, &mut loader)
 }
 
-fn main(rt: HostRuntime) -> Result<(), Stopped> {
+fn main(rt: HostRuntime) -> anyhow::Result<()> {
     run(&rt, rt.alloc())
 }
