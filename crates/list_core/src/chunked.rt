@@ -1,6 +1,6 @@
 //! Lists in chunks.
 
-ghost use Rattle.std.specs.Prelude.{◌≡◌, ◌<◌, ◌∷◌, ◌++◌, [], All, List, IfOk, MatchOption, length, slice_get};
+ghost use Rattle.std.specs.Prelude.{◌≡◌, ◌<◌, ◌∷◌, ◌++◌, [], All, List, IfOk, flat_map, MatchOption, length, slice_get};
 ghost use Rattle.std.specs.Option.{option_copied};
 ghost use Rattle.list_core.specs.Chunks.{all_in};
 
@@ -101,6 +101,24 @@ impl<T: Drop> ChunkedList<T> {
         };
         chunks.append(&mut others)?;
         Ok(ChunkedList { chunks, len })
+    }
+
+    /// The items of all lists, one list behind another.
+    ///
+    /// # Errors
+    ///
+    /// `AllocError` where a growth is refused; the lists are dropped then.
+    pub fn of_all(
+        alloc: Global,
+        lists: Vec<ChunkedList<T>>,
+    ) -> Result<ChunkedList<T>, AllocError>
+        ensures { IfOk result (λ list. list ≡ flat_map (λ items. items) lists.items) }
+    {
+        let mut all = ChunkedList::of(alloc, Vec::new(alloc))?;
+        for list in lists {
+            all = all.followed_by(list)?;
+        }
+        Ok(all)
     }
 
     /// These items, with another one in place of the first, where there is one.

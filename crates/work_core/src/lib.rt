@@ -10,6 +10,7 @@
 mod claim_view;
 mod claims;
 mod collector;
+mod crew;
 mod gate;
 mod job;
 mod kept;
@@ -22,6 +23,7 @@ mod stretch;
 mod worker;
 
 pub use collector::{Collector, Refused, Unfinished, Why};
+pub use crew::Crew;
 pub use gate::{Gate, OpenGate};
 pub use job::PairWork;
 pub use name::PairName;

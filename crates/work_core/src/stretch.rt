@@ -2,9 +2,9 @@
 
 ghost use Rattle.std.specs.Prelude.{◌≡◌, ◌+◌, ◌<◌, ◌≤◌, IfOk};
 ghost use Rattle.work_core.specs.Jobs.{AreValues};
-ghost use Rattle.work_core.specs.Limits.{worker_limit};
 ghost use Rattle.work_core.specs.Stretches.{AreValuesFrom, number_within, number_within-at, number_within-is, stretch-few, stretch-inside};
 
+use crate::crew::Crew;
 use crate::gate::Gate;
 use crate::job::PairWork;
 use crate::name::PairName;
@@ -99,20 +99,16 @@ impl<'a, W: PairWork> PairWork for Stretch<'a, W> {
 
 /// The values of the `count` pairs of the job from number `first` on, run as [`run_pairs`] runs all of them.
 pub fn run_stretch<R: Threads + Sync, W: PairWork, G: Gate>(
-    rt: &R,
-    alloc: Global,
+    crew: &Crew<'_, R, G>,
     job: &W,
     first: u64,
     count: u64,
-    workers: u32,
-    gate: &G,
 ) -> Result<Outs<W::Out>, AllocError>
-    requires inside { first + count ≤ W.pairs job.now }
-    requires workers { (0 < workers) × (workers ≤ worker_limit) }
+    requires { first + count ≤ W.pairs job.now }
     ensures { IfOk result (AreValuesFrom W.PairWork job.now first count) }
 {
     let stretch = Stretch::new(job, first, count);
-    let outs = run_pairs(rt, alloc, &stretch, workers, gate)?;
+    let outs = run_pairs(crew.rt, crew.alloc, &stretch, crew.workers, crew.gate)?;
     stretch.has_values_of_job(&outs);
     Ok(outs)
 }

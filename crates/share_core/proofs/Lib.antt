@@ -1,0 +1,4 @@
+mod CutLemmas
+pub mod NumberLemmas
+pub mod PieceLemmas
+pub mod ShareLemmas

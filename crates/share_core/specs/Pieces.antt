@@ -1,0 +1,17 @@
+-- Pieces of lists.
+use Rattle.std.specs.Prelude.{ℕ, List, Option, Some, None, take, drop}
+use Rattle.share_core.specs.declared.range.Range.{Range}
+
+-- the items before a place, where one is given
+abbrev pub piece_before : {X : Type 0} → Option ℕ → List X → List X
+piece_before None xs = xs
+piece_before (Some end) xs = take end xs
+
+-- the items from a place on, where one is given
+abbrev pub piece_from : {X : Type 0} → Option ℕ → List X → List X
+piece_from None xs = xs
+piece_from (Some start) xs = drop start xs
+
+-- the items of a range's places
+abbrev pub piece : {X : Type 0} → Range ℕ → List X → List X
+piece range xs = piece_from range.from (piece_before range.before xs)

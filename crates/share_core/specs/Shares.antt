@@ -1,0 +1,52 @@
+-- Shares: ranges that follow one another.
+use Rattle.std.specs.Prelude.{◌≡◌, ℕ, zero, suc, ◌+◌, ◌<◌, ◌≤◌, List, [], ◌∷◌, Option, Some, None, Result, Ok, true, All, AllPairs}
+use Rattle.std.specs.declared.cmp.Ordering.{Ordering}
+use Rattle.share_core.specs.Ranges.{has_begun, is_from, range}
+use Rattle.share_core.specs.declared.range.Range.{Range}
+use Rattle.share_core.specs.declared.shares.Cut.{Cut}
+
+-- one cut comes before another
+abbrev pub IsCutBefore : {T : Type 0} → (T → T → Ordering) → Cut T → Cut T → Type 0
+IsCutBefore cmp a b = is_from cmp a.at b.at ≡ true
+
+-- cuts that follow one another, each behind a range that has some of the workers
+pub record AreCuts {T : Type 0} (cmp : T → T → Ordering) (cuts : List (Cut T)) (workers : ℕ) : Type 0 where
+  pub rise : AllPairs (IsCutBefore cmp) cuts
+  pub some : All (λ (c : Cut T). (0 < c.workers) × (c.workers ≤ workers)) cuts
+
+-- the end of the range of that number, where it has one
+abbrev pub end_at : {T : Type 0} → List (Cut T) → ℕ → Option T
+end_at [] i = None
+end_at (cut ∷ cuts) zero = Some cut.at
+end_at (cut ∷ cuts) (suc i) = end_at cuts i
+
+-- its first value, where the first range begins there
+abbrev pub start_at : {T : Type 0} → Option T → List (Cut T) → ℕ → Option T
+start_at from cuts zero = from
+start_at from cuts (suc i) = end_at cuts i
+
+-- the range of that number, where the first one begins there
+abbrev pub range_at : {T : Type 0} → Option T → List (Cut T) → ℕ → Range T
+range_at from cuts i = range (start_at from cuts i) (end_at cuts i)
+
+-- some number of workers may answer a range by it
+abbrev pub Gives : {T X E : Type 0} → (Range T → ℕ → Result X E → Type 0) → Range T → X → Type 0
+Gives post r x = (n : ℕ) × post r n (Ok x)
+
+-- each range, from a value on, has what it came to
+abbrev pub GivesFrom : {T X : Type 0} → (T → T → Ordering) → (Range T → X → Type 0) → Option T → List (Cut T) → List X
+    → Type 0
+GivesFrom cmp gives from cuts [] = ⊥
+GivesFrom cmp gives from [] (x ∷ []) = gives (range from None) x
+GivesFrom cmp gives from [] (x ∷ (y ∷ ys)) = ⊥
+GivesFrom cmp gives from (cut ∷ cuts) (x ∷ xs) =
+    (has_begun cmp from cut.at ≡ true) × gives (range from (Some cut.at)) x × GivesFrom cmp gives (Some cut.at) cuts xs
+
+-- cuts that come up to a last value; some of the workers that are left are for the next range, and each part that is left
+-- has one
+pub record IsCutUpto {T : Type 0} (cmp : T → T → Ordering) (workers parts : ℕ) (cuts : List (Cut T)) (last : T) (some left : ℕ)
+    : Type 0 where
+  pub cut : AreCuts cmp cuts workers
+  pub upto : All (λ (c : Cut T). is_from cmp c.at last ≡ true) cuts
+  pub enough : some + parts < left
+  pub within : left ≤ workers

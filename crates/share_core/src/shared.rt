@@ -1,0 +1,56 @@
+//! Work done by share.
+
+ghost use Rattle.std.specs.Prelude.{◌≡◌, ℕ, ◌<◌, ◌≤◌, None, Ok, map, length, IfOk};
+ghost use Rattle.std.specs.Thread.{IsSync};
+ghost use Rattle.share_core.specs.Shares.{Gives, GivesFrom, range_at};
+ghost use Rattle.share_core.specs.declared.range.Range.{Range as AnyRange};
+
+use crate::range::Range;
+use crate::shares::Shares;
+use std::alloc::{AllocError, Global};
+use std::thread;
+use std::thread::Threads;
+
+/// What the work gives for each range, by so many of the workers, in their order. Each range is looked after by a thread
+/// of its own, where one can be started.
+///
+/// # Errors
+///
+/// `AllocError` where the work gives one for a range, and where a growth is refused.
+pub fn shared_out<
+    R: Threads + Sync,
+    T: Ord + Copy + Sync,
+    X: Send + Drop,
+    F: Fn(Range<T>, u32) -> Result<X, AllocError> + Sync,
+>(rt: &R, alloc: Global, shares: &Shares<T>, work: &F) -> Result<Vec<X>, AllocError>
+    requires { (r : AnyRange T) (n : ℕ) → 0 < n → n ≤ shares.now.workers → F.pre work.now r n }
+    ensures { IfOk result (λ found.
+        GivesFrom T.cmp (Gives (F.post work.now)) None shares.now.cuts.items found.items) }
+{
+    let answers = thread::map_indices(
+        rt,
+        alloc,
+        shares.len(),
+        &|number: usize| -> Result<X, AllocError>
+            requires { (number ≤ length shares.now.cuts.items)
+                × ((r : AnyRange T) (n : ℕ) → 0 < n → n ≤ shares.now.workers → F.pre work.now r n) }
+            ensures { (n : ℕ)
+                × F.post work.entry.now (range_at None shares.entry.now.cuts.items number) n result }
+        { work(shares.range(number), shares.workers_of(number)) },
+    )?;
+    all_found(alloc, answers)
+}
+
+/// What was found, if nothing was refused.
+fn all_found<X: Drop>(
+    alloc: Global,
+    answers: Vec<Result<X, AllocError>>,
+) -> Result<Vec<X>, AllocError>
+    ensures { IfOk result (λ found. answers.items ≡ map Ok found.items) }
+{
+    let mut found = Vec::with_capacity(alloc, answers.len())?;
+    for answer in answers {
+        found.push(answer?)?;
+    }
+    Ok(found)
+}
