@@ -9,22 +9,24 @@ use Rattle.std.proofs.Math.Seq.{drop-append_seam, take-append_seam}
 use Rattle.dip_core.specs.declared.item.Item.{Item}
 use Rattle.dip_core.specs.Item.{HasDistinctIds}
 use Rattle.dip_core.proofs.PartedLemmas.{distinct-earlier, distinct-later}
-use Rattle.grid_core.specs.Bundles.{AreFromClass, ArePartedBehind, ClassesRise}
+use Rattle.grid_core.specs.Bundles.{AreFromClass, ArePartedAt, ClassesRise}
 
 -- those before and behind the place from which a test for higher classes fails
 pub parted-from_point : (class : ℕ) (items low high : List Item) (n : ℕ) → n ≤ length items
     → IsPartitionPoint (λ y. leb y.class class ≡ true) (λ y. leb y.class class ≡ false) items n → low ≡ take n items
-    → high ≡ drop n items → ArePartedBehind class items low high
+    → high ≡ drop n items → ArePartedAt (class + 1) items low high
 parted-from_point class items low high n inside point front back = rw (front, back) (record {
   whole = sym (take-append-drop n items);
-  upto = λ k d h.
+  below = λ k d h.
       let within : k < n = omega (arith, h, inside, length-take n items) in
-      subst (λ (x : Item). x.class ≤ class) (sym (get_or-take n items k d within))
-      (leb-true (get_or items k d).class class (point.0 k d (omega arith) within));
-  above = λ k d h.
+      let upto : (get_or items k d).class ≤ class =
+      leb-true (get_or items k d).class class (point.0 k d (omega arith) within) in
+      subst (λ (x : Item). x.class < class + 1) (sym (get_or-take n items k d within)) (omega (arith, upto));
+  from = λ k d h.
       let within : n + k < length items = omega (arith, h, inside, length-drop n items) in
-      subst (λ (x : Item). class < x.class) (sym (get_or-drop n items k d))
-      (leb-false (get_or items (n + k) d).class class (point.1 (n + k) d (omega arith) within));
+      let above : class < (get_or items (n + k) d).class =
+      leb-false (get_or items (n + k) d).class class (point.1 (n + k) d (omega arith) within) in
+      subst (λ (x : Item). class + 1 ≤ x.class) (sym (get_or-drop n items k d)) (omega (arith, above));
 })
 
 -- those from the place on from which a test for lower classes fails
@@ -72,7 +74,7 @@ module _ (class : ℕ) (items high : List Item) (are : AreFromClass class items 
       subst ClassesRise (ap (drop (length are.low)) are.whole ∙ drop-append_seam are.low high)
       (IsNonDecreasingBy-drop (λ (x : Item). x.class) (length are.low) items rise)
 
-module _ (class : ℕ) (items low high : List Item) (parted : ArePartedBehind class items low high) where
+module _ (class : ℕ) (items low high : List Item) (parted : ArePartedAt class items low high) where
   -- ids that are distinct in all are so in each
   pub low-distinct : HasDistinctIds items → HasDistinctIds low
   low-distinct distinct = distinct-earlier low high (subst HasDistinctIds parted.whole distinct)

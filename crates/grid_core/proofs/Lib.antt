@@ -1,2 +1,3 @@
 pub mod BundleLemmas
+pub mod RangeItems
 pub mod SameLemmas

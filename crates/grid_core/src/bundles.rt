@@ -1,18 +1,18 @@
 //! Items by class, a bundle at a time: all items of some classes. Items of other classes don't match them, so the parts
 //! of a bundle are paired with each other alone. They are few, since few of its items hold at once.
 
-ghost use Rattle.std.specs.Prelude.{◌<◌, ◌≤◌, length, IfOk, IsSome, IsPermutation};
+ghost use Rattle.std.specs.Prelude.{◌≡◌, ◌+◌, ◌<◌, ◌≤◌, not, length, filter, IfOk, IsPermutation};
+ghost use Rattle.std.specs.Ordering.{nat_cmp};
 ghost use Rattle.dip_core.specs.Item.{item_limit};
 ghost use Rattle.dip_core.specs.Division.{IsLeastDivision};
-ghost use Rattle.grid_core.specs.Bundles.{AreFromClass, ArePartedBehind, ClassesRise};
+ghost use Rattle.share_core.specs.Ranges.{has_begun, has_ended};
+ghost use Rattle.grid_core.specs.Bundles.{AreFromClass, ArePartedAt, ClassesRise, items_in};
 
 use dip_core::{Division, Item, create_dip};
 use period_core::NoMemory;
+use share_core::{Range, Shares};
 use std::alloc::Global;
 use std::thread::Threads;
-
-/// Of fewer items half would be over before the other half's thread has started.
-const ITEMS_FOR_HALVES: usize = 8_192;
 
 /// So many items of a side are enough for a bundle of several classes. Bundles of fewer would take longer to begin than
 /// to answer, and of more many pairs of parts would share no class.
@@ -47,7 +47,7 @@ fn class_of_enough(items: &[Item]) -> u64 {
 /// The items of classes up to that one, and those of higher classes.
 pub fn parted_behind(class: u64, items: &[Item]) -> (&[Item], &[Item])
     requires { ClassesRise items.now }
-    ensures { ArePartedBehind class items.now result.0.now result.1.now }
+    ensures { ArePartedAt (class + 1) items.now result.0.now result.1.now }
 {
     let low = items.partition_point(|item| item.class <= class);
     items.split_at(low)
@@ -62,22 +62,63 @@ pub fn items_from(class: u64, items: &[Item]) -> &[Item]
     &items[lower..]
 }
 
-/// The class behind which items are parted so that half of the workers take each half: about the middle one of the
-/// side that has more. None for one worker, and where items are few or most are of one class.
-pub fn middle_class(left: &[Item], right: &[Item], workers: u32) -> Option<u64>
-    ensures { IsSome result → 2 ≤ workers }
+/// The items of a range's classes.
+pub fn items_in(range: Range<u64>, items: &[Item]) -> &[Item]
+    requires { ClassesRise items.now }
+    ensures { result.now ≡ items_in range items.now }
+{
+    items_before(range.before, items_behind(range.from, items))
+}
+
+/// The items from a class on, where one is given.
+fn items_behind(first: Option<u64>, items: &[Item]) -> &[Item]
+    requires { ClassesRise items.now }
+    ensures { result.now ≡ filter (λ x. has_begun nat_cmp first x.class) items.now }
+{
+    match first {
+        None => items,
+        Some(class) => items_from(class, items),
+    }
+}
+
+/// The items of lower classes than that one, where one is given.
+fn items_before(end: Option<u64>, items: &[Item]) -> &[Item]
+    requires { ClassesRise items.now }
+    ensures { result.now ≡ filter (λ x. not (has_ended nat_cmp end x.class)) items.now }
+{
+    match end {
+        None => items,
+        Some(class) => &items[..items.partition_point(|item| item.class < class)],
+    }
+}
+
+/// The ranges of classes that workers take, of about as many items each of the side that has more.
+///
+/// # Errors
+///
+/// `NoMemory` where a growth is refused.
+pub fn class_shares(
+    alloc: Global,
+    left: &[Item],
+    right: &[Item],
+    workers: u32,
+) -> Result<Shares<u64>, NoMemory>
+    requires { 0 < workers }
+    ensures { IfOk result (λ shares. shares.workers ≡ workers) }
 {
     let more = if left.len() < right.len() {
         right
     } else {
         left
     };
-    if workers < 2 || more.len() < ITEMS_FOR_HALVES {
-        return None;
-    }
-    let middle = more.get(more.len() / 2)?.class;
-    let later = more.get(more.len() / 4 * 3)?.class;
-    if middle < later { Some(middle) } else { None }
+    Shares::of(
+        alloc,
+        more.len(),
+        workers,
+        &|i: usize| -> u64
+            requires { i < length more.now }
+        { more[i].class },
+    )
 }
 
 /// The division of some items, which are copied.

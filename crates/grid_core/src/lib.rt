@@ -7,6 +7,8 @@ mod bundles;
 mod parts;
 mod stretches;
 
-pub use bundles::{divided, items_from, last_class, middle_class, order_by_class, parted_behind};
+pub use bundles::{
+    class_shares, divided, items_from, items_in, last_class, order_by_class, parted_behind,
+};
 pub use parts::{name_in, place_in, same_part};
 pub use stretches::stretch_len;

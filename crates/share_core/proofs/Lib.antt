@@ -1,4 +1,5 @@
-mod CutLemmas
+pub mod CutLemmas
 pub mod NumberLemmas
 pub mod PieceLemmas
+pub mod RangeLemmas
 pub mod ShareLemmas

@@ -1,0 +1,70 @@
+-- A range without an end, cut at a value that it has.
+use Rattle.std.proofs.Common.{◌≡◌, Bool, true, false, not, ◌&&◌, List, [], ◌∷◌, ◌++◌, Option, Some, None, refl, sym, ap, filter, cond, AllPairs, All, arith, suc}
+use Rattle.std.specs.declared.cmp.Ordering.{Ordering}
+use Rattle.std.specs.Cmp.{IsTotalOrder}
+use Rattle.share_core.proofs.CutLemmas.{from_on}
+use Rattle.share_core.specs.Ranges.{has, has_begun, is_from, range}
+
+-- of both parts
+low_test : (b t : Bool) → b && not t ≡ (b && true) && not t
+low_test false t = refl
+low_test true t = refl
+
+high_test : (b t : Bool) → (t ≡ true → b ≡ true) → t && true ≡ (b && true) && t
+high_test true true behind = refl
+high_test true false behind = refl
+high_test false true behind = absurd (let bad : false ≡ true = behind refl in cc)
+high_test false false behind = refl
+
+module _ {T : Type 0} (cmp : T → T → Ordering) (total : IsTotalOrder cmp) where
+  -- what comes from a value on that has begun has begun too
+  pub begun_on : (from : Option T) (at x : T) → has_begun cmp from at ≡ true → is_from cmp at x ≡ true
+      → has_begun cmp from x ≡ true
+  begun_on None at x begun on = refl
+  begun_on (Some first) at x begun on = from_on cmp total first at x begun on
+
+  -- up to the value stands what the range has before it
+  pub low_has : (from : Option T) (at x : T)
+      → has cmp (range from (Some at)) x ≡ has cmp (range from None) x && not (is_from cmp at x)
+  low_has from at x = low_test (has_begun cmp from x) (is_from cmp at x)
+
+  -- and behind it the rest
+  pub high_has : (from : Option T) (at x : T) → has_begun cmp from at ≡ true
+      → has cmp (range (Some at) None) x ≡ has cmp (range from None) x && is_from cmp at x
+  high_has from at x begun =
+      high_test (has_begun cmp from x) (is_from cmp at x) (begun_on from at x begun)
+
+-- one more item of a list that is parted
+more_parted : {X : Type 0} (a l : Bool) (x : X) (xs early late : List X) → xs ≡ early ++ late → (l ≡ true → early ≡ [])
+    → cond a (x ∷ xs) xs ≡ cond (a && not l) (x ∷ early) early ++ cond (a && l) (x ∷ late) late
+more_parted true true x xs early late is none = rw (is, none refl) refl
+more_parted true false x xs early late is none = ap (λ ys. x ∷ ys) is
+more_parted false true x xs early late is none = is
+more_parted false false x xs early late is none = is
+
+-- what is not late is left out
+late_left_out : (a l : Bool) → l ≡ true → a && not l ≡ false
+late_left_out true true late = refl
+late_left_out false true late = refl
+late_left_out true false late = sym late
+late_left_out false false late = refl
+
+-- where all are late none is early
+none_early : {X : Type 0} (all late : X → Bool) (xs : List X) → All (λ x. late x ≡ true) xs
+    → filter (λ x. all x && not (late x)) xs ≡ []
+none_early all late [] each = refl
+none_early all late (x ∷ xs) each =
+    rw (late_left_out (all x) (late x) (each 0 x (omega arith)))
+    (none_early all late xs (λ k d within. each (suc k) d (omega (arith, within))))
+
+-- a list parted by a test: those that it doesn't hold of stand before those that it holds of
+pub filter_parted : {X : Type 0} (all late : X → Bool) (xs : List X)
+    → AllPairs (λ x y. late x ≡ true → late y ≡ true) xs
+    → filter all xs ≡ filter (λ x. all x && not (late x)) xs ++ filter (λ x. all x && late x) xs
+filter_parted all late [] rise = refl
+filter_parted {X} all late (x ∷ xs) rise =
+    more_parted (all x) (late x) x (filter all xs) (filter (λ (y : X). all y && not (late y)) xs)
+    (filter (λ (y : X). all y && late y) xs)
+    (filter_parted all late xs
+    (λ i j d before within. rise (suc i) (suc j) d (omega (arith, before)) (omega (arith, within))))
+    (λ first. none_early all late xs (λ k d within. rise 0 (suc k) d (omega arith) (omega (arith, within)) first))
