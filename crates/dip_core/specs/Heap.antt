@@ -10,25 +10,14 @@ pub record Ending : Type 0 where
   pub end : ℤ
   pub number : ℕ
 
--- what contracts see of last ends: their list, and how many looks at one there were
+-- what contracts see of last ends: their list, and how many looks at one the placements took that are done
 pub record Endings : Type 0 where
   pub ends : List Ending
   pub looks : ℕ
 
--- the same with another list, or with another count
-abbrev pub with_ends : Endings → List Ending → Endings
-with_ends was ends = record { ends = ends; looks = was.looks }
-
-abbrev pub with_looks : Endings → ℕ → Endings
-with_looks was looks = record { ends = was.ends; looks = looks }
-
 -- x comes no later than y: it ends before y, or with y and its part's number is no higher
 abbrev pub ComesFirst : Ending → Ending → Type 0
 ComesFirst x y = (x.end <ℤ y.end) ⊎ ((x.end ≡ y.end) × (x.number ≤ y.number))
-
--- the one at place j comes no later than that at place k
-abbrev pub ComesFirstAt : List Ending → ℕ → ℕ → Type 0
-ComesFirstAt ends j k = (d : Ending) → ComesFirst (slice_index_or ends j d) (slice_index_or ends k d)
 
 -- each one comes no later than those at the two places below its own
 abbrev pub IsHeap : List Ending → Type 0

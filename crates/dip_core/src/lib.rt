@@ -4,7 +4,6 @@
 //! many items hold as there are parts.
 
 mod division;
-mod heap;
 mod ids;
 mod item;
 mod last_ends;
@@ -12,7 +11,6 @@ mod laws;
 mod part;
 mod part_items;
 mod placer;
-mod placing;
 
 pub use division::{Division, create_dip};
 pub use ids::ids_rise;

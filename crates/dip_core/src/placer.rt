@@ -7,9 +7,8 @@ ghost use Rattle.dip_core.specs.Division.{all_of, IsDip, IsLeastDivision};
 ghost use Rattle.dip_core.specs.Placing.{IsGreatest, IsPlaceFor, added};
 ghost use Rattle.dip_core.specs.Digits.{HasBinaryDigits};
 
-use crate::heap::Heap;
+use crate::last_ends::{LastEnds, place_item};
 use crate::part_items::PartItems;
-use crate::placing::place_item;
 use crate::{Division, Item, NoMemory};
 use std::alloc::Global;
 use std::marker::Model;
@@ -20,7 +19,7 @@ use std::marker::Model;
 pub struct Placer {
     alloc: Global,
     parts: Vec<PartItems>,
-    ends: Heap,
+    ends: LastEnds,
     last: Option<Item>,
     len: u64,
 }
@@ -44,7 +43,7 @@ impl Placer {
         Placer {
             alloc,
             parts: Vec::new(alloc),
-            ends: Heap::new(alloc),
+            ends: LastEnds::new(alloc),
             last: None,
             len: 0,
         }
@@ -90,18 +89,10 @@ impl Placer {
         ensures few_looks { OnOk result ((digits : ℕ) × HasBinaryDigits (length self.old.parts) digits
             × (self.new.looks ≤ self.old.looks + 2 * digits)) }
     {
-        let looks = self.ends.looks();
-        match place_item(self.alloc, &mut self.parts, &mut self.ends, &item) {
-            Ok(number) => {
-                self.last = Some(item);
-                self.len += 1;
-                Ok(number as u32)
-            }
-            Err(refused) => {
-                self.ends.take_back(looks);
-                Err(refused)
-            }
-        }
+        let number = place_item(self.alloc, &mut self.parts, &mut self.ends, &item)?;
+        self.last = Some(item);
+        self.len += 1;
+        Ok(number as u32)
     }
 
     /// The parts as a division of all items that were placed.

@@ -16,16 +16,16 @@ pub overflow_cast-result : goal.overflow_cast-result
 overflow_cast-result c =
     let few = length-le-all_of c.self.inside.parts.items c.self.invariant.are_placed.filled in
     let within =
-    place-within c.self.inside.parts.items c.args.item.period.from c.in-Ok.number
-    c.in-Ok.ensures.place in
+    place-within c.self.inside.parts.items c.args.item.period.from c.in_ok-number.number
+    c.in_ok-number.ensures.place in
     let small = c.self.invariant.small in
     let counted = c.self.invariant.counted in
     search (rules, few, within, small, counted)
 
-pub invariant_of-self : goal.invariant_of-self
-invariant_of-self c =
+pub invariant_of-self-2 : goal.invariant_of-self-2
+invariant_of-self-2 c =
     let parts = c.self.inside.parts.items in
-    let number = c.in-Ok.number in
+    let number = c.in_ok-number.number in
     let item = c.args.item in
     let was : c.self.inside.last ≡ c.args.self.now.last = ap (λ (p : Placing). p.last) c.self.view_is in
     let parts_were : parts ≡ c.args.self.now.parts = ap (λ (p : Placing). p.parts) c.self.view_is in
@@ -33,36 +33,36 @@ invariant_of-self c =
     subst (λ (last : Option Item). ForSome last (λ z. IsBelow item z → ⊥)) (sym was) c.requires.rises in
     let room : length (all_of parts) < item_limit =
     subst (λ (parts : List (List Item)). length (all_of parts) < item_limit) (sym parts_were) c.requires.room in
-    let grown = c.in-Ok.ensures.added in
+    let grown = c.in_ok-number.ensures.added in
     let longer = length-all_of-added parts number item in
     let counted = c.self.invariant.counted in
     let few = length-le-all_of parts c.self.invariant.are_placed.filled in
     let as_many : vec_len c.self.inside.parts ≡ length parts = search rules in
     let looks : c.place_item.new.ends.looks ≤ c.self.inside.ends.looks + 2 * 20 =
-    c.in-Ok.ensures.few 20 (omega (arith, as_many, few, room)) in
+    c.in_ok-number.ensures.few 20 (omega (arith, as_many, few, room)) in
     let few_looks = c.self.invariant.few_looks in
     subst (λ (ps : List (List Item)). IsPlacing ps c.place_item.new.ends (Some item) (c.self.inside.len + 1)) (sym grown)
     (record {
       are_placed =
           ArePlaced-added parts c.self.inside.last number item c.self.invariant.are_placed c.self.invariant.greatest
-          above c.in-Ok.ensures.place;
+          above c.in_ok-number.ensures.place;
       last_ends = subst (λ (ps : List (List Item)). HoldLastEnds ps c.place_item.new.ends.ends) grown
-          c.in-Ok.ensures.last_ends;
+          c.in_ok-number.ensures.last_ends;
       greatest = IsGreatest-added parts c.self.inside.last number item c.self.invariant.greatest above;
       counted = omega (arith, longer, counted);
       small = omega (arith, counted, room);
       few_looks = omega (arith, looks, few_looks);
     })
 
-pub returns-in-Ok-clause-place : goal.returns-in-Ok-clause-place
-returns-in-Ok-clause-place c =
+pub returns-clause-place : goal.returns-clause-place
+returns-clause-place c =
     let parts_were : c.self.inside.parts.items ≡ c.args.self.now.parts = ap (λ (p : Placing). p.parts) c.self.view_is in
     subst (λ (parts : List
-    (List Item)). IsPlaceFor parts c.args.item.period.from c.in-Ok.number) parts_were
-    c.in-Ok.ensures.place
+    (List Item)). IsPlaceFor parts c.args.item.period.from c.in_ok-number.number) parts_were
+    c.in_ok-number.ensures.place
 
-pub returns-in-Ok-clause-few_looks : goal.returns-in-Ok-clause-few_looks
-returns-in-Ok-clause-few_looks c =
+pub returns-clause-few_looks : goal.returns-clause-few_looks
+returns-clause-few_looks c =
     let parts = c.self.inside.parts.items in
     let parts_were : parts ≡ c.args.self.now.parts = ap (λ (p : Placing). p.parts) c.self.view_is in
     let looks_were : c.self.inside.ends.looks ≡ c.args.self.now.looks = ap (λ (p : Placing). p.looks) c.self.view_is in
@@ -74,5 +74,5 @@ returns-in-Ok-clause-few_looks c =
     let short : length c.args.self.now.parts < 2 ^ 20 = omega (arith, same, few, counted, small) in
     let (digits, has) = some_digits (length c.args.self.now.parts) 20 short in
     let enough = has.enough in
-    let looks = c.in-Ok.ensures.few digits (omega (arith, as_many, same, enough)) in
+    let looks = c.in_ok-number.ensures.few digits (omega (arith, as_many, same, enough)) in
     (digits, has, omega (arith, looks, looks_were))

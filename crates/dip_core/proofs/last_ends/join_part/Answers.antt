@@ -6,7 +6,7 @@ use Rattle.dip_core.specs.Placing.{added}
 use Rattle.dip_core.specs.Heap.{Ending, HoldLastEnds}
 use Rattle.dip_core.proofs.AddedLemmas.{added-set}
 use Rattle.dip_core.proofs.EndsLemmas.{HoldLastEnds-permutation, HoldLastEnds-set, first-within}
-use Rattle.dip_core.proofs.placing.join_part.Goals as goal
+use Rattle.dip_core.proofs.last_ends.join_part.Goals as goal
 
 pub index_mut-requires : goal.index_mut-requires
 index_mut-requires c =

@@ -4,7 +4,7 @@ use Rattle.dip_core.specs.Placing.{added}
 use Rattle.dip_core.specs.Heap.{Ending, HoldLastEnds}
 use Rattle.dip_core.proofs.AddedLemmas.{added-push}
 use Rattle.dip_core.proofs.EndsLemmas.{HoldLastEnds-opened, HoldLastEnds-permutation}
-use Rattle.dip_core.proofs.placing.open_part.Goals as goal
+use Rattle.dip_core.proofs.last_ends.open_part.Goals as goal
 
 pub returns-clause-added : goal.returns-clause-added
 returns-clause-added c = grind (arith, added-push)
