@@ -1,15 +1,16 @@
 -- Hits as what a merge of two parts makes.
-use Rattle.std.proofs.Common.{◌≡◌, ℕ, ◌+◌, ◌≤◌, List, [], ◌∷◌, ◌⊎◌, length, drop, sym, subst, ap, ◌∙◌, arith}
+use Rattle.std.proofs.Common.{◌≡◌, ℕ, ◌+◌, ◌≤◌, List, [], ◌∷◌, ◌++◌, ◌⊎◌, length, map, drop, refl, sym, subst, ap, ◌∙◌, arith, append_assoc, append-nil}
 use Rattle.std.specs.Prelude.{◌≤ℤ◌, ◌<ℤ◌, Contains}
 use Rattle.std.proofs.lemmas.Int.{ints}
+use Rattle.std.proofs.lemmas.List.{map-append}
 use Rattle.period_core.specs.declared.period.Period.{Period}
 use Rattle.dip_core.specs.declared.item.Item.{Item}
 use Rattle.dip_core.specs.Item.{IsChain}
-use Rattle.list_core.specs.Wanted.{IsListOf, AddsAll}
+use Rattle.list_core.specs.Wanted.{IsListOf}
 use Rattle.list_core.proofs.RisingLemmas.{Contains-head}
 use Rattle.list_core.proofs.WantedLemmas.{IsListOf-same, IsListOf-one}
 use Rattle.merge_core.specs.declared.hit.Hit.{Hit}
-use Rattle.merge_core.specs.Hits.{IsShared, IsHit, HitStartsBefore}
+use Rattle.merge_core.specs.Hits.{IsShared, IsHit, HitStartsBefore, AddsHits}
 use Rattle.merge_core.specs.Advances.{advances_of}
 use Rattle.merge_core.proofs.SharedLemmas.{shared_once}
 use Rattle.merge_core.proofs.PartLemmas.{AllPairs-from_chain}
@@ -80,83 +81,103 @@ hit_alone x y h i =
     (sym (Contains-only y h.right i.right_in) ∙ Contains-only y k.right j.right_in)
     (shared_once x.period y.period h.period k.period (hit_shares x y h i) (hit_shares x y k j)))
 
--- the hits of P and Q that are there when p and q are left, after n advances
-pub record IsJoining (P Q p q : List Item) (old now : List Hit) (n : ℕ) : Type 0 where
-  pub merging : IsMergingHits P Q p q old now
-  pub count : n + (length p + length q) ≡ length P + length Q
-  pub left_shorter : length p ≤ length P
-  pub right_shorter : length q ≤ length Q
-  pub exact : n + advances_of p q ≡ advances_of P Q
+-- ---- what is made of hits, as they are found
 
-pub joining_start : (P Q : List Item) (old : List Hit) → IsChain P → IsChain Q → IsJoining P Q P Q old old 0
-joining_start P Q old left right =
-    record {
-      merging = merging_start period_of period_of shared_of IsHitOf hit_shares
-          P Q old (AllPairs-from_chain P left) (AllPairs-from_chain Q right);
-      count = omega arith;
-      left_shorter = omega arith;
-      right_shorter = omega arith;
-      exact = omega arith;
-    }
+module _ {T : Type 0} (from_hit : Hit → T) where
+  -- what is made of the hits of P and Q that are there when p and q are left, after n advances
+  pub record IsJoining (P Q p q : List Item) (old now : List T) (n : ℕ) : Type 0 where
+    pub hits : List Hit
+    pub split : now ≡ old ++ map from_hit hits
+    pub merging : IsMergingHits P Q p q [] hits
+    pub count : n + (length p + length q) ≡ length P + length Q
+    pub left_shorter : length p ≤ length P
+    pub right_shorter : length q ≤ length Q
+    pub exact : n + advances_of p q ≡ advances_of P Q
 
-pub joining_left : (P Q : List Item) (x : Item) (p : List Item) (y : Item) (q : List Item) (old mid now : List Hit)
-    (n : ℕ) → p ≡ x ∷ drop 1 p → q ≡ y ∷ drop 1 q → x.period.to ≤ℤ y.period.to
-    → AddsAll HitStartsBefore (IsHitOf x y) mid now
-    → IsJoining P Q p q old mid n → IsJoining P Q (drop 1 p) q old now (n + 1)
-joining_left P Q x p y q old mid now n e f first a j =
-    let size : length p ≡ length (x ∷ drop 1 p) = ap length e in
-    record {
-      merging = merging_left period_of period_of shared_of IsHitOf hit_shares
-          P Q x p y q old mid now e f first a j.merging;
-      count = omega (arith, j.count);
-      left_shorter = omega (arith, j.left_shorter);
-      right_shorter = j.right_shorter;
-      exact = omega (arith, j.exact, advances_left x p y q e f j.merging.right_apart first);
-    }
+  pub joining_start : (P Q : List Item) (old : List T) → IsChain P → IsChain Q → IsJoining P Q P Q old old 0
+  joining_start P Q old left right =
+      record {
+        hits = [];
+        split = sym (append-nil old);
+        merging = merging_start period_of period_of shared_of IsHitOf hit_shares
+            P Q [] (AllPairs-from_chain P left) (AllPairs-from_chain Q right);
+        count = omega arith;
+        left_shorter = omega arith;
+        right_shorter = omega arith;
+        exact = omega arith;
+      }
 
-pub joining_right : (P Q : List Item) (x : Item) (p : List Item) (y : Item) (q : List Item) (old mid now : List Hit)
-    (n : ℕ) → p ≡ x ∷ drop 1 p → q ≡ y ∷ drop 1 q → y.period.to <ℤ x.period.to
-    → AddsAll HitStartsBefore (IsHitOf x y) mid now
-    → IsJoining P Q p q old mid n → IsJoining P Q p (drop 1 q) old now (n + 1)
-joining_right P Q x p y q old mid now n e f later a j =
-    let first : y.period.to ≤ℤ x.period.to = omega (arith, ints, later) in
-    let size : length q ≡ length (y ∷ drop 1 q) = ap length f in
-    record {
-      merging = merging_right period_of period_of shared_of IsHitOf hit_shares
-          P Q x p y q old mid now e f first a j.merging;
-      count = omega (arith, j.count);
-      left_shorter = j.left_shorter;
-      right_shorter = omega (arith, j.right_shorter);
-      exact = omega (arith, j.exact, advances_right x p y q e f j.merging.left_apart later);
-    }
+  -- what is made of the hits so far and of those of two items more
+  made_more : (hits more : List Hit) (old mid now : List T) → mid ≡ old ++ map from_hit hits
+      → now ≡ mid ++ map from_hit more → now ≡ old ++ map from_hit (hits ++ more)
+  made_more hits more old mid now e f =
+      f ∙ ap (λ l. l ++ map from_hit more) e ∙ append_assoc old (map from_hit hits) (map from_hit more)
+      ∙ ap (λ l. old ++ l) (sym (map-append from_hit hits more))
 
--- where one part is used up, all hits are there
-pub joining_end : (P Q p q : List Item) (old now : List Hit) (n : ℕ) → (p ≡ []) ⊎ (q ≡ []) → IsJoining P Q p q old now n
-    → AddsAll HitStartsBefore (IsHit P Q) old now
-joining_end P Q p q old now n over j =
-    let all = merging_end period_of period_of shared_of IsHitOf hit_shares
-    P Q p q old now over j.merging in
-    record {
-      added = all.added;
-      split = all.split;
-      all = IsListOf-same HitStartsBefore (IsMade IsHitOf P Q) (IsHit P Q) all.added
-          (hit_from_made P Q) (made_from_hit P Q) all.all;
-    }
+  pub joining_left : (P Q : List Item) (x : Item) (p : List Item) (y : Item) (q : List Item) (old mid now : List T)
+      (n : ℕ) → p ≡ x ∷ drop 1 p → q ≡ y ∷ drop 1 q → x.period.to ≤ℤ y.period.to
+      → AddsHits from_hit (x ∷ []) (y ∷ []) mid now
+      → IsJoining P Q p q old mid n → IsJoining P Q (drop 1 p) q old now (n + 1)
+  joining_left P Q x p y q old mid now n e f first a j =
+      let size : length p ≡ length (x ∷ drop 1 p) = ap length e in
+      record {
+        hits = j.hits ++ a.hits;
+        split = made_more j.hits a.hits old mid now j.split a.split;
+        merging = merging_left period_of period_of shared_of IsHitOf hit_shares
+            P Q x p y q [] j.hits (j.hits ++ a.hits) e f first
+            (record { added = a.hits; split = refl; all = a.all }) j.merging;
+        count = omega (arith, j.count);
+        left_shorter = omega (arith, j.left_shorter);
+        right_shorter = j.right_shorter;
+        exact = omega (arith, j.exact, advances_left x p y q e f j.merging.right_apart first);
+      }
 
--- so are all advances
-pub joining_exact : (P Q p q : List Item) (old now : List Hit) (n : ℕ) → (p ≡ []) ⊎ (q ≡ [])
-    → IsJoining P Q p q old now n → n ≡ advances_of P Q
-joining_exact P Q p q old now n over j = omega (arith, j.exact, advances_end p q over)
+  pub joining_right : (P Q : List Item) (x : Item) (p : List Item) (y : Item) (q : List Item) (old mid now : List T)
+      (n : ℕ) → p ≡ x ∷ drop 1 p → q ≡ y ∷ drop 1 q → y.period.to <ℤ x.period.to
+      → AddsHits from_hit (x ∷ []) (y ∷ []) mid now
+      → IsJoining P Q p q old mid n → IsJoining P Q p (drop 1 q) old now (n + 1)
+  joining_right P Q x p y q old mid now n e f later a j =
+      let first : y.period.to ≤ℤ x.period.to = omega (arith, ints, later) in
+      let size : length q ≡ length (y ∷ drop 1 q) = ap length f in
+      record {
+        hits = j.hits ++ a.hits;
+        split = made_more j.hits a.hits old mid now j.split a.split;
+        merging = merging_right period_of period_of shared_of IsHitOf hit_shares
+            P Q x p y q [] j.hits (j.hits ++ a.hits) e f first
+            (record { added = a.hits; split = refl; all = a.all }) j.merging;
+        count = omega (arith, j.count);
+        left_shorter = j.left_shorter;
+        right_shorter = omega (arith, j.right_shorter);
+        exact = omega (arith, j.exact, advances_right x p y q e f j.merging.left_apart later);
+      }
 
--- the hit of two items that are next is one of all
-pub joining_hit : (P Q p q : List Item) (x y : Item) (old now : List Hit) (n : ℕ) (h : Hit) → p ≡ x ∷ drop 1 p
-    → q ≡ y ∷ drop 1 q → IsHitOf x y h → IsJoining P Q p q old now n → IsHit P Q h
-joining_hit P Q p q x y old now n h e f i j =
-    hit_from_made P Q h
-    (record {
-      x = x;
-      y = y;
-      x_in = j.merging.left_within x (subst (λ z. Contains z x) (sym e) (Contains-head x (drop 1 p)));
-      y_in = j.merging.right_within y (subst (λ z. Contains z y) (sym f) (Contains-head y (drop 1 q)));
-      made = i;
-    })
+  -- where one part is used up, all hits are there
+  pub joining_end : (P Q p q : List Item) (old now : List T) (n : ℕ) → (p ≡ []) ⊎ (q ≡ [])
+      → IsJoining P Q p q old now n → AddsHits from_hit P Q old now
+  joining_end P Q p q old now n over j =
+      let all = merging_end period_of period_of shared_of IsHitOf hit_shares
+      P Q p q [] j.hits over j.merging in
+      record {
+        hits = all.added;
+        split = j.split ∙ ap (λ l. old ++ map from_hit l) all.split;
+        all = IsListOf-same HitStartsBefore (IsMade IsHitOf P Q) (IsHit P Q) all.added
+            (hit_from_made P Q) (made_from_hit P Q) all.all;
+      }
+
+  -- so are all advances
+  pub joining_exact : (P Q p q : List Item) (old now : List T) (n : ℕ) → (p ≡ []) ⊎ (q ≡ [])
+      → IsJoining P Q p q old now n → n ≡ advances_of P Q
+  joining_exact P Q p q old now n over j = omega (arith, j.exact, advances_end p q over)
+
+  -- the hit of two items that are next is one of all
+  pub joining_hit : (P Q p q : List Item) (x y : Item) (old now : List T) (n : ℕ) (h : Hit) → p ≡ x ∷ drop 1 p
+      → q ≡ y ∷ drop 1 q → IsHitOf x y h → IsJoining P Q p q old now n → IsHit P Q h
+  joining_hit P Q p q x y old now n h e f i j =
+      hit_from_made P Q h
+      (record {
+        x = x;
+        y = y;
+        x_in = j.merging.left_within x (subst (λ z. Contains z x) (sym e) (Contains-head x (drop 1 p)));
+        y_in = j.merging.right_within y (subst (λ z. Contains z y) (sym f) (Contains-head y (drop 1 q)));
+        made = i;
+      })

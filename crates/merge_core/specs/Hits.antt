@@ -1,8 +1,9 @@
 -- What items of equal class of two parts share, and how often a cursor advances to find it.
-use Rattle.std.specs.Prelude.{◌≡◌, ◌↔◌, ◌⊎◌, ◌+◌, ◌≤◌, ◌<ℤ◌, ◌≤ℤ◌, ℕ, ℤ, List, length, min, drop, Contains}
+use Rattle.std.specs.Prelude.{◌≡◌, ◌↔◌, ◌⊎◌, ◌+◌, ◌++◌, ◌≤◌, ◌<ℤ◌, ◌≤ℤ◌, ℕ, ℤ, List, length, map, min, drop, Contains}
 use Rattle.period_core.specs.declared.period.Period.{Period}
 use Rattle.period_core.specs.Period.{Holds}
 use Rattle.dip_core.specs.declared.item.Item.{Item}
+use Rattle.list_core.specs.Wanted.{IsListOf}
 use Rattle.merge_core.specs.declared.hit.Hit.{Hit}
 
 -- the instants of p are those that both a and b hold
@@ -19,6 +20,12 @@ pub record IsHit (left right : List Item) (hit : Hit) : Type 0 where
 -- the order of hits, by start
 abbrev pub HitStartsBefore : Hit → Hit → Type 0
 HitStartsBefore a b = a.period.from <ℤ b.period.from
+
+-- behind the old list stands what is made of each hit of both parts, by rising start of the hits
+pub record AddsHits {T : Type 0} (from_hit : Hit → T) (left right : List Item) (old new : List T) : Type 0 where
+  pub hits : List Hit
+  pub split : new ≡ old ++ map from_hit hits
+  pub all : IsListOf HitStartsBefore (IsHit left right) hits
 
 -- n advances: at least as many as the shorter part has items, and at most as many as both have
 pub record AreAdvances (left right : List Item) (n : ℕ) : Type 0 where

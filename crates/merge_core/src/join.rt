@@ -4,11 +4,11 @@ ghost use Rattle.std.specs.Prelude.{◌≡◌, ◌++◌, [], ◌∷◌, IfOk, Is
 ghost use Rattle.std.specs.Option.{option_to_list};
 ghost use Rattle.list_core.specs.Wanted.{IsListOf, AddsAll};
 ghost use Rattle.merge_core.specs.declared.hit.Hit.{Hit};
-ghost use Rattle.merge_core.specs.Hits.{IsHit, HitStartsBefore, AreAdvances, PassesFirst};
+ghost use Rattle.merge_core.specs.Hits.{IsHit, HitStartsBefore, AddsHits, AreAdvances, PassesFirst};
 ghost use Rattle.merge_core.specs.Advances.{advances_of};
 
 use crate::ends::ends_first;
-use crate::{Cursor, Hit};
+use crate::{Cursor, FromHit, Hit};
 use dip_core::Item;
 use period_core::NoMemory;
 
@@ -27,26 +27,27 @@ fn hit_of(x: &Item, y: &Item) -> Option<Hit>
     })
 }
 
-/// Adds a hit. The first one takes room for itself alone, since most pairs of parts have one hit, if any.
-fn add_hit(hit: Hit, hits: &mut Vec<Hit>) -> Result<(), NoMemory>
-    ensures ok { OnOk result (hits.new.items ≡ hits.old.items ++ hit ∷ []) }
-    ensures err { OnErr result (hits.new.items ≡ hits.old.items) }
+/// Adds what was made of a hit. The first takes room for itself alone, since most pairs of parts have one hit, if any.
+fn add_made<T: Drop>(made: T, found: &mut Vec<T>) -> Result<(), NoMemory>
+    ensures ok { OnOk result (found.new.items ≡ found.old.items ++ made ∷ []) }
+    ensures err { OnErr result (found.new.items ≡ found.old.items) }
 {
-    if hits.is_empty() {
-        hits.reserve_exact(1)?;
+    if found.is_empty() {
+        found.reserve_exact(1)?;
     }
-    hits.push(hit)?;
+    found.push(made)?;
     Ok(())
 }
 
-/// Adds the hit of two items, where they have one; where they have none it asks for no memory.
-fn push_hit(x: &Item, y: &Item, hits: &mut Vec<Hit>) -> Result<(), NoMemory>
-    ensures ok { OnOk result (AddsAll HitStartsBefore (IsHit (x.now ∷ []) (y.now ∷ [])) hits.old.items hits.new.items) }
-    ensures err { OnErr result (hits.new.items ≡ hits.old.items) }
+/// Adds what is made of the hit of two items, where they have one; where they have none it asks for no memory.
+fn push_hit<T: FromHit>(x: &Item, y: &Item, found: &mut Vec<T>) -> Result<(), NoMemory>
+    ensures ok { OnOk result
+        (AddsHits T.from_hit (x.now ∷ []) (y.now ∷ []) found.old.items found.new.items) }
+    ensures err { OnErr result (found.new.items ≡ found.old.items) }
     ensures hit { OnErr result ((hit : Hit) × IsHit (x.now ∷ []) (y.now ∷ []) hit) }
 {
     if let Some(hit) = hit_of(x, y) {
-        add_hit(hit, hits)?;
+        add_made(T::from_hit(hit), found)?;
     }
     Ok(())
 }
@@ -70,22 +71,43 @@ fn pass_first(x: &Item, y: &Item, left: &mut Cursor, right: &mut Cursor)
 /// # Errors
 ///
 /// `NoMemory` where the list can't grow; it is then as before. Parts without a hit need no memory.
-pub fn merge_join(mut left: Cursor, mut right: Cursor, hits: &mut Vec<Hit>) -> Result<u64, NoMemory>
-    ensures hits { OnOk result (AddsAll HitStartsBefore (IsHit left.entry right.entry) hits.old.items hits.new.items) }
+pub fn merge_join(left: Cursor, right: Cursor, hits: &mut Vec<Hit>) -> Result<u64, NoMemory>
+    ensures hits { OnOk result
+        (AddsAll HitStartsBefore (IsHit left.entry right.entry) hits.old.items hits.new.items) }
     ensures advances { IfOk result (AreAdvances left.entry right.entry) }
     ensures exact { IfOk result (λ n. n ≡ advances_of left.entry right.entry) }
     ensures unchanged { OnErr result (hits.new.items ≡ hits.old.items) }
     ensures no_hit { ((hit : Hit) → IsHit left.entry right.entry hit → ⊥) → IsOk result }
 {
-    let before = hits.len();
+    merge_join_into(left, right, hits)
+}
+
+/// Adds what is made of each hit of two parts, as `merge_join` adds the hits.
+///
+/// # Errors
+///
+/// As of `merge_join`.
+pub fn merge_join_into<T: FromHit>(
+    mut left: Cursor,
+    mut right: Cursor,
+    found: &mut Vec<T>,
+) -> Result<u64, NoMemory>
+    ensures found { OnOk result
+        (AddsHits T.from_hit left.entry right.entry found.old.items found.new.items) }
+    ensures advances { IfOk result (AreAdvances left.entry right.entry) }
+    ensures exact { IfOk result (λ n. n ≡ advances_of left.entry right.entry) }
+    ensures unchanged { OnErr result (found.new.items ≡ found.old.items) }
+    ensures no_hit { ((hit : Hit) → IsHit left.entry right.entry hit → ⊥) → IsOk result }
+{
+    let before = found.len();
     let most = left.len() as u64 + right.len() as u64;
     let mut advances = 0u64;
     while let Some(x) = left.peek() {
         let Some(y) = right.peek() else {
             break;
         };
-        if let Err(refused) = push_hit(&x, &y, hits) {
-            hits.truncate(before);
+        if let Err(refused) = push_hit(&x, &y, found) {
+            found.truncate(before);
             return Err(refused);
         }
         pass_first(&x, &y, &mut left, &mut right);

@@ -7,6 +7,7 @@
 mod combining;
 mod cursor;
 mod ends;
+mod from_hit;
 mod gap;
 mod gaps;
 mod hit;
@@ -18,10 +19,11 @@ mod steps;
 mod tally;
 
 pub use cursor::Cursor;
+pub use from_hit::FromHit;
 pub use gap::Gap;
 pub use gaps::merge_gaps;
 pub use hit::Hit;
-pub use join::merge_join;
+pub use join::{merge_join, merge_join_into};
 pub use laws::parts_have_one_list_of_gaps;
 pub use meets::{Gaps, meet_gaps};
 pub use step::Step;
