@@ -4,11 +4,13 @@
 //! items of some classes, which are divided on their own.
 
 mod bundles;
+mod pairs;
 mod parts;
 mod stretches;
 
 pub use bundles::{
     class_shares, divided, items_from, items_in, last_class, order_by_class, parted_behind,
 };
+pub use pairs::{PartPairs, PartWork};
 pub use parts::{name_in, place_in, same_part};
 pub use stretches::stretch_len;
