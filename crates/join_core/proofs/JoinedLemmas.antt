@@ -1,98 +1,109 @@
 -- The join of two lists of items, from the values of all pairs of their parts.
-use Rattle.std.proofs.Common.{◌≡◌, ◌≢◌, ◌*◌, List, length, AllPairs, refl, sym, subst, ap}
-use Rattle.std.specs.Prelude.{IsPermutation, IsSorted, Contains}
+use Rattle.std.proofs.Common.{◌≡◌, ◌≢◌, ℕ, ◌+◌, ◌*◌, ◌/◌, ◌%◌, ◌<◌, List, length, AllPairs, Some, sym, subst, ap, ◌∙◌, arith}
+use Rattle.std.specs.Prelude.{IsPermutation, IsSorted, Contains, slice_get}
 use Rattle.std.proofs.lemmas.List.Sorted.{Contains-permutation, IsPermutation-sym}
-use Rattle.list_core.proofs.MadeLemmas.{Contains-map, Contains-map_source}
+use Rattle.std.proofs.lemmas.Nat.{div-add-mod'}
+use Rattle.std.proofs.Math.Arith.{digits_lt}
 use Rattle.dip_core.specs.declared.item.Item.{Item}
 use Rattle.dip_core.specs.Item.{HasDistinctIds}
-use Rattle.dip_core.specs.Division.{all_of}
+use Rattle.dip_core.specs.Division.{all_of, part_at}
 use Rattle.dip_core.proofs.DivisionLemmas.{HasDistinctIds-permutation}
 use Rattle.dip_core.proofs.StepLemmas.{contains-all_of}
 use Rattle.dip_core.proofs.PartedLemmas.{one_item}
-use Rattle.merge_core.specs.declared.hit.Hit.{Hit}
-use Rattle.merge_core.specs.Hits.{IsHit}
-use Rattle.merge_core.proofs.HitLemmas.{Hit-same}
 use Rattle.join_core.specs.declared.pairs.JoinOut.{JoinOut}
 use Rattle.join_core.specs.declared.rows.JoinRow.{JoinRow}
 use Rattle.join_core.specs.Join.{join_cmp}
 use Rattle.join_core.specs.ItemJoin.{IsItemsJoinRow, AreItemsRows, IsItemsJoin}
-use Rattle.join_core.specs.PairValues.{AreFirstValues, hits_in, rows_in, row_of_hit}
-use Rattle.join_core.proofs.ListLemmas.{differ-map}
-use Rattle.join_core.proofs.OrderLemmas.{JoinRow-same_fields, sorted_rows}
-use Rattle.join_core.proofs.PairLemmas.{hit-of_parts, hit-of_pairs, all_hits-differ}
-use Rattle.join_core.proofs.PartLemmas.{part_of}
+use Rattle.join_core.specs.PairValues.{AreFirstValues, rows_in}
+use Rattle.join_core.proofs.ListLemmas.{AllPairs-flat_map, Contains-flat_map, Contains-flat_map_source}
+use Rattle.join_core.proofs.OrderLemmas.{sorted_rows}
+use Rattle.join_core.proofs.PairLemmas.{rows_at, rows_of, there}
+use Rattle.join_core.proofs.PartLemmas.{one_part, part_of}
 
-module _ (A B : List Item) (ps qs : List (List Item)) (outs : List JoinOut) (len : length outs ≡ length ps * length qs)
-    (values : AreFirstValues ps qs outs) (pa : IsPermutation A (all_of ps)) (pb : IsPermutation B (all_of qs))
+module _ (A B : List Item) (ps qs : List (List Item)) (outs : List (JoinOut JoinRow))
+    (len : length outs ≡ length ps * length qs) (values : AreFirstValues ps qs outs)
+    (pa : IsPermutation A (all_of ps)) (pb : IsPermutation B (all_of qs))
     (da : HasDistinctIds A) (db : HasDistinctIds B) where
-  -- a hit of some pair is one of the items
-  hit-of_items : (h : Hit) → Contains (hits_in outs) h → IsHit A B h
-  hit-of_items h c =
-      let at = hit-of_parts ps qs outs len values h c in
-      let left = contains-all_of ps at.0 h.left at.2.left_in in
-      let right = contains-all_of qs at.1 h.right at.2.right_in in
+  left_ids : HasDistinctIds (all_of ps)
+  left_ids = HasDistinctIds-permutation A (all_of ps) pa da
+
+  right_ids : HasDistinctIds (all_of qs)
+  right_ids = HasDistinctIds-permutation B (all_of qs) pb db
+
+  -- the rows of a pair, by its number
+  rows-of_pair : (i : ℕ) (o : JoinOut JoinRow) → slice_get outs i ≡ Some o
+      → AreItemsRows (part_at ps (i / length qs)) (part_at qs (i % length qs)) o.hits.items
+  rows-of_pair i o at = rows_at ps qs outs values left_ids right_ids i o at
+
+  -- a row of some pair is one of the items
+  row-of_items : (row : JoinRow) → Contains (rows_in outs) row → IsItemsJoinRow A B row
+  row-of_items row c =
+      let (i, o, at, row_in) = Contains-flat_map_source (λ (out : JoinOut JoinRow). out.hits.items) outs row c in
+      let w = ((rows-of_pair i o at).exactly row).0 row_in in
       record {
-        left_in = Contains-permutation (all_of ps) A h.left (IsPermutation-sym A (all_of ps) pa) left;
-        right_in = Contains-permutation (all_of qs) B h.right (IsPermutation-sym B (all_of qs) pb) right;
-        matches = at.2.matches;
-        shared = at.2.shared;
+        x = w.x;
+        y = w.y;
+        x_in = Contains-permutation (all_of ps) A w.x (IsPermutation-sym A (all_of ps) pa)
+            (contains-all_of ps (i / length qs) w.x w.x_in);
+        y_in = Contains-permutation (all_of qs) B w.y (IsPermutation-sym B (all_of qs) pb)
+            (contains-all_of qs (i % length qs) w.y w.y_in);
+        left_id = w.left_id;
+        right_id = w.right_id;
+        matches = w.matches;
+        shared = w.shared;
       }
 
-  -- a hit of the items is one of some pair
-  hit-of_all : (h : Hit) → IsHit A B h → Contains (hits_in outs) h
-  hit-of_all h is =
-      let l = part_of ps h.left (Contains-permutation A (all_of ps) h.left pa is.left_in) in
-      let r = part_of qs h.right (Contains-permutation B (all_of qs) h.right pb is.right_in) in
-      hit-of_pairs ps qs outs len values h l.0 r.0 l.1 r.1
-      (record { left_in = l.2; right_in = r.2; matches = is.matches; shared = is.shared })
+  -- a row of the items is one of some pair
+  row-of_pairs : (row : JoinRow) → IsItemsJoinRow A B row → Contains (rows_in outs) row
+  row-of_pairs row w =
+      let (l, l_in, x_in) = part_of ps w.x (Contains-permutation A (all_of ps) w.x pa w.x_in) in
+      let (r, r_in, y_in) = part_of qs w.y (Contains-permutation B (all_of qs) w.y pb w.y_in) in
+      let inside : l * length qs + r < length outs = (let d = digits_lt l_in r_in in omega (arith, d, len)) in
+      let (o, at) = there outs (l * length qs + r) inside in
+      Contains-flat_map (λ (out : JoinOut JoinRow). out.hits.items) outs (l * length qs + r) o row at
+      (((rows_of ps qs outs values left_ids right_ids l r o r_in at).exactly row).1 (record {
+        x = w.x;
+        y = w.y;
+        x_in = x_in;
+        y_in = y_in;
+        left_id = w.left_id;
+        right_id = w.right_id;
+        matches = w.matches;
+        shared = w.shared;
+      }))
 
-  -- hits of one row are one
-  hit-of_row : (g h : Hit) → Contains (hits_in outs) g → Contains (hits_in outs) h → row_of_hit g ≡ row_of_hit h → g ≡ h
-  hit-of_row g h i j e =
-      let u = hit-of_items g i in
-      let v = hit-of_items h j in
-      Hit-same g h (one_item A g.left h.left da u.left_in v.left_in (ap (λ (r : JoinRow). r.left) e))
-      (one_item B g.right h.right db u.right_in v.right_in (ap (λ (r : JoinRow). r.right) e))
-      (ap (λ (r : JoinRow). r.period) e)
+  -- an item of an id lies in one part
+  one-part_of_id : (parts : List (List Item)) (i j : ℕ) (x y : Item) → HasDistinctIds (all_of parts)
+      → Contains (part_at parts i) x → Contains (part_at parts j) y → x.id ≡ y.id → i ≡ j
+  one-part_of_id parts i j x y distinct h k e =
+      one_part parts i j x distinct h
+      (subst (Contains (part_at parts j))
+      (sym (one_item (all_of parts) x y distinct (contains-all_of parts i x h) (contains-all_of parts j y k) e)) k)
 
   -- no row comes twice
   rows-differ : AllPairs (λ x y. x ≢ y) (rows_in outs)
   rows-differ =
-      differ-map row_of_hit (hits_in outs) hit-of_row
-      (all_hits-differ ps qs outs len values (HasDistinctIds-permutation A (all_of ps) pa da)
-      (HasDistinctIds-permutation B (all_of qs) pb db))
-
-  -- the row of a hit is one of the join
-  row-of_items : (h : Hit) → IsHit A B h → IsItemsJoinRow A B (row_of_hit h)
-  row-of_items h is = record {
-    x = h.left;
-    y = h.right;
-    x_in = is.left_in;
-    y_in = is.right_in;
-    left_id = refl;
-    right_id = refl;
-    matches = is.matches;
-    shared = is.shared;
-  }
-
-  -- a row of the join is one of a hit of some pair
-  row-of_pairs : (r : JoinRow) → IsItemsJoinRow A B r → Contains (rows_in outs) r
-  row-of_pairs r w =
-      let hit : Hit = record { left = w.x; right = w.y; period = r.period } in
-      let is : Contains (hits_in outs) hit =
-      hit-of_all hit (record { left_in = w.x_in; right_in = w.y_in; matches = w.matches; shared = w.shared }) in
-      let e : row_of_hit hit ≡ r = JoinRow-same_fields (row_of_hit hit) r refl (sym w.left_id) (sym w.right_id) in
-      subst (Contains (rows_in outs)) e (Contains-map row_of_hit (hits_in outs) hit is)
+      AllPairs-flat_map (λ x y. x ≢ y) (λ (out : JoinOut JoinRow). out.hits.items) outs
+      (λ i o at. (rows-of_pair i o at).ordered)
+      (λ i j o u a b less at later h k e.
+      let one = ((rows-of_pair i o at).exactly a).0 h in
+      let other = ((rows-of_pair j u later).exactly b).0 k in
+      let l : i / length qs ≡ j / length qs =
+      one-part_of_id ps (i / length qs) (j / length qs) one.x other.x left_ids one.x_in other.x_in
+      (sym one.left_id ∙ ap (λ (v : JoinRow). v.left) e ∙ other.left_id) in
+      let r : i % length qs ≡ j % length qs =
+      one-part_of_id qs (i % length qs) (j % length qs) one.y other.y right_ids one.y_in other.y_in
+      (sym one.right_id ∙ ap (λ (v : JoinRow). v.right) e ∙ other.right_id) in
+      let same : i ≡ j =
+      sym (div-add-mod' i (length qs)) ∙ ap (λ n. n * length qs + i % length qs) l
+      ∙ ap (λ n. j / length qs * length qs + n) r ∙ div-add-mod' j (length qs) in
+      absurd (omega (arith, same, less)))
 
   -- the rows of all pairs are those of the items
   pub AreItemsRows-of_pairs : AreItemsRows A B (rows_in outs)
   AreItemsRows-of_pairs = record {
     ordered = rows-differ;
-    exactly = λ r. (
-      λ h. (let m = Contains-map_source row_of_hit (hits_in outs) r h in
-          subst (IsItemsJoinRow A B) m.2 (row-of_items m.0 (hit-of_items m.0 m.1))),
-      λ w. row-of_pairs r w,
-    );
+    exactly = λ row. (λ c. row-of_items row c, λ w. row-of_pairs row w);
   }
 
 -- sorted they are the join

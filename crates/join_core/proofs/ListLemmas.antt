@@ -1,16 +1,15 @@
 -- What stands in lists that are made of lists, and what lists have in common.
-use Rattle.std.proofs.Common.{◌≡◌, ◌≢◌, ◌⊎◌, ℕ, zero, suc, ◌+◌, ◌<◌, List, [], ◌∷◌, ◌++◌, length, map, take, flat_map, AllPairs, Bool, true, false, Some, refl, sym, subst, ◌∙◌, inl, inr, arith}
+use Rattle.std.proofs.Common.{◌≡◌, ◌⊎◌, ℕ, zero, suc, ◌+◌, ◌<◌, List, [], ◌∷◌, ◌++◌, length, take, flat_map, AllPairs, Bool, true, false, Some, refl, sym, subst, ◌∙◌, inl, inr, arith}
 use Rattle.std.specs.Prelude.{Contains, slice_get}
 use Rattle.std.specs.Bool.{Decides}
 use Rattle.std.proofs.Math.Logic.{∥∥₁_elim, ∥∥₁_map}
 use Rattle.std.proofs.Props.{props}
 use Rattle.std.proofs.lemmas.List.Elements.{Contains-append_left, Contains-append_right, Contains-append_cases}
-use Rattle.list_core.proofs.RisingLemmas.{AllPairs-head, AllPairs-tail, Contains-head, Contains-cons, Contains-cons_cases, Contains-none}
-use Rattle.list_core.proofs.MadeLemmas.{Contains-map_source}
-use Rattle.list_core.proofs.WantedLemmas.{AllPairs-append, AllPairs-before}
+use Rattle.list_core.proofs.RisingLemmas.{Contains-head, Contains-cons, Contains-cons_cases, Contains-none}
+use Rattle.list_core.proofs.WantedLemmas.{AllPairs-append}
 
 -- nothing holds of what can't be
-nothing_prop : IsProp ⊥
+pub nothing_prop : IsProp ⊥
 nothing_prop = hlevel props
 
 -- what stands in a list, and is not its first, stands in the rest
@@ -66,20 +65,6 @@ AllPairs-flat_map R f (x ∷ xs) each across =
     (λ a b h k.
     let r = Contains-flat_map_source f xs b k in
     across 0 (suc r.0) x r.1 a b (omega arith) refl r.2 h r.3)
-
--- things that differ are made into things that differ, where the function tells those of the list apart
-pub differ-map : {X Y : Type 0} (f : X → Y) (xs : List X)
-    → ((a b : X) → Contains xs a → Contains xs b → f a ≡ f b → a ≡ b)
-    → AllPairs (λ x y. x ≢ y) xs → AllPairs (λ x y. x ≢ y) (map f xs)
-differ-map f [] tells differ = λ i j d less h. absurd (omega arith)
-differ-map {X} {Y} f (x ∷ xs) tells differ =
-    AllPairs-before (λ (a : Y) (b : Y). a ≢ b) (f x) (map f xs)
-    (λ y h e.
-    let r = Contains-map_source f xs y h in
-    AllPairs-head (λ (a : X) (b : X). a ≢ b) x xs r.0 differ r.1
-    (tells x r.0 (Contains-head x xs) (Contains-cons x xs r.0 r.1) (e ∙ sym r.2)))
-    (differ-map f xs (λ a b h k e. tells a b (Contains-cons x xs a h) (Contains-cons x xs b k) e)
-    (AllPairs-tail (λ (a : X) (b : X). a ≢ b) x xs differ))
 
 -- an element of one list behind another
 pub slice_get-append_cases : {X : Type 0} (xs ys : List X) (i : ℕ) (x : X) → slice_get (xs ++ ys) i ≡ Some x

@@ -1,45 +1,42 @@
 -- Loops over the values of pairs.
-use Rattle.std.proofs.Common.{◌≡◌, ℕ, ◌+◌, ◌<◌, ◌≤◌, List, [], ◌∷◌, ◌++◌, length, map, take, get_or, Some, sym, ap, ◌∙◌, arith, append_assoc, append-nil}
+use Rattle.std.proofs.Common.{◌≡◌, ℕ, ◌+◌, ◌<◌, ◌≤◌, List, [], ◌∷◌, ◌++◌, length, take, get_or, Some, sym, ap, ◌∙◌, arith, append_assoc, append-nil}
 use Rattle.std.specs.Prelude.{slice_get}
-use Rattle.std.proofs.lemmas.List.{map-append, take_more}
+use Rattle.std.proofs.lemmas.List.{take_more}
 use Rattle.std.proofs.lemmas.List.Concat.{flat_map-append}
 use Rattle.std.proofs.lemmas.List.Sums.{sum_by_more, sum_by_more_le}
 use Rattle.std.proofs.lemmas.Option.{slice_get_within, get_or_from_slice_get}
 use Rattle.join_core.specs.declared.pairs.JoinOut.{JoinOut}
 use Rattle.join_core.specs.declared.rows.JoinRow.{JoinRow}
-use Rattle.join_core.specs.PairValues.{row_of_hit, hits_in, rows_in, turns_in}
+use Rattle.join_core.specs.PairValues.{rows_in, turns_in}
 
 -- the rows of some values and of those behind them
-pub rows_in-append : (xs ys : List JoinOut) → rows_in (xs ++ ys) ≡ rows_in xs ++ rows_in ys
-rows_in-append xs ys =
-    ap (map row_of_hit) (flat_map-append (λ (o : JoinOut). o.hits.items) xs ys)
-    ∙ map-append row_of_hit (hits_in xs) (hits_in ys)
+pub rows_in-append : (xs ys : List (JoinOut JoinRow)) → rows_in (xs ++ ys) ≡ rows_in xs ++ rows_in ys
+rows_in-append xs ys = flat_map-append (λ (o : JoinOut JoinRow). o.hits.items) xs ys
 
 -- one value more
-pub rows_in-more : (outs : List JoinOut) (i : ℕ) (o : JoinOut) (old before after : List JoinRow)
-    → slice_get outs i ≡ Some o → before ≡ old ++ rows_in (take i outs) → after ≡ before ++ map row_of_hit o.hits.items
+pub rows_in-more : (outs : List (JoinOut JoinRow)) (i : ℕ) (o : JoinOut JoinRow) (old before after : List JoinRow)
+    → slice_get outs i ≡ Some o → before ≡ old ++ rows_in (take i outs) → after ≡ before ++ o.hits.items
     → after ≡ old ++ rows_in (take (i + 1) outs)
 rows_in-more outs i o old before after at was now =
     let inside : i < length outs = slice_get_within outs i o at in
     let front : take (i + 1) outs ≡ take i outs ++ o ∷ [] =
-    take_more outs i o inside ∙ ap (λ (v : JoinOut). take i outs ++ v ∷ []) (get_or_from_slice_get outs i o o at) in
-    let alone : rows_in (o ∷ []) ≡ map row_of_hit o.hits.items = ap (map row_of_hit) (append-nil o.hits.items) in
-    now ∙ ap (λ l. l ++ map row_of_hit o.hits.items) was
-    ∙ append_assoc old (rows_in (take i outs)) (map row_of_hit o.hits.items)
+    take_more outs i o inside ∙ ap (λ (v : JoinOut JoinRow). take i outs ++ v ∷ []) (get_or_from_slice_get outs i o o at) in
+    now ∙ ap (λ l. l ++ o.hits.items) was ∙ append_assoc old (rows_in (take i outs)) o.hits.items
     ∙ ap (λ l. old ++ l)
-    (sym (ap rows_in front ∙ rows_in-append (take i outs) (o ∷ []) ∙ ap (λ l. rows_in (take i outs) ++ l) alone))
+    (sym (ap rows_in front ∙ rows_in-append (take i outs) (o ∷ [])
+    ∙ ap (λ l. rows_in (take i outs) ++ l) (append-nil o.hits.items)))
 
 -- the advances so far, with those of one value more
-pub turns_in-more : (outs : List JoinOut) (i : ℕ) (o : JoinOut) → slice_get outs i ≡ Some o
+pub turns_in-more : (outs : List (JoinOut JoinRow)) (i : ℕ) (o : JoinOut JoinRow) → slice_get outs i ≡ Some o
     → turns_in (take (i + 1) outs) ≡ turns_in (take i outs) + o.turns
 turns_in-more outs i o at =
-    sum_by_more (λ (out : JoinOut). out.turns) outs i o (slice_get_within outs i o at)
-    ∙ ap (λ (v : JoinOut). turns_in (take i outs) + v.turns) (get_or_from_slice_get outs i o o at)
+    sum_by_more (λ (out : JoinOut JoinRow). out.turns) outs i o (slice_get_within outs i o at)
+    ∙ ap (λ (v : JoinOut JoinRow). turns_in (take i outs) + v.turns) (get_or_from_slice_get outs i o o at)
 
 -- they are no more than those of all
-pub turns_in-more_le : (outs : List JoinOut) (i : ℕ) (o : JoinOut) → slice_get outs i ≡ Some o
+pub turns_in-more_le : (outs : List (JoinOut JoinRow)) (i : ℕ) (o : JoinOut JoinRow) → slice_get outs i ≡ Some o
     → turns_in (take i outs) + o.turns ≤ turns_in outs
 turns_in-more_le outs i o at =
-    let most = sum_by_more_le (λ (out : JoinOut). out.turns) outs i o (slice_get_within outs i o at) in
-    let e : (get_or outs i o).turns ≡ o.turns = ap (λ (v : JoinOut). v.turns) (get_or_from_slice_get outs i o o at) in
+    let most = sum_by_more_le (λ (out : JoinOut JoinRow). out.turns) outs i o (slice_get_within outs i o at) in
+    let e : (get_or outs i o).turns ≡ o.turns = ap (λ (v : JoinOut JoinRow). v.turns) (get_or_from_slice_get outs i o o at) in
     omega (arith, most, e)

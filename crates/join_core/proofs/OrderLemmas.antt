@@ -19,7 +19,7 @@ pub JoinRow-same_fields : (a b : JoinRow) → a.period ≡ b.period → a.left �
 JoinRow-same_fields a b p l r = λ k. record { period = p k; left = l k; right = r k }
 
 -- `==` of two rows decides whether they are one
-row_eq-Decides : (a b : JoinRow) → Decides (eq-value.it a b) (a ≡ b)
+pub row_eq-Decides : (a b : JoinRow) → Decides (eq-value.it a b) (a ≡ b)
 row_eq-Decides a b = Decides-like _
     (λ h. JoinRow-same_fields a b (Period-same a.period b.period h.0.0 h.0.1) h.1.0 h.1.1)
     (λ e. (

@@ -9,18 +9,18 @@ use Rattle.dip_core.proofs.PartedLemmas.{length-part_at}
 use Rattle.work_core.specs.Limits.{pair_limit}
 use Rattle.join_core.specs.declared.pairs.JoinOut.{JoinOut}
 use Rattle.join_core.specs.declared.rows.JoinRow.{JoinRow}
-use Rattle.join_core.specs.PairValues.{IsPairValue, AreFirstValues, AreOfFirstPairs, AddsFirstPairs, rows_in, turns_in}
+use Rattle.join_core.specs.PairValues.{IsPairValue, AreFirstValues, AreOfFirstPairs, AddsFirstPairs, row_of_hit, rows_in, turns_in}
 use Rattle.join_core.proofs.ListLemmas.{slice_get-append_cases}
 use Rattle.join_core.proofs.LoopLemmas.{rows_in-append}
 use Rattle.join_core.proofs.TurnLemmas.{few-turns, few-turns_of}
 
 -- the value of a pair, by its number
-abbrev pub IsValueAt : List (List Item) → List (List Item) → ℕ → JoinOut → Type 0
-IsValueAt ps qs i o = ∥ IsPairValue (part_at ps (i / length qs)) (part_at qs (i % length qs)) o ∥₁
+abbrev pub IsValueAt : List (List Item) → List (List Item) → ℕ → JoinOut JoinRow → Type 0
+IsValueAt ps qs i o = ∥ IsPairValue row_of_hit (part_at ps (i / length qs)) (part_at qs (i % length qs)) o ∥₁
 
 -- the values of the first pairs, and of those behind them
-values-more : (ps qs : List (List Item)) (n : ℕ) (outs new : List JoinOut) → length outs ≡ n → AreFirstValues ps qs outs
-    → ((i : ℕ) (o : JoinOut) → slice_get new i ≡ Some o → IsValueAt ps qs (n + i) o)
+values-more : (ps qs : List (List Item)) (n : ℕ) (outs new : List (JoinOut JoinRow)) → length outs ≡ n → AreFirstValues ps qs outs
+    → ((i : ℕ) (o : JoinOut JoinRow) → slice_get new i ≡ Some o → IsValueAt ps qs (n + i) o)
     → AreFirstValues ps qs (outs ++ new)
 values-more ps qs n outs new len values each i o h = elim (slice_get-append_cases outs new i o h) [
   | inl before ↦ values i o before
@@ -30,14 +30,14 @@ values-more ps qs n outs new len values each i o h = elim (slice_get-append_case
 ]
 
 -- after one more stretch
-pub AreOfFirstPairs-more : (ps qs : List (List Item)) (n : ℕ) (rows : List JoinRow) (turns : ℕ) (new : List JoinOut)
+pub AreOfFirstPairs-more : (ps qs : List (List Item)) (n : ℕ) (rows : List JoinRow) (turns : ℕ) (new : List (JoinOut JoinRow))
     (rows' : List JoinRow) (turns' count : ℕ) → AreOfFirstPairs ps qs n rows turns → length new ≡ count
-    → ((i : ℕ) (o : JoinOut) → slice_get new i ≡ Some o → IsValueAt ps qs (n + i) o)
+    → ((i : ℕ) (o : JoinOut JoinRow) → slice_get new i ≡ Some o → IsValueAt ps qs (n + i) o)
     → rows' ≡ rows ++ rows_in new → turns' ≡ turns_in new → AreOfFirstPairs ps qs (n + count) rows' (turns + turns')
 AreOfFirstPairs-more ps qs n rows turns new rows' turns' count is len each more added =
     let l : length is.outs ≡ n = is.len in
     let all : turns_in (is.outs ++ new) ≡ turns_in is.outs + turns_in new =
-    sum_by-append (λ (out : JoinOut). out.turns) is.outs new in
+    sum_by-append (λ (out : JoinOut JoinRow). out.turns) is.outs new in
     record {
       outs = is.outs ++ new;
       len = length-append is.outs new ∙ ap (λ k. k + length new) l ∙ ap (λ k. n + k) len;
@@ -48,8 +48,8 @@ AreOfFirstPairs-more ps qs n rows turns new rows' turns' count is len each more 
 
 -- the same behind rows that were there
 pub AddsFirstPairs-more : (ps qs : List (List Item)) (n : ℕ) (old rows : List JoinRow) (turns : ℕ)
-    (new : List JoinOut) (rows' : List JoinRow) (turns' count : ℕ) → AddsFirstPairs ps qs n old rows turns
-    → length new ≡ count → ((i : ℕ) (o : JoinOut) → slice_get new i ≡ Some o → IsValueAt ps qs (n + i) o)
+    (new : List (JoinOut JoinRow)) (rows' : List JoinRow) (turns' count : ℕ) → AddsFirstPairs ps qs n old rows turns
+    → length new ≡ count → ((i : ℕ) (o : JoinOut JoinRow) → slice_get new i ≡ Some o → IsValueAt ps qs (n + i) o)
     → rows' ≡ rows ++ rows_in new → turns' ≡ turns_in new
     → AddsFirstPairs ps qs (n + count) old rows' (turns + turns')
 AddsFirstPairs-more ps qs n old rows turns new rows' turns' count adds len each more added = record {
@@ -68,9 +68,9 @@ AddsFirstPairs-none ps qs rows = record {
 }
 
 -- pairs have few advances
-few-of : (ps qs : List (List Item)) (n : ℕ) (outs : List JoinOut) → length (all_of ps) ≤ item_limit
+few-of : (ps qs : List (List Item)) (n : ℕ) (outs : List (JoinOut JoinRow)) → length (all_of ps) ≤ item_limit
     → length (all_of qs) ≤ item_limit
-    → ((i : ℕ) (o : JoinOut) → slice_get outs i ≡ Some o → IsValueAt ps qs (n + i) o)
+    → ((i : ℕ) (o : JoinOut JoinRow) → slice_get outs i ≡ Some o → IsValueAt ps qs (n + i) o)
     → turns_in outs ≤ length outs * 2_000_000
 few-of ps qs n outs hp hq each =
     few-turns outs (λ i o h.
@@ -80,17 +80,17 @@ few-of ps qs n outs hp hq each =
     (omega (arith, r, hq)) (each i o h))
 
 -- those of a stretch fit a number
-pub stretch-fits : (ps qs : List (List Item)) (n : ℕ) (outs : List JoinOut) → length (all_of ps) ≤ item_limit
+pub stretch-fits : (ps qs : List (List Item)) (n : ℕ) (outs : List (JoinOut JoinRow)) → length (all_of ps) ≤ item_limit
     → length (all_of qs) ≤ item_limit
-    → ((i : ℕ) (o : JoinOut) → slice_get outs i ≡ Some o → IsValueAt ps qs (n + i) o)
+    → ((i : ℕ) (o : JoinOut JoinRow) → slice_get outs i ≡ Some o → IsValueAt ps qs (n + i) o)
     → length outs ≤ pair_limit → turns_in outs < 2 ^ 64
 stretch-fits ps qs n outs hp hq each few = let most = few-of ps qs n outs hp hq each in omega (arith, most, few)
 
 -- with those of all pairs before it
-pub stretches-fit : (ps qs : List (List Item)) (n : ℕ) (rows : List JoinRow) (turns : ℕ) (new : List JoinOut)
+pub stretches-fit : (ps qs : List (List Item)) (n : ℕ) (rows : List JoinRow) (turns : ℕ) (new : List (JoinOut JoinRow))
     → AreOfFirstPairs ps qs n rows turns
     → length (all_of ps) ≤ item_limit → length (all_of qs) ≤ item_limit
-    → ((i : ℕ) (o : JoinOut) → slice_get new i ≡ Some o → IsValueAt ps qs (n + i) o)
+    → ((i : ℕ) (o : JoinOut JoinRow) → slice_get new i ≡ Some o → IsValueAt ps qs (n + i) o)
     → n + length new ≤ pair_limit → turns + turns_in new < 2 ^ 64
 stretches-fit ps qs n rows turns new is hp hq each few =
     let now = few-of ps qs n new hp hq each in

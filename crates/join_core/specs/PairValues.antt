@@ -8,36 +8,34 @@ use Rattle.merge_core.specs.Hits.{IsHit, HitStartsBefore, AreAdvances}
 use Rattle.join_core.specs.declared.pairs.JoinOut.{JoinOut}
 use Rattle.join_core.specs.declared.rows.JoinRow.{JoinRow}
 
--- the hits of both parts, and the advances by which they are found
-pub record IsPairValue (left right : List Item) (out : JoinOut) : Type 0 where
-  pub hits : IsListOf HitStartsBefore (IsHit left right) out.hits.items
+-- what is made of each hit of both parts, by rising start of the hits, and the advances by which they are found
+pub record IsPairValue {T : Type 0} (from_hit : Hit → T) (left right : List Item) (out : JoinOut T) : Type 0 where
+  pub hits : List Hit
+  pub made : out.hits.items ≡ map from_hit hits
+  pub all : IsListOf HitStartsBefore (IsHit left right) hits
   pub turns : AreAdvances left right out.turns
 
 -- the row of a hit
 abbrev pub row_of_hit : Hit → JoinRow
 row_of_hit hit = record { period = hit.period; left = hit.left.id; right = hit.right.id }
 
--- all hits, pair by pair
-abbrev pub hits_in : List JoinOut → List Hit
-hits_in outs = flat_map (λ (out : JoinOut). out.hits.items) outs
-
--- their rows
-abbrev pub rows_in : List JoinOut → List JoinRow
-rows_in outs = map row_of_hit (hits_in outs)
+-- the rows of all pairs, pair by pair
+abbrev pub rows_in : List (JoinOut JoinRow) → List JoinRow
+rows_in outs = flat_map (λ (out : JoinOut JoinRow). out.hits.items) outs
 
 -- the advances of all pairs
-abbrev pub turns_in : List JoinOut → ℕ
-turns_in outs = sum_by (λ (out : JoinOut). out.turns) outs
+abbrev pub turns_in : List (JoinOut JoinRow) → ℕ
+turns_in outs = sum_by (λ (out : JoinOut JoinRow). out.turns) outs
 
 -- values of the first pairs of two divisions, by left part and then by right part
-abbrev pub AreFirstValues : List (List Item) → List (List Item) → List JoinOut → Type 0
-AreFirstValues lefts rights outs = (i : ℕ) (out : JoinOut) → slice_get outs i ≡ Some out
-    → ∥ IsPairValue (part_at lefts (i / length rights)) (part_at rights (i % length rights)) out ∥₁
+abbrev pub AreFirstValues : List (List Item) → List (List Item) → List (JoinOut JoinRow) → Type 0
+AreFirstValues lefts rights outs = (i : ℕ) (out : JoinOut JoinRow) → slice_get outs i ≡ Some out
+    → ∥ IsPairValue row_of_hit (part_at lefts (i / length rights)) (part_at rights (i % length rights)) out ∥₁
 
 -- the rows and the advances of the first n pairs of two divisions
 pub record AreOfFirstPairs
     (lefts rights : List (List Item)) (n : ℕ) (rows : List JoinRow) (turns : ℕ) : Type 0 where
-  pub outs : List JoinOut
+  pub outs : List (JoinOut JoinRow)
   pub len : length outs ≡ n
   pub values : AreFirstValues lefts rights outs
   pub rows_are : rows ≡ rows_in outs

@@ -10,7 +10,7 @@ ghost use Rattle.join_core.specs.Found.{AddsItemsRows, AreMade, FitTogether, IsF
 ghost use Rattle.join_core.specs.Tiles.{AddsTilesRows, HaveNoRow, IsDivisible, reads_in};
 
 use crate::advances::Advances;
-use crate::pairs::JoinPairs;
+use crate::pairs::RowPairs;
 use crate::rows::JoinRow;
 use crate::stretches::add_rows_of_pairs;
 use crate::tiles::{Tile, tiles_of};
@@ -77,7 +77,7 @@ fn add_rows_of_tile<R: Threads + Sync, G: Gate>(
     let few = workers_for(&tile.left, &tile.right, workers);
     let lefts = divided(rt, alloc, &tile.left, few)?;
     let rights = divided(rt, alloc, &tile.right, few)?;
-    let pairs = JoinPairs::new(&lefts, &rights);
+    let pairs = RowPairs::new(&lefts, &rights);
     add_rows_of_pairs(rt, alloc, &pairs, few, gate, rows)
 }
 
@@ -131,7 +131,7 @@ fn add_rows_of_bundle<R: Threads + Sync, G: Gate>(
     let made = match tiles_of(rt, alloc, left, right, most, workers)? {
         Some(tiles) => add_rows_of_tiles(rt, alloc, &tiles, workers, gate, rows)?,
         None => {
-            let pairs = JoinPairs::new(&lefts, &rights);
+            let pairs = RowPairs::new(&lefts, &rights);
             add_rows_of_pairs(rt, alloc, &pairs, workers, gate, rows)?
         }
     };

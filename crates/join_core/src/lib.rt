@@ -16,6 +16,6 @@ mod tiles;
 
 pub use joins::join;
 pub use laws::join_has_one_list;
-pub use pairs::{JoinOut, JoinPairs};
+pub use pairs::{JoinOut, JoinPairs, JoinWork};
 pub use parted::JoinAnswer;
 pub use rows::{JoinRow, JoinRows};

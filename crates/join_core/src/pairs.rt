@@ -1,100 +1,43 @@
-//! The pairs of parts of a join, as a job for workers.
+//! The pairs of parts of a join, as jobs for workers.
 
-ghost use Rattle.std.specs.Prelude.{◌≡◌, ◌*◌, ◌≤◌, List, length};
-ghost use Rattle.dip_core.specs.declared.item.Item.{Item};
-ghost use Rattle.dip_core.specs.Item.{item_limit};
-ghost use Rattle.dip_core.specs.Division.{part_at};
-ghost use Rattle.grid_core.specs.Grid.{grid_name, grid_place};
-ghost use Rattle.grid_core.specs.GridLaws.{grid_placed, grid_named, few_pairs, squashed_prop};
 ghost use Rattle.join_core.specs.PairValues.{IsPairValue};
 
-use dip_core::Division;
-use grid_core::{name_in, place_in, same_part};
-use merge_core::{Cursor, Hit, merge_join};
+use crate::rows::JoinRow;
+use dip_core::Part;
+use grid_core::{PartPairs, PartWork};
+use merge_core::{Cursor, FromHit, Hit, merge_join_into};
 use period_core::NoMemory;
 use std::alloc::Global;
-use work_core::{PairName, PairWork};
+use std::marker::PhantomData;
 
-/// The value of a pair of parts.
+/// The value of a pair of parts: their hits, or what is made of each.
 #[derive(Drop)]
-pub struct JoinOut {
+pub struct JoinOut<T = Hit> {
     /// What the items of the two parts share, by rising start.
-    pub hits: Vec<Hit>,
+    pub hits: Vec<T>,
     /// How often a cursor advanced.
     pub turns: u64,
 }
 
-/// Each part of one division with each part of another: pair (l, r) is left part l with right part r, and the
-/// pairs are numbered by left part and then by right part. A pair's value is what its two parts share.
-#[derive(Clone, Copy)]
-pub struct JoinPairs<'a> {
-    /// The division of the left side.
-    pub left: &'a Division,
-    /// The division of the right side.
-    pub right: &'a Division,
-    pub ghost left_few: { length left.now ≤ item_limit },
-    pub ghost right_few: { length right.now ≤ item_limit },
+/// Finds what the items of two parts share, and makes this of each hit.
+pub struct JoinWork<T> {
+    made: PhantomData<T>,
 }
 
-impl<'a> JoinPairs<'a> {
-    /// The pairs of these two divisions.
-    pub fn new(left: &'a Division, right: &'a Division) -> JoinPairs<'a>
-        ensures left { result.left.now ≡ left.entry.now }
-        ensures right { result.right.now ≡ right.entry.now }
-    {
-        let _ = left.parts();
-        let _ = right.parts();
-        JoinPairs { left, right }
-    }
-}
+impl<T: FromHit + Send + Sync> PartWork for JoinWork<T> {
+    type Out = JoinOut<T>;
 
-impl<'a> PairWork for JoinPairs<'a> {
-    type Out = JoinOut;
+    ghost IsValue = { λ left right out. IsPairValue T.from_hit left right out };
 
-    ghost Inputs = { List Item × List Item };
-
-    ghost pairs = { λ w. length w.left.now * length w.right.now };
-
-    ghost name_of = { λ w i. grid_name (length w.right.now) i };
-
-    ghost place_of = { λ w p. grid_place (length w.left.now) (length w.right.now) p };
-
-    ghost inputs_of = { λ w p. (part_at w.left.now p.left, part_at w.right.now p.right) };
-
-    ghost IsValue = { λ x out. ∥ IsPairValue x.0 x.1 out ∥₁ };
-
-    ghost few = { λ w. few_pairs (length w.left.now) (length w.right.now) w.left_few w.right_few };
-
-    ghost placed = { λ w i h. grid_placed (length w.left.now) (length w.right.now) i h };
-
-    ghost named = { λ w p i e. grid_named (length w.left.now) (length w.right.now) p i e };
-
-    ghost value_prop = { λ x o. squashed_prop (IsPairValue x.0 x.1 o) };
-
-    fn count(&self) -> u64 {
-        self.left.parts() as u64 * self.right.parts() as u64
-    }
-
-    fn name(&self, i: u64) -> PairName {
-        name_in(self.left, self.right, i)
-    }
-
-    fn place(&self, pair: PairName) -> Option<u64> {
-        place_in(self.left, self.right, pair)
-    }
-
-    fn run(&self, alloc: Global, pair: PairName) -> Result<JoinOut, NoMemory> {
-        let left = Cursor::new(self.left.part(pair.left));
-        let right = Cursor::new(self.right.part(pair.right));
+    fn find(alloc: Global, left: Part<'_>, right: Part<'_>) -> Result<JoinOut<T>, NoMemory> {
         let mut hits = Vec::new(alloc);
-        let turns = merge_join(left, right, &mut hits)?;
+        let turns = merge_join_into(Cursor::new(left), Cursor::new(right), &mut hits)?;
         Ok(JoinOut { hits, turns })
     }
-
-    fn same(&self, other: &Self, pair: PairName) -> bool {
-        self.place(pair).is_some()
-            && other.place(pair).is_some()
-            && same_part(self.left, other.left, pair.left)
-            && same_part(self.right, other.right, pair.right)
-    }
 }
+
+/// The pairs of parts of two divisions, and as the value of each what its two parts share.
+pub type JoinPairs<'a> = PartPairs<'a, JoinWork<Hit>>;
+
+/// The same pairs, and the rows of what they share.
+pub(crate) type RowPairs<'a> = PartPairs<'a, JoinWork<JoinRow>>;

@@ -4,7 +4,7 @@ ghost use Rattle.std.specs.Prelude.{◌≡◌, ◌<◌, ◌≤◌, ◌*◌, leng
 ghost use Rattle.work_core.specs.Limits.{worker_limit};
 ghost use Rattle.join_core.specs.PairValues.{AddsFirstPairs};
 
-use crate::pairs::JoinPairs;
+use crate::pairs::RowPairs;
 use crate::rows::{JoinRow, add_rows, turns_of};
 use grid_core::stretch_len;
 use period_core::NoMemory;
@@ -16,7 +16,7 @@ use work_core::{Gate, PairWork, run_stretch};
 pub(crate) fn add_rows_of_pairs<R: Threads + Sync, G: Gate>(
     rt: &R,
     alloc: Global,
-    pairs: &JoinPairs<'_>,
+    pairs: &RowPairs<'_>,
     workers: u32,
     gate: &G,
     rows: &mut Vec<JoinRow>,
