@@ -18,5 +18,5 @@ mod united;
 
 pub use anti_joins::anti;
 pub use laws::{anti_has_one_list, unmet_periods_are_bordered};
-pub use pairs::GapPairs;
+pub use pairs::{GapPairs, GapWork};
 pub use rows::{AntiRow, AntiRows};

@@ -1,90 +1,26 @@
 //! The pairs of parts of an anti-join, as a job for workers.
 
-ghost use Rattle.std.specs.Prelude.{◌≡◌, ◌*◌, ◌≤◌, List, length};
-ghost use Rattle.dip_core.specs.declared.item.Item.{Item};
-ghost use Rattle.dip_core.specs.Item.{item_limit};
-ghost use Rattle.dip_core.specs.Division.{part_at};
-ghost use Rattle.grid_core.specs.Grid.{grid_name, grid_place};
-ghost use Rattle.grid_core.specs.GridLaws.{grid_placed, grid_named, few_pairs, squashed_prop};
 ghost use Rattle.merge_core.specs.Gaps.{ListsGaps};
 
-use dip_core::Division;
-use grid_core::{name_in, place_in, same_part};
+use dip_core::Part;
+use grid_core::{PartPairs, PartWork};
 use merge_core::{Cursor, Gaps};
 use period_core::NoMemory;
 use std::alloc::Global;
-use work_core::{PairName, PairWork};
 
-/// Each part of one division with each part of another: pair (l, r) is left part l with right part r, and the
-/// pairs are numbered by left part and then by right part. A pair's value is the list of the gaps of its left part
-/// against its right part alone.
-#[derive(Clone, Copy)]
-pub struct GapPairs<'a> {
-    /// The division of the left side.
-    pub left: &'a Division,
-    /// The division of the right side.
-    pub right: &'a Division,
-    pub ghost left_few: { length left.now ≤ item_limit },
-    pub ghost right_few: { length right.now ≤ item_limit },
-}
+/// Finds the gaps of a left part against a right part alone.
+pub struct GapWork;
 
-impl<'a> GapPairs<'a> {
-    /// The pairs of these two divisions.
-    pub fn new(left: &'a Division, right: &'a Division) -> GapPairs<'a>
-        ensures left { result.left.now ≡ left.entry.now }
-        ensures right { result.right.now ≡ right.entry.now }
-    {
-        let _ = left.parts();
-        let _ = right.parts();
-        GapPairs { left, right }
-    }
-}
-
-impl<'a> PairWork for GapPairs<'a> {
+impl PartWork for GapWork {
     type Out = Gaps;
 
-    ghost Inputs = { List Item × List Item };
+    ghost IsValue = { λ left right gaps. ListsGaps left right gaps };
 
-    ghost pairs = { λ w. length w.left.now * length w.right.now };
-
-    ghost name_of = { λ w i. grid_name (length w.right.now) i };
-
-    ghost place_of = { λ w p. grid_place (length w.left.now) (length w.right.now) p };
-
-    ghost inputs_of = { λ w p. (part_at w.left.now p.left, part_at w.right.now p.right) };
-
-    ghost IsValue = { λ x gaps. ∥ ListsGaps x.0 x.1 gaps ∥₁ };
-
-    ghost few = { λ w. few_pairs (length w.left.now) (length w.right.now) w.left_few w.right_few };
-
-    ghost placed = { λ w i h. grid_placed (length w.left.now) (length w.right.now) i h };
-
-    ghost named = { λ w p i e. grid_named (length w.left.now) (length w.right.now) p i e };
-
-    ghost value_prop = { λ x o. squashed_prop (ListsGaps x.0 x.1 o) };
-
-    fn count(&self) -> u64 {
-        self.left.parts() as u64 * self.right.parts() as u64
-    }
-
-    fn name(&self, i: u64) -> PairName {
-        name_in(self.left, self.right, i)
-    }
-
-    fn place(&self, pair: PairName) -> Option<u64> {
-        place_in(self.left, self.right, pair)
-    }
-
-    fn run(&self, alloc: Global, pair: PairName) -> Result<Gaps, NoMemory> {
-        let left = Cursor::new(self.left.part(pair.left));
-        let right = Cursor::new(self.right.part(pair.right));
-        Gaps::of(alloc, left, right)
-    }
-
-    fn same(&self, other: &Self, pair: PairName) -> bool {
-        self.place(pair).is_some()
-            && other.place(pair).is_some()
-            && same_part(self.left, other.left, pair.left)
-            && same_part(self.right, other.right, pair.right)
+    fn find(alloc: Global, left: Part<'_>, right: Part<'_>) -> Result<Gaps, NoMemory> {
+        Gaps::of(alloc, Cursor::new(left), Cursor::new(right))
     }
 }
+
+/// The pairs of parts of two divisions, and as the value of each the list of the gaps of its left part against its
+/// right part alone.
+pub type GapPairs<'a> = PartPairs<'a, GapWork>;
