@@ -18,7 +18,7 @@ AreItemsRows-none right =
     IsListOf-none (λ (a b : JoinRow). a ≢ b) (IsItemsJoinRow [] right) (λ row is. Contains-none is.x is.x_in)
 
 -- a row of two items is one of other lists where they stand
-row-moved : (left right other_left other_right : List Item) (row : JoinRow) (is : IsItemsJoinRow left right row)
+pub row-moved : (left right other_left other_right : List Item) (row : JoinRow) (is : IsItemsJoinRow left right row)
     → Contains other_left is.x → Contains other_right is.y → IsItemsJoinRow other_left other_right row
 row-moved left right other_left other_right row is h k = record {
   x = is.x;

@@ -15,70 +15,46 @@ use Rattle.join_core.specs.declared.rows.JoinRow.{JoinRow}
 use Rattle.join_core.specs.Join.{join_cmp}
 use Rattle.join_core.specs.ItemJoin.{IsItemsJoinRow, AreItemsRows, IsItemsJoin}
 use Rattle.join_core.specs.PairValues.{AreFirstValues, rows_in}
+use Rattle.join_core.proofs.ItemLemmas.{row-moved, rows-permutation}
 use Rattle.join_core.proofs.ListLemmas.{AllPairs-flat_map, Contains-flat_map, Contains-flat_map_source}
 use Rattle.join_core.proofs.OrderLemmas.{sorted_rows}
 use Rattle.join_core.proofs.PairLemmas.{rows_at, rows_of, there}
 use Rattle.join_core.proofs.PartLemmas.{one_part, part_of}
 
-module _ (A B : List Item) (ps qs : List (List Item)) (outs : List (JoinOut JoinRow))
-    (len : length outs ≡ length ps * length qs) (values : AreFirstValues ps qs outs)
-    (pa : IsPermutation A (all_of ps)) (pb : IsPermutation B (all_of qs))
-    (da : HasDistinctIds A) (db : HasDistinctIds B) where
-  left_ids : HasDistinctIds (all_of ps)
-  left_ids = HasDistinctIds-permutation A (all_of ps) pa da
+-- an item of an id lies in one part
+one-part_of_id : (ps : List (List Item)) (i j : ℕ) (x y : Item) → HasDistinctIds (all_of ps)
+    → Contains (part_at ps i) x → Contains (part_at ps j) y → x.id ≡ y.id → i ≡ j
+one-part_of_id ps i j x y distinct h k e =
+    one_part ps i j x distinct h
+    (subst (Contains (part_at ps j))
+    (sym (one_item (all_of ps) x y distinct (contains-all_of ps i x h) (contains-all_of ps j y k) e)) k)
 
-  right_ids : HasDistinctIds (all_of qs)
-  right_ids = HasDistinctIds-permutation B (all_of qs) pb db
-
+module _ (ps qs : List (List Item)) (outs : List (JoinOut JoinRow)) (len : length outs ≡ length ps * length qs)
+    (values : AreFirstValues ps qs outs) (left_ids : HasDistinctIds (all_of ps))
+    (right_ids : HasDistinctIds (all_of qs)) where
   -- the rows of a pair, by its number
   rows-of_pair : (i : ℕ) (o : JoinOut JoinRow) → slice_get outs i ≡ Some o
       → AreItemsRows (part_at ps (i / length qs)) (part_at qs (i % length qs)) o.hits.items
   rows-of_pair i o at = rows_at ps qs outs values left_ids right_ids i o at
 
-  -- a row of some pair is one of the items
-  row-of_items : (row : JoinRow) → Contains (rows_in outs) row → IsItemsJoinRow A B row
-  row-of_items row c =
+  -- a row of some pair is one of all items
+  row-of_all : (row : JoinRow) → Contains (rows_in outs) row → IsItemsJoinRow (all_of ps) (all_of qs) row
+  row-of_all row c =
       let (i, o, at, row_in) = Contains-flat_map_source (λ (out : JoinOut JoinRow). out.hits.items) outs row c in
       let w = ((rows-of_pair i o at).exactly row).0 row_in in
-      record {
-        x = w.x;
-        y = w.y;
-        x_in = Contains-permutation (all_of ps) A w.x (IsPermutation-sym A (all_of ps) pa)
-            (contains-all_of ps (i / length qs) w.x w.x_in);
-        y_in = Contains-permutation (all_of qs) B w.y (IsPermutation-sym B (all_of qs) pb)
-            (contains-all_of qs (i % length qs) w.y w.y_in);
-        left_id = w.left_id;
-        right_id = w.right_id;
-        matches = w.matches;
-        shared = w.shared;
-      }
+      row-moved (part_at ps (i / length qs)) (part_at qs (i % length qs)) (all_of ps) (all_of qs) row w
+      (contains-all_of ps (i / length qs) w.x w.x_in) (contains-all_of qs (i % length qs) w.y w.y_in)
 
-  -- a row of the items is one of some pair
-  row-of_pairs : (row : JoinRow) → IsItemsJoinRow A B row → Contains (rows_in outs) row
+  -- a row of all items is one of some pair
+  row-of_pairs : (row : JoinRow) → IsItemsJoinRow (all_of ps) (all_of qs) row → Contains (rows_in outs) row
   row-of_pairs row w =
-      let (l, l_in, x_in) = part_of ps w.x (Contains-permutation A (all_of ps) w.x pa w.x_in) in
-      let (r, r_in, y_in) = part_of qs w.y (Contains-permutation B (all_of qs) w.y pb w.y_in) in
+      let (l, l_in, x_in) = part_of ps w.x w.x_in in
+      let (r, r_in, y_in) = part_of qs w.y w.y_in in
       let inside : l * length qs + r < length outs = (let d = digits_lt l_in r_in in omega (arith, d, len)) in
       let (o, at) = there outs (l * length qs + r) inside in
       Contains-flat_map (λ (out : JoinOut JoinRow). out.hits.items) outs (l * length qs + r) o row at
-      (((rows_of ps qs outs values left_ids right_ids l r o r_in at).exactly row).1 (record {
-        x = w.x;
-        y = w.y;
-        x_in = x_in;
-        y_in = y_in;
-        left_id = w.left_id;
-        right_id = w.right_id;
-        matches = w.matches;
-        shared = w.shared;
-      }))
-
-  -- an item of an id lies in one part
-  one-part_of_id : (parts : List (List Item)) (i j : ℕ) (x y : Item) → HasDistinctIds (all_of parts)
-      → Contains (part_at parts i) x → Contains (part_at parts j) y → x.id ≡ y.id → i ≡ j
-  one-part_of_id parts i j x y distinct h k e =
-      one_part parts i j x distinct h
-      (subst (Contains (part_at parts j))
-      (sym (one_item (all_of parts) x y distinct (contains-all_of parts i x h) (contains-all_of parts j y k) e)) k)
+      (((rows_of ps qs outs values left_ids right_ids l r o r_in at).exactly row).1
+      (row-moved (all_of ps) (all_of qs) (part_at ps l) (part_at qs r) row w x_in y_in))
 
   -- no row comes twice
   rows-differ : AllPairs (λ x y. x ≢ y) (rows_in outs)
@@ -99,12 +75,21 @@ module _ (A B : List Item) (ps qs : List (List Item)) (outs : List (JoinOut Join
       ∙ ap (λ n. j / length qs * length qs + n) r ∙ div-add-mod' j (length qs) in
       absurd (omega (arith, same, less)))
 
-  -- the rows of all pairs are those of the items
-  pub AreItemsRows-of_pairs : AreItemsRows A B (rows_in outs)
-  AreItemsRows-of_pairs = record {
+  -- the rows of all pairs are those of all items
+  rows-of_all : AreItemsRows (all_of ps) (all_of qs) (rows_in outs)
+  rows-of_all = record {
     ordered = rows-differ;
-    exactly = λ row. (λ c. row-of_items row c, λ w. row-of_pairs row w);
+    exactly = λ row. (λ c. row-of_all row c, λ w. row-of_pairs row w);
   }
+
+-- the rows of all pairs are those of the items that were divided
+pub AreItemsRows-of_pairs : (A B : List Item) (ps qs : List (List Item)) (outs : List (JoinOut JoinRow))
+    → length outs ≡ length ps * length qs → AreFirstValues ps qs outs → IsPermutation A (all_of ps)
+    → IsPermutation B (all_of qs) → HasDistinctIds A → HasDistinctIds B → AreItemsRows A B (rows_in outs)
+AreItemsRows-of_pairs A B ps qs outs len values pa pb da db =
+    rows-permutation A B (all_of ps) (all_of qs) pa pb (λ (a b : JoinRow). a ≢ b) (rows_in outs)
+    (rows-of_all ps qs outs len values (HasDistinctIds-permutation A (all_of ps) pa da)
+    (HasDistinctIds-permutation B (all_of qs) pb db))
 
 -- sorted they are the join
 pub IsItemsJoin-sorted : (A B : List Item) (found rows : List JoinRow) → AreItemsRows A B found
