@@ -13,6 +13,7 @@ use period_core::NoMemory;
 use share_core::{Range, Shares};
 use std::alloc::Global;
 use std::thread::Threads;
+use work_core::Crew;
 
 /// So many items of a side are enough for a bundle of several classes. Bundles of fewer would take longer to begin than
 /// to answer, and of more many pairs of parts would share no class.
@@ -122,15 +123,13 @@ pub fn class_shares(
 }
 
 /// The division of some items, which are copied.
-pub fn divided<R: Threads + Sync>(
-    rt: &R,
-    alloc: Global,
+pub fn divided<R: Threads + Sync, G>(
+    crew: &Crew<'_, R, G>,
     items: &[Item],
-    workers: u32,
 ) -> Result<Division, NoMemory>
     requires { length items.now ≤ item_limit }
     ensures { IfOk result (IsLeastDivision items.now) }
 {
-    let own = Vec::from_slice(alloc, items)?;
-    create_dip(rt, alloc, own, workers)
+    let own = Vec::from_slice(crew.alloc, items)?;
+    create_dip(crew.rt, crew.alloc, own, crew.workers)
 }

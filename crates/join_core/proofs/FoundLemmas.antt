@@ -1,5 +1,5 @@
 -- What is found of items and of others, put together.
-use Rattle.std.proofs.Common.{◌≡◌, ℕ, ◌+◌, ◌*◌, ◌<◌, ◌≤◌, ℤ, cond, List, [], ◌++◌, length, refl, sym, subst, ap, ◌∙◌, inl, inr, arith, append_assoc, length-append}
+use Rattle.std.proofs.Common.{◌≡◌, ℕ, ◌+◌, ◌*◌, ◌<◌, ◌≤◌, ℤ, cond, List, [], ◌∷◌, ◌++◌, Option, Some, None, true, append-nil, length, refl, sym, subst, ap, ◌∙◌, inl, inr, arith, append_assoc, length-append}
 use Rattle.std.specs.Prelude.{IsPermutation}
 use Rattle.std.proofs.lemmas.List.Elements.{All-append, All-contains, All-nil, Contains-append_cases, Contains-append_left, Contains-append_right}
 use Rattle.std.proofs.lemmas.List.Sorted.{IsPermutation-append, IsPermutation-refl, length_permutation}
@@ -15,12 +15,19 @@ use Rattle.dip_core.proofs.CrowdLemmas.{crowd-le-length}
 use Rattle.dip_core.proofs.DipExistence.{some_instant}
 use Rattle.dip_core.proofs.PartedLemmas.{all_of-append, distinct-earlier, distinct-later}
 use Rattle.list_core.proofs.RisingLemmas.{Contains-none}
-use Rattle.grid_core.specs.Bundles.{ArePartedBehind, ClassesRise}
+use Rattle.std.specs.Ordering.{nat_cmp}
+use Rattle.share_core.specs.Ranges.{has_begun, range}
+use Rattle.share_core.specs.Shares.{GivesFrom}
+use Rattle.share_core.specs.declared.range.Range.{Range}
+use Rattle.share_core.specs.declared.shares.Cut.{Cut}
+use Rattle.share_core.proofs.ShareLemmas.{all_come}
+use Rattle.grid_core.specs.Bundles.{ArePartedAt, ClassesRise, items_in}
+use Rattle.grid_core.proofs.RangeItems.{filter_all, in-distinct, in-parted}
 use Rattle.grid_core.proofs.BundleLemmas.{high-rise}
 use Rattle.join_core.specs.declared.advances.Advances.{Advances}
-use Rattle.join_core.specs.declared.bundles.FoundRows.{FoundRows}
+use Rattle.join_core.specs.declared.found.FoundRows.{FoundRows}
 use Rattle.join_core.specs.declared.rows.JoinRow.{JoinRow}
-use Rattle.join_core.specs.Found.{AddsItemsRows, AreMade, FitTogether, HasParts, HoldAtMost, IsFound, MatchNothing, both_made}
+use Rattle.join_core.specs.Found.{AddsItemsRows, AreFound, AreMade, FitAll, FitTogether, HasParts, HoldAtMost, IsFound, MatchNothing, all_made, all_rows, both_made}
 use Rattle.join_core.specs.ItemJoin.{AreItemsRows}
 use Rattle.join_core.specs.PairValues.{AddsFirstPairs}
 use Rattle.join_core.proofs.ItemLemmas.{AreItemsRows-append, AreItemsRows-none}
@@ -225,16 +232,16 @@ module _ (left right : List Item) (lefts rights : List (List Item)) (one : IsLea
 
 -- items of lower classes match none of higher ones
 pub MatchNothing-parted : (class : ℕ) (left low_left high_left right low_right high_right : List Item)
-    → ArePartedBehind class left low_left high_left → ArePartedBehind class right low_right high_right
+    → ArePartedAt class left low_left high_left → ArePartedAt class right low_right high_right
     → MatchNothing low_left low_right high_left high_right
 MatchNothing-parted class left low_left high_left right low_right high_right lefts rights = record {
   forth = λ x y h k same.
-      let p = All-contains (λ (z : Item). z.class ≤ class) low_left x lefts.upto h in
-      let q = All-contains (λ (z : Item). class < z.class) high_right y rights.above k in
+      let p = All-contains (λ (z : Item). z.class < class) low_left x lefts.below h in
+      let q = All-contains (λ (z : Item). class ≤ z.class) high_right y rights.from k in
       absurd (omega (arith, p, q, same));
   back = λ x y h k same.
-      let p = All-contains (λ (z : Item). class < z.class) high_left x lefts.above h in
-      let q = All-contains (λ (z : Item). z.class ≤ class) low_right y rights.upto k in
+      let p = All-contains (λ (z : Item). class ≤ z.class) high_left x lefts.from h in
+      let q = All-contains (λ (z : Item). z.class < class) low_right y rights.below k in
       absurd (omega (arith, p, q, same));
 }
 
@@ -272,34 +279,127 @@ rows-both left right p q old new distinct nothing are adds =
     (AreItemsRows-append left right p q old adds.added distinct nothing.forth nothing.back are adds.rows)
 
 -- what is found of the lower classes and of the higher ones
-pub IsFound-parted : (class : ℕ) (left low_left high_left right low_right high_right : List Item)
-    → ArePartedBehind class left low_left high_left → ArePartedBehind class right low_right high_right
-    → HasDistinctIds left → (low high both : FoundRows) → IsFound low_left low_right low
-    → IsFound high_left high_right high → both.rows.items ≡ low.rows.items ++ high.rows.items
-    → both.advances ≡ both_made low.advances high.advances → IsFound left right both
-IsFound-parted class left low_left high_left right low_right high_right lefts rights distinct low high both one other
-    rows_are advances_are =
-    subst (λ (xs : List Item). IsFound xs right both) (sym lefts.whole)
-    (subst (λ (ys : List Item). IsFound (low_left ++ high_left) ys both) (sym rights.whole) (record {
-      rows = rows-both low_left low_right high_left high_right low.rows.items both.rows.items
+found-parted : (class : ℕ) (left low_left high_left right low_right high_right : List Item)
+    → ArePartedAt class left low_left high_left → ArePartedAt class right low_right high_right → HasDistinctIds left
+    → (rows more : List JoinRow) (taken other : Advances) → AreFound low_left low_right rows taken
+    → AreFound high_left high_right more other → AreFound left right (rows ++ more) (both_made taken other)
+found-parted class left low_left high_left right low_right high_right lefts rights distinct rows more taken other low
+    high =
+    subst (λ (xs : List Item). AreFound xs right (rows ++ more) (both_made taken other)) (sym lefts.whole)
+    (subst (λ (ys : List Item). AreFound (low_left ++ high_left) ys (rows ++ more) (both_made taken other))
+    (sym rights.whole) (record {
+      rows = rows-both low_left low_right high_left high_right rows (rows ++ more)
           (subst HasDistinctIds lefts.whole distinct)
-          (MatchNothing-parted class left low_left high_left right low_right high_right lefts rights) one.rows
-          (record { added = high.rows.items; split = rows_are; rows = other.rows });
-      advances = subst (AreMade (low_left ++ high_left) (low_right ++ high_right)) (sym advances_are)
-          (AreMade-append low_left low_right high_left high_right low.advances high.advances one.advances
-          other.advances);
+          (MatchNothing-parted class left low_left high_left right low_right high_right lefts rights) low.rows
+          (record { added = more; split = refl; rows = high.rows });
+      advances = AreMade-append low_left low_right high_left high_right taken other low.advances high.advances;
     }))
 
--- their advances fit a number
-pub parted-fits : (class : ℕ) (left low_left high_left right low_right high_right : List Item)
-    → ArePartedBehind class left low_left high_left → ArePartedBehind class right low_right high_right
-    → (low high : FoundRows) → IsFound low_left low_right low → IsFound high_left high_right high
-    → length left ≤ item_limit → length right ≤ item_limit → FitTogether low.advances high.advances
-parted-fits class left low_left high_left right low_right high_right lefts rights low high one other left_few
-    right_few =
-    FitTogether-append low_left low_right high_left high_right low.advances high.advances one.advances other.advances
-    (subst (λ (xs : List Item). length xs ≤ item_limit) lefts.whole left_few)
-    (subst (λ (xs : List Item). length xs ≤ item_limit) rights.whole right_few)
+-- ---- range by range
+
+-- a number with none
+add_zero : (n : ℕ) → n + 0 ≡ n
+add_zero n = omega arith
+
+-- sums of three
+add_again : (a b c : ℕ) → a + (b + c) ≡ (a + b) + c
+add_again a b c = omega arith
+
+-- advances with none
+made-alone : (made : Advances) → both_made made (record { made = 0; left_parts = 0; right_parts = 0 }) ≡ made
+made-alone made = rw (add_zero made.made, add_zero made.left_parts, add_zero made.right_parts) refl
+
+module _ (left right : List Item) (left_rise : ClassesRise left) (right_rise : ClassesRise right)
+    (left_ids : HasDistinctIds left) where
+  -- what is found of a range of classes
+  abbrev AllFound : Range ℕ → List FoundRows → Type 0
+  AllFound r all = AreFound (items_in r left) (items_in r right) (all_rows all) (all_made all)
+
+  one_found : (r : Range ℕ) (found : FoundRows) → IsFound (items_in r left) (items_in r right) found
+      → AllFound r (found ∷ [])
+  one_found r found is =
+      subst (λ (xs : List JoinRow). AreFound (items_in r left) (items_in r right) xs (all_made (found ∷ [])))
+      (sym (append-nil found.rows.items))
+      (subst (λ (made : Advances). AreFound (items_in r left) (items_in r right) found.rows.items made)
+      (sym (made-alone found.advances)) is)
+
+  more_found : (from : Option ℕ) (at : ℕ) (found : FoundRows) (more : List FoundRows)
+      → has_begun nat_cmp from at ≡ true
+      → IsFound (items_in (range from (Some at)) left) (items_in (range from (Some at)) right) found
+      → AllFound (range (Some at) None) more → AllFound (range from None) (found ∷ more)
+  more_found from at found more begun is all =
+      found-parted at (items_in (range from None) left) (items_in (range from (Some at)) left)
+      (items_in (range (Some at) None) left) (items_in (range from None) right) (items_in (range from (Some at)) right)
+      (items_in (range (Some at) None) right) (in-parted from at left left_rise begun)
+      (in-parted from at right right_rise begun) (in-distinct (range from None) left left_ids) found.rows.items
+      (all_rows more) found.advances (all_made more) is all
+
+  -- and of all of them
+  pub all_found : (gives : Range ℕ → FoundRows → Type 0) (cuts : List (Cut ℕ)) (all : List FoundRows)
+      → GivesFrom nat_cmp gives None cuts all
+      → ((r : Range ℕ) (found : FoundRows) → gives r found → IsFound (items_in r left) (items_in r right) found)
+      → AreFound left right (all_rows all) (all_made all)
+  all_found gives cuts all given found =
+      let together = all_come nat_cmp gives AllFound (λ r x is. one_found r x (found r x is))
+      (λ from at x more begun is rest. more_found from at x more begun (found (range from (Some at)) x is) rest)
+      None cuts all given in
+      subst (λ (xs : List Item). AreFound xs right (all_rows all) (all_made all))
+      (filter_all (λ (x : Item). true) left (λ k d h. refl))
+      (subst (λ (ys : List Item). AreFound (items_in (range None None) left) ys (all_rows all) (all_made all))
+      (filter_all (λ (x : Item). true) right (λ k d h. refl)) together)
+
+-- what is found of all fits a number
+pub fits_all : (left right : List Item) (all : List FoundRows) → AreFound left right (all_rows all) (all_made all)
+    → length left ≤ item_limit → length right ≤ item_limit → FitAll all
+fits_all left right all found left_few right_few =
+    let few = AreMade-few left right (all_made all) found.advances left_few right_few in
+    record { made = omega (arith, few.2); lefts = omega (arith, few.0); rights = omega (arith, few.1) }
+
+-- all of it as one
+pub is_found : (left right : List Item) (all : FoundRows) (found : List FoundRows) → all.rows.items ≡ all_rows found
+    → all.advances ≡ all_made found → AreFound left right (all_rows found) (all_made found) → IsFound left right all
+is_found left right all found rows made is =
+    subst (λ (xs : List JoinRow). AreFound left right xs all.advances) (sym rows)
+    (subst (λ (m : Advances). AreFound left right (all_rows found) m) (sym made) is)
+
+-- ---- one behind another
+
+-- advances with some and with others
+made-again : (one other more : Advances) → both_made one (both_made other more) ≡ both_made (both_made one other) more
+made-again one other more =
+    rw (
+      add_again one.made other.made more.made,
+      add_again one.left_parts other.left_parts more.left_parts,
+      add_again one.right_parts other.right_parts more.right_parts,
+    ) refl
+
+-- what was found of some, and what is left
+pub record IsFoundSoFar (all left : List FoundRows) (rows : List JoinRow) (made : Advances) : Type 0 where
+  pub rows_are : all_rows all ≡ rows ++ all_rows left
+  pub made_are : all_made all ≡ both_made made (all_made left)
+
+pub one_more_found : (all : List FoundRows) (x : FoundRows) (left : List FoundRows) (rows new : List JoinRow)
+    (made more : Advances) → IsFoundSoFar all (x ∷ left) rows made → new ≡ rows ++ x.rows.items
+    → more ≡ both_made made x.advances → IsFoundSoFar all left new more
+one_more_found all x left rows new made more is e f = record {
+  rows_are = is.rows_are
+      ∙ (sym (append_assoc rows x.rows.items (all_rows left)) ∙ ap (λ l. l ++ all_rows left) (sym e));
+  made_are = is.made_are
+      ∙ (made-again made x.advances (all_made left) ∙ ap (λ (m : Advances). both_made m (all_made left)) (sym f));
+}
+
+-- one more fits a number
+pub one_more_fits : (all : List FoundRows) (x : FoundRows) (left : List FoundRows) (rows : List JoinRow) (made : Advances)
+    → IsFoundSoFar all (x ∷ left) rows made → FitAll all → FitTogether made x.advances
+one_more_fits all x left rows made is fit =
+    let a = ap (λ (m : Advances). m.made) is.made_are in
+    let b = ap (λ (m : Advances). m.left_parts) is.made_are in
+    let d = ap (λ (m : Advances). m.right_parts) is.made_are in
+    record {
+      made = omega (arith, a, fit.made);
+      lefts = omega (arith, b, fit.lefts);
+      rights = omega (arith, d, fit.rights);
+    }
 
 -- ---- bundle by bundle
 
@@ -347,7 +447,7 @@ module _ (items front rest : List Item) (whole : items ≡ front ++ rest) where
   front-ids ids = distinct-earlier front rest (subst HasDistinctIds whole ids)
 
 module _ (left right lefts rights low_left high_left low_right high_right : List Item) (class : ℕ)
-    (one : ArePartedBehind class lefts low_left high_left) (other : ArePartedBehind class rights low_right high_right)
+    (one : ArePartedAt class lefts low_left high_left) (other : ArePartedAt class rights low_right high_right)
     (old : List JoinRow) (advances : Advances) (is : IsFinding left right lefts rights old advances) where
   left_whole : left ≡ (is.front_left ++ low_left) ++ high_left
   left_whole =
@@ -395,13 +495,13 @@ module _ (left right lefts rights low_left high_left low_right high_right : List
 -- at the end all that is left is one
 module _ (left right lefts rights : List Item) (old : List JoinRow) (advances : Advances)
     (is : IsFinding left right lefts rights old advances) where
-  pub finding_end : (found : FoundRows) (more : Advances) → HasDistinctIds left
-      → AddsItemsRows lefts rights old found.rows.items → AreMade lefts rights more
-      → found.advances ≡ both_made advances more → IsFound left right found
-  finding_end found more ids adds made all_is =
-      subst (λ (xs : List Item). IsFound xs right found) (sym is.left_is)
-      (subst (λ (ys : List Item). IsFound (is.front_left ++ lefts) ys found) (sym is.right_is) (record {
-        rows = rows-both is.front_left is.front_right lefts rights old found.rows.items
+  pub finding_end : (rows : List JoinRow) (more all : Advances) → HasDistinctIds left
+      → AddsItemsRows lefts rights old rows → AreMade lefts rights more → all ≡ both_made advances more
+      → AreFound left right rows all
+  finding_end rows more all ids adds made all_is =
+      subst (λ (xs : List Item). AreFound xs right rows all) (sym is.left_is)
+      (subst (λ (ys : List Item). AreFound (is.front_left ++ lefts) ys rows all) (sym is.right_is) (record {
+        rows = rows-both is.front_left is.front_right lefts rights old rows
             (subst HasDistinctIds is.left_is ids) is.unmatched is.rows_are adds;
         advances = subst (AreMade (is.front_left ++ lefts) (is.front_right ++ rights)) (sym all_is)
             (AreMade-append is.front_left is.front_right lefts rights advances more is.made made);

@@ -1,10 +1,10 @@
 -- What is found of a join bundle by bundle: its rows in any order, and the advances by which they were found.
-use Rattle.std.specs.Prelude.{◌≡◌, ◌≢◌, ℕ, ◌+◌, ◌*◌, ◌^◌, ◌<◌, ◌≤◌, ℤ, List, ◌++◌, length, Contains}
+use Rattle.std.specs.Prelude.{◌≡◌, ◌≢◌, ℕ, ◌+◌, ◌*◌, ◌^◌, ◌<◌, ◌≤◌, ℤ, List, [], ◌∷◌, ◌++◌, length, flat_map, Contains}
 use Rattle.dip_core.specs.declared.item.Item.{Item}
 use Rattle.dip_core.specs.Item.{crowd}
 use Rattle.dip_core.specs.Division.{IsDivision}
 use Rattle.join_core.specs.declared.advances.Advances.{Advances}
-use Rattle.join_core.specs.declared.bundles.FoundRows.{FoundRows}
+use Rattle.join_core.specs.declared.found.FoundRows.{FoundRows}
 use Rattle.join_core.specs.declared.rows.JoinRow.{JoinRow}
 use Rattle.join_core.specs.ItemJoin.{AreItemsRows}
 
@@ -41,9 +41,26 @@ pub record FitTogether (one other : Advances) : Type 0 where
   pub rights : one.right_parts + other.right_parts < 2 ^ 64
 
 -- the rows of items, and the advances by which they were found
-pub record IsFound (left right : List Item) (found : FoundRows) : Type 0 where
-  pub rows : AreItemsRows left right found.rows.items
-  pub advances : AreMade left right found.advances
+pub record AreFound (left right : List Item) (found : List JoinRow) (taken : Advances) : Type 0 where
+  pub rows : AreItemsRows left right found
+  pub advances : AreMade left right taken
+
+abbrev pub IsFound : List Item → List Item → FoundRows → Type 0
+IsFound left right found = AreFound left right found.rows.items found.advances
+
+-- the rows of all that was found, and their advances
+abbrev pub all_rows : List FoundRows → List JoinRow
+all_rows all = flat_map (λ (found : FoundRows). found.rows.items) all
+
+abbrev pub all_made : List FoundRows → Advances
+all_made [] = record { made = 0; left_parts = 0; right_parts = 0 }
+all_made (found ∷ more) = both_made found.advances (all_made more)
+
+-- which fit a number
+pub record FitAll (all : List FoundRows) : Type 0 where
+  pub made : (all_made all).made < 2 ^ 64
+  pub lefts : (all_made all).left_parts < 2 ^ 64
+  pub rights : (all_made all).right_parts < 2 ^ 64
 
 -- behind the old rows stand those of the items
 pub record AddsItemsRows (left right : List Item) (old new : List JoinRow) : Type 0 where

@@ -11,8 +11,8 @@ ghost use Rattle.join_core.specs.Join.{IsWithin};
 use crate::crowds::least_parts;
 use dip_core::Item;
 use period_core::NoMemory;
-use std::alloc::Global;
 use std::thread::Threads;
+use work_core::Crew;
 
 /// How often cursors advanced over the parts of some items, and how many parts either side has.
 #[derive(Clone, Copy)]
@@ -59,13 +59,11 @@ impl Advances {
 
 /// The advances that are answered where so many were made: the least numbers of parts are told only where the parts
 /// that were made don't show that there were enough.
-pub(crate) fn turns_answered<R: Threads + Sync>(
-    rt: &R,
-    alloc: Global,
+pub(crate) fn turns_answered<R: Threads + Sync, G>(
+    crew: &Crew<'_, R, G>,
     left: &[Item],
     right: &[Item],
     advances: Advances,
-    workers: u32,
 ) -> Result<u64, NoMemory>
     requires left_few { length left.now ≤ item_limit }
     requires right_few { length right.now ≤ item_limit }
@@ -78,7 +76,7 @@ pub(crate) fn turns_answered<R: Threads + Sync>(
     if advances.are_enough() {
         return Ok(advances.made);
     }
-    let lefts = least_parts(rt, alloc, left, workers)?;
-    let rights = least_parts(rt, alloc, right, workers)?;
+    let lefts = least_parts(crew, left)?;
+    let rights = least_parts(crew, right)?;
     Ok(advances.made.max(lefts * rights))
 }

@@ -4,44 +4,23 @@
 ghost use Rattle.std.specs.Prelude.{◌≡◌, ◌<◌, ◌≤◌, ◌*◌, ◌++◌, ◌^◌, length, All, AllPairs, IfOk};
 ghost use Rattle.std.specs.Thread.{IsSync};
 ghost use Rattle.dip_core.specs.Item.{item_limit, HasDistinctIds};
-ghost use Rattle.grid_core.specs.Bundles.{ClassesRise};
+ghost use Rattle.grid_core.specs.Bundles.{ClassesRise, items_in};
 ghost use Rattle.work_core.specs.Limits.{worker_limit};
-ghost use Rattle.join_core.specs.Found.{AddsItemsRows, AreMade, FitTogether, IsFound, both_made};
+ghost use Rattle.join_core.specs.Found.{AddsItemsRows, AreMade, IsFound};
 ghost use Rattle.join_core.specs.Tiles.{AddsTilesRows, HaveNoRow, IsDivisible, reads_in};
 
 use crate::advances::Advances;
+use crate::found::FoundRows;
 use crate::pairs::RowPairs;
 use crate::rows::JoinRow;
 use crate::stretches::add_rows_of_pairs;
 use crate::tiles::{Tile, tiles_of};
 use dip_core::Item;
-use grid_core::{divided, last_class, middle_class, parted_behind};
+use grid_core::{class_shares, divided, items_in, last_class, parted_behind};
 use period_core::NoMemory;
-use std::alloc::Global;
-use std::thread::{Threads, join};
-use work_core::Gate;
-
-/// The rows of a join in any order, and the advances by which they were found.
-#[derive(Drop)]
-pub(crate) struct FoundRows {
-    pub rows: Vec<JoinRow>,
-    pub advances: Advances,
-}
-
-impl FoundRows {
-    /// These, and behind them those of other items.
-    fn followed_by(mut self, mut more: FoundRows) -> Result<FoundRows, NoMemory>
-        requires { FitTogether self.advances more.advances }
-        ensures { IfOk result (λ both. (both.rows.items ≡ self.rows.items ++ more.rows.items)
-            × (both.advances ≡ both_made self.advances more.advances)) }
-    {
-        self.rows.append(&mut more.rows)?;
-        Ok(FoundRows {
-            rows: self.rows,
-            advances: self.advances.plus(more.advances),
-        })
-    }
-}
+use share_core::{Range, shared_out};
+use std::thread::Threads;
+use work_core::{Crew, Gate};
 
 /// Fewer pairs of a left and a right item are read beside each other before another worker has started.
 const ITEM_PAIRS_FOR_WORKERS: usize = 16_384;
@@ -60,37 +39,29 @@ fn workers_for(left: &[Item], right: &[Item], workers: u32) -> u32
 
 /// Adds the rows of a tile, and returns the advances for them.
 fn add_rows_of_tile<R: Threads + Sync, G: Gate>(
-    rt: &R,
-    alloc: Global,
+    crew: &Crew<'_, R, G>,
     tile: &Tile,
-    workers: u32,
-    gate: &G,
     rows: &mut Vec<JoinRow>,
 ) -> Result<u64, NoMemory>
-    requires workers { (0 < workers) × (workers ≤ worker_limit) }
-    requires tile { IsDivisible tile.now }
+    requires { IsDivisible tile.now }
     ensures rows { IfOk result
         (λ _. AddsItemsRows tile.now.left.items tile.now.right.items rows.old.items rows.new.items) }
     ensures few { IfOk result
         (λ made. made ≤ 2 * (length tile.now.left.items * length tile.now.right.items)) }
 {
-    let few = workers_for(&tile.left, &tile.right, workers);
-    let lefts = divided(rt, alloc, &tile.left, few)?;
-    let rights = divided(rt, alloc, &tile.right, few)?;
-    let pairs = RowPairs::new(&lefts, &rights);
-    add_rows_of_pairs(rt, alloc, &pairs, few, gate, rows)
+    let few = workers_for(&tile.left, &tile.right, crew.workers);
+    let crew = Crew::new(crew.rt, crew.alloc, few, crew.gate);
+    let lefts = divided(&crew, &tile.left)?;
+    let rights = divided(&crew, &tile.right)?;
+    add_rows_of_pairs(&crew, &RowPairs::new(&lefts, &rights), rows)
 }
 
 /// Adds the rows of the tiles, and returns the advances for them.
 fn add_rows_of_tiles<R: Threads + Sync, G: Gate>(
-    rt: &R,
-    alloc: Global,
+    crew: &Crew<'_, R, G>,
     tiles: &[Tile],
-    workers: u32,
-    gate: &G,
     rows: &mut Vec<JoinRow>,
 ) -> Result<u64, NoMemory>
-    requires workers { (0 < workers) × (workers ≤ worker_limit) }
     requires tiles { All IsDivisible tiles.now }
     requires apart { AllPairs HaveNoRow tiles.now }
     requires few { reads_in tiles.now < 2 ^ 64 }
@@ -99,7 +70,7 @@ fn add_rows_of_tiles<R: Threads + Sync, G: Gate>(
 {
     let mut made = 0;
     for tile in tiles {
-        made += add_rows_of_tile(rt, alloc, tile, workers, gate, rows)?;
+        made += add_rows_of_tile(crew, tile, rows)?;
     }
     Ok(made)
 }
@@ -107,15 +78,11 @@ fn add_rows_of_tiles<R: Threads + Sync, G: Gate>(
 /// Adds the rows of a bundle, and returns the advances for them. Where its tiles have less to read than all its parts,
 /// they are read.
 fn add_rows_of_bundle<R: Threads + Sync, G: Gate>(
-    rt: &R,
-    alloc: Global,
+    crew: &Crew<'_, R, G>,
     left: &[Item],
     right: &[Item],
-    workers: u32,
-    gate: &G,
     rows: &mut Vec<JoinRow>,
 ) -> Result<Advances, NoMemory>
-    requires workers { (0 < workers) × (workers ≤ worker_limit) }
     requires left_few { length left.now ≤ item_limit }
     requires right_few { length right.now ≤ item_limit }
     requires left_ids { HasDistinctIds left.now }
@@ -123,17 +90,14 @@ fn add_rows_of_bundle<R: Threads + Sync, G: Gate>(
     ensures rows { IfOk result (λ _. AddsItemsRows left.now right.now rows.old.items rows.new.items) }
     ensures advances { IfOk result (AreMade left.now right.now) }
 {
-    let lefts = divided(rt, alloc, left, workers)?;
-    let rights = divided(rt, alloc, right, workers)?;
+    let lefts = divided(crew, left)?;
+    let rights = divided(crew, right)?;
     let left_parts = lefts.parts() as u64;
     let right_parts = rights.parts() as u64;
     let most = right_parts * left.len() as u64 + left_parts * right.len() as u64;
-    let made = match tiles_of(rt, alloc, left, right, most, workers)? {
-        Some(tiles) => add_rows_of_tiles(rt, alloc, &tiles, workers, gate, rows)?,
-        None => {
-            let pairs = RowPairs::new(&lefts, &rights);
-            add_rows_of_pairs(rt, alloc, &pairs, workers, gate, rows)?
-        }
+    let made = match tiles_of(crew, left, right, most)? {
+        Some(tiles) => add_rows_of_tiles(crew, &tiles, rows)?,
+        None => add_rows_of_pairs(crew, &RowPairs::new(&lefts, &rights), rows)?,
     };
     Ok(Advances {
         made,
@@ -145,14 +109,10 @@ fn add_rows_of_bundle<R: Threads + Sync, G: Gate>(
 /// The rows of all items, bundle by bundle. The last bundle has the right items above all left ones, which match none:
 /// they count for the least number of parts.
 fn rows_of_bundles<R: Threads + Sync, G: Gate>(
-    rt: &R,
-    alloc: Global,
+    crew: &Crew<'_, R, G>,
     left: &[Item],
     right: &[Item],
-    workers: u32,
-    gate: &G,
 ) -> Result<FoundRows, NoMemory>
-    requires workers { (0 < workers) × (workers ≤ worker_limit) }
     requires left_few { length left.now ≤ item_limit }
     requires right_few { length right.now ≤ item_limit }
     requires left_rise { ClassesRise left.now }
@@ -161,7 +121,7 @@ fn rows_of_bundles<R: Threads + Sync, G: Gate>(
     requires right_ids { HasDistinctIds right.now }
     ensures { IfOk result (IsFound left.now right.now) }
 {
-    let mut rows = Vec::new(alloc);
+    let mut rows = Vec::new(crew.alloc);
     let mut advances = Advances::none();
     let mut lefts = left;
     let mut rights = right;
@@ -170,34 +130,47 @@ fn rows_of_bundles<R: Threads + Sync, G: Gate>(
         let (low_lefts, high_lefts) = parted_behind(class, lefts);
         let (low_rights, high_rights) = parted_behind(class, rights);
         let few = if low_lefts.len() < left.len() {
-            workers_for(low_lefts, low_rights, workers)
+            workers_for(low_lefts, low_rights, crew.workers)
         } else {
-            workers
+            crew.workers
         };
-        let more = add_rows_of_bundle(rt, alloc, low_lefts, low_rights, few, gate, &mut rows)?;
+        let some = Crew::new(crew.rt, crew.alloc, few, crew.gate);
+        let more = add_rows_of_bundle(&some, low_lefts, low_rights, &mut rows)?;
         advances = advances.plus(more);
         lefts = high_lefts;
         rights = high_rights;
     }
-    let more = add_rows_of_bundle(rt, alloc, lefts, rights, workers, gate, &mut rows)?;
+    let more = add_rows_of_bundle(crew, lefts, rights, &mut rows)?;
     Ok(FoundRows {
         rows,
         advances: advances.plus(more),
     })
 }
 
-/// The rows of items whose classes rise. Half of the workers find those of the lower classes, where there are enough
-/// of both.
-#[cycle(halves)]
-pub(crate) fn rows_of_halves<R: Threads + Sync, G: Gate>(
-    rt: &R,
-    alloc: Global,
+/// The rows of the items of a range's classes.
+fn rows_of_range<R: Threads + Sync, G: Gate>(
+    crew: &Crew<'_, R, G>,
+    range: Range<u64>,
     left: &[Item],
     right: &[Item],
-    workers: u32,
-    gate: &G,
 ) -> Result<FoundRows, NoMemory>
-    requires workers { (0 < workers) × (workers ≤ worker_limit) }
+    requires left_few { length left.now ≤ item_limit }
+    requires right_few { length right.now ≤ item_limit }
+    requires left_rise { ClassesRise left.now }
+    requires right_rise { ClassesRise right.now }
+    requires left_ids { HasDistinctIds left.now }
+    requires right_ids { HasDistinctIds right.now }
+    ensures { IfOk result (IsFound (items_in range left.now) (items_in range right.now)) }
+{
+    rows_of_bundles(crew, items_in(range, left), items_in(range, right))
+}
+
+/// The rows of items whose classes rise, which the workers share out by ranges of classes.
+pub(crate) fn rows_of_classes<R: Threads + Sync, G: Gate>(
+    crew: &Crew<'_, R, G>,
+    left: &[Item],
+    right: &[Item],
+) -> Result<FoundRows, NoMemory>
     requires left_few { length left.now ≤ item_limit }
     requires right_few { length right.now ≤ item_limit }
     requires left_rise { ClassesRise left.now }
@@ -206,29 +179,25 @@ pub(crate) fn rows_of_halves<R: Threads + Sync, G: Gate>(
     requires right_ids { HasDistinctIds right.now }
     ensures { IfOk result (IsFound left.now right.now) }
 {
-    let Some(class) = middle_class(left, right, workers) else {
-        return rows_of_bundles(rt, alloc, left, right, workers, gate);
-    };
-    let (low_lefts, high_lefts) = parted_behind(class, left);
-    let (low_rights, high_rights) = parted_behind(class, right);
-    let few = workers / 2;
-    let others = workers - few;
-    let (low, high) = join(
+    let Crew {
         rt,
-        || -> Result<FoundRows, NoMemory>
-            requires { IsSync R.row × IsSync G.row × (0 < few) × (few ≤ worker_limit)
-                × (length low_lefts.now ≤ item_limit) × (length low_rights.now ≤ item_limit)
-                × ClassesRise low_lefts.now × ClassesRise low_rights.now
-                × HasDistinctIds low_lefts.now × HasDistinctIds low_rights.now }
-            ensures { IfOk result (IsFound low_lefts.entry.now low_rights.entry.now) }
-        { rows_of_halves(rt, alloc, low_lefts, low_rights, few, gate) },
-        || -> Result<FoundRows, NoMemory>
-            requires { IsSync R.row × IsSync G.row × (0 < others) × (others ≤ worker_limit)
-                × (length high_lefts.now ≤ item_limit) × (length high_rights.now ≤ item_limit)
-                × ClassesRise high_lefts.now × ClassesRise high_rights.now
-                × HasDistinctIds high_lefts.now × HasDistinctIds high_rights.now }
-            ensures { IfOk result (IsFound high_lefts.entry.now high_rights.entry.now) }
-        { rows_of_halves(rt, alloc, high_lefts, high_rights, others, gate) },
-    );
-    low?.followed_by(high?)
+        alloc,
+        gate,
+        ..
+    } = *crew;
+    let shares = class_shares(alloc, left, right, crew.workers)?;
+    let found = shared_out(
+        rt,
+        alloc,
+        &shares,
+        &|range: Range<u64>, workers: u32| -> Result<FoundRows, NoMemory>
+            requires { IsSync R.row × IsSync G.row × (0 < workers) × (workers ≤ worker_limit)
+                × (length left.now ≤ item_limit) × (length right.now ≤ item_limit)
+                × ClassesRise left.now × ClassesRise right.now
+                × HasDistinctIds left.now × HasDistinctIds right.now }
+            ensures { IfOk result
+                (IsFound (items_in range left.entry.now) (items_in range right.entry.now)) }
+        { rows_of_range(&Crew::new(rt, alloc, workers, gate), range, left, right) },
+    )?;
+    FoundRows::of_all(alloc, found)
 }

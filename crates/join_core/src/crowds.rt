@@ -12,39 +12,28 @@ use period_core::{NoMemory, Point};
 use sort_core::sort_unstable;
 use std::alloc::Global;
 use std::thread::Threads;
+use work_core::Crew;
 
-/// The starts of the items, in their order.
-fn starts<R: Threads + Sync>(
-    rt: &R,
-    alloc: Global,
-    items: &[Item],
-    workers: u32,
-) -> Result<Vec<Point>, NoMemory>
-    ensures { IfOk result (λ points. AreOrdered (starts_of items.now) points.items) }
+/// The starts of the items.
+fn starts_of(alloc: Global, items: &[Item]) -> Result<Vec<Point>, NoMemory>
+    ensures { IfOk result (λ starts. starts.items ≡ starts_of items.now) }
 {
-    let mut points = Vec::new(alloc);
-    for item in items {
-        points.push(item.period.from)?;
-    }
-    sort_unstable(rt, &mut points, workers);
-    Ok(points)
+    items.iter().map(|item| item.period.from).collect(alloc)
 }
 
-/// The ends of the items, in their order.
-fn ends<R: Threads + Sync>(
-    rt: &R,
-    alloc: Global,
-    items: &[Item],
-    workers: u32,
-) -> Result<Vec<Point>, NoMemory>
-    ensures { IfOk result (λ points. AreOrdered (ends_of items.now) points.items) }
+/// The ends of the items.
+fn ends_of(alloc: Global, items: &[Item]) -> Result<Vec<Point>, NoMemory>
+    ensures { IfOk result (λ ends. ends.items ≡ ends_of items.now) }
 {
-    let mut points = Vec::new(alloc);
-    for item in items {
-        points.push(item.period.to)?;
-    }
-    sort_unstable(rt, &mut points, workers);
-    Ok(points)
+    items.iter().map(|item| item.period.to).collect(alloc)
+}
+
+/// The points in their order.
+fn in_order<R: Threads + Sync, G>(crew: &Crew<'_, R, G>, mut points: Vec<Point>) -> Vec<Point>
+    ensures { AreOrdered points.items result.items }
+{
+    sort_unstable(crew.rt, &mut points, crew.workers);
+    points
 }
 
 /// How many have started and not ended at once at most. Each start takes the place of the first that has ended and whose
@@ -66,18 +55,16 @@ fn most_at_once(starts: &[Point], ends: &[Point]) -> usize
 }
 
 /// The least number of parts of some items, whatever their classes: as many as hold at once at most.
-pub(crate) fn least_parts<R: Threads + Sync>(
-    rt: &R,
-    alloc: Global,
+pub(crate) fn least_parts<R: Threads + Sync, G>(
+    crew: &Crew<'_, R, G>,
     items: &[Item],
-    workers: u32,
 ) -> Result<u64, NoMemory>
     requires few { length items.now ≤ item_limit }
     requires ids { HasDistinctIds items.now }
     ensures least { IfOk result (IsLeast (map unclassed items.now)) }
     ensures few { IfOk result (λ parts. parts ≤ item_limit) }
 {
-    let starts = starts(rt, alloc, items, workers)?;
-    let ends = ends(rt, alloc, items, workers)?;
+    let starts = in_order(crew, starts_of(crew.alloc, items)?);
+    let ends = in_order(crew, ends_of(crew.alloc, items)?);
     Ok(most_at_once(&starts, &ends) as u64)
 }

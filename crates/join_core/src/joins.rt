@@ -8,13 +8,13 @@ ghost use Rattle.match_core.specs.Items.{items_of};
 ghost use Rattle.work_core.specs.Limits.{worker_limit};
 ghost use Rattle.join_core.specs.Join.{IsJoin, IsWithin};
 
-use crate::parted::{JoinAnswer, join_items};
+use crate::item_join::{JoinAnswer, join_items};
 use match_core::{QueryRefused, Side, classes_of, items_with, refusal_of_pairs};
 use period_core::NoMemory;
 use row_core::{Failure, Name};
 use std::alloc::Global;
 use std::thread::Threads;
-use work_core::Gate;
+use work_core::{Crew, Gate};
 
 /// The pairs of a left and a right row that are equal in each named pair of columns and share an instant, each
 /// with all the instants that both hold, by start, end, left id and right id: the same rows for every number of
@@ -48,22 +48,19 @@ pub fn join<R: Threads + Sync, G: Gate>(
     if let Some(refused) = refusal_of_pairs(left.schema, right.schema, on) {
         return Err(Failure::Refused(refused));
     }
-    let answer = join_rows(rt, alloc, left, right, on, workers, gate)?;
+    let crew = Crew::new(rt, alloc, workers, gate);
+    let answer = join_rows(&crew, left, right, on)?;
     Ok(answer)
 }
 
 /// The join, by columns that can be compared.
 fn join_rows<R: Threads + Sync, G: Gate>(
-    rt: &R,
-    alloc: Global,
+    crew: &Crew<'_, R, G>,
     left: Side<'_>,
     right: Side<'_>,
     on: &[(Name, Name)],
-    workers: u32,
-    gate: &G,
 ) -> Result<JoinAnswer, NoMemory>
     requires allowed { columns_refusal left.schema.now right.schema.now on.now ≡ None }
-    requires workers { (0 < workers) × (workers ≤ worker_limit) }
     ensures rows { IfOk result (λ answer. IsJoin
         (MatchesOn left.entry.schema.now right.entry.schema.now on.now) left.entry.rows.now right.entry.rows.now
         answer.rows) }
@@ -71,8 +68,8 @@ fn join_rows<R: Threads + Sync, G: Gate>(
         → IsLeast (items_of right.entry.rows.now) m
         → IsWithin k m (length left.entry.rows.now) (length right.entry.rows.now) answer.turns) }
 {
-    let classes = classes_of(rt, alloc, left, right, on, workers)?;
-    let lefts = items_with(alloc, left.rows.as_slice(), &classes.left)?;
-    let rights = items_with(alloc, right.rows.as_slice(), &classes.right)?;
-    join_items(rt, alloc, lefts, rights, workers, gate)
+    let classes = classes_of(crew.rt, crew.alloc, left, right, on, crew.workers)?;
+    let lefts = items_with(crew.alloc, left.rows.as_slice(), &classes.left)?;
+    let rights = items_with(crew.alloc, right.rows.as_slice(), &classes.right)?;
+    join_items(crew, lefts, rights)
 }

@@ -6,16 +6,17 @@
 mod advances;
 mod bundles;
 mod crowds;
+mod found;
+mod item_join;
 mod joins;
 mod laws;
 mod pairs;
-mod parted;
 mod rows;
 mod stretches;
 mod tiles;
 
+pub use item_join::JoinAnswer;
 pub use joins::join;
 pub use laws::join_has_one_list;
 pub use pairs::{JoinOut, JoinPairs, JoinWork};
-pub use parted::JoinAnswer;
 pub use rows::{JoinRow, JoinRows};

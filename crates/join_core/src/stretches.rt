@@ -1,27 +1,21 @@
 //! The pairs of a join, run stretch by stretch.
 
 ghost use Rattle.std.specs.Prelude.{◌≡◌, ◌<◌, ◌≤◌, ◌*◌, length, IfOk};
-ghost use Rattle.work_core.specs.Limits.{worker_limit};
 ghost use Rattle.join_core.specs.PairValues.{AddsFirstPairs};
 
 use crate::pairs::RowPairs;
 use crate::rows::{JoinRow, add_rows, turns_of};
 use grid_core::stretch_len;
 use period_core::NoMemory;
-use std::alloc::Global;
 use std::thread::Threads;
-use work_core::{Gate, PairWork, run_stretch};
+use work_core::{Crew, Gate, PairWork, run_stretch};
 
 /// Adds the rows of all pairs, pair by pair, and returns how often a cursor advanced for them.
 pub(crate) fn add_rows_of_pairs<R: Threads + Sync, G: Gate>(
-    rt: &R,
-    alloc: Global,
+    crew: &Crew<'_, R, G>,
     pairs: &RowPairs<'_>,
-    workers: u32,
-    gate: &G,
     rows: &mut Vec<JoinRow>,
 ) -> Result<u64, NoMemory>
-    requires workers { (0 < workers) × (workers ≤ worker_limit) }
     ensures { IfOk result (λ turns. AddsFirstPairs pairs.now.left.now pairs.now.right.now
         (length pairs.now.left.now * length pairs.now.right.now) rows.old.items rows.new.items turns) }
 {
@@ -33,7 +27,7 @@ pub(crate) fn add_rows_of_pairs<R: Threads + Sync, G: Gate>(
     let mut first = 0;
     while first < count {
         let len = stretch_len(pairs.left, pairs.right, first);
-        let outs = run_stretch(rt, alloc, pairs, first, len, workers, gate)?;
+        let outs = run_stretch(crew, pairs, first, len)?;
         add_rows(&outs, rows)?;
         turns += turns_of(&outs);
         first += len;

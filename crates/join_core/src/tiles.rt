@@ -11,6 +11,7 @@ use period_core::{NoMemory, Point};
 use sort_core::sort_unstable;
 use std::alloc::Global;
 use std::thread::Threads;
+use work_core::Crew;
 
 /// Left and right items to be read beside each other.
 #[derive(Drop)]
@@ -72,34 +73,30 @@ fn cuts_of(alloc: Global, starts: &[Point], ends: &[Point]) -> Result<Vec<Point>
 }
 
 /// Where both sides are cut.
-fn cuts_between<R: Threads + Sync>(
-    rt: &R,
-    alloc: Global,
+fn cuts_between<R: Threads + Sync, G>(
+    crew: &Crew<'_, R, G>,
     left: &[Item],
     right: &[Item],
-    workers: u32,
 ) -> Result<Vec<Point>, NoMemory> {
-    let mut starts = Vec::new(alloc);
-    let mut ends = Vec::new(alloc);
+    let mut starts = Vec::new(crew.alloc);
+    let mut ends = Vec::new(crew.alloc);
     add_ends(left, &mut starts, &mut ends)?;
     add_ends(right, &mut starts, &mut ends)?;
-    sort_unstable(rt, &mut starts, workers);
-    sort_unstable(rt, &mut ends, workers);
-    cuts_of(alloc, &starts, &ends)
+    sort_unstable(crew.rt, &mut starts, crew.workers);
+    sort_unstable(crew.rt, &mut ends, crew.workers);
+    cuts_of(crew.alloc, &starts, &ends)
 }
 
 /// The items by their starts.
-fn by_start<R: Threads + Sync>(
-    rt: &R,
-    alloc: Global,
+fn by_start<R: Threads + Sync, G>(
+    crew: &Crew<'_, R, G>,
     items: &[Item],
-    workers: u32,
 ) -> Result<Vec<Item>, NoMemory>
     ensures same { IfOk result (λ sorted. IsPermutation items.now sorted.items) }
     ensures rise { IfOk result (λ sorted. StartsRise sorted.items) }
 {
-    let mut sorted = Vec::from_slice(alloc, items)?;
-    sort_unstable(rt, &mut sorted, workers);
+    let mut sorted = Vec::from_slice(crew.alloc, items)?;
+    sort_unstable(crew.rt, &mut sorted, crew.workers);
     Ok(sorted)
 }
 
@@ -219,13 +216,11 @@ fn reads_upto(tiles: &[Tile], most: u64) -> bool
 }
 
 /// The tiles of some items, where no more than half as many items are read in them as there are at most in all parts.
-pub(crate) fn tiles_of<R: Threads + Sync>(
-    rt: &R,
-    alloc: Global,
+pub(crate) fn tiles_of<R: Threads + Sync, G>(
+    crew: &Crew<'_, R, G>,
     left: &[Item],
     right: &[Item],
     most: u64,
-    workers: u32,
 ) -> Result<Option<Vec<Tile>>, NoMemory>
     requires left_few { length left.now ≤ item_limit }
     requires right_few { length right.now ≤ item_limit }
@@ -237,10 +232,10 @@ pub(crate) fn tiles_of<R: Threads + Sync>(
     if most / READS < (left.len() + right.len()) as u64 {
         return Ok(None);
     }
-    let cuts = cuts_between(rt, alloc, left, right, workers)?;
-    let lefts = by_start(rt, alloc, left, workers)?;
-    let rights = by_start(rt, alloc, right, workers)?;
-    let tiles = tiles_at(alloc, &lefts, &rights, &cuts)?;
+    let cuts = cuts_between(crew, left, right)?;
+    let lefts = by_start(crew, left)?;
+    let rights = by_start(crew, right)?;
+    let tiles = tiles_at(crew.alloc, &lefts, &rights, &cuts)?;
     if !reads_upto(&tiles, most / 2) {
         return Ok(None);
     }

@@ -32,7 +32,7 @@ returns-clause-rows g c = elim c.match-branch-4.branch [
       let rights = c.in_ok-rights.rights in
       rw w.rows-is
       (AddsItemsRows-one c.args.left.now c.args.right.now lefts rights c.in_ok-lefts.ensures c.in_ok-rights.ensures _ _ _
-      (AddsFirstPairs-of _ _ lefts rights _ _ _ w.new-pairs.ensures.left w.new-pairs.ensures.right
+      (AddsFirstPairs-of _ _ lefts rights _ _ _ w.new.ensures.left w.new.ensures.right
       w.in_ok-made-in-None.ensures)
       c.requires.left_ids c.requires.right_ids))
 ]
@@ -54,7 +54,7 @@ returns-clause-advances g c =
           rw w.made-is (le_trans few are.1))
       | in-None+in_ok-made-in-None w ↦ (
           let few = made-few left right lefts rights c.in_ok-lefts.ensures c.in_ok-rights.ensures _ _ _
-          (AddsFirstPairs-of _ _ lefts rights _ _ _ w.new-pairs.ensures.left w.new-pairs.ensures.right
+          (AddsFirstPairs-of _ _ lefts rights _ _ _ w.new.ensures.left w.new.ensures.right
           w.in_ok-made-in-None.ensures) in
           rw (w.made-is, left_parts, right_parts) few)
     ])

@@ -14,8 +14,8 @@ returns-clause-rows g c =
     (λ made adds.
     AddsItemsRows-one left right lefts rights (rw (sym c.deref-3.ensures.value) c.in_ok-lefts.ensures)
     (rw (sym c.deref-4.ensures.value) c.in_ok-rights.ensures) _ _ made
-    (AddsFirstPairs-of _ _ lefts rights _ _ made c.new-pairs.ensures.left c.new-pairs.ensures.right adds)
-    c.requires.tile.left_ids c.requires.tile.right_ids)
+    (AddsFirstPairs-of _ _ lefts rights _ _ made c.new.ensures.left c.new.ensures.right adds)
+    c.requires.left_ids c.requires.right_ids)
     c.add_rows_of_pairs.ensures
 
 pub returns-clause-few : goal.returns-clause-few
@@ -28,5 +28,5 @@ returns-clause-few g c =
     (λ made adds.
     made-fewer left right lefts rights (rw (sym c.deref-3.ensures.value) c.in_ok-lefts.ensures)
     (rw (sym c.deref-4.ensures.value) c.in_ok-rights.ensures) _ _ made
-    (AddsFirstPairs-of _ _ lefts rights _ _ made c.new-pairs.ensures.left c.new-pairs.ensures.right adds))
+    (AddsFirstPairs-of _ _ lefts rights _ _ made c.new.ensures.left c.new.ensures.right adds))
     c.add_rows_of_pairs.ensures

@@ -1,3 +1,4 @@
+use Rattle.std.proofs.Common.{◌+◌}
 use Rattle.join_core.proofs.FoundLemmas.{finding_end, finding_more, finding_start, finding-fits, front-ids, last-fits, rest-ids}
 use Rattle.join_core.proofs.bundles.rows_of_bundles.Goals as goal
 
@@ -24,7 +25,7 @@ pub plus-advances-requires : goal.plus-advances-requires
 plus-advances-requires g c =
     finding-fits c.args.left.now c.args.right.now c.bundles.lefts.now c.bundles.rights.now
     c.parted_behind.result.0.now c.parted_behind.result.1.now c.parted_behind-in-Some.result.0.now
-    c.parted_behind-in-Some.result.1.now c.last_class-class.result c.parted_behind.ensures
+    c.parted_behind-in-Some.result.1.now (c.last_class-class.result + 1) c.parted_behind.ensures
     c.parted_behind-in-Some.ensures c.bundles.rows.items c.bundles.advances c.bundles.invariant c.in_ok-more.more
     c.in_ok-more.ensures.advances c.requires.left_few c.requires.right_few
 
@@ -32,7 +33,7 @@ pub bundles-preserved : goal.bundles-preserved
 bundles-preserved g c =
     finding_more c.args.left.now c.args.right.now c.bundles.lefts.now c.bundles.rights.now
     c.parted_behind.result.0.now c.parted_behind.result.1.now c.parted_behind-in-Some.result.0.now
-    c.parted_behind-in-Some.result.1.now c.last_class-class.result c.parted_behind.ensures
+    c.parted_behind-in-Some.result.1.now (c.last_class-class.result + 1) c.parted_behind.ensures
     c.parted_behind-in-Some.ensures c.bundles.rows.items c.bundles.advances c.bundles.invariant
     c.add_rows_of_bundle.new.rows.items c.in_ok-more.more c.plus-advances.result c.requires.left_ids
     c.in_ok-more.ensures.rows c.in_ok-more.ensures.advances c.plus-advances.ensures
@@ -51,5 +52,5 @@ plus-requires g c =
 pub returns : goal.returns
 returns g c =
     finding_end c.args.left.now c.args.right.now c.bundles.lefts.now c.bundles.rights.now c.bundles.rows.items
-    c.bundles.advances c.bundles.invariant _ c.in_ok-more-2.more c.requires.left_ids c.in_ok-more-2.ensures.rows
+    c.bundles.advances c.bundles.invariant _ c.in_ok-more-2.more _ c.requires.left_ids c.in_ok-more-2.ensures.rows
     c.in_ok-more-2.ensures.advances c.plus.ensures

@@ -5,20 +5,19 @@ ghost use Rattle.dip_core.specs.Division.{IsLeast};
 ghost use Rattle.dip_core.specs.Item.{item_limit, HasDistinctIds};
 ghost use Rattle.grid_core.specs.Bundles.{ClassesRise};
 ghost use Rattle.match_core.specs.Items.{unclassed};
-ghost use Rattle.work_core.specs.Limits.{worker_limit};
 ghost use Rattle.join_core.specs.ItemJoin.{AreItemsRows, IsItemsJoin};
 ghost use Rattle.join_core.specs.Join.{IsWithin};
 
 use crate::advances::turns_answered;
-use crate::bundles::{FoundRows, rows_of_halves};
+use crate::bundles::rows_of_classes;
+use crate::found::FoundRows;
 use crate::rows::{JoinRow, JoinRows};
 use dip_core::Item;
 use grid_core::order_by_class;
 use period_core::NoMemory;
 use sort_core::sort_unstable;
-use std::alloc::Global;
 use std::thread::Threads;
-use work_core::Gate;
+use work_core::{Crew, Gate};
 
 /// The answer of a join.
 #[derive(Debug, Drop)]
@@ -32,14 +31,10 @@ pub struct JoinAnswer {
 
 /// The rows of items whose classes rise, in any order, and the advances that are answered.
 fn rows_by_class<R: Threads + Sync, G: Gate>(
-    rt: &R,
-    alloc: Global,
+    crew: &Crew<'_, R, G>,
     left: &[Item],
     right: &[Item],
-    workers: u32,
-    gate: &G,
 ) -> Result<(Vec<JoinRow>, u64), NoMemory>
-    requires workers { (0 < workers) × (workers ≤ worker_limit) }
     requires left_few { length left.now ≤ item_limit }
     requires right_few { length right.now ≤ item_limit }
     requires left_rise { ClassesRise left.now }
@@ -50,21 +45,17 @@ fn rows_by_class<R: Threads + Sync, G: Gate>(
     ensures turns { IfOk result (λ answer. (k m : ℕ) → IsLeast (map unclassed left.now) k
         → IsLeast (map unclassed right.now) m → IsWithin k m (length left.now) (length right.now) answer.1) }
 {
-    let FoundRows { rows, advances } = rows_of_halves(rt, alloc, left, right, workers, gate)?;
-    let turns = turns_answered(rt, alloc, left, right, advances, workers)?;
+    let FoundRows { rows, advances } = rows_of_classes(crew, left, right)?;
+    let turns = turns_answered(crew, left, right, advances)?;
     Ok((rows, turns))
 }
 
 /// The join of two lists of items, which match where their classes are equal.
 pub(crate) fn join_items<R: Threads + Sync, G: Gate>(
-    rt: &R,
-    alloc: Global,
+    crew: &Crew<'_, R, G>,
     mut left: Vec<Item>,
     mut right: Vec<Item>,
-    workers: u32,
-    gate: &G,
 ) -> Result<JoinAnswer, NoMemory>
-    requires workers { (0 < workers) × (workers ≤ worker_limit) }
     requires left_few { length left.items ≤ item_limit }
     requires right_few { length right.items ≤ item_limit }
     requires left_ids { HasDistinctIds left.items }
@@ -75,8 +66,8 @@ pub(crate) fn join_items<R: Threads + Sync, G: Gate>(
 {
     order_by_class(&mut left);
     order_by_class(&mut right);
-    let (mut rows, turns) = rows_by_class(rt, alloc, &left, &right, workers, gate)?;
-    sort_unstable(rt, &mut rows, workers);
+    let (mut rows, turns) = rows_by_class(crew, &left, &right)?;
+    sort_unstable(crew.rt, &mut rows, crew.workers);
     Ok(JoinAnswer {
         rows: JoinRows::from(rows),
         turns,

@@ -10,9 +10,9 @@ use Rattle.join_core.specs.Join.{IsWithin, RowBefore}
 use Rattle.join_core.specs.ItemJoin.{IsItemsJoin}
 use Rattle.join_core.proofs.ItemLemmas.{rows-permutation}
 use Rattle.join_core.proofs.JoinedLemmas.{IsItemsJoin-sorted}
-use Rattle.join_core.proofs.parted.join_items.Goals as goal
-use Rattle.join_core.proofs.parted.join_items.Goals.{After-deref-2}
-use Rattle.join_core.proofs.parted.join_items.Given.{Over}
+use Rattle.join_core.proofs.item_join.join_items.Goals as goal
+use Rattle.join_core.proofs.item_join.join_items.Goals.{After-deref-2}
+use Rattle.join_core.proofs.item_join.join_items.Given.{Over}
 
 -- the items by class are the same ones
 lefts_moved : (g : Over) (c : After-deref-2 g) → IsPermutation c.args.left.items c.deref.result.now

@@ -1,6 +1,0 @@
-use Rattle.std.proofs.Common.{◌≡◌, map, take}
-use Rattle.dip_core.specs.declared.item.Item.{Item}
-use Rattle.join_core.proofs.crowds.starts.Given as goal
-
-abbrev pub invariant-loop-item : goal.invariant-loop-item
-invariant-loop-item g l = l.points.items ≡ map (λ (x : Item). x.period.from) (take l.item-index l.items)
