@@ -1,14 +1,16 @@
 -- Rows and their items.
-use Rattle.std.proofs.Common.{◌≡◌, ◌<◌, ◌≤◌, ℕ, zero, suc, ◌+◌, false, cond, List, length, [], ◌∷◌, get_or, take, drop, ◌++◌, Some, refl, sym, subst, ap, ◌∙◌, inl, inr, arith, append-nil}
-use Rattle.std.specs.Prelude.{slice_get, AllPairs, Contains}
+use Rattle.std.proofs.Common.{◌≡◌, ◌<◌, ◌≤◌, ℕ, zero, suc, ◌+◌, Bool, false, cond, List, length, [], ◌∷◌, get_or, take, drop, ◌++◌, Some, refl, sym, subst, ap, ◌∙◌, inl, inr, arith, append-nil}
+use Rattle.std.specs.Prelude.{slice_get, AllPairs, Contains, filter}
+use Rattle.std.specs.Ordering.{nat_cmp}
 use Rattle.std.proofs.lemmas.List.Elements.{filter-append}
 use Rattle.row_core.specs.Rows.{RowsRise}
 use Rattle.row_core.specs.declared.row.Row.{Row}
 use Rattle.dip_core.specs.declared.item.Item.{Item}
 use Rattle.list_core.proofs.RisingLemmas.{AllPairs-head, Contains-cons, Contains-cons_cases, Contains-head, Contains-none}
 use Rattle.list_core.proofs.WantedLemmas.{AllPairs-before}
-use Rattle.match_core.specs.Items.{has_class, item_with, items_of_share, items_with, share_of}
-use Rattle.match_core.specs.declared.share.Share.{Share}
+use Rattle.match_core.specs.Items.{item_with, items_in_range, items_with}
+use Rattle.share_core.specs.Ranges.{has}
+use Rattle.share_core.specs.declared.range.Range.{Range}
 
 -- a row and its item at one place
 pub record IsItemAt (rows : List Row) (classes : List ℕ) (r : Row) (x : Item) : Type 0 where
@@ -128,33 +130,38 @@ items_with-cut (suc n) (r ∷ rows) [] enough = absurd (omega arith)
 items_with-cut (suc n) (r ∷ rows) (c ∷ classes) enough =
     ap (λ l. item_with r c ∷ l) (items_with-cut n rows classes (omega arith))
 
--- and those of a share
-pub items_of_share-cut : (share : Share) (n : ℕ) (rows : List Row) (classes : List ℕ) → length rows ≤ length classes
-    → items_of_share share (take n rows) (take n classes) ++ items_of_share share (drop n rows) (drop n classes)
-    ≡ items_of_share share rows classes
-items_of_share-cut share n rows classes enough =
-    sym (filter-append (λ (x : Item). has_class share x.class) (items_with (take n rows) (take n classes))
-    (items_with (drop n rows) (drop n classes)))
-    ∙ ap (share_of share) (items_with-cut n rows classes enough)
+-- whether a range has the class of an item
+abbrev is_in : Range ℕ → Item → Bool
+is_in range x = has nat_cmp range x.class
 
--- one more row, and its item, if that is of the share
-pub items_of_share-more : (share : Share) (rows : List Row) (classes : List ℕ) (i : ℕ) (r : Row) → i < length rows
+-- and those of a range
+pub items_in_range-cut : (range : Range ℕ) (n : ℕ) (rows : List Row) (classes : List ℕ) → length rows ≤ length classes
+    → items_in_range range (take n rows) (take n classes) ++ items_in_range range (drop n rows) (drop n classes)
+    ≡ items_in_range range rows classes
+items_in_range-cut range n rows classes enough =
+    sym (filter-append (is_in range) (items_with (take n rows) (take n classes))
+    (items_with (drop n rows) (drop n classes)))
+    ∙ ap (filter (is_in range)) (items_with-cut n rows classes enough)
+
+-- one more row, and its item, if the range has that
+pub items_in_range-more : (range : Range ℕ) (rows : List Row) (classes : List ℕ) (i : ℕ) (r : Row) → i < length rows
     → i < length classes
-    → items_of_share share (take (i + 1) rows) (take (i + 1) classes)
-    ≡ items_of_share share (take i rows) (take i classes) ++ cond (has_class share (get_or classes i 0))
+    → items_in_range range (take (i + 1) rows) (take (i + 1) classes)
+    ≡ items_in_range range (take i rows) (take i classes) ++ cond (has nat_cmp range (get_or classes i 0))
     (item_with (get_or rows i r) (get_or classes i 0) ∷ []) []
-items_of_share-more share rows classes i r h k =
-    ap (share_of share) (items_with-more rows classes i r h k)
-    ∙ filter-append (λ (x : Item). has_class share x.class) (items_with (take i rows) (take i classes))
+items_in_range-more range rows classes i r h k =
+    ap (filter (is_in range)) (items_with-more rows classes i r h k)
+    ∙ filter-append (is_in range) (items_with (take i rows) (take i classes))
     (item_with (get_or rows i r) (get_or classes i 0) ∷ [])
 
--- one more row, whose item isn't of the share
-pub items_of_share-same : (share : Share) (rows : List Row) (classes : List ℕ) (i : ℕ) → i < length rows
-    → i < length classes → has_class share (get_or classes i 0) ≡ false
-    → items_of_share share (take (i + 1) rows) (take (i + 1) classes) ≡ items_of_share share (take i rows) (take i classes)
-items_of_share-same share [] classes i h k off = absurd (omega arith)
-items_of_share-same share (q ∷ rows) classes i h k off =
-    items_of_share-more share (q ∷ rows) classes i q h k
-    ∙ ap (λ b. items_of_share share (take i (q ∷ rows)) (take i classes) ++ cond b
+-- one more row, whose item the range hasn't
+pub items_in_range-same : (range : Range ℕ) (rows : List Row) (classes : List ℕ) (i : ℕ) → i < length rows
+    → i < length classes → has nat_cmp range (get_or classes i 0) ≡ false
+    → items_in_range range (take (i + 1) rows) (take (i + 1) classes)
+    ≡ items_in_range range (take i rows) (take i classes)
+items_in_range-same range [] classes i h k off = absurd (omega arith)
+items_in_range-same range (q ∷ rows) classes i h k off =
+    items_in_range-more range (q ∷ rows) classes i q h k
+    ∙ ap (λ b. items_in_range range (take i (q ∷ rows)) (take i classes) ++ cond b
     (item_with (get_or (q ∷ rows) i q) (get_or classes i 0) ∷ []) []) off
-    ∙ append-nil (items_of_share share (take i (q ∷ rows)) (take i classes))
+    ∙ append-nil (items_in_range range (take i (q ∷ rows)) (take i classes))

@@ -1,13 +1,12 @@
 //! Rows as items, which are divided and merged.
 
 ghost use Rattle.std.specs.Prelude.{◌≡◌, ◌≤◌, IfOk, length};
-ghost use Rattle.match_core.specs.Items.{has_class, item_with, items_of, items_of_share, items_with};
+ghost use Rattle.match_core.specs.Items.{item_with, items_in_range, items_of, items_with};
 
 use crate::NoMemory;
-use crate::share::Share;
 use dip_core::Item;
-use list_core::room_for_half;
 use row_core::{Row, RowList};
+use share_core::Range;
 use std::alloc::Global;
 
 /// The rows as items of one class, in their order.
@@ -21,7 +20,7 @@ pub fn items(alloc: Global, rows: &RowList) -> Result<Vec<Item>, NoMemory>
     items_of(alloc, rows.as_slice())
 }
 
-// The rows as items of one class.
+/// The rows as items of one class.
 fn items_of(alloc: Global, rows: &[Row]) -> Result<Vec<Item>, NoMemory>
     ensures { IfOk result (λ items. items.items ≡ items_of rows.now) }
 {
@@ -44,50 +43,39 @@ pub fn items_with(alloc: Global, rows: &[Row], classes: &[u64]) -> Result<Vec<It
     Ok(items)
 }
 
-// Room for a share's items: for all rows where it has all classes, else for somewhat more than half of them.
-fn room_for_share(share: Share, rows: usize) -> usize {
-    match share {
-        Share::All => rows,
-        Share::UpTo(_) | Share::Above(_) => room_for_half(rows),
-    }
-}
-
-/// The rows as items in their order, each of the class that stands at its place: those of a share's classes alone.
+/// The rows as items in their order, each of the class that stands at its place: those whose classes a range has.
 ///
 /// # Errors
 ///
 /// `NoMemory` where a growth is refused.
-pub fn items_of_share(
+pub fn items_in_range(
     alloc: Global,
     rows: &[Row],
     classes: &[u64],
-    share: Share,
+    range: Range<u64>,
 ) -> Result<Vec<Item>, NoMemory>
     requires { length rows.now ≤ length classes.now }
-    ensures { IfOk result (λ items. items.items ≡ items_of_share share rows.now classes.now) }
+    ensures { IfOk result (λ items. items.items ≡ items_in_range range rows.now classes.now) }
 {
-    let mut items = Vec::with_capacity(alloc, room_for_share(share, rows.len()))?;
+    let mut items = Vec::with_capacity(alloc, count_in(range, classes))?;
     for i in 0..rows.len() {
         let class = classes[i];
-        if has_class(share, class) {
+        if range.has(&class) {
             items.push(item_with(&rows[i], class))?;
         }
     }
     Ok(items)
 }
 
-// Whether a share has that class.
-fn has_class(share: Share, class: u64) -> bool
-    ensures { result ≡ has_class share class }
-{
-    match share {
-        Share::All => true,
-        Share::UpTo(last) => class <= last,
-        Share::Above(last) => last < class,
+/// How many of the classes a range has.
+fn count_in(range: Range<u64>, classes: &[u64]) -> usize {
+    if range.from.is_none() && range.before.is_none() {
+        return classes.len();
     }
+    classes.iter().filter(|class| range.has(*class)).count()
 }
 
-// The row as an item of that class.
+/// The row as an item of that class.
 fn item_with(row: &Row, class: u64) -> Item
     ensures { result ≡ item_with row.now class }
 {
