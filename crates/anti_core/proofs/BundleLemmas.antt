@@ -10,7 +10,7 @@ use Rattle.dip_core.proofs.PartedLemmas.{ids-apart}
 use Rattle.merge_core.specs.Gaps.{IsCovered, IsUncovered}
 use Rattle.merge_core.proofs.SweepLemmas.{IsMaximal-same}
 use Rattle.anti_core.specs.declared.rows.AntiRow.{AntiRow}
-use Rattle.grid_core.specs.Bundles.{AreFromClass, ArePartedBehind, ClassesRise}
+use Rattle.grid_core.specs.Bundles.{AreFromClass, ArePartedAt, ClassesRise}
 use Rattle.grid_core.proofs.BundleLemmas.{first_lowest, from-few, from-rise, high-distinct, high-few, high-rise}
 use Rattle.anti_core.specs.ItemAnti.{IsItemsAntiRow, AreItemsRows}
 use Rattle.anti_core.specs.United.{StandsBefore}
@@ -47,17 +47,17 @@ row-moved xs ys right other row is there to back = record {
 }
 
 module _ (class : ℕ) (left low_left high_left right low_right high_right : List Item)
-    (lefts : ArePartedBehind class left low_left high_left)
-    (rights : ArePartedBehind class right low_right high_right) where
+    (lefts : ArePartedAt class left low_left high_left)
+    (rights : ArePartedAt class right low_right high_right) where
   -- right items of higher classes don't cover an item of a lower one
   covered-low : (x : Item) → Contains low_left x → (t : ℤ) → IsCovered (low_right ++ high_right) x t
       → IsCovered low_right x t
   covered-low x h t is = elim (Contains-append_cases low_right high_right is.by is.by_in) [
     | inl k ↦ record { by = is.by; by_in = k; matches = is.matches; holds = is.holds }
     | inr k ↦
-        let low : x.class ≤ class = All-contains (λ (y : Item). y.class ≤ class) low_left x lefts.upto h in
-        let high : class < is.by.class =
-        All-contains (λ (y : Item). class < y.class) high_right is.by rights.above k in
+        let low : x.class < class = All-contains (λ (y : Item). y.class < class) low_left x lefts.below h in
+        let high : class ≤ is.by.class =
+        All-contains (λ (y : Item). class ≤ y.class) high_right is.by rights.from k in
         let same : is.by.class ≡ x.class = is.matches in
         absurd (omega (arith, low, high, same))
   ]
@@ -67,9 +67,9 @@ module _ (class : ℕ) (left low_left high_left right low_right high_right : Lis
       → IsCovered high_right x t
   covered-high x h t is = elim (Contains-append_cases low_right high_right is.by is.by_in) [
     | inl k ↦
-        let high : class < x.class = All-contains (λ (y : Item). class < y.class) high_left x lefts.above h in
-        let low : is.by.class ≤ class =
-        All-contains (λ (y : Item). y.class ≤ class) low_right is.by rights.upto k in
+        let high : class ≤ x.class = All-contains (λ (y : Item). class ≤ y.class) high_left x lefts.from h in
+        let low : is.by.class < class =
+        All-contains (λ (y : Item). y.class < class) low_right is.by rights.below k in
         let same : is.by.class ≡ x.class = is.matches in
         absurd (omega (arith, low, high, same))
     | inr k ↦ record { by = is.by; by_in = k; matches = is.matches; holds = is.holds }
@@ -185,8 +185,8 @@ bundling_from left right lefts rights others first rows e are i = record {
 
 -- a bundle more
 pub bundling_more : (left right lefts rights low_left high_left low_right high_right : List Item) (class : ℕ)
-    (old found new : List AntiRow) → ArePartedBehind class lefts low_left high_left
-    → ArePartedBehind class rights low_right high_right → AreItemsRows low_left low_right found → new ≡ old ++ found
+    (old found new : List AntiRow) → ArePartedAt class lefts low_left high_left
+    → ArePartedAt class rights low_right high_right → AreItemsRows low_left low_right found → new ≡ old ++ found
     → IsBundling left right lefts rights old → IsBundling left right high_left high_right new
 bundling_more left right lefts rights low_left high_left low_right high_right class old found new one other rows e i =
     subst (IsBundling left right high_left high_right) (sym e) (record {

@@ -1,6 +1,8 @@
 -- The rows of items, part by part, and from the items of parts to the items that were divided.
-use Rattle.std.proofs.Common.{◌≡◌, ◌≢◌, ℕ, ◌+◌, ◌<◌, ℤ, List, [], ◌++◌, length, map, take, drop, refl, sym, subst, ap, ◌∙◌, inl, inr, arith, length-append}
+use Rattle.std.proofs.Common.{◌≡◌, ◌≢◌, ℕ, ◌+◌, ◌<◌, ℤ, List, [], ◌++◌, Option, Some, None, length, map, take, drop, refl, sym, subst, ap, ◌∙◌, inl, inr, arith, append-nil}
 use Rattle.std.specs.Prelude.{◌<ℤ◌, Contains, IsPermutation}
+use Rattle.std.specs.Global.{Vec}
+use Rattle.std.specs.Ordering.{nat_cmp}
 use Rattle.std.proofs.lemmas.Int.{ints}
 use Rattle.std.proofs.lemmas.List.{take-append-drop}
 use Rattle.std.proofs.lemmas.List.Elements.{Contains-append_left, Contains-append_right, Contains-append_cases}
@@ -8,12 +10,20 @@ use Rattle.std.proofs.lemmas.List.Sorted.{Contains-permutation, IsPermutation-sy
 use Rattle.dip_core.specs.declared.item.Item.{Item}
 use Rattle.dip_core.specs.Item.{HasDistinctIds}
 use Rattle.dip_core.specs.Division.{all_of, part_at}
+use Rattle.list_core.specs.Chunks.{all_in}
 use Rattle.list_core.specs.Wanted.{IsListOf}
 use Rattle.list_core.proofs.RisingLemmas.{Contains-none}
 use Rattle.list_core.proofs.WantedLemmas.{IsListOf-append, IsListOf-none, IsListOf-same}
 use Rattle.merge_core.specs.declared.gap.Gap.{Gap}
 use Rattle.merge_core.specs.Gaps.{IsCovered, IsUncovered, IsGap, GapStartsBefore, ListsGaps}
 use Rattle.merge_core.proofs.SweepLemmas.{IsMaximal-same}
+use Rattle.share_core.specs.Pieces.{piece, piece_before, piece_from}
+use Rattle.share_core.specs.Ranges.{range}
+use Rattle.share_core.specs.Shares.{GivesFrom}
+use Rattle.share_core.specs.declared.range.Range.{Range}
+use Rattle.share_core.specs.declared.shares.Cut.{Cut}
+use Rattle.share_core.proofs.PieceLemmas.{piece_cut}
+use Rattle.share_core.proofs.ShareLemmas.{all_come}
 use Rattle.anti_core.specs.declared.rows.AntiRow.{AntiRow}
 use Rattle.anti_core.specs.Anti.{AntiRowBefore}
 use Rattle.anti_core.specs.ItemAnti.{row_of_gap, IsItemsAntiRow, AreItemsRows, IsItemsAnti}
@@ -95,25 +105,44 @@ AreItemsRows-more ps l right old new gaps slice inside distinct before lists sam
     (λ x y h k same. parts-apart ps l x y inside distinct h k same) before
     (AreItemsRows-from_gaps (part_at ps l) right gaps lists)))
 
--- ---- of the left items in two shares
+-- ---- of the left items, piece by piece
 
-module _ (left front back : List Item) (n : ℕ) (is_front : front ≡ take n left) (is_back : back ≡ drop n left) where
-  whole : left ≡ front ++ back
-  whole = rw (is_front, is_back) (sym (take-append-drop n left))
+-- ids that are distinct in all are so in a piece
+before-distinct : (end : Option ℕ) (items : List Item) → HasDistinctIds items → HasDistinctIds (piece_before end items)
+before-distinct None items ids = ids
+before-distinct (Some n) items ids =
+    distinct-earlier (take n items) (drop n items) (subst HasDistinctIds (sym (take-append-drop n items)) ids)
 
-  pub shares-length : length left ≡ length front + length back
-  shares-length = ap length whole ∙ length-append front back
+from-distinct : (start : Option ℕ) (items : List Item) → HasDistinctIds items → HasDistinctIds (piece_from start items)
+from-distinct None items ids = ids
+from-distinct (Some n) items ids =
+    distinct-later (take n items) (drop n items) (subst HasDistinctIds (sym (take-append-drop n items)) ids)
 
-  pub shares-ids : HasDistinctIds left → HasDistinctIds front × HasDistinctIds back
-  shares-ids ids =
-      let both = subst HasDistinctIds whole ids in (distinct-earlier front back both, distinct-later front back both)
+pub piece-distinct : (places : Range ℕ) (items : List Item) → HasDistinctIds items → HasDistinctIds (piece places items)
+piece-distinct places items ids =
+    from-distinct places.from (piece_before places.before items) (before-distinct places.before items ids)
 
-  pub shares-rows : (right : List Item) (rows more : List AntiRow) → HasDistinctIds left
-      → AreItemsRows front right rows → AreItemsRows back right more → AreItemsRows left right (rows ++ more)
-  shares-rows right rows more ids one other =
-      subst (λ (xs : List Item). AreItemsRows xs right (rows ++ more)) (sym whole)
-      (AreItemsRows-both front back right rows more
-      (λ x y h k same. ids-apart front back x y (subst HasDistinctIds whole ids) h k same) one other)
+-- what is told of an answer for a piece: the number of workers, its places when it is done, and what it gave
+abbrev GivenRows : List Item → List Item → Range ℕ → Vec AntiRow → Type 0
+GivenRows left right places rows = ℕ × (Range ℕ × AreItemsRows (piece places left) right rows.items)
+
+-- the rows of each piece, one behind another, are those of all left items
+pub pieces-rows : (left right : List Item) (cuts : List (Cut ℕ)) (lists : List (Vec AntiRow)) → HasDistinctIds left
+    → GivesFrom nat_cmp (GivenRows left right) None cuts lists → AreItemsRows left right (all_in lists)
+pieces-rows left right cuts lists ids given =
+    all_come nat_cmp (GivenRows left right)
+    (λ (places : Range ℕ) (ls : List (Vec AntiRow)). AreItemsRows (piece places left) right (all_in ls))
+    (λ places x g. subst (AreItemsRows (piece places left) right) (sym (append-nil x.items)) g.1.1)
+    (λ from at x ls begun g rest.
+    (let front = piece (range from (Some at)) left in
+    let back = piece (range (Some at) None) left in
+    let whole = piece_cut from at left begun in
+    subst (λ (xs : List Item). AreItemsRows xs right (x.items ++ all_in ls)) (sym whole)
+    (AreItemsRows-both front back right x.items (all_in ls)
+    (λ y z h k same.
+    ids-apart front back y z (subst HasDistinctIds whole (piece-distinct (range from None) left ids)) h k same)
+    g.1.1 rest)))
+    None cuts lists given
 
 -- ---- in order
 

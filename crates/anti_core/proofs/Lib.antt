@@ -7,7 +7,8 @@ pub mod MaximalLemmas
 pub mod OrderLemmas
 pub mod OrderingLemmas
 pub mod PartLemmas
+pub mod RangeLemmas
 pub mod RowLemmas
-pub mod ShareLemmas
 pub mod SupplyLemmas
+pub mod UnionPieces
 pub mod UnitedLemmas

@@ -1,30 +1,29 @@
 -- Rows that are gathered by their ids and sorted, range by range.
-use Rattle.std.proofs.Common.{◌≡◌, ◌≢◌, ◌⊎◌, ℕ, ◌+◌, ◌<◌, ◌≤◌, ◌&&◌, Bool, not, Option, Some, None, List, ◌++◌, filter, refl, sym, subst, ap, ◌∙◌, inl, inr, arith}
+use Rattle.std.proofs.Common.{◌≡◌, ◌≢◌, ◌⊎◌, ℕ, ◌<◌, ◌&&◌, Bool, false, not, Option, Some, None, List, ◌++◌, filter, refl, sym, subst, ap, ◌∙◌, inl, inr, arith, append-nil}
 use mathlib.Core.Bool.{true≢false}
-use Rattle.std.specs.Prelude.{AllPairs, Contains, IsPermutation, IsSorted, nat_le, true}
+use Rattle.std.specs.Prelude.{AllPairs, Contains, IsPermutation, IsSorted, flat_map, true}
 use Rattle.std.specs.Cmp.{nat_cmp_is}
-use Rattle.std.specs.Ordering.{int_cmp, ordering_then}
+use Rattle.std.specs.Ordering.{int_cmp, nat_cmp, ordering_then}
 use Rattle.std.specs.declared.cmp.Ordering.{Ordering}
 use Rattle.std.specs.declared.cmp.Ordering.TheVariants.{Less}
 use Rattle.std.proofs.lemmas.Bool.Decides.{nat_tests}
+use Rattle.std.proofs.lemmas.Cmp.{nat_cmp_total}
 use Rattle.std.proofs.lemmas.List.Elements.{All-contains, Contains-append_cases, Contains-append_left, filter_passes}
 use Rattle.std.proofs.lemmas.List.Kept.{AllPairs-filter}
 use Rattle.std.proofs.lemmas.List.Sorted.{Contains-permutation, IsPermutation-filter_both, IsPermutation-sym}
-use Rattle.std.proofs.lemmas.Grind.{flat_map-append}
-use Rattle.std.specs.Global.{Vec}
-use Rattle.list_core.specs.Chunks.{all_in}
 use Rattle.list_core.specs.Wanted.{IsListOf}
 use Rattle.list_core.proofs.WantedLemmas.{IsListOf-append, IsListOf-same}
-use Rattle.anti_core.specs.declared.ordering.IdRange.{IdRange}
+use Rattle.share_core.specs.Ranges.{has, has_begun, is_from, range}
+use Rattle.share_core.specs.Shares.{GivesFrom}
+use Rattle.share_core.specs.declared.range.Range.{Range}
+use Rattle.share_core.specs.declared.shares.Cut.{Cut}
+use Rattle.share_core.proofs.NumberLemmas.{from_is}
+use Rattle.share_core.proofs.RangeLemmas.{begun_on, low_has}
+use Rattle.share_core.proofs.ShareLemmas.{all_come}
 use Rattle.anti_core.specs.declared.rows.AntiRow.{AntiRow}
 use Rattle.anti_core.specs.Anti.{AntiRowBefore, anti_cmp}
-use Rattle.anti_core.specs.Ordering.{AreCut, IsRowOf, has_id, is_upto}
+use Rattle.anti_core.specs.Ordering.{IsRowOf}
 use Rattle.anti_core.proofs.OrderLemmas.{sorted_rows}
-
--- the rows of some lists, and behind them those of others
-pub all_in-append : (low high all : List (Vec AntiRow)) → all ≡ low ++ high → all_in low ++ all_in high ≡ all_in all
-all_in-append low high all e =
-    sym (flat_map-append (λ (v : Vec AntiRow). v.items) low high) ∙ ap all_in (sym e)
 
 -- ---- the rows of one range
 
@@ -65,18 +64,18 @@ all-sorted rows sorted differ moved order = record {
 }
 
 -- those of a range differ too
-pub range-apart : (rows found : List AntiRow) (ids : IdRange) → found ≡ filter (λ row. has_id ids row.id) rows
+pub range-apart : (rows found : List AntiRow) (ids : Range ℕ) → found ≡ filter (λ row. has nat_cmp ids row.id) rows
     → AllPairs (λ a b. a ≢ b) rows → AllPairs (λ a b. a ≢ b) found
 range-apart rows found ids are differ =
     subst (AllPairs (λ a b. a ≢ b)) (sym are)
-    (AllPairs-filter (λ a b. a ≢ b) (λ (row : AntiRow). has_id ids row.id) rows differ)
+    (AllPairs-filter (λ a b. a ≢ b) (λ (row : AntiRow). has nat_cmp ids row.id) rows differ)
 
 -- those of a range, sorted
-pub range-sorted : (rows found : List AntiRow) (ids : IdRange) (sorted : List AntiRow)
-    → found ≡ filter (λ row. has_id ids row.id) rows → IsListOf AntiRowBefore (Contains found) sorted
+pub range-sorted : (rows found : List AntiRow) (ids : Range ℕ) (sorted : List AntiRow)
+    → found ≡ filter (λ row. has nat_cmp ids row.id) rows → IsListOf AntiRowBefore (Contains found) sorted
     → IsListOf AntiRowBefore (IsRowOf rows ids) sorted
 range-sorted rows found ids sorted are lists =
-    let test : AntiRow → Bool = λ row. has_id ids row.id in
+    let test : AntiRow → Bool = λ row. has nat_cmp ids row.id in
     IsListOf-same AntiRowBefore (Contains (filter test rows)) (IsRowOf rows ids) sorted
     (λ row h. (let both = kept-there test rows row h in record { there = both.0; of_range = both.1 }))
     (λ row is. kept-from test rows row is.there is.of_range)
@@ -84,29 +83,30 @@ range-sorted rows found ids sorted are lists =
 
 -- ---- two ranges
 
--- an id of a range is up to the middle, or above it
-id-cases : (first : ℕ) (last : Option ℕ) (middle id : ℕ) → (nat_le first id && is_upto last id) ≡ true
-    → ((nat_le first id && nat_le id middle) ≡ true) ⊎ ((nat_le (middle + 1) id && is_upto last id) ≡ true)
-id-cases first None middle id h = grind (arith, nat_tests)
-id-cases first (Some last) middle id h = grind (arith, nat_tests)
+-- an id of both parts is of one of them
+id-cases : (b late : Bool) → (b && true) ≡ true → ((b && not late) ≡ true) ⊎ ((late && true) ≡ true)
+id-cases true true h = inr refl
+id-cases true false h = inl refl
+id-cases false late h = absurd (true≢false (sym h))
 
--- an id up to the middle is of the range
-id-low : (first : ℕ) (last : Option ℕ) (middle id : ℕ) → (nat_le first (middle + 1) && is_upto last (middle + 1)) ≡ true
-    → (nat_le first id && nat_le id middle) ≡ true → (nat_le first id && is_upto last id) ≡ true
-id-low first None middle id top h = grind (arith, nat_tests)
-id-low first (Some last) middle id top h = grind (arith, nat_tests)
+-- an id of the lower part is of both
+id-low : (b late : Bool) → (b && not late) ≡ true → (b && true) ≡ true
+id-low true late h = refl
+id-low false late h = h
 
--- an id above the middle is of the range
-id-high : (first : ℕ) (last : Option ℕ) (middle id : ℕ) → first ≤ middle
-    → (nat_le (middle + 1) id && is_upto last id) ≡ true → (nat_le first id && is_upto last id) ≡ true
-id-high first None middle id from h = grind (arith, nat_tests)
-id-high first (Some last) middle id from h = grind (arith, nat_tests)
+-- both are true where the second is
+and-true : (b : Bool) → (b && true) ≡ true → b ≡ true
+and-true true h = refl
+and-true false h = h
 
--- an id up to the middle is below one above it
-id-below : (first : ℕ) (last : Option ℕ) (middle a b : ℕ) → (nat_le first a && nat_le a middle) ≡ true
-    → (nat_le (middle + 1) b && is_upto last b) ≡ true → a < b
-id-below first None middle a b low high = grind (arith, nat_tests)
-id-below first (Some last) middle a b low high = grind (arith, nat_tests)
+-- an id of the lower part is below one of the higher part
+id-below : (from : Option ℕ) (at a b : ℕ) → has nat_cmp (range from (Some at)) a ≡ true
+    → has nat_cmp (range (Some at) None) b ≡ true → a < b
+id-below from at a b low high =
+    let one = from_is at a in
+    let other = from_is at b in
+    let cut = low_has nat_cmp nat_cmp_total from at a in
+    grind (arith, nat_tests, one, other, cut, low, high)
 
 -- rows of lower ids come before those of higher ones
 lower-before : (a b : AntiRow) → a.id < b.id → AntiRowBefore a b
@@ -115,37 +115,50 @@ lower-before a b lower =
     (int_cmp a.period.to b.period.to))) (sym (nat_cmp_is a.id b.id Less lower))
 
 -- those of the lower ids, and behind them those of the higher ones
-pub range-cut : (rows : List AntiRow) (ids low high : IdRange) (lows highs : List AntiRow) → AreCut ids low high
-    → IsListOf AntiRowBefore (IsRowOf rows low) lows → IsListOf AntiRowBefore (IsRowOf rows high) highs
-    → IsListOf AntiRowBefore (IsRowOf rows ids) (lows ++ highs)
-range-cut rows ids low high lows highs cut one other =
-    let front : IdRange = record { first = ids.first; last = Some cut.middle } in
-    let back : IdRange = record { first = cut.middle + 1; last = ids.last } in
-    IsListOf-append AntiRowBefore (IsRowOf rows front) (IsRowOf rows back) (IsRowOf rows ids) lows highs
-    (subst (λ (r : IdRange). IsListOf AntiRowBefore (IsRowOf rows r) lows) cut.low_is one)
-    (subst (λ (r : IdRange). IsListOf AntiRowBefore (IsRowOf rows r) highs) cut.high_is other)
-    (λ a b i j. lower-before a b (id-below ids.first ids.last cut.middle a.id b.id i.of_range j.of_range))
+range-cut : (rows : List AntiRow) (from : Option ℕ) (at : ℕ) (lows highs : List AntiRow)
+    → has_begun nat_cmp from at ≡ true → IsListOf AntiRowBefore (IsRowOf rows (range from (Some at))) lows
+    → IsListOf AntiRowBefore (IsRowOf rows (range (Some at) None)) highs
+    → IsListOf AntiRowBefore (IsRowOf rows (range from None)) (lows ++ highs)
+range-cut rows from at lows highs begun one other =
+    IsListOf-append AntiRowBefore (IsRowOf rows (range from (Some at))) (IsRowOf rows (range (Some at) None))
+    (IsRowOf rows (range from None)) lows highs one other
+    (λ a b i j. lower-before a b (id-below from at a.id b.id i.of_range j.of_range))
     (λ row is. record {
       there = is.there;
-      of_range = id-low ids.first ids.last cut.middle row.id cut.upto is.of_range;
+      of_range = id-low (has_begun nat_cmp from row.id) (is_from nat_cmp at row.id) is.of_range;
     })
     (λ row is. record {
       there = is.there;
-      of_range = id-high ids.first ids.last cut.middle row.id cut.from is.of_range;
+      of_range = (let begins = begun_on nat_cmp nat_cmp_total from at row.id begun
+          (and-true (is_from nat_cmp at row.id) is.of_range) in
+          rw begins refl);
     })
-    (λ row is. elim (id-cases ids.first ids.last cut.middle row.id is.of_range) [
+    (λ row is.
+    elim (id-cases (has_begun nat_cmp from row.id) (is_from nat_cmp at row.id) is.of_range) [
       | inl h ↦ inl (record { there = is.there; of_range = h })
       | inr h ↦ inr (record { there = is.there; of_range = h })
     ])
 
--- all ids
-pub range-all : (rows : List AntiRow) (ids : IdRange) (sorted : List AntiRow) → ids ≡ record { first = 0; last = None }
-    → IsListOf AntiRowBefore (IsRowOf rows ids) sorted → IsListOf AntiRowBefore (Contains rows) sorted
-range-all rows ids sorted all lists =
-    let every : IdRange = record { first = 0; last = None } in
-    IsListOf-same AntiRowBefore (IsRowOf rows every) (Contains rows) sorted (λ row is. is.there)
-    (λ row h. record { there = h; of_range = every-id row.id })
-    (subst (λ (r : IdRange). IsListOf AntiRowBefore (IsRowOf rows r) sorted) all lists)
-  where
-    every-id : (id : ℕ) → (nat_le 0 id && true) ≡ true
-    every-id id = grind (arith, nat_tests)
+-- ---- all ranges
+
+-- what is told of an answer for a range: the number of workers, the range when it is done, and what it gave
+abbrev Given : List AntiRow → Range ℕ → List AntiRow → Type 0
+Given rows ids some = ℕ × (Range ℕ × IsListOf AntiRowBefore (IsRowOf rows ids) some)
+
+-- the rows of each range of the ids, one behind another, are all
+pub ranges-ordered : (rows : List AntiRow) (cuts : List (Cut ℕ)) (lists : List (List AntiRow))
+    → GivesFrom nat_cmp (Given rows) None cuts lists
+    → IsListOf AntiRowBefore (Contains rows) (flat_map (λ (some : List AntiRow). some) lists)
+ranges-ordered rows cuts lists given =
+    let all = flat_map (λ (some : List AntiRow). some) lists in
+    IsListOf-same AntiRowBefore (IsRowOf rows (range None None)) (Contains rows) all (λ row is. is.there)
+    (λ row h. record { there = h; of_range = refl })
+    (all_come nat_cmp (Given rows)
+    (λ (ids : Range ℕ) (ls : List (List AntiRow)).
+    IsListOf AntiRowBefore (IsRowOf rows ids) (flat_map (λ (some : List AntiRow). some) ls))
+    (λ ids some g.
+    subst (IsListOf AntiRowBefore (IsRowOf rows ids)) (sym (append-nil some)) g.1.1)
+    (λ from at some ls begun g rest.
+    range-cut rows from at some (flat_map (λ (one : List AntiRow). one) ls) begun g.1.1
+    rest)
+    None cuts lists given)

@@ -490,18 +490,29 @@ covered_together xs ys us vs x t front back c = elim (Contains-append_cases xs y
   | inr h ↦ covered_back us vs x t (back (record { by = c.by; by_in = h; matches = c.matches; holds = c.holds }))
 ]
 
--- and what two lists are united to, united once more, is what both together are united to
-pub union_together : (xs ys us vs united : List Item) → IsUnion xs us → IsUnion ys vs → IsUnion (us ++ vs) united
-    → IsUnion (xs ++ ys) united
-union_together xs ys us vs united u v both =
-    union_same (us ++ vs) (xs ++ ys) united
-    (λ x t. (
-      covered_together us vs xs ys x t (u.alike x t).1 (v.alike x t).1,
-      covered_together xs ys us vs x t (u.alike x t).0 (v.alike x t).0,
-    ))
-    (let few = length-append us vs in let all = length-append xs ys in
-    let front = u.fewer in let back = v.fewer in omega (arith, few, all, front, back))
-    both
+-- items that cover what others do, and are no more
+abbrev pub AreUnions : List Item → List Item → Type 0
+AreUnions items unions = CoverAlike items unions × (length unions ≤ length items)
+
+-- united once more they are what the others are united to
+pub unions_again : (items unions united : List Item) → AreUnions items unions → IsUnion unions united
+    → IsUnion items united
+unions_again items unions united are u =
+    union_same unions items united (λ x t. ((are.0 x t).1, (are.0 x t).0)) are.1 u
+
+-- those of two lists, one behind another
+pub unions_both : (xs ys us vs : List Item) → AreUnions xs us → AreUnions ys vs → AreUnions (xs ++ ys) (us ++ vs)
+unions_both xs ys us vs u v = (
+  λ x t. (
+    covered_together xs ys us vs x t (u.0 x t).0 (v.0 x t).0,
+    covered_together us vs xs ys x t (u.0 x t).1 (v.0 x t).1,
+  ),
+  (let few = length-append us vs in
+      let all = length-append xs ys in
+      let front = u.1 in
+      let back = v.1 in
+      omega (arith, few, all, front, back)),
+)
 
 -- ---- the anti-join
 

@@ -6,14 +6,15 @@ ghost use Rattle.match_core.specs.Columns.{MatchesOn, columns_refusal};
 ghost use Rattle.work_core.specs.Limits.{worker_limit};
 ghost use Rattle.anti_core.specs.Anti.{IsAnti};
 
+use crate::class_rows::anti_sides;
+use crate::classed_rows::ClassedRows;
 use crate::rows::AntiRows;
-use crate::sides::anti_sides;
 use match_core::{QueryRefused, Side, classes_of, refusal_of_pairs};
 use period_core::NoMemory;
 use row_core::{Failure, Name};
 use std::alloc::Global;
 use std::thread::Threads;
-use work_core::Gate;
+use work_core::{Crew, Gate};
 
 /// When each left row holds and no right row does that is equal to it in each named pair of columns: the id of the
 /// left row and each such period that is as long as can be, by id and start, the same rows for every number of
@@ -41,36 +42,30 @@ pub fn anti<R: Threads + Sync, G: Gate>(
     if let Some(refused) = refusal_of_pairs(left.schema, right.schema, on) {
         return Err(Failure::Refused(refused));
     }
-    let rows = anti_rows(rt, alloc, left, right, on, workers, gate)?;
+    let crew = Crew::new(rt, alloc, workers, gate);
+    let rows = anti_rows(&crew, left, right, on)?;
     Ok(rows)
 }
 
 /// The anti-join, by columns that can be compared.
 fn anti_rows<R: Threads + Sync, G: Gate>(
-    rt: &R,
-    alloc: Global,
+    crew: &Crew<'_, R, G>,
     left: Side<'_>,
     right: Side<'_>,
     on: &[(Name, Name)],
-    workers: u32,
-    gate: &G,
 ) -> Result<AntiRows, NoMemory>
     requires allowed { columns_refusal left.schema.now right.schema.now on.now ≡ None }
-    requires workers { (0 < workers) × (workers ≤ worker_limit) }
     ensures { IfOk result (IsAnti (MatchesOn left.entry.schema.now right.entry.schema.now on.now)
         left.entry.rows.now right.entry.rows.now) }
 {
-    let classes = classes_of(rt, alloc, left, right, on, workers)?;
-    let lefts = left.rows.as_slice();
-    let rights = right.rows.as_slice();
-    anti_sides(
-        rt,
-        alloc,
-        lefts,
-        &classes.left,
-        rights,
-        &classes.right,
-        workers,
-        gate,
-    )
+    let classes = classes_of(crew.rt, crew.alloc, left, right, on, crew.workers)?;
+    let lefts = ClassedRows {
+        rows: left.rows.as_slice(),
+        classes: &classes.left,
+    };
+    let rights = ClassedRows {
+        rows: right.rows.as_slice(),
+        classes: &classes.right,
+    };
+    anti_sides(crew, &lefts, &rights)
 }

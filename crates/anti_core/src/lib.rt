@@ -6,13 +6,16 @@
 
 mod anti_joins;
 mod bundles;
+mod class_rows;
+mod classed_rows;
+mod item_rows;
 mod laws;
+mod lists;
 mod ordering;
 mod pairs;
 mod part_gaps;
-mod parted;
 mod rows;
-mod sides;
+mod side_items;
 mod supply;
 mod united;
 

@@ -7,7 +7,6 @@ ghost use Rattle.dip_core.specs.Division.{all_of, part_at};
 ghost use Rattle.merge_core.specs.declared.gap.Gap.{Gap};
 ghost use Rattle.merge_core.specs.Gaps.{ListsGaps};
 ghost use Rattle.merge_core.specs.Meets.{IdsTell};
-ghost use Rattle.work_core.specs.Limits.{worker_limit};
 ghost use Rattle.anti_core.specs.ItemAnti.{row_of_gap};
 ghost use Rattle.anti_core.specs.PairGaps.{AreGapsFrom, AreGapsAgainst};
 
@@ -19,7 +18,7 @@ use merge_core::{Gaps, meet_gaps};
 use period_core::NoMemory;
 use std::alloc::Global;
 use std::thread::Threads;
-use work_core::{Gate, Outs};
+use work_core::{Crew, Gate, Outs};
 
 /// The gaps of a part against the items of `count` right parts: those against each of them are there, from place
 /// `from` on. Half is met with half, so that each list is gone through as often as their number can be halved.
@@ -64,15 +63,11 @@ fn meet_values(
 /// The gaps of the left part of that number against the items of all right parts: those against the right parts so
 /// far are met with those against more of them, as they are supplied.
 pub(crate) fn gaps_of_part<R: Threads + Sync, G: Gate>(
-    rt: &R,
-    alloc: Global,
+    crew: &Crew<'_, R, G>,
     pairs: &GapPairs<'_>,
     supply: &mut Option<Supply>,
     number: u32,
-    workers: u32,
-    gate: &G,
 ) -> Result<Gaps, NoMemory>
-    requires workers { (0 < workers) × (workers ≤ worker_limit) }
     requires supply { ForSome supply.old (λ s. AreGapsFrom pairs.now.left.now pairs.now.right.now s.first s.values) }
     requires part { number < length pairs.now.left.now }
     requires tell { IdsTell (part_at pairs.now.left.now number) }
@@ -83,15 +78,15 @@ pub(crate) fn gaps_of_part<R: Threads + Sync, G: Gate>(
     let part = pairs.left.part(number);
     let rights = pairs.right.parts();
     let first = number as u64 * rights as u64;
-    let mut gaps = Gaps::whole(alloc, part)?;
+    let mut gaps = Gaps::whole(crew.alloc, part)?;
     let mut done = 0;
     while done < rights {
         let at = first + done as u64;
-        let ready = supply_at(rt, alloc, pairs, supply.take(), at, workers, gate)?;
+        let ready = supply_at(crew, pairs, supply.take(), at)?;
         let from = (at - ready.first) as usize;
         let count = (ready.values.len() - from).min((rights - done) as usize);
-        let more = meet_values(alloc, part, &ready.values, from, count)?;
-        gaps = meet_gaps(alloc, &gaps, &more)?;
+        let more = meet_values(crew.alloc, part, &ready.values, from, count)?;
+        gaps = meet_gaps(crew.alloc, &gaps, &more)?;
         done += count as u32;
         *supply = Some(ready);
     }
@@ -101,16 +96,12 @@ pub(crate) fn gaps_of_part<R: Threads + Sync, G: Gate>(
 /// Adds the rows of the left part of that number, where there is one right part: their gaps are those of the one pair,
 /// and there is nothing to meet.
 pub(crate) fn add_rows_of_pair<R: Threads + Sync, G: Gate>(
-    rt: &R,
-    alloc: Global,
+    crew: &Crew<'_, R, G>,
     pairs: &GapPairs<'_>,
     supply: &mut Option<Supply>,
     number: u32,
-    workers: u32,
-    gate: &G,
     rows: &mut Vec<AntiRow>,
 ) -> Result<(), NoMemory>
-    requires workers { (0 < workers) × (workers ≤ worker_limit) }
     requires supply { ForSome supply.old (λ s. AreGapsFrom pairs.now.left.now pairs.now.right.now s.first s.values) }
     requires part { number < length pairs.now.left.now }
     requires one { length pairs.now.right.now ≡ 1 }
@@ -121,7 +112,7 @@ pub(crate) fn add_rows_of_pair<R: Threads + Sync, G: Gate>(
         (ForSome supply.new (λ s. AreGapsFrom pairs.now.left.now pairs.now.right.now s.first s.values)) }
 {
     let at = number as u64;
-    let ready = supply_at(rt, alloc, pairs, supply.take(), at, workers, gate)?;
+    let ready = supply_at(crew, pairs, supply.take(), at)?;
     let Some(gaps) = ready.values.get((at - ready.first) as usize) else {
         unreachable!()
     };

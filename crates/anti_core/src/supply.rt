@@ -2,16 +2,14 @@
 
 ghost use Rattle.std.specs.Prelude.{◌<◌, ◌≤◌, ◌+◌, ◌*◌, length, IfOk};
 ghost use Rattle.std.specs.Option.{ForSome};
-ghost use Rattle.work_core.specs.Limits.{worker_limit};
 ghost use Rattle.anti_core.specs.PairGaps.{AreGapsFrom};
 
 use crate::pairs::GapPairs;
 use grid_core::stretch_len;
 use merge_core::Gaps;
 use period_core::NoMemory;
-use std::alloc::Global;
 use std::thread::Threads;
-use work_core::{Gate, Outs, run_stretch};
+use work_core::{Crew, Gate, Outs, run_stretch};
 
 /// The gaps of pairs that follow one another by number.
 #[derive(Drop)]
@@ -25,15 +23,11 @@ pub(crate) struct Supply {
 /// Gaps of some pairs, with that one among them: those that are there, or else those of a stretch from that pair on.
 /// What is there is given back before that stretch is run.
 pub(crate) fn supply_at<R: Threads + Sync, G: Gate>(
-    rt: &R,
-    alloc: Global,
+    crew: &Crew<'_, R, G>,
     pairs: &GapPairs<'_>,
     supply: Option<Supply>,
     number: u64,
-    workers: u32,
-    gate: &G,
 ) -> Result<Supply, NoMemory>
-    requires workers { (0 < workers) × (workers ≤ worker_limit) }
     requires inside { number < length pairs.now.left.now * length pairs.now.right.now }
     requires supply { ForSome supply (λ s. AreGapsFrom pairs.now.left.now pairs.now.right.now s.first s.values) }
     ensures values { IfOk result (λ s. AreGapsFrom pairs.now.left.now pairs.now.right.now s.first s.values) }
@@ -44,19 +38,15 @@ pub(crate) fn supply_at<R: Threads + Sync, G: Gate>(
             return Ok(supply);
         }
     }
-    run_from(rt, alloc, pairs, number, workers, gate)
+    run_from(crew, pairs, number)
 }
 
 /// The gaps of a stretch of pairs from number `first` on.
 fn run_from<R: Threads + Sync, G: Gate>(
-    rt: &R,
-    alloc: Global,
+    crew: &Crew<'_, R, G>,
     pairs: &GapPairs<'_>,
     first: u64,
-    workers: u32,
-    gate: &G,
 ) -> Result<Supply, NoMemory>
-    requires workers { (0 < workers) × (workers ≤ worker_limit) }
     requires inside { first < length pairs.now.left.now * length pairs.now.right.now }
     ensures values { IfOk result (λ s. AreGapsFrom pairs.now.left.now pairs.now.right.now s.first s.values) }
     ensures there { IfOk result (λ s. (s.first ≤ first) × (first < s.first + length s.values)) }
@@ -65,6 +55,6 @@ fn run_from<R: Threads + Sync, G: Gate>(
     let _ = pairs.left.parts();
     let _ = pairs.right.parts();
     let count = stretch_len(pairs.left, pairs.right, first);
-    let values = run_stretch(rt, alloc, pairs, first, count, workers, gate)?;
+    let values = run_stretch(crew, pairs, first, count)?;
     Ok(Supply { first, values })
 }

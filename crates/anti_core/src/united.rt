@@ -1,67 +1,65 @@
 //! The right items of each class united, before they are divided: all that counts is which instants they hold.
 
-ghost use Rattle.std.specs.Prelude.{◌++◌, ◌<◌, ◌≤◌, length, IfOk, MatchOption};
-ghost use Rattle.std.specs.Thread.{IsSync};
-ghost use Rattle.match_core.specs.Items.{items_of_share};
+ghost use Rattle.std.specs.Prelude.{◌<◌, ◌≤◌, length, IfOk, MatchOption};
+ghost use Rattle.list_core.specs.Chunks.{all_in};
+ghost use Rattle.match_core.specs.Items.{items_in_range};
+ghost use Rattle.share_core.specs.Pieces.{piece};
 ghost use Rattle.anti_core.specs.United.{RunsInto, IsMerged, IsPlain, IsUnion, StandByClass};
 
+use crate::classed_rows::ClassedRows;
+use crate::lists::in_one_list;
 use dip_core::Item;
-use match_core::{Share, items_of_share};
+use match_core::items_in_range;
 use period_core::{NoMemory, Period};
 use row_core::Row;
+use share_core::{Range, Shares, piece, shared_out};
 use std::alloc::Global;
-use std::thread::{Threads, join};
+use std::thread::Threads;
 
-/// Of fewer rows half would be united before the other half's thread has started.
-const ROWS_FOR_HALVES: usize = 16_384;
-
-/// The longest periods in which some row of each class of a share holds, as items of their class, by class and start.
-/// They have no ids: each has the id 0, and the amount 0. Where rows are many, half of the workers unite their part of
-/// them and the others the rest, and what both find is united again: the more rows hold at once, the less that is.
-#[cycle(halves)]
+/// The longest periods in which some row of each class of a range holds, as items of their class, by class and start.
+/// They have no ids: each has the id 0, and the amount 0. Where rows are many, each worker unites a piece of them, and
+/// what all find is united again: the more rows hold at once, the less that is.
 pub(crate) fn united_rows<R: Threads + Sync>(
     rt: &R,
     alloc: Global,
-    rows: &[Row],
-    classes: &[u64],
-    share: Share,
+    side: &ClassedRows<'_>,
+    range: Range<u64>,
     workers: u32,
 ) -> Result<Vec<Item>, NoMemory>
-    requires { length rows.now ≤ length classes.now }
-    ensures { IfOk result (λ united. IsUnion (items_of_share share rows.now classes.now) united.items) }
+    requires { 0 < workers }
+    ensures { IfOk result (λ united.
+        IsUnion (items_in_range range side.now.rows.now side.now.classes.now) united.items) }
 {
-    if workers < 2 || rows.len() < ROWS_FOR_HALVES {
-        let items = items_of_share(alloc, rows, classes, share)?;
-        return Ok(united_items(items));
+    let ClassedRows { rows, classes, .. } = *side;
+    let shares = Shares::of(alloc, rows.len(), workers, &|i: usize| i)?;
+    if shares.len() == 1 {
+        return united_piece(alloc, rows, classes, range);
     }
-    let few = workers / 2;
-    let others = workers - few;
-    let middle = rows_for(rows.len(), few, workers);
-    let (front, back) = rows.split_at(middle);
-    let (front_classes, back_classes) = classes.split_at(middle);
-    let (first, second) = join(
+    let unions = shared_out(
         rt,
-        || -> Result<Vec<Item>, NoMemory>
-            requires { IsSync R.row × (length front.now ≤ length front_classes.now) }
-            ensures { IfOk result (λ united.
-                IsUnion (items_of_share share front.entry.now front_classes.entry.now) united.items) }
-        { united_rows(rt, alloc, front, front_classes, share, few) },
-        || -> Result<Vec<Item>, NoMemory>
-            requires { IsSync R.row × (length back.now ≤ length back_classes.now) }
-            ensures { IfOk result (λ united.
-                IsUnion (items_of_share share back.entry.now back_classes.entry.now) united.items) }
-        { united_rows(rt, alloc, back, back_classes, share, others) },
-    );
-    united_again(first?, second?)
+        alloc,
+        &shares,
+        &|places: Range<usize>, _workers: u32| -> Result<Vec<Item>, NoMemory>
+            requires { length rows.now ≤ length classes.now }
+            ensures { IfOk result (λ united. IsUnion
+                (items_in_range range (piece places rows.entry.now) (piece places classes.entry.now)) united.items) }
+        { united_piece(alloc, piece(places, rows), piece(places, classes), range) },
+    )?;
+    united_again(alloc, unions)
 }
 
-/// How many of the rows `few` of the workers take.
-pub(crate) fn rows_for(rows: usize, few: u32, workers: u32) -> usize
-    requires some { 0 < workers }
-    requires few { few ≤ workers }
-    ensures { result ≤ rows }
+/// The union of some rows' items, those of a range's classes.
+fn united_piece(
+    alloc: Global,
+    rows: &[Row],
+    classes: &[u64],
+    range: Range<u64>,
+) -> Result<Vec<Item>, NoMemory>
+    requires { length rows.now ≤ length classes.now }
+    ensures { IfOk result (λ united. IsUnion (items_in_range range rows.now classes.now) united.items) }
 {
-    rows / workers as usize * few as usize
+    let items = items_in_range(alloc, rows, classes, range)?;
+    Ok(united_items(items))
 }
 
 /// The union of items. It takes no memory.
@@ -73,14 +71,14 @@ fn united_items(mut items: Vec<Item>) -> Vec<Item>
     items
 }
 
-/// The union of two unions. Each is in order, so the sort, which finds that, only merges them.
-fn united_again(mut first: Vec<Item>, mut second: Vec<Item>) -> Result<Vec<Item>, NoMemory>
-    ensures { IfOk result (λ united. IsUnion (first.items ++ second.items) united.items) }
+/// The union of unions. Each is in order, so the sort, which finds that, only merges them.
+fn united_again(alloc: Global, unions: Vec<Vec<Item>>) -> Result<Vec<Item>, NoMemory>
+    ensures { IfOk result (λ united. IsUnion (all_in unions.items) united.items) }
 {
-    first.append(&mut second)?;
-    first.sort_by_key(|item| (item.class, item.period.from))?;
-    unite(&mut first);
-    Ok(first)
+    let mut items = in_one_list(alloc, unions)?;
+    items.sort_by_key(|item| (item.class, item.period.from))?;
+    unite(&mut items);
+    Ok(items)
 }
 
 /// Makes each item one with those behind it that continue it, without ids and amounts.

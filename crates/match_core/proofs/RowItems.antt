@@ -1,5 +1,5 @@
 -- Rows and their items.
-use Rattle.std.proofs.Common.{◌≡◌, ◌<◌, ◌≤◌, ℕ, zero, suc, ◌+◌, Bool, false, cond, List, length, [], ◌∷◌, get_or, take, drop, ◌++◌, Some, refl, sym, subst, ap, ◌∙◌, inl, inr, arith, append-nil}
+use Rattle.std.proofs.Common.{◌≡◌, ◌<◌, ◌≤◌, ℕ, zero, suc, ◌+◌, Bool, false, cond, List, length, [], ◌∷◌, get_or, take, drop, ◌++◌, Option, Some, None, refl, subst, ap, ◌∙◌, inl, inr, arith, append-nil}
 use Rattle.std.specs.Prelude.{slice_get, AllPairs, Contains, filter}
 use Rattle.std.specs.Ordering.{nat_cmp}
 use Rattle.std.proofs.lemmas.List.Elements.{filter-append}
@@ -9,6 +9,7 @@ use Rattle.dip_core.specs.declared.item.Item.{Item}
 use Rattle.list_core.proofs.RisingLemmas.{AllPairs-head, Contains-cons, Contains-cons_cases, Contains-head, Contains-none}
 use Rattle.list_core.proofs.WantedLemmas.{AllPairs-before}
 use Rattle.match_core.specs.Items.{item_with, items_in_range, items_with}
+use Rattle.share_core.specs.Pieces.{piece, piece_before, piece_from}
 use Rattle.share_core.specs.Ranges.{has}
 use Rattle.share_core.specs.declared.range.Range.{Range}
 
@@ -121,27 +122,38 @@ items_with-front (r ∷ rows) (c ∷ classes) zero h enough = absurd (omega arit
 items_with-front (r ∷ rows) (c ∷ classes) (suc n) h enough =
     ap (λ l. item_with r c ∷ l) (items_with-front rows classes n (omega arith) (omega arith))
 
--- the items of the first rows, and then those of the rows behind them
-items_with-cut : (n : ℕ) (rows : List Row) (classes : List ℕ) → length rows ≤ length classes
-    → items_with (take n rows) (take n classes) ++ items_with (drop n rows) (drop n classes) ≡ items_with rows classes
-items_with-cut zero rows classes enough = refl
-items_with-cut (suc n) [] classes enough = refl
-items_with-cut (suc n) (r ∷ rows) [] enough = absurd (omega arith)
-items_with-cut (suc n) (r ∷ rows) (c ∷ classes) enough =
-    ap (λ l. item_with r c ∷ l) (items_with-cut n rows classes (omega arith))
+-- without classes there are none
+items_with-unclassed : (rows : List Row) → items_with rows [] ≡ []
+items_with-unclassed [] = refl
+items_with-unclassed (r ∷ rows) = refl
+
+-- the items of a piece of the rows
+items_with-before : (end : Option ℕ) (rows : List Row) (classes : List ℕ)
+    → items_with (piece_before end rows) (piece_before end classes) ≡ piece_before end (items_with rows classes)
+items_with-before None rows classes = refl
+items_with-before (Some zero) rows classes = refl
+items_with-before (Some (suc n)) [] classes = refl
+items_with-before (Some (suc n)) (r ∷ rows) [] = refl
+items_with-before (Some (suc n)) (r ∷ rows) (c ∷ classes) =
+    ap (λ l. item_with r c ∷ l) (items_with-before (Some n) rows classes)
+
+items_with-from : (start : Option ℕ) (rows : List Row) (classes : List ℕ)
+    → items_with (piece_from start rows) (piece_from start classes) ≡ piece_from start (items_with rows classes)
+items_with-from None rows classes = refl
+items_with-from (Some zero) rows classes = refl
+items_with-from (Some (suc n)) [] classes = refl
+items_with-from (Some (suc n)) (r ∷ rows) [] = items_with-unclassed (drop n rows)
+items_with-from (Some (suc n)) (r ∷ rows) (c ∷ classes) = items_with-from (Some n) rows classes
+
+pub items_with-piece : (places : Range ℕ) (rows : List Row) (classes : List ℕ)
+    → items_with (piece places rows) (piece places classes) ≡ piece places (items_with rows classes)
+items_with-piece places rows classes =
+    items_with-from places.from (piece_before places.before rows) (piece_before places.before classes)
+    ∙ ap (piece_from places.from) (items_with-before places.before rows classes)
 
 -- whether a range has the class of an item
 abbrev is_in : Range ℕ → Item → Bool
 is_in range x = has nat_cmp range x.class
-
--- and those of a range
-pub items_in_range-cut : (range : Range ℕ) (n : ℕ) (rows : List Row) (classes : List ℕ) → length rows ≤ length classes
-    → items_in_range range (take n rows) (take n classes) ++ items_in_range range (drop n rows) (drop n classes)
-    ≡ items_in_range range rows classes
-items_in_range-cut range n rows classes enough =
-    sym (filter-append (is_in range) (items_with (take n rows) (take n classes))
-    (items_with (drop n rows) (drop n classes)))
-    ∙ ap (filter (is_in range)) (items_with-cut n rows classes enough)
 
 -- one more row, and its item, if the range has that
 pub items_in_range-more : (range : Range ℕ) (rows : List Row) (classes : List ℕ) (i : ℕ) (r : Row) → i < length rows

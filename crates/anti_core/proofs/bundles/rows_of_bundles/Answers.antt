@@ -1,3 +1,4 @@
+use Rattle.std.proofs.Common.{◌+◌}
 use Rattle.grid_core.proofs.BundleLemmas.{from-rise, low-distinct, none_first}
 use Rattle.anti_core.proofs.BundleLemmas.{bundling_start, bundling_from, bundling_more, bundling_end}
 use Rattle.anti_core.proofs.bundles.rows_of_bundles.Goals as goal
@@ -14,14 +15,14 @@ parted_behind-requires-in-Some g c =
 
 pub rows_of_items-requires-clause-ids : goal.rows_of_items-requires-clause-ids
 rows_of_items-requires-clause-ids g c = λ κs outlives.
-    low-distinct c.last_class-class.result c.bundles.lefts.now c.parted_behind.result.0.now
+    low-distinct (c.last_class-class.result + 1) c.bundles.lefts.now c.parted_behind.result.0.now
     c.parted_behind.result.1.now c.parted_behind.ensures c.bundles.invariant.ids
 
 pub bundles-preserved : goal.bundles-preserved
 bundles-preserved g c =
     bundling_more c.args.left.now c.args.right.now c.bundles.lefts.now c.items_from-matching.result.now
     c.parted_behind.result.0.now c.parted_behind.result.1.now c.parted_behind-in-Some.result.0.now
-    c.parted_behind-in-Some.result.1.now c.last_class-class.result c.bundles.rows.items c.in_ok-found.found.items
+    c.parted_behind-in-Some.result.1.now (c.last_class-class.result + 1) c.bundles.rows.items c.in_ok-found.found.items
     c.append.new.self.items c.parted_behind.ensures c.parted_behind-in-Some.ensures c.in_ok-found.ensures
     c.in_ok-append.ensures.items
     (bundling_from c.args.left.now c.args.right.now c.bundles.lefts.now c.bundles.rights.now

@@ -1,6 +1,7 @@
-use Rattle.std.proofs.Common.{rules, ◌++◌, sym}
+use Rattle.std.proofs.Common.{rules, sym}
 use Rattle.std.proofs.lemmas.List.Sorted.{answers_always}
 use Rattle.dip_core.specs.declared.item.Item.{Item}
+use Rattle.list_core.specs.Chunks.{all_in}
 use Rattle.anti_core.proofs.UnitedLemmas.{stand_sorted, union_moved}
 use Rattle.anti_core.proofs.united.united_again.Goals as goal
 
@@ -12,5 +13,5 @@ unite-requires c =
 
 pub returns : goal.returns
 returns c =
-    union_moved (c.args.first.items ++ c.args.second.items) c.sort_by_key.new.self.items c.unite.new.items.items
-    (rw (sym c.in_ok-append.ensures.items) c.sort_by_key.ensures.permutation) c.unite.ensures
+    union_moved (all_in c.args.unions.items) c.sort_by_key.new.self.items c.unite.new.items.items
+    (rw (sym c.in_ok-items.ensures) c.sort_by_key.ensures.permutation) c.unite.ensures

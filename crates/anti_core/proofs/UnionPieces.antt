@@ -1,0 +1,69 @@
+-- The unions of pieces of rows.
+use Rattle.std.proofs.Common.{◌≤◌, ◌∙◌, ℕ, List, ◌++◌, Option, Some, None, length, sym, subst, ap, arith, append-nil}
+use Rattle.std.specs.Global.{Vec}
+use Rattle.std.specs.Ordering.{nat_cmp}
+use Rattle.std.proofs.lemmas.List.{length-drop, length-take}
+use Rattle.std.proofs.lemmas.List.Elements.{filter-append}
+use Rattle.row_core.specs.declared.row.Row.{Row}
+use Rattle.dip_core.specs.declared.item.Item.{Item}
+use Rattle.list_core.specs.Chunks.{all_in}
+use Rattle.share_core.specs.Pieces.{piece, piece_before, piece_from}
+use Rattle.share_core.specs.Ranges.{has, range}
+use Rattle.share_core.specs.Shares.{GivesFrom}
+use Rattle.share_core.specs.declared.range.Range.{Range}
+use Rattle.share_core.specs.declared.shares.Cut.{Cut}
+use Rattle.share_core.proofs.PieceLemmas.{piece_cut}
+use Rattle.share_core.proofs.ShareLemmas.{all_come}
+use Rattle.match_core.specs.Items.{items_in_range, items_with}
+use Rattle.match_core.proofs.RowItems.{items_with-piece}
+use Rattle.grid_core.specs.Bundles.{items_in}
+use Rattle.anti_core.specs.United.{IsUnion}
+use Rattle.anti_core.proofs.UnitedLemmas.{AreUnions, unions_both}
+
+-- of fewer items a piece is no longer than the same piece of more
+before_fewer : {X Y : Type 0} (end : Option ℕ) (xs : List X) (ys : List Y) → length xs ≤ length ys
+    → length (piece_before end xs) ≤ length (piece_before end ys)
+before_fewer None xs ys fewer = fewer
+before_fewer (Some n) xs ys fewer = omega (arith, fewer, length-take n xs, length-take n ys)
+
+from_fewer : {X Y : Type 0} (start : Option ℕ) (xs : List X) (ys : List Y) → length xs ≤ length ys
+    → length (piece_from start xs) ≤ length (piece_from start ys)
+from_fewer None xs ys fewer = fewer
+from_fewer (Some n) xs ys fewer = omega (arith, fewer, length-drop n xs, length-drop n ys)
+
+pub piece_fewer : {X Y : Type 0} (places : Range ℕ) (xs : List X) (ys : List Y) → length xs ≤ length ys
+    → length (piece places xs) ≤ length (piece places ys)
+piece_fewer places xs ys fewer =
+    from_fewer places.from (piece_before places.before xs) (piece_before places.before ys)
+    (before_fewer places.before xs ys fewer)
+
+-- what is told of an answer for a piece: the number of workers, its places when it is done, and what it gave
+abbrev GivenUnion : Range ℕ → List Row → List ℕ → Range ℕ → Vec Item → Type 0
+GivenUnion classed rows classes places union =
+    ℕ × (Range ℕ × IsUnion (items_in_range classed (piece places rows) (piece places classes)) union.items)
+
+-- what each piece is united to, one behind another, covers what all rows do
+pub pieces-unions : (classed : Range ℕ) (rows : List Row) (classes : List ℕ) (cuts : List (Cut ℕ))
+    (unions : List (Vec Item)) → GivesFrom nat_cmp (GivenUnion classed rows classes) None cuts unions
+    → AreUnions (items_in_range classed rows classes) (all_in unions)
+pieces-unions classed rows classes cuts unions given =
+    let all = items_with rows classes in
+    all_come nat_cmp (GivenUnion classed rows classes)
+    (λ (places : Range ℕ) (us : List (Vec Item)). AreUnions (items_in classed (piece places all)) (all_in us))
+    (λ places x g.
+    subst (AreUnions (items_in classed (piece places all))) (sym (append-nil x.items)) (one places x g.1.1))
+    (λ from at x us begun g rest.
+    subst (λ (items : List Item). AreUnions items (x.items ++ all_in us))
+    (sym (ap (items_in classed) (piece_cut from at all begun)
+    ∙ filter-append (λ (y : Item). has nat_cmp classed y.class) (piece (range from (Some at)) all)
+    (piece (range (Some at) None) all)))
+    (unions_both (items_in classed (piece (range from (Some at)) all))
+    (items_in classed (piece (range (Some at) None) all)) x.items (all_in us) (one (range from (Some at)) x g.1.1) rest))
+    None cuts unions given
+  where
+    one : (places : Range ℕ) (x : Vec Item)
+        → IsUnion (items_in_range classed (piece places rows) (piece places classes)) x.items
+        → AreUnions (items_in classed (piece places (items_with rows classes))) x.items
+    one places x is =
+        let u = subst (λ (items : List Item). IsUnion (items_in classed items) x.items)
+        (items_with-piece places rows classes) is in (u.alike, u.fewer)

@@ -1,0 +1,90 @@
+//! The rows of both sides, some classes at a time: each range of the classes by some of the workers, who pick the rows of
+//! these classes out before they make them items.
+
+ghost use Rattle.std.specs.Prelude.{◌<◌, ◌≤◌, IfOk};
+ghost use Rattle.std.specs.Thread.{IsSync};
+ghost use Rattle.dip_core.specs.Item.{HasDistinctIds};
+ghost use Rattle.list_core.specs.Chunks.{all_in};
+ghost use Rattle.match_core.specs.Items.{items_in_range, items_with};
+ghost use Rattle.work_core.specs.Limits.{worker_limit};
+ghost use Rattle.anti_core.specs.ItemAnti.{AreItemsRows, IsItemsAnti};
+
+use crate::bundles::rows_of_bundles;
+use crate::classed_rows::ClassedRows;
+use crate::ordering::ordered;
+use crate::rows::{AntiRow, AntiRows};
+use crate::side_items::items_of_sides;
+use period_core::NoMemory;
+use share_core::{Range, Shares, shared_out};
+use std::thread::Threads;
+use work_core::{Crew, Gate};
+
+/// The anti-join of two sides, whose rows match where their classes are equal. The right items are united before they
+/// are divided: of those that hold at once each class has one, however many there were.
+pub(crate) fn anti_sides<R: Threads + Sync, G: Gate>(
+    crew: &Crew<'_, R, G>,
+    left: &ClassedRows<'_>,
+    right: &ClassedRows<'_>,
+) -> Result<AntiRows, NoMemory>
+    requires ids { HasDistinctIds (items_with left.now.rows.now left.now.classes.now) }
+    ensures { IfOk result (IsItemsAnti (items_with left.now.rows.now left.now.classes.now)
+        (items_with right.now.rows.now right.now.classes.now)) }
+{
+    let lists = rows_of_sides(crew, left, right)?;
+    ordered(crew, lists, left.rows)
+}
+
+/// The rows of all left items, in a list for each range of the classes. The side of more rows tells where these are cut.
+fn rows_of_sides<R: Threads + Sync, G: Gate>(
+    crew: &Crew<'_, R, G>,
+    left: &ClassedRows<'_>,
+    right: &ClassedRows<'_>,
+) -> Result<Vec<Vec<AntiRow>>, NoMemory>
+    requires ids { HasDistinctIds (items_with left.now.rows.now left.now.classes.now) }
+    ensures { IfOk result (λ lists. AreItemsRows (items_with left.now.rows.now left.now.classes.now)
+        (items_with right.now.rows.now right.now.classes.now) (all_in lists.items)) }
+{
+    let classes = if left.rows.len() < right.rows.len() {
+        right.classes
+    } else {
+        left.classes
+    };
+    let Crew {
+        rt,
+        alloc,
+        workers,
+        gate,
+        ..
+    } = *crew;
+    let shares = Shares::of(alloc, classes.len(), workers, &|i: usize| classes[i])?;
+    shared_out(
+        rt,
+        alloc,
+        &shares,
+        &|range: Range<u64>, workers: u32| -> Result<Vec<AntiRow>, NoMemory>
+            requires { IsSync R.row × IsSync G.row × (0 < workers) × (workers ≤ worker_limit)
+                × HasDistinctIds (items_with left.now.rows.now left.now.classes.now) }
+            ensures { IfOk result (λ rows. AreItemsRows
+                (items_in_range range left.entry.now.rows.now left.entry.now.classes.now)
+                (items_in_range range right.entry.now.rows.now right.entry.now.classes.now) rows.items) }
+        {
+            let crew = Crew::new(rt, alloc, workers, gate);
+            rows_of_range(&crew, left, right, range)
+        },
+    )
+}
+
+/// The rows of the left items in a range of the classes.
+fn rows_of_range<R: Threads + Sync, G: Gate>(
+    crew: &Crew<'_, R, G>,
+    left: &ClassedRows<'_>,
+    right: &ClassedRows<'_>,
+    range: Range<u64>,
+) -> Result<Vec<AntiRow>, NoMemory>
+    requires ids { HasDistinctIds (items_with left.now.rows.now left.now.classes.now) }
+    ensures { IfOk result (λ rows. AreItemsRows (items_in_range range left.now.rows.now left.now.classes.now)
+        (items_in_range range right.now.rows.now right.now.classes.now) rows.items) }
+{
+    let (lefts, united) = items_of_sides(crew, left, right, range)?;
+    rows_of_bundles(crew, &lefts, &united)
+}
