@@ -1,5 +1,5 @@
-//! The rows of both sides, some classes at a time: each range of the classes by some of the workers, who pick the rows of
-//! these classes out before they make them items.
+//! The rows of both sides by their classes: some of the workers take a range of the classes, and pick its rows out before
+//! they make them items.
 
 ghost use Rattle.std.specs.Prelude.{◌<◌, ◌≤◌, IfOk};
 ghost use Rattle.std.specs.Thread.{IsSync};
@@ -34,7 +34,7 @@ pub(crate) fn anti_sides<R: Threads + Sync, G: Gate>(
     ordered(crew, lists, left.rows)
 }
 
-/// The rows of all left items, in a list for each range of the classes. The side of more rows tells where these are cut.
+/// The rows of all left items, in a list for each range of the classes. These are cut by the side that has more rows.
 fn rows_of_sides<R: Threads + Sync, G: Gate>(
     crew: &Crew<'_, R, G>,
     left: &ClassedRows<'_>,
@@ -49,14 +49,8 @@ fn rows_of_sides<R: Threads + Sync, G: Gate>(
     } else {
         left.classes
     };
-    let Crew {
-        rt,
-        alloc,
-        workers,
-        gate,
-        ..
-    } = *crew;
-    let shares = Shares::of(alloc, classes.len(), workers, &|i: usize| classes[i])?;
+    let (rt, alloc, gate) = (crew.rt, crew.alloc, crew.gate);
+    let shares = Shares::of(alloc, classes.len(), crew.workers, &|i: usize| classes[i])?;
     shared_out(
         rt,
         alloc,
@@ -66,7 +60,8 @@ fn rows_of_sides<R: Threads + Sync, G: Gate>(
                 × HasDistinctIds (items_with left.now.rows.now left.now.classes.now) }
             ensures { IfOk result (λ rows. AreItemsRows
                 (items_in_range range left.entry.now.rows.now left.entry.now.classes.now)
-                (items_in_range range right.entry.now.rows.now right.entry.now.classes.now) rows.items) }
+                (items_in_range range right.entry.now.rows.now right.entry.now.classes.now)
+                rows.items) }
         {
             let crew = Crew::new(rt, alloc, workers, gate);
             rows_of_range(&crew, left, right, range)
@@ -82,7 +77,8 @@ fn rows_of_range<R: Threads + Sync, G: Gate>(
     range: Range<u64>,
 ) -> Result<Vec<AntiRow>, NoMemory>
     requires ids { HasDistinctIds (items_with left.now.rows.now left.now.classes.now) }
-    ensures { IfOk result (λ rows. AreItemsRows (items_in_range range left.now.rows.now left.now.classes.now)
+    ensures { IfOk result (λ rows. AreItemsRows
+        (items_in_range range left.now.rows.now left.now.classes.now)
         (items_in_range range right.now.rows.now right.now.classes.now) rows.items) }
 {
     let (lefts, united) = items_of_sides(crew, left, right, range)?;

@@ -33,14 +33,15 @@ fn add_rows_of_part<R: Threads + Sync, G: Gate>(
     number: u32,
     rows: &mut Vec<AntiRow>,
 ) -> Result<(), NoMemory>
-    requires supply { ForSome supply.old (λ s. AreGapsFrom pairs.now.left.now pairs.now.right.now s.first s.values) }
+    requires supply { ForSome supply.old
+        (λ s. AreGapsFrom pairs.now.left.now pairs.now.right.now s.first s.values) }
     requires part { number < length pairs.now.left.now }
     requires tell { IdsTell (part_at pairs.now.left.now number) }
     ensures rows { OnOk result ((gaps : List Gap)
         × ListsGaps (part_at pairs.now.left.now number) (all_of pairs.now.right.now) gaps
         × (rows.new.items ≡ rows.old.items ++ map row_of_gap gaps)) }
-    ensures supply { OnOk result
-        (ForSome supply.new (λ s. AreGapsFrom pairs.now.left.now pairs.now.right.now s.first s.values)) }
+    ensures supply { OnOk result (ForSome supply.new
+        (λ s. AreGapsFrom pairs.now.left.now pairs.now.right.now s.first s.values)) }
 {
     if pairs.right.parts() == 1 {
         return add_rows_of_pair(crew, pairs, supply, number, rows);
@@ -56,7 +57,8 @@ fn rows_of_parts<R: Threads + Sync, G: Gate>(
     pairs: &GapPairs<'_>,
 ) -> Result<Vec<AntiRow>, NoMemory>
     requires ids { HasDistinctIds (all_of pairs.now.left.now) }
-    ensures { IfOk result (λ rows. AreItemsRows (all_of pairs.now.left.now) (all_of pairs.now.right.now) rows.items) }
+    ensures { IfOk result (λ rows.
+        AreItemsRows (all_of pairs.now.left.now) (all_of pairs.now.right.now) rows.items) }
 {
     let mut rows = Vec::new(crew.alloc);
     let mut supply = None;
@@ -66,8 +68,8 @@ fn rows_of_parts<R: Threads + Sync, G: Gate>(
     Ok(rows)
 }
 
-/// The rows of some left items, against right items that are divided. Where left items are many, each worker finds those
-/// of a piece of them: so items of one class are shared out too.
+/// The rows of some left items, against right items that are divided. Where left items are many, each worker takes a
+/// piece of them: so items of one class are shared out too.
 fn rows_of_lefts<R: Threads + Sync, G: Gate>(
     crew: &Crew<'_, R, G>,
     left: &[Item],
@@ -77,14 +79,11 @@ fn rows_of_lefts<R: Threads + Sync, G: Gate>(
     requires ids { HasDistinctIds left.now }
     ensures { IfOk result (λ rows. AreItemsRows left.now (all_of rights.now) rows.items) }
 {
-    let Crew {
-        rt,
-        alloc,
-        workers,
-        gate,
-        ..
-    } = *crew;
-    let shares = Shares::of(alloc, left.len(), workers, &|i: usize| i)?;
+    let (rt, alloc, gate) = (crew.rt, crew.alloc, crew.gate);
+    let shares = Shares::of(alloc, left.len(), crew.workers, &|i: usize| i)?;
+    if shares.len() == 1 {
+        return rows_of_piece(crew, left, rights);
+    }
     let lists = shared_out(
         rt,
         alloc,

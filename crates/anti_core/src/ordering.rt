@@ -1,5 +1,4 @@
-//! The rows of an anti-join put in order: each of many workers gathers those of some left rows, from all lists, and sorts
-//! them.
+//! The rows of an anti-join put in order: each worker gathers those of some left rows, from all lists, and sorts them.
 
 ghost use Rattle.std.specs.Prelude.{◌≡◌, ◌≢◌, ◌++◌, AllPairs, Contains, IfOk, OnOk, filter};
 ghost use Rattle.std.specs.Ordering.{nat_cmp};
@@ -27,13 +26,8 @@ pub(crate) fn ordered<R: Threads + Sync, G>(
     requires { AllPairs (λ a b. a ≢ b) (all_in lists.items) }
     ensures { IfOk result (λ rows. IsListOf AntiRowBefore (Contains (all_in lists.items)) rows) }
 {
-    let Crew {
-        rt,
-        alloc,
-        workers,
-        ..
-    } = *crew;
-    let shares = Shares::of(alloc, left.len(), workers, &|i: usize| left[i].id)?;
+    let (rt, alloc) = (crew.rt, crew.alloc);
+    let shares = Shares::of(alloc, left.len(), crew.workers, &|i: usize| left[i].id)?;
     if shares.len() == 1 {
         let rows = in_one_list(alloc, lists)?;
         return in_order(alloc, rows);
@@ -67,7 +61,8 @@ fn rows_by_id<R: Threads + Sync>(
         shares,
         &|ids: Range<u64>, _workers: u32| -> Result<AntiRows, NoMemory>
             requires { AllPairs (λ a b. a ≢ b) (all_in lists.now) }
-            ensures { IfOk result (λ rows. IsListOf AntiRowBefore (IsRowOf (all_in lists.entry.now) ids) rows) }
+            ensures { IfOk result (λ rows.
+                IsListOf AntiRowBefore (IsRowOf (all_in lists.entry.now) ids) rows) }
         { sorted_rows(alloc, lists, ids, room) },
     )?;
     AntiRows::of_all(alloc, sorted)
@@ -94,7 +89,8 @@ fn rows_of_ids(
     ids: Range<u64>,
     room: usize,
 ) -> Result<Vec<AntiRow>, NoMemory>
-    ensures { IfOk result (λ rows. rows.items ≡ filter (λ row. has nat_cmp ids row.id) (all_in lists.now)) }
+    ensures { IfOk result (λ rows.
+        rows.items ≡ filter (λ row. has nat_cmp ids row.id) (all_in lists.now)) }
 {
     let mut rows = Vec::with_capacity(alloc, room)?;
     for list in lists {
@@ -109,7 +105,8 @@ fn add_rows_of_ids(
     ids: Range<u64>,
     rows: &mut Vec<AntiRow>,
 ) -> Result<(), NoMemory>
-    ensures { OnOk result (rows.new.items ≡ rows.old.items ++ filter (λ row. has nat_cmp ids row.id) list.now) }
+    ensures { OnOk result
+        (rows.new.items ≡ rows.old.items ++ filter (λ row. has nat_cmp ids row.id) list.now) }
 {
     for row in list {
         if ids.has(&row.id) {

@@ -68,12 +68,14 @@ pub(crate) fn gaps_of_part<R: Threads + Sync, G: Gate>(
     supply: &mut Option<Supply>,
     number: u32,
 ) -> Result<Gaps, NoMemory>
-    requires supply { ForSome supply.old (λ s. AreGapsFrom pairs.now.left.now pairs.now.right.now s.first s.values) }
+    requires supply { ForSome supply.old
+        (λ s. AreGapsFrom pairs.now.left.now pairs.now.right.now s.first s.values) }
     requires part { number < length pairs.now.left.now }
     requires tell { IdsTell (part_at pairs.now.left.now number) }
-    ensures gaps { IfOk result (ListsGaps (part_at pairs.now.left.now number) (all_of pairs.now.right.now)) }
-    ensures supply { OnOk result
-        (ForSome supply.new (λ s. AreGapsFrom pairs.now.left.now pairs.now.right.now s.first s.values)) }
+    ensures gaps { IfOk result
+        (ListsGaps (part_at pairs.now.left.now number) (all_of pairs.now.right.now)) }
+    ensures supply { OnOk result (ForSome supply.new
+        (λ s. AreGapsFrom pairs.now.left.now pairs.now.right.now s.first s.values)) }
 {
     let part = pairs.left.part(number);
     let rights = pairs.right.parts();
@@ -102,14 +104,15 @@ pub(crate) fn add_rows_of_pair<R: Threads + Sync, G: Gate>(
     number: u32,
     rows: &mut Vec<AntiRow>,
 ) -> Result<(), NoMemory>
-    requires supply { ForSome supply.old (λ s. AreGapsFrom pairs.now.left.now pairs.now.right.now s.first s.values) }
+    requires supply { ForSome supply.old
+        (λ s. AreGapsFrom pairs.now.left.now pairs.now.right.now s.first s.values) }
     requires part { number < length pairs.now.left.now }
     requires one { length pairs.now.right.now ≡ 1 }
     ensures rows { OnOk result ((gaps : List Gap)
         × ListsGaps (part_at pairs.now.left.now number) (all_of pairs.now.right.now) gaps
         × (rows.new.items ≡ rows.old.items ++ map row_of_gap gaps)) }
-    ensures supply { OnOk result
-        (ForSome supply.new (λ s. AreGapsFrom pairs.now.left.now pairs.now.right.now s.first s.values)) }
+    ensures supply { OnOk result (ForSome supply.new
+        (λ s. AreGapsFrom pairs.now.left.now pairs.now.right.now s.first s.values)) }
 {
     let at = number as u64;
     let ready = supply_at(crew, pairs, supply.take(), at)?;

@@ -36,12 +36,7 @@ pub(crate) fn items_of_sides<R: Threads + Sync, G>(
     ensures union { IfOk result (λ both.
         IsUnion (items_in_range range right.now.rows.now right.now.classes.now) both.1.items) }
 {
-    let Crew {
-        rt,
-        alloc,
-        workers,
-        ..
-    } = *crew;
+    let (rt, alloc, workers) = (crew.rt, crew.alloc, crew.workers);
     if workers < 2 || left.rows.len().min(right.rows.len()) < ROWS_FOR_THREAD {
         let lefts = left_items(alloc, left.rows, left.classes, range)?;
         let united = united_rows(rt, alloc, right, range, workers)?;
@@ -61,7 +56,8 @@ pub(crate) fn items_of_sides<R: Threads + Sync, G>(
         || -> Result<Vec<Item>, NoMemory>
             requires { length left_rows.now ≤ length left_classes.now }
             ensures { IfOk result (λ items.
-                IsPermutation (items_in_range range left_rows.entry.now left_classes.entry.now) items.items
+                IsPermutation (items_in_range range left_rows.entry.now left_classes.entry.now)
+                items.items
                 × ClassesRise items.items) }
         { left_items(alloc, left_rows, left_classes, range) },
     );

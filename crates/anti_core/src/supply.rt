@@ -29,8 +29,10 @@ pub(crate) fn supply_at<R: Threads + Sync, G: Gate>(
     number: u64,
 ) -> Result<Supply, NoMemory>
     requires inside { number < length pairs.now.left.now * length pairs.now.right.now }
-    requires supply { ForSome supply (λ s. AreGapsFrom pairs.now.left.now pairs.now.right.now s.first s.values) }
-    ensures values { IfOk result (λ s. AreGapsFrom pairs.now.left.now pairs.now.right.now s.first s.values) }
+    requires supply { ForSome supply
+        (λ s. AreGapsFrom pairs.now.left.now pairs.now.right.now s.first s.values) }
+    ensures values { IfOk result
+        (λ s. AreGapsFrom pairs.now.left.now pairs.now.right.now s.first s.values) }
     ensures there { IfOk result (λ s. (s.first ≤ number) × (number < s.first + length s.values)) }
 {
     if let Some(supply) = supply {
@@ -48,7 +50,8 @@ fn run_from<R: Threads + Sync, G: Gate>(
     first: u64,
 ) -> Result<Supply, NoMemory>
     requires inside { first < length pairs.now.left.now * length pairs.now.right.now }
-    ensures values { IfOk result (λ s. AreGapsFrom pairs.now.left.now pairs.now.right.now s.first s.values) }
+    ensures values { IfOk result
+        (λ s. AreGapsFrom pairs.now.left.now pairs.now.right.now s.first s.values) }
     ensures there { IfOk result (λ s. (s.first ≤ first) × (first < s.first + length s.values)) }
 {
     // What is known of each division.

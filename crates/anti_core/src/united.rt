@@ -42,7 +42,8 @@ pub(crate) fn united_rows<R: Threads + Sync>(
         &|places: Range<usize>, _workers: u32| -> Result<Vec<Item>, NoMemory>
             requires { length rows.now ≤ length classes.now }
             ensures { IfOk result (λ united. IsUnion
-                (items_in_range range (piece places rows.entry.now) (piece places classes.entry.now)) united.items) }
+                (items_in_range range (piece places rows.entry.now) (piece places classes.entry.now))
+                united.items) }
         { united_piece(alloc, piece(places, rows), piece(places, classes), range) },
     )?;
     united_again(alloc, unions)
@@ -56,7 +57,8 @@ fn united_piece(
     range: Range<u64>,
 ) -> Result<Vec<Item>, NoMemory>
     requires { length rows.now ≤ length classes.now }
-    ensures { IfOk result (λ united. IsUnion (items_in_range range rows.now classes.now) united.items) }
+    ensures { IfOk result (λ united.
+        IsUnion (items_in_range range rows.now classes.now) united.items) }
 {
     let items = items_in_range(alloc, rows, classes, range)?;
     Ok(united_items(items))

@@ -108,10 +108,7 @@ impl<T: Drop> ChunkedList<T> {
     /// # Errors
     ///
     /// `AllocError` where a growth is refused; the lists are dropped then.
-    pub fn of_all(
-        alloc: Global,
-        lists: Vec<ChunkedList<T>>,
-    ) -> Result<ChunkedList<T>, AllocError>
+    pub fn of_all(alloc: Global, lists: Vec<ChunkedList<T>>) -> Result<ChunkedList<T>, AllocError>
         ensures { IfOk result (λ list. list ≡ flat_map (λ items. items) lists.items) }
     {
         let mut all = ChunkedList::of(alloc, Vec::new(alloc))?;
