@@ -1,7 +1,6 @@
 -- Items that are cut one by one.
 use Rattle.std.proofs.Common.{◌≡◌, Bool, true, false, cond, List, [], ◌∷◌, ◌++◌, inl, inr, refl, sym, ap, ◌∙◌, arith, append-nil, length-append}
-use Rattle.std.specs.Prelude.{ℤ, ◌≤ℤ◌, ◌<ℤ◌, Contains}
-use Rattle.std.proofs.lemmas.Int.{ints}
+use Rattle.std.specs.Prelude.{ℕ, ℤ, Contains}
 use Rattle.std.proofs.lemmas.List.{map-append}
 use Rattle.std.proofs.lemmas.List.Elements.{filter-append, Contains-append_cases, Contains-append_left, Contains-append_right}
 use Rattle.period_core.specs.Period.{Holds, holds_at}
@@ -10,7 +9,8 @@ use Rattle.dip_core.proofs.CrowdLemmas.{Holds-from_test, test-from_holds}
 use Rattle.list_core.proofs.RisingLemmas.{Contains-head, Contains-cons_cases, Contains-none}
 use Rattle.merge_core.specs.Tallies.{amounts, holding}
 use Rattle.round_core.specs.ClassLists.{HasItem}
-use Rattle.round_core.specs.Spans.{AreBefore, AreFrom, IsBegun, IsEnded}
+use Rattle.share_core.specs.declared.range.Range.{Range}
+use Rattle.round_core.specs.Spans.{AreWithin, IsWithin, Misses}
 
 -- ---- one item at an instant
 
@@ -51,7 +51,7 @@ amounts-append xs ys t =
 
 -- ---- classes
 
-has_left : (xs : List Item) (x : Item) (class : _) → HasItem xs class → HasItem (xs ++ x ∷ []) class
+has_left : (xs : List Item) (x : Item) (class : ℕ) → HasItem xs class → HasItem (xs ++ x ∷ []) class
 has_left xs x class h = record {
   item = h.item;
   item_in = Contains-append_left xs (x ∷ []) h.item h.item_in;
@@ -73,88 +73,45 @@ has_more xs others x cut e has y h = elim (Contains-append_cases others (cut ∷
   ]
 ]
 
--- ---- before an instant
+-- ---- in a span
 
-pub before_none : (at : ℤ) → AreBefore at [] []
-before_none at = record {
+-- of no items
+pub within_none : (span : Range ℤ) → AreWithin span [] []
+within_none span = record {
   same = λ t h. refl;
   none = λ t h. refl;
   few = omega arith;
   own = λ x h. absurd (Contains-none x h);
 }
 
--- an item that starts before it
-pub before_more : (at : ℤ) (xs early : List Item) (x cut : Item) → IsEnded at x cut → AreBefore at xs early
-    → AreBefore at (xs ++ x ∷ []) (early ++ cut ∷ [])
-before_more at xs early x cut i b = record {
-  same = λ t h. amounts-append early (cut ∷ []) t
-      ∙ ap (λ l. l ++ amounts (holding (cut ∷ []) t)) (b.same t h)
+-- one more, which holds something in the span
+pub within_more : (span : Range ℤ) (xs held : List Item) (x cut : Item) → IsWithin span x cut → AreWithin span xs held
+    → AreWithin span (xs ++ x ∷ []) (held ++ cut ∷ [])
+within_more span xs held x cut i w = record {
+  same = λ t h. amounts-append held (cut ∷ []) t
+      ∙ ap (λ l. l ++ amounts (holding (cut ∷ []) t)) (w.same t h)
       ∙ ap (λ l. amounts (holding xs t) ++ l)
       (lone_same x cut t i.amount (λ k. ((i.holds t).0 k).0) (λ k. (i.holds t).1 (k, h)))
       ∙ sym (amounts-append xs (x ∷ []) t);
-  none = λ t h. holding-append early (cut ∷ []) t
-      ∙ ap (λ l. l ++ holding (cut ∷ []) t) (b.none t h)
-      ∙ lone_none cut t (λ k. (let lo : t <ℤ at = ((i.holds t).0 k).1 in omega (arith, ints)));
-  few = (let few = b.few in
-      let m = length-append early (cut ∷ []) in
+  none = λ t off. holding-append held (cut ∷ []) t
+      ∙ ap (λ l. l ++ holding (cut ∷ []) t) (w.none t off)
+      ∙ lone_none cut t (λ k. off ((i.holds t).0 k).1);
+  few = (let few = w.few in
+      let m = length-append held (cut ∷ []) in
       let n = length-append xs (x ∷ []) in
       omega (arith, few, m, n));
-  own = has_more xs early x cut i.class_is b.own;
+  own = has_more xs held x cut i.class_is w.own;
 }
 
--- an item that starts at it or behind
-pub before_left : (at : ℤ) (xs early : List Item) (x : Item) → at ≤ℤ x.period.from → AreBefore at xs early
-    → AreBefore at (xs ++ x ∷ []) early
-before_left at xs early x off b = record {
-  same = λ t h. b.same t h
+-- one more, which holds nothing in it
+pub within_off : (span : Range ℤ) (xs held : List Item) (x : Item) → Misses span x.period → AreWithin span xs held
+    → AreWithin span (xs ++ x ∷ []) held
+within_off span xs held x off w = record {
+  same = λ t h. w.same t h
       ∙ sym (append-nil (amounts (holding xs t)))
-      ∙ ap (λ l. amounts (holding xs t) ++ l)
-      (sym (ap amounts (lone_none x t (λ k. (let lo : x.period.from ≤ℤ t = k.0 in omega (arith, ints))))))
+      ∙ ap (λ l. amounts (holding xs t) ++ l) (sym (ap amounts (lone_none x t (λ k. off t k h))))
       ∙ sym (amounts-append xs (x ∷ []) t);
-  none = b.none;
-  few = (let few = b.few in let n = length-append xs (x ∷ []) in omega (arith, few, n));
-  own = λ y h. has_left xs x y.class (b.own y h);
-}
-
--- ---- from an instant on
-
-pub from_none : (at : ℤ) → AreFrom at [] []
-from_none at = record {
-  same = λ t h. refl;
-  none = λ t h. refl;
-  few = omega arith;
-  own = λ x h. absurd (Contains-none x h);
-}
-
--- an item that ends behind it
-pub from_more : (at : ℤ) (xs late : List Item) (x cut : Item) → IsBegun at x cut → AreFrom at xs late
-    → AreFrom at (xs ++ x ∷ []) (late ++ cut ∷ [])
-from_more at xs late x cut i f = record {
-  same = λ t h. amounts-append late (cut ∷ []) t
-      ∙ ap (λ l. l ++ amounts (holding (cut ∷ []) t)) (f.same t h)
-      ∙ ap (λ l. amounts (holding xs t) ++ l)
-      (lone_same x cut t i.amount (λ k. ((i.holds t).0 k).0) (λ k. (i.holds t).1 (k, h)))
-      ∙ sym (amounts-append xs (x ∷ []) t);
-  none = λ t h. holding-append late (cut ∷ []) t
-      ∙ ap (λ l. l ++ holding (cut ∷ []) t) (f.none t h)
-      ∙ lone_none cut t (λ k. (let lo : at ≤ℤ t = ((i.holds t).0 k).1 in omega (arith, ints)));
-  few = (let few = f.few in
-      let m = length-append late (cut ∷ []) in
-      let n = length-append xs (x ∷ []) in
-      omega (arith, few, m, n));
-  own = has_more xs late x cut i.class_is f.own;
-}
-
--- an item that ends at it or before
-pub from_left : (at : ℤ) (xs late : List Item) (x : Item) → x.period.to ≤ℤ at → AreFrom at xs late
-    → AreFrom at (xs ++ x ∷ []) late
-from_left at xs late x off f = record {
-  same = λ t h. f.same t h
-      ∙ sym (append-nil (amounts (holding xs t)))
-      ∙ ap (λ l. amounts (holding xs t) ++ l)
-      (sym (ap amounts (lone_none x t (λ k. (let hi : t <ℤ x.period.to = k.1 in omega (arith, ints))))))
-      ∙ sym (amounts-append xs (x ∷ []) t);
-  none = f.none;
-  few = (let few = f.few in let n = length-append xs (x ∷ []) in omega (arith, few, n));
-  own = λ y h. has_left xs x y.class (f.own y h);
+  none = w.none;
+  few = (let few = w.few in let n = length-append xs (x ∷ []) in omega (arith, few, n));
+  own = λ y h. has_left xs x y.class (w.own y h);
 }

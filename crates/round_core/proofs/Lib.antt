@@ -5,10 +5,10 @@ pub mod SortLemmas
 pub mod RoundLemmas
 pub mod CutItems
 pub mod CutLemmas
-pub mod HalfLemmas
+pub mod ClassLemmas
 pub mod PermutedLemmas
 pub mod RunLemmas
-pub mod ShareLemmas
+pub mod StepListLemmas
 pub mod ClosingLemmas
 pub mod CollectLemmas
 pub mod PlateauExistence

@@ -1,33 +1,32 @@
 -- The plateaus of items of one class, from those of what they hold before an instant and of what they hold from it on.
-use Rattle.std.proofs.Common.{append-nil, ◌≡◌, ◌⊎◌, ℕ, ◌<◌, ◌≤◌, ◌+◌, cond, List, [], ◌∷◌, ◌++◌, Option, Some, None, get_or, length, length-append, inl, inr, refl, sym, subst, ap, ◌∙◌, arith}
+use Rattle.std.proofs.Common.{◌≡◌, ◌⊎◌, ℕ, ◌<◌, ◌≤◌, ◌+◌, cond, List, [], ◌∷◌, ◌++◌, Option, Some, None, get_or, length, length-append, inl, inr, refl, sym, subst, ap, ◌∙◌, arith}
 use Rattle.std.specs.Prelude.{ℤ, pos, ◌-ℤ◌, ◌≤ℤ◌, ◌<ℤ◌, All, AllPairs, Contains, MatchOption}
 use Rattle.std.proofs.Math.Seq.{get_or-append_seam}
 use Rattle.std.proofs.lemmas.Bool.{eq-eqb}
 use Rattle.std.proofs.lemmas.Int.{ints}
 use Rattle.std.proofs.lemmas.List.{length-map}
-use Rattle.std.proofs.lemmas.List.Elements.{Contains-get_or, All-append, All-head, All-tail, All-contains, Contains-append_cases, Contains-append_left, Contains-append_right}
+use Rattle.std.proofs.lemmas.List.Elements.{Contains-get_or, All-head, All-tail, All-contains, Contains-append_cases, Contains-append_left, Contains-append_right}
 use Rattle.period_core.specs.Period.{Holds}
 use Rattle.period_core.proofs.PeriodLemmas.{Period-same}
 use Rattle.dip_core.specs.declared.item.Item.{Item}
 use Rattle.list_core.specs.Wanted.{IsListOf}
 use Rattle.grid_core.specs.Bundles.{ClassesRise}
 use Rattle.list_core.proofs.RisingLemmas.{AllPairs-head, AllPairs-tail, Contains-head, Contains-cons, Contains-cons_cases, Contains-none}
-use Rattle.list_core.proofs.WantedLemmas.{AllPairs-before, IsListOf-append, IsListOf-same}
+use Rattle.list_core.proofs.WantedLemmas.{AllPairs-before, IsListOf-append}
 use Rattle.merge_core.specs.declared.tally.Tally.{Tally}
 use Rattle.merge_core.specs.Gaps.{IsMaximal}
 use Rattle.merge_core.specs.Tallies.{amounts, holding, IsTally, total}
 use Rattle.merge_core.proofs.MaximalAround.{maximal_around}
 use Rattle.merge_core.proofs.SharedLemmas.{by_order, first_held}
-use Rattle.merge_core.proofs.SweepLemmas.{IsMaximal-same}
 use Rattle.round_core.specs.declared.measure.Measure.{Measure}
 use Rattle.round_core.specs.declared.plateau.Plateau.{Plateau}
 use Rattle.round_core.specs.Plateaus.{of_class, HasValue, IsPlateau, PlateauBefore, ArePlateaus}
+use Rattle.share_core.specs.Ranges.{range}
 use Rattle.round_core.specs.ClassLists.{HasItem}
 use Rattle.round_core.specs.Closing.{Continues, IsJoined}
-use Rattle.round_core.specs.Spans.{AreApart, AreBefore, AreFrom, AreJoined, AreApartAt, AreOfOneClass, AreSpliced, HaveNoJoint, IsJoint}
+use Rattle.round_core.specs.Spans.{AreJoined, AreApartAt, AreWithin, AreOfOneClass, AreSpliced, HaveNoJoint, IsJoint}
 use Rattle.round_core.proofs.ClosingLemmas.{Plateau-same}
 use Rattle.round_core.proofs.CollectLemmas.{no_tally}
-use Rattle.round_core.proofs.CutItems.{holding-append}
 use Rattle.round_core.proofs.CutLemmas.{IsCutAt, early_ends, late_starts, early_whole, late_whole, both_whole, whole_early, whole_late, whole_front, whole_back}
 use Rattle.round_core.proofs.PlateauExistence.{bounds, holder, one_at, own_item, value_or_not}
 
@@ -144,22 +143,22 @@ module _ {X : Type 0} (R : X → X → Type 0) where
 -- ---- items that are cut
 
 module _ (measure : Measure) (class : ℕ) (at : ℤ) (items early late : List Item)
-    (own : All (λ (x : Item). x.class ≡ class) items) (b : AreBefore at items early)
-    (f : AreFrom at items late) (E L : List Plateau) (one : ArePlateaus measure early E)
+    (own : All (λ (x : Item). x.class ≡ class) items) (b : AreWithin (range None (Some at)) items early)
+    (f : AreWithin (range (Some at) None) items late) (E L : List Plateau) (one : ArePlateaus measure early E)
     (other : ArePlateaus measure late L) where
   -- the instants of a value are cut
   cut : (v : ℤ) → IsCutAt at (HasValue measure items v) (HasValue measure early v) (HasValue measure late v)
   cut v = record {
     early_in = λ t h. elim (by_order at t) [
-      | inl k ↦ absurd (no_tally early t h.tally (b.none t k) h.is)
-      | inr k ↦ (k, same_value measure early items v t (b.same t k) h)
+      | inl k ↦ absurd (no_tally early t h.tally (b.none t (λ h. (let less : t <ℤ at = h.1 in omega (arith, ints)))) h.is)
+      | inr k ↦ (k, same_value measure early items v t (b.same t (tt, k)) h)
     ];
-    early_of = λ t k h. same_value measure items early v t (sym (b.same t k)) h;
+    early_of = λ t k h. same_value measure items early v t (sym (b.same t (tt, k))) h;
     late_in = λ t h. elim (by_order at t) [
-      | inl k ↦ (k, same_value measure late items v t (f.same t k) h)
-      | inr k ↦ absurd (no_tally late t h.tally (f.none t k) h.is)
+      | inl k ↦ (k, same_value measure late items v t (f.same t (k, tt)) h)
+      | inr k ↦ absurd (no_tally late t h.tally (f.none t (λ h. (let upto : at ≤ℤ t = h.0 in omega (arith, ints)))) h.is)
     ];
-    late_of = λ t k h. same_value measure items late v t (sym (f.same t k)) h;
+    late_of = λ t k h. same_value measure items late v t (sym (f.same t (k, tt))) h;
   }
 
   -- the sets that one value has, in short
@@ -554,63 +553,6 @@ module _ (measure : Measure) (class : ℕ) (at : ℤ) (items early late : List I
     | inr apart ↦ subst (ArePlateaus measure items) (sym apart.rows_are)
         (are_apart (record { off = apart.off; rows_are = refl }))
   ]
-
--- ---- items of two sides of an instant
-
--- some of them
-has_in : (items : List Item) (x : Item) → Contains items x → HasItem items x.class
-has_in items x h = record { item = x; item_in = h; class_is = refl }
-
-module _ (early late : List Item) (apart : AreApart early late) where
-  before_all : AreBefore apart.at (early ++ late) early
-  before_all = record {
-    same = λ t h. ap amounts
-        (sym (holding-append early late t ∙ ap (λ l. holding early t ++ l) (apart.late_starts t h)
-        ∙ append-nil (holding early t)));
-    none = apart.early_ends;
-    few = (let n = length-append early late in omega (arith, n));
-    own = λ x h. has_in (early ++ late) x (Contains-append_left early late x h);
-  }
-
-  from_all : AreFrom apart.at (early ++ late) late
-  from_all = record {
-    same = λ t h. ap amounts
-        (sym (holding-append early late t ∙ ap (λ l. l ++ holding late t) (apart.early_ends t h)));
-    none = apart.late_starts;
-    few = (let n = length-append early late in omega (arith, n));
-    own = λ x h. has_in (early ++ late) x (Contains-append_right early late x h);
-  }
-
-  -- the plateaus of both
-  pub plateaus_of_both : (measure : Measure) (E L rows : List Plateau) → ArePlateaus measure early E
-      → ArePlateaus measure late L → AreSpliced E L rows → ArePlateaus measure (early ++ late) rows
-  plateaus_of_both measure E L rows one other spliced =
-      ArePlateaus-spliced measure apart.class apart.at (early ++ late) early late
-      (All-append (λ (x : Item). x.class ≡ apart.class) early late apart.early_own apart.late_own)
-      before_all from_all E L one other rows spliced
-
--- ---- items that hold alike
-
-module _ (measure : Measure) (class : ℕ) (xs ys : List Item) (own : All (λ (x : Item). x.class ≡ class) xs)
-    (other : All (λ (x : Item). x.class ≡ class) ys)
-    (same : (t : ℤ) → amounts (holding xs t) ≡ amounts (holding ys t)) where
-  plateau_alike : (p : Plateau) → IsPlateau measure xs p → IsPlateau measure ys p
-  plateau_alike p i =
-      plateau_of measure class ys other p (class_is measure class xs own p i)
-      (IsMaximal-same (HasValue measure xs p.value) (HasValue measure ys p.value) p.period
-      (λ t h. same_value measure xs ys p.value t (same t) h)
-      (λ t h. same_value measure ys xs p.value t (sym (same t)) h)
-      (maximal_of measure class xs own p i))
-
--- items of one class that have one amount at each instant have the same plateaus
-pub ArePlateaus-alike : (measure : Measure) (class : ℕ) (xs ys : List Item) (plateaus : List Plateau)
-    → All (λ (x : Item). x.class ≡ class) xs → All (λ (x : Item). x.class ≡ class) ys
-    → ((t : ℤ) → amounts (holding xs t) ≡ amounts (holding ys t)) → ArePlateaus measure xs plateaus
-    → ArePlateaus measure ys plateaus
-ArePlateaus-alike measure class xs ys plateaus own other same are =
-    IsListOf-same PlateauBefore (IsPlateau measure xs) (IsPlateau measure ys) plateaus
-    (plateau_alike measure class xs ys own other same)
-    (plateau_alike measure class ys xs other own (λ t. sym (same t))) are
 
 -- ---- what joins two lists
 

@@ -1,5 +1,7 @@
 -- Lists of steps of classes, and what those of one class come to together.
-use Rattle.std.specs.Prelude.{◌≡◌, ◌≢◌, ◌==◌, ◌+◌, ◌≤◌, ◌++◌, ℕ, if◌then◌else◌, Option, None, List, [], ◌∷◌, length, ℤ, Contains}
+use Rattle.std.specs.Prelude.{◌≡◌, ◌≢◌, ◌==◌, ◌+◌, ◌≤◌, ◌++◌, ℕ, if◌then◌else◌, Option, None, List, [], ◌∷◌, length, ℤ, Contains, flat_map}
+use Rattle.std.specs.Global.{Global}
+use Rattle.std.specs.declared.collections.VecDeque.{VecDeque}
 use Rattle.dip_core.specs.declared.item.Item.{Item}
 use Rattle.merge_core.specs.declared.tally.Tally.{Tally}
 use Rattle.merge_core.specs.Tallies.{IsTallyAt, both}
@@ -75,3 +77,13 @@ pub record AddsSteps (class : ℕ) (items : List Item) (old new : List ClassStep
   pub tallies : (t : ℤ) → IsTallyAt items t (class_at class added t)
   pub weight : weight_of added ≡ length items
   pub few : length added ≤ length items
+
+-- lists of the classes of some items, by rising class, which stand for all of them
+pub record AreStepLists (items : List Item) (lists : List ClassSteps) : Type 0 where
+  pub stand : StandForAll items lists
+  pub rise : RisesFrom 0 lists
+  pub classes : AreOfItems items lists
+
+-- the lists of all shares, one behind another
+abbrev pub lists_of : List (VecDeque ClassSteps Global) → List ClassSteps
+lists_of shares = flat_map (λ (share : VecDeque ClassSteps Global). share.items) shares

@@ -1,7 +1,9 @@
--- Items cut at an instant, and the plateaus on both sides of it put together.
-use Rattle.std.specs.Prelude.{◌≡◌, ◌⊎◌, ◌↔◌, ◌≤◌, ℕ, List, [], ◌∷◌, ◌++◌, length, ℤ, ◌<ℤ◌, ◌≤ℤ◌, All, Contains}
+-- What items hold in a span of instants, and the plateaus on both sides of an instant put together.
+use Rattle.std.specs.Prelude.{◌≡◌, ◌⊎◌, ◌↔◌, ◌≤◌, ℕ, List, [], ◌∷◌, ◌++◌, length, ℤ, ◌<ℤ◌, ◌≤ℤ◌, All, Contains, IfSome}
 use Rattle.period_core.specs.Period.{Holds}
+use Rattle.period_core.specs.declared.period.Period.{Period}
 use Rattle.dip_core.specs.declared.item.Item.{Item}
+use Rattle.share_core.specs.declared.range.Range.{Range}
 use Rattle.merge_core.specs.Tallies.{amounts, holding}
 use Rattle.round_core.specs.ClassLists.{HasItem}
 use Rattle.round_core.specs.Closing.{Continues, IsJoined}
@@ -9,33 +11,39 @@ use Rattle.round_core.specs.Plateaus.{ArePlateaus}
 use Rattle.round_core.specs.declared.measure.Measure.{Measure}
 use Rattle.round_core.specs.declared.plateau.Plateau.{Plateau}
 
--- what an item holds before an instant, which it starts before
-pub record IsEnded (at : ℤ) (x cut : Item) : Type 0 where
+-- the span has begun at the instant
+abbrev pub IsFrom : Range ℤ → ℤ → Type 0
+IsFrom span t = IfSome span.from (λ from. from ≤ℤ t)
+
+-- the span is not over at the instant
+abbrev pub IsBefore : Range ℤ → ℤ → Type 0
+IsBefore span t = IfSome span.before (λ end. t <ℤ end)
+
+-- the span has the instant
+abbrev pub InSpan : Range ℤ → ℤ → Type 0
+InSpan span t = IsFrom span t × IsBefore span t
+
+-- the period holds no instant of the span
+abbrev pub Misses : Range ℤ → Period → Type 0
+Misses span period = (t : ℤ) → Holds period t → InSpan span t → ⊥
+
+-- the instants of a period that a span has
+abbrev pub IsPartWithin : Range ℤ → Period → Period → Type 0
+IsPartWithin span period part = (t : ℤ) → Holds part t ↔ (Holds period t × InSpan span t)
+
+-- what an item holds in a span
+pub record IsWithin (span : Range ℤ) (x cut : Item) : Type 0 where
   pub amount : cut.amount ≡ x.amount
   pub class_is : cut.class ≡ x.class
-  pub holds : (t : ℤ) → Holds cut.period t ↔ (Holds x.period t × (t <ℤ at))
+  pub holds : IsPartWithin span x.period cut.period
 
--- what an item holds from an instant on, which it ends behind
-pub record IsBegun (at : ℤ) (x cut : Item) : Type 0 where
-  pub amount : cut.amount ≡ x.amount
-  pub class_is : cut.class ≡ x.class
-  pub holds : (t : ℤ) → Holds cut.period t ↔ (Holds x.period t × (at ≤ℤ t))
-
--- at each instant before that one the items have the amounts that the others have, and from it on none holds; they are
--- no more than these, and of their classes
-pub record AreBefore (at : ℤ) (items early : List Item) : Type 0 where
-  pub same : (t : ℤ) → t <ℤ at → amounts (holding early t) ≡ amounts (holding items t)
-  pub none : (t : ℤ) → at ≤ℤ t → holding early t ≡ []
-  pub few : length early ≤ length items
-  pub own : (x : Item) → Contains early x → HasItem items x.class
-
--- at each instant from that one on the items have the amounts that the others have, and before it none holds; they are
--- no more than these, and of their classes
-pub record AreFrom (at : ℤ) (items late : List Item) : Type 0 where
-  pub same : (t : ℤ) → at ≤ℤ t → amounts (holding late t) ≡ amounts (holding items t)
-  pub none : (t : ℤ) → t <ℤ at → holding late t ≡ []
-  pub few : length late ≤ length items
-  pub own : (x : Item) → Contains late x → HasItem items x.class
+-- what items hold in a span: at each instant of it there are the amounts of the others, and at no other instant any; they
+-- are no more than these, and of their classes
+pub record AreWithin (span : Range ℤ) (items cut : List Item) : Type 0 where
+  pub same : (t : ℤ) → InSpan span t → amounts (holding cut t) ≡ amounts (holding items t)
+  pub none : (t : ℤ) → (InSpan span t → ⊥) → holding cut t ≡ []
+  pub few : length cut ≤ length items
+  pub own : (x : Item) → Contains cut x → HasItem items x.class
 
 -- the last plateau of a list, and the first of another, which continues it: both as one, and what stands in front of
 -- them and behind
@@ -74,23 +82,8 @@ pub record AreOfOneClass (items : List Item) : Type 0 where
   pub class : ℕ
   pub own : All (λ (x : Item). x.class ≡ class) items
 
--- the plateaus of what items hold before an instant
-pub record ArePlateausBefore (at : ℤ) (measure : Measure) (items : List Item) (plateaus : List Plateau) : Type 0 where
-  pub early : List Item
-  pub cut : AreBefore at items early
-  pub all : ArePlateaus measure early plateaus
-
--- the plateaus of what items hold from an instant on
-pub record ArePlateausFrom (at : ℤ) (measure : Measure) (items : List Item) (plateaus : List Plateau) : Type 0 where
-  pub late : List Item
-  pub cut : AreFrom at items late
-  pub all : ArePlateaus measure late plateaus
-
--- items of one class, of which some end by an instant and the others start from it on
-pub record AreApart (early late : List Item) : Type 0 where
-  pub class : ℕ
-  pub at : ℤ
-  pub early_own : All (λ (x : Item). x.class ≡ class) early
-  pub late_own : All (λ (x : Item). x.class ≡ class) late
-  pub early_ends : (t : ℤ) → at ≤ℤ t → holding early t ≡ []
-  pub late_starts : (t : ℤ) → t <ℤ at → holding late t ≡ []
+-- the plateaus of what items hold in a span
+pub record ArePlateausWithin (span : Range ℤ) (measure : Measure) (items : List Item) (plateaus : List Plateau) : Type 0 where
+  pub cut : List Item
+  pub within : AreWithin span items cut
+  pub all : ArePlateaus measure cut plateaus

@@ -12,14 +12,14 @@ mod plateau;
 mod plateaus;
 mod round;
 mod rounds;
-mod runs;
 mod spans;
+mod splicing;
+mod step_lists;
 mod tally_round;
+mod within;
 
 pub use laws::classes_have_one_list;
 pub use measure::Measure;
-pub use parting::parting_instant;
 pub use plateau::{Plateau, Plateaus};
 pub use plateaus::plateaus_of;
-pub use spans::spliced;
 pub use tally_round::TallyRound;

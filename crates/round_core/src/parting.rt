@@ -14,7 +14,8 @@ fn starts_of(alloc: Global, periods: &[Period]) -> Result<Vec<Point>, NoMemory>
 
 /// The middle one of the periods' starts.
 fn middle_start(alloc: Global, periods: &[Period]) -> Result<Option<Point>, NoMemory>
-    ensures { IfOk result (λ middle. IfSome middle (λ at. Contains (map (λ p. p.from) periods.now) at)) }
+    ensures { IfOk result (λ middle.
+        IfSome middle (λ at. Contains (map (λ p. p.from) periods.now) at)) }
 {
     let mut starts = starts_of(alloc, periods)?;
     starts.sort_unstable();
@@ -33,12 +34,9 @@ fn parts_well(periods: &[Period], at: Point) -> bool {
 
 /// The middle one of the periods' starts, at which what they hold is cut in two. None where there are no periods, and where
 /// one side of the cut would have more than about three quarters of them.
-///
-/// # Errors
-///
-/// `NoMemory` where a growth is refused.
-pub fn parting_instant(alloc: Global, periods: &[Period]) -> Result<Option<Point>, NoMemory>
-    ensures { IfOk result (λ parting. IfSome parting (λ at. Contains (map (λ p. p.from) periods.now) at)) }
+pub(crate) fn parting_instant(alloc: Global, periods: &[Period]) -> Result<Option<Point>, NoMemory>
+    ensures { IfOk result (λ parting.
+        IfSome parting (λ at. Contains (map (λ p. p.from) periods.now) at)) }
 {
     match middle_start(alloc, periods)? {
         Some(at) if parts_well(periods, at) => Ok(Some(at)),

@@ -2,7 +2,6 @@
 
 ghost use Rattle.std.specs.Prelude.{◌≡◌, ◌⊎◌, ◌%◌, ◌<◌, ◌≤◌, length, IfOk, IsTrue};
 ghost use Rattle.dip_core.specs.Item.{item_limit};
-ghost use Rattle.work_core.specs.Limits.{worker_limit};
 ghost use Rattle.round_core.specs.ClassLists.{weight_of, HaveNoNeighbours, IsRound};
 ghost use Rattle.round_core.specs.Rounds.{AreBoths};
 ghost use Rattle.round_core.specs.Together.{all_weight};
@@ -12,10 +11,9 @@ use crate::round::{Round, fill, sort_out};
 use crate::tally_round::TallyRound;
 use merge_core::Steps;
 use period_core::NoMemory;
-use std::alloc::Global;
 use std::collections::VecDeque;
 use std::thread::Threads;
-use work_core::{Gate, run_pairs};
+use work_core::{Crew, Gate, run_pairs};
 
 /// The lists after a round.
 #[derive(Drop)]
@@ -27,57 +25,47 @@ struct Rounded {
 
 /// Each two lists as one, by many workers. No thread is started where there are none.
 fn combine_twos<R: Threads + Sync, G: Gate>(
-    rt: &R,
-    alloc: Global,
+    crew: &Crew<'_, R, G>,
     twos: &[Steps],
-    workers: u32,
-    gate: &G,
 ) -> Result<Vec<Steps>, NoMemory>
-    requires workers { (0 < workers) × (workers ≤ worker_limit) }
     requires even { length twos.now % 2 ≡ 0 }
     requires few { length twos.now ≤ item_limit }
     requires light { all_weight twos.now ≤ item_limit }
     ensures { IfOk result (λ made. AreBoths twos.now made.items) }
 {
     if twos.is_empty() {
-        return Ok(Vec::new(alloc));
+        return Ok(Vec::new(crew.alloc));
     }
     let round = TallyRound::new(twos);
-    let outs = run_pairs(rt, alloc, &round, workers, gate)?;
-    outs.into_vec(alloc)
+    let outs = run_pairs(crew.rt, crew.alloc, &round, crew.workers, crew.gate)?;
+    outs.into_vec(crew.alloc)
 }
 
 /// One round.
 fn round<R: Threads + Sync, G: Gate>(
-    rt: &R,
-    alloc: Global,
+    crew: &Crew<'_, R, G>,
     lists: VecDeque<ClassSteps>,
-    workers: u32,
-    gate: &G,
 ) -> Result<Rounded, NoMemory>
-    requires workers { (0 < workers) × (workers ≤ worker_limit) }
     requires few { length lists.items ≤ item_limit }
     requires light { weight_of lists.items ≤ item_limit }
     ensures round { IfOk result (λ rounded. IsRound lists.items rounded.lists.items) }
-    ensures done { IfOk result (λ rounded. IsTrue rounded.done → HaveNoNeighbours rounded.lists.items) }
-    ensures fewer { IfOk result (λ rounded. IsTrue rounded.done ⊎ (length rounded.lists.items < length lists.items)) }
+    ensures done { IfOk result (λ rounded.
+        IsTrue rounded.done → HaveNoNeighbours rounded.lists.items) }
+    ensures fewer { IfOk result (λ rounded.
+        IsTrue rounded.done ⊎ (length rounded.lists.items < length lists.items)) }
 {
-    let Round { slots, twos } = sort_out(alloc, lists)?;
+    let Round { slots, twos } = sort_out(crew.alloc, lists)?;
     let done = twos.is_empty();
-    let made = combine_twos(rt, alloc, &twos, workers, gate)?;
-    let lists = fill(alloc, slots, made)?;
+    let made = combine_twos(crew, &twos)?;
+    let lists = fill(crew.alloc, slots, made)?;
     Ok(Rounded { lists, done })
 }
 
 /// One list for each class, which gives what all lists of the class come to together.
 pub(crate) fn combine_all<R: Threads + Sync, G: Gate>(
-    rt: &R,
-    alloc: Global,
+    crew: &Crew<'_, R, G>,
     lists: VecDeque<ClassSteps>,
-    workers: u32,
-    gate: &G,
 ) -> Result<VecDeque<ClassSteps>, NoMemory>
-    requires workers { (0 < workers) × (workers ≤ worker_limit) }
     requires few { length lists.items ≤ item_limit }
     requires light { weight_of lists.items ≤ item_limit }
     ensures round { IfOk result (λ all. IsRound lists.items all.items) }
@@ -86,7 +74,7 @@ pub(crate) fn combine_all<R: Threads + Sync, G: Gate>(
     let mut lists = lists;
     let mut done = false;
     'rounds: while !done {
-        let next = round(rt, alloc, lists, workers, gate)?;
+        let next = round(crew, lists)?;
         lists = next.lists;
         done = next.done;
     }

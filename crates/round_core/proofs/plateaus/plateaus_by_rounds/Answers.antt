@@ -2,7 +2,7 @@ use Rattle.std.proofs.Common.{subst, sym}
 use Rattle.std.proofs.lemmas.Result.{IfOk-weaker}
 use Rattle.round_core.specs.Plateaus.{ArePlateaus}
 use Rattle.round_core.proofs.CollectLemmas.{plateaus_after}
-use Rattle.round_core.proofs.HalfLemmas.{grouped-from_rise}
+use Rattle.round_core.proofs.ClassLemmas.{grouped-from_rise}
 use Rattle.round_core.proofs.plateaus.plateaus_by_rounds.Goals as goal
 
 pub returns : goal.returns

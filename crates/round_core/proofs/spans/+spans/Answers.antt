@@ -5,29 +5,21 @@ use Rattle.round_core.specs.Spans.{AreOfOneClass}
 use Rattle.round_core.proofs.SpanLemmas.{own_rise, owned}
 use Rattle.round_core.proofs.spans.+spans.Goals as goal
 
-pub plateaus_before-plateaus_of_spans-requires-clause-rise :
-    goal.plateaus_before-plateaus_of_spans-requires-clause-rise
-plateaus_before-plateaus_of_spans-requires-clause-rise g t c κs within =
+pub plateaus_within-plateaus_of_spans-requires-clause-rise :
+    goal.plateaus_within-plateaus_of_spans-requires-clause-rise
+plateaus_within-plateaus_of_spans-requires-clause-rise g t c κs within =
     let class = c.requires.class.class in
     subst ClassesRise (sym c.deref.ensures.value)
-    (own_rise class c.in_ok-early.early.items
-    (owned class c.args.items.now c.in_ok-early.early.items c.requires.class.own c.in_ok-early.ensures.own))
-
-pub plateaus_from-plateaus_of_spans-requires-clause-rise :
-    goal.plateaus_from-plateaus_of_spans-requires-clause-rise
-plateaus_from-plateaus_of_spans-requires-clause-rise g t c κs within =
-    let class = c.requires.class.class in
-    subst ClassesRise (sym c.deref.ensures.value)
-    (own_rise class c.in_ok-late.late.items
-    (owned class c.args.items.now c.in_ok-late.late.items c.requires.class.own c.in_ok-late.ensures.own))
+    (own_rise class c.in_ok-cut.cut.items
+    (owned class c.args.items.now c.in_ok-cut.cut.items c.requires.class.own c.in_ok-cut.ensures.own))
 
 pub plateaus_of_spans-returns-then-workers-lt2 : goal.plateaus_of_spans-returns-then-workers-lt2
 plateaus_of_spans-returns-then-workers-lt2 g t c =
     let within =
     subst (λ (o : Option ℤ). IfSome o (λ at. (0 < c.args.cuts) × AreOfOneClass c.args.items.now)) c.in-Some.is
     c.in_ok-at.ensures in
-    c.both_spliced.ensures c.args.measure c.in-Some.at c.args.items.now within.1 c.plateaus_before-early.ensures
-    c.plateaus_from-late.ensures
+    c.both_spliced.ensures c.args.measure c.in-Some.at c.args.items.now within.1 c.plateaus_within-early.ensures
+    c.plateaus_within-late.ensures
 
 pub plateaus_of_spans-returns : goal.plateaus_of_spans-returns
 plateaus_of_spans-returns g t c =

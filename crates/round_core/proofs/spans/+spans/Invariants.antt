@@ -4,11 +4,8 @@ use Rattle.round_core.proofs.spans.+spans.Given as goal
 abbrev pub decreases-plateaus_of_spans : goal.decreases-plateaus_of_spans
 decreases-plateaus_of_spans g l = 3 * l.cuts
 
-abbrev pub decreases-plateaus_before : goal.decreases-plateaus_before
-decreases-plateaus_before g l = 3 * l.cuts + 1
-
-abbrev pub decreases-plateaus_from : goal.decreases-plateaus_from
-decreases-plateaus_from g l = 3 * l.cuts + 1
+abbrev pub decreases-plateaus_within : goal.decreases-plateaus_within
+decreases-plateaus_within g l = 3 * l.cuts + 1
 
 abbrev pub decreases-plateaus_of_spans-join+arg2 : goal.decreases-plateaus_of_spans-join+arg2
 decreases-plateaus_of_spans-join+arg2 g l = 3 * l.cuts + 2

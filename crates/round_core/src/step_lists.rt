@@ -1,0 +1,144 @@
+//! The items of each class as lists of steps.
+
+ghost use Rattle.std.specs.Prelude.{◌≡◌, ◌<◌, ◌≤◌, length, take, All, AllPairs, IfOk, OnOk};
+ghost use Rattle.std.specs.Thread.{IsSync};
+ghost use Rattle.dip_core.specs.Item.{item_limit};
+ghost use Rattle.dip_core.specs.Division.{all_of};
+ghost use Rattle.share_core.specs.Pieces.{piece};
+ghost use Rattle.round_core.specs.ClassLists.{AddsSteps, AreStepLists, lists_of};
+
+use crate::class_steps::ClassSteps;
+use dip_core::{Division, Item, Part, create_dip};
+use merge_core::Steps;
+use period_core::NoMemory;
+use share_core::{Range, Shares, piece, shared_out};
+use std::alloc::Global;
+use std::collections::VecDeque;
+use std::thread::Threads;
+use work_core::Crew;
+
+/// Adds the steps of a part.
+fn push_part(
+    alloc: Global,
+    class: u64,
+    part: Part<'_>,
+    lists: &mut VecDeque<ClassSteps>,
+) -> Result<(), NoMemory>
+    requires { 0 < length part.items.now }
+    ensures { OnOk result (AddsSteps class part.entry.items.now lists.old.items lists.new.items) }
+{
+    let steps = Steps::of_part(alloc, part)?;
+    lists.push_back(ClassSteps { class, steps })?;
+    Ok(())
+}
+
+/// Adds the steps of each part.
+fn push_parts(
+    alloc: Global,
+    class: u64,
+    division: &Division,
+    lists: &mut VecDeque<ClassSteps>,
+) -> Result<(), NoMemory>
+    ensures { OnOk result (AddsSteps class (all_of division.now) lists.old.items lists.new.items) }
+{
+    for number in 0..division.parts() {
+        push_part(alloc, class, division.part(number), lists)?;
+    }
+    Ok(())
+}
+
+/// Adds the steps of the items of a class, which are divided unless they are a part as they are.
+fn push_run<R: Threads + Sync>(
+    rt: &R,
+    alloc: Global,
+    class: u64,
+    items: &[Item],
+    workers: u32,
+    lists: &mut VecDeque<ClassSteps>,
+) -> Result<(), NoMemory>
+    requires some { 0 < length items.now }
+    requires few { length items.now ≤ item_limit }
+    ensures { OnOk result (AddsSteps class items.now lists.old.items lists.new.items) }
+{
+    if let Some(part) = Part::new(items) {
+        return push_part(alloc, class, part, lists);
+    }
+    let own = Vec::from_slice(alloc, items)?;
+    let division = create_dip(rt, alloc, own, workers)?;
+    push_parts(alloc, class, &division, lists)?;
+    Ok(())
+}
+
+/// How many of the items, from the first on, are of the class.
+fn run_len(class: u64, items: &[Item]) -> usize
+    ensures inside { result ≤ length items.now }
+    ensures own { All (λ x. x.class ≡ class) (take result items.now) }
+{
+    let mut len = 0;
+    'items: while len < items.len() && items[len].class == class {
+        len += 1;
+    }
+    len
+}
+
+/// Lists of steps for the items of each class, by rising class.
+fn class_lists<R: Threads + Sync>(
+    rt: &R,
+    alloc: Global,
+    items: &[Item],
+    workers: u32,
+) -> Result<VecDeque<ClassSteps>, NoMemory>
+    requires few { length items.now ≤ item_limit }
+    requires grouped { AllPairs (λ a b. a.class ≤ b.class) items.now }
+    ensures { IfOk result (λ lists. AreStepLists items.now lists.items) }
+{
+    let mut lists = VecDeque::new(alloc);
+    let mut left = items;
+    'runs: while let Some((first, later)) = left.split_first() {
+        let class = first.class;
+        let len = 1 + run_len(class, later);
+        let (run, rest) = left.split_at(len);
+        push_run(rt, alloc, class, run, workers, &mut lists)?;
+        left = rest;
+    }
+    Ok(lists)
+}
+
+/// The lists, one behind another.
+fn in_one(
+    alloc: Global,
+    shares: Vec<VecDeque<ClassSteps>>,
+) -> Result<VecDeque<ClassSteps>, NoMemory>
+    ensures { IfOk result (λ lists. lists.items ≡ lists_of shares.items) }
+{
+    let mut lists = VecDeque::new(alloc);
+    for mut share in shares {
+        lists.append(&mut share)?;
+    }
+    Ok(lists)
+}
+
+/// Lists of steps for the items of each class, by rising class. Workers share the items out by their places; the items of
+/// a class may then be divided in several shares.
+pub(crate) fn shared_lists<R: Threads + Sync, G>(
+    crew: &Crew<'_, R, G>,
+    items: &[Item],
+) -> Result<VecDeque<ClassSteps>, NoMemory>
+    requires few { length items.now ≤ item_limit }
+    requires grouped { AllPairs (λ a b. a.class ≤ b.class) items.now }
+    ensures { IfOk result (λ lists. AreStepLists items.now lists.items) }
+{
+    let Crew { rt, alloc, .. } = *crew;
+    let shares = Shares::of(alloc, items.len(), crew.workers, &|place: usize| place)?;
+    let lists = shared_out(
+        rt,
+        alloc,
+        &shares,
+        &|range: Range<usize>, workers: u32| -> Result<VecDeque<ClassSteps>, NoMemory>
+            requires { IsSync R.row × (length items.now ≤ item_limit)
+                × AllPairs (λ a b. a.class ≤ b.class) items.now }
+            ensures { IfOk result (λ lists. AreStepLists (piece range items.entry.now) lists.items) }
+        { class_lists(rt, alloc, piece(range, items), workers) },
+    )?;
+    in_one(alloc, lists)
+}
