@@ -15,10 +15,11 @@ use Rattle.row_core.specs.declared.row.Row.{Row}
 use Rattle.row_core.specs.declared.value.Value.{Value}
 use Rattle.row_core.proofs.ValueLemmas.{maybe_decides, value_total}
 use Rattle.agg_core.specs.declared.entries.Entry.{Entry}
-use Rattle.agg_core.specs.declared.ranges.KeyRange.{KeyRange}
+use Rattle.share_core.specs.declared.range.Range.{Range}
+use Rattle.agg_core.specs.declared.keys.Key.{Key}
 use Rattle.agg_core.specs.Groups.{rows_of_group}
 use Rattle.agg_core.specs.Entries.{AreEntries, AreEntriesSorted, AreInGroups, AreKeyed, IsEntry, entry_row, sort_value, value_at_place}
-use Rattle.agg_core.specs.Ranges.{in_range, rows_in_range}
+use Rattle.agg_core.specs.KeyRanges.{in_range, rows_in_range}
 use Rattle.agg_core.proofs.OrderLemmas.{not_after, not_after-from, value_lt}
 
 -- ---- lists side by side
@@ -57,7 +58,7 @@ rows_in_entries place (r ∷ rows) (e ∷ es) all =
     ap (λ (x : Row). x ∷ map entry_row es) all.0.row_is ∙ ap (λ l. r ∷ l) (rows_in_entries place rows es all.1)
 
 -- one more row, and its entry, if its value is in the range
-rows_in_range-more : (group_of : Row → Option Value) (range : KeyRange) (rows : List Row) (i : ℕ) (row : Row)
+rows_in_range-more : (group_of : Row → Option Value) (range : Range Key) (rows : List Row) (i : ℕ) (row : Row)
     → i < length rows → row ≡ get_or rows i row
     → rows_in_range group_of range (take (i + 1) rows)
     ≡ rows_in_range group_of range (take i rows) ++ cond (in_range range (group_of row)) (row ∷ []) []
@@ -66,7 +67,7 @@ rows_in_range-more group_of range rows i row inside at =
     ∙ filter-append (λ (r : Row). in_range range (group_of r)) (take i rows) (row ∷ [])
 
 -- one more entry, of a row of the range
-pub entry_more : (place : ℕ) (range : KeyRange) (rows : List Row) (i : ℕ) (row : Row) (es new : List Entry) (e : Entry)
+pub entry_more : (place : ℕ) (range : Range Key) (rows : List Row) (i : ℕ) (row : Row) (es new : List Entry) (e : Entry)
     → i < length rows → row ≡ get_or rows i row → in_range range (value_at_place (Some place) row) ≡ true
     → new ≡ es ++ e ∷ [] → IsEntry place row e
     → AreEntries place (rows_in_range (value_at_place (Some place)) range (take i rows)) es
@@ -79,7 +80,7 @@ entry_more place range rows i row es new e inside at within put is all =
     (subst (AreEntries place (before ++ row ∷ [])) (sym put) (all_zipped_more (IsEntry place) before es row e all is))
 
 -- and none, of a row of other values
-pub entry_same : (place : ℕ) (range : KeyRange) (rows : List Row) (i : ℕ) (row : Row) (es : List Entry)
+pub entry_same : (place : ℕ) (range : Range Key) (rows : List Row) (i : ℕ) (row : Row) (es : List Entry)
     → i < length rows → row ≡ get_or rows i row → in_range range (value_at_place (Some place) row) ≡ false
     → AreEntries place (rows_in_range (value_at_place (Some place)) range (take i rows)) es
     → AreEntries place (rows_in_range (value_at_place (Some place)) range (take (i + 1) rows)) es

@@ -4,5 +4,5 @@ pub mod GroupLemmas
 pub mod PlateauLemmas
 pub mod AggExistence
 pub mod ShareLemmas
-pub mod SpanLemmas
 pub mod GetLemmas
+mod PieceItems

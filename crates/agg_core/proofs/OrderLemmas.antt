@@ -11,10 +11,10 @@ use Rattle.row_core.proofs.ValueLemmas.{maybe_exact, maybe_total}
 use Rattle.list_core.proofs.RisingLemmas.{IsListOf-unique}
 use Rattle.list_core.proofs.OrderedLemmas.{before-asym}
 use Rattle.agg_core.specs.declared.entries.Entry.{Entry}
-use Rattle.agg_core.specs.declared.ranges.Key.{Key}
-use Rattle.agg_core.specs.declared.ranges.Key.TheVariants as key
+use Rattle.agg_core.specs.declared.keys.Key.{Key}
+use Rattle.agg_core.specs.declared.keys.Key.TheVariants as key
 use Rattle.agg_core.specs.declared.rows.AggRow.{AggRow}
-use Rattle.agg_core.specs.contracts.ranges.KeyOrd.TheImpl.{ghosts}
+use Rattle.agg_core.specs.contracts.keys.KeyOrd.TheImpl.{ghosts}
 use Rattle.agg_core.specs.Agg.{AggHasOneList, IsAggRow, amount_in, measure_of, value_in}
 use Rattle.agg_core.specs.Groups.{AggRowBefore, agg_row_cmp}
 use Rattle.agg_core.specs.Entries.{sort_value, value_of_key}
@@ -49,7 +49,7 @@ not_after-from a b (inr e) =
 -- ---- keys
 
 -- keys are compared as their values are
-key_cmp-value : (a b : Key) → ghosts.cmp a b ≡ value_cmp (value_of_key a) (value_of_key b)
+pub key_cmp-value : (a b : Key) → ghosts.cmp a b ≡ value_cmp (value_of_key a) (value_of_key b)
 key_cmp-value (key.Number a) (key.Number b) = refl
 key_cmp-value (key.Number a) (key.Text b) = refl
 key_cmp-value (key.Text a) (key.Number b) = refl

@@ -1,32 +1,40 @@
 -- What rows come to, from what two shares of them come to that have no group in common.
-use Rattle.std.proofs.Common.{◌≡◌, ◌⊎◌, ℕ, ℤ, Bool, true, false, cond, not, ◌&&◌, List, [], ◌∷◌, ◌++◌, map, Option, None, Some, inl, inr, refl, sym, ap, subst, ◌∙◌, append-nil}
-use Rattle.std.specs.Prelude.{filter, Contains}
+use Rattle.std.proofs.Common.{◌≡◌, ◌⊎◌, ℕ, ℤ, Bool, true, false, cond, not, ◌&&◌, List, [], ◌∷◌, ◌++◌, map, Option, None, Some, Result, Ok, inl, inr, refl, sym, ap, subst, ◌∙◌, append-nil}
+use Rattle.std.specs.Prelude.{filter, flat_map, option_map, Contains}
 use Rattle.std.specs.declared.cmp.Ordering.{Ordering}
 use Rattle.std.specs.declared.cmp.Ordering.TheVariants.{Less, Equal, Greater}
-use Rattle.std.specs.Ordering.{int_cmp, is_le, ordering_reverse, ordering_then}
+use Rattle.std.specs.Ordering.{int_cmp, is_lt, ordering_then}
+use Rattle.std.specs.declared.alloc.AllocError.{AllocError}
 use Rattle.std.proofs.lemmas.Cmp.{tied_itself}
 use Rattle.std.proofs.lemmas.List.Elements.{All-contains, Contains-append_cases, filter-append, filter_passes}
 use Rattle.std.proofs.lemmas.List.Sorted.{All-permutation}
 use Rattle.row_core.specs.ValueOrder.{maybe_cmp, same_maybe}
 use Rattle.row_core.specs.declared.row.Row.{Row}
 use Rattle.row_core.specs.declared.value.Value.{Value}
-use Rattle.row_core.proofs.ValueLemmas.{maybe_decides, maybe_exact, maybe_total}
+use Rattle.row_core.proofs.ValueLemmas.{maybe_decides, maybe_total}
 use Rattle.dip_core.specs.declared.item.Item.{Item}
 use Rattle.list_core.proofs.RisingLemmas.{Contains-cons, Contains-head}
 use Rattle.list_core.proofs.WantedLemmas.{IsListOf-append, IsListOf-same}
+use Rattle.share_core.specs.Ranges.{has, has_begun, has_ended, is_from, range}
+use Rattle.share_core.specs.Shares.{Gives, GivesFrom}
+use Rattle.share_core.specs.declared.range.Range.{Range}
+use Rattle.share_core.specs.declared.shares.Cut.{Cut}
+use Rattle.share_core.proofs.RangeLemmas.{high_has, low_has}
+use Rattle.share_core.proofs.ShareLemmas.{all_come}
 use Rattle.merge_core.specs.Gaps.{IsMaximal}
 use Rattle.round_core.specs.declared.measure.Measure.{Measure}
 use Rattle.agg_core.specs.declared.entries.Entry.{Entry}
-use Rattle.agg_core.specs.declared.ranges.Key.{Key}
-use Rattle.agg_core.specs.declared.ranges.KeyRange.{KeyRange}
+use Rattle.agg_core.specs.declared.keys.Key.{Key}
+use Rattle.agg_core.specs.contracts.keys.KeyOrd.TheImpl.{ghosts}
 use Rattle.agg_core.specs.declared.rows.AggRow.{AggRow}
 use Rattle.agg_core.specs.Agg.{AreAggRows, HoldAndComeTo, IsAggRow}
 use Rattle.agg_core.specs.Groups.{AggRowBefore, rows_of_group}
-use Rattle.agg_core.specs.Entries.{AreEntries, AreEntriesSorted, AreInGroups, entry_row, value_at_place, value_of_key}
+use Rattle.agg_core.specs.Entries.{AreEntries, AreEntriesSorted, AreInGroups, entry_row, value_at_place}
 use Rattle.agg_core.specs.Grouping.{AreItemsByGroup, ArePlateauRows, GroupBefore}
-use Rattle.agg_core.specs.Ranges.{in_range, is_behind, is_upto, is_within, rows_in_range}
+use Rattle.agg_core.specs.KeyRanges.{group_of_key, in_range, rows_in_range}
 use Rattle.agg_core.proofs.EntryLemmas.{grouped_entries, rows_in_entries}
 use Rattle.agg_core.proofs.GroupLemmas.{grouping_of}
+use Rattle.agg_core.proofs.OrderLemmas.{key_cmp-value, not_after}
 use Rattle.agg_core.proofs.PlateauLemmas.{answer_of, row_of_group}
 
 -- ---- rows of a group
@@ -164,45 +172,25 @@ module _ (measure : Measure) (amount_of : Row → ℤ) (group_of : Row → Optio
 
 -- ---- the order of groups
 
--- what the test for less or equal tells where it passes
-told_upto : (a b : Option Value) → is_le (maybe_cmp a b) ≡ true → GroupBefore a b ⊎ (a ≡ b)
-told_upto a b e = by_cmp (maybe_cmp a b) refl e where
-  by_cmp : (o : Ordering) → maybe_cmp a b ≡ o → is_le o ≡ true → GroupBefore a b ⊎ (a ≡ b)
-  by_cmp Less c t = inl c
-  by_cmp Equal c t = inr (maybe_exact a b c)
+-- what is denied is false
+denied : (t : Bool) → not t ≡ true → t ≡ false
+denied true e = cc
+denied false e = refl
+
+-- what isn't reached comes before
+told_before : (a b : Option Value) → is_from maybe_cmp b a ≡ false → GroupBefore a b
+told_before a b e = by_cmp (maybe_cmp a b) refl e where
+  by_cmp : (o : Ordering) → maybe_cmp a b ≡ o → not (is_lt o) ≡ false → GroupBefore a b
+  by_cmp Less c t = c
+  by_cmp Equal c t = cc
   by_cmp Greater c t = cc
 
--- and where it fails
-told_after : (a b : Option Value) → is_le (maybe_cmp a b) ≡ false → GroupBefore b a
-told_after a b e = maybe_total.antisymm b a ∙ by_cmp (maybe_cmp a b) e where
-  by_cmp : (o : Ordering) → is_le o ≡ false → ordering_reverse o ≡ Less
-  by_cmp Less t = cc
-  by_cmp Equal t = cc
-  by_cmp Greater t = refl
-
--- what comes before a group, or is it, comes before another that comes behind that
-upto_before : (a b c : Option Value) → GroupBefore a b ⊎ (a ≡ b) → GroupBefore b c → GroupBefore a c
-upto_before a b c (inl less) rest = maybe_total.trans a b c less rest
-upto_before a b c (inr same) rest = subst (λ (v : Option Value). maybe_cmp v c ≡ Less) (sym same) rest
-
--- a group is that of a value, or comes before it, where it is that of a lower value, or comes before that
-upto_more : (v w : Value) (group : Option Value) → is_upto w (Some v) ≡ true → is_upto v group ≡ true
-    → is_upto w group ≡ true
-upto_more v w group low here = elim (told_upto (Some v) (Some w) low) [
-  | inl less ↦ ap is_le (upto_before group (Some v) (Some w) (told_upto group (Some v) here) less)
-  | inr same ↦ subst (λ (o : Option Value). is_le (maybe_cmp group o) ≡ true) same here
+-- what comes before a group comes before each that isn't before that
+before_from : (a b c : Option Value) → GroupBefore a b → is_from maybe_cmp b c ≡ true → GroupBefore a c
+before_from a b c less from = elim (not_after b c (denied (is_lt (maybe_cmp c b)) from)) [
+  | inl more ↦ maybe_total.trans a b c less more
+  | inr same ↦ subst (λ (v : Option Value). maybe_cmp a v ≡ Less) same less
 ]
-
--- and comes after a lower value where it comes after a value
-after_more : (v w : Value) (group : Option Value) → is_upto w (Some v) ≡ false → is_upto v group ≡ false
-    → is_upto w group ≡ false
-after_more v w group high here = by_test (is_upto w group) refl where
-  by_test : (t : Bool) → is_upto w group ≡ t → is_upto w group ≡ false
-  by_test false e = e
-  by_test true e = absurd (
-      let less : GroupBefore group (Some v) =
-      upto_before group (Some w) (Some v) (told_upto group (Some w) e) (told_after (Some v) (Some w) high) in
-      let bad : true ≡ false = ap is_le (sym less) ∙ here in cc)
 
 -- ---- shares by value
 
@@ -237,120 +225,71 @@ keep_none p t (x ∷ xs) none =
         ap (λ z. cond z (x ∷ filter t (filter p xs)) (filter t (filter p xs))) f ∙ rest
     split false c e f rest = rest
 
--- what is denied is false
-denied : (t : Bool) → not t ≡ true → t ≡ false
-denied true e = cc
-denied false e = refl
-
-module _ (group_of : Row → Option Value) (rows : List Row) (v : Value) where
+module _ (group_of : Row → Option Value) (rows : List Row) (v : Option Value) where
   low_of : Row → Bool
-  low_of row = is_upto v (group_of row)
+  low_of row = not (is_from maybe_cmp v (group_of row))
 
   high_of : Row → Bool
-  high_of row = not (is_upto v (group_of row))
+  high_of row = is_from maybe_cmp v (group_of row)
 
   -- a row of a group is in the group's share
   on_side : (group : Option Value) (row : Row) → same_maybe (group_of row) group ≡ true
-      → is_upto v (group_of row) ≡ is_upto v group
-  on_side group row same = ap (is_upto v) ((maybe_decides (group_of row) group).0 same)
+      → is_from maybe_cmp v (group_of row) ≡ is_from maybe_cmp v group
+  on_side group row same = ap (is_from maybe_cmp v) ((maybe_decides (group_of row) group).0 same)
 
   -- a group's rows are the same ones, share by share
   same_group : (group : Option Value)
       → rows_of_group group_of group (filter low_of rows ++ filter high_of rows) ≡ rows_of_group group_of group rows
   unfolding low_of high_of
-  same_group group = filter-append mine (filter low_of rows) (filter high_of rows) ∙ split (is_upto v group) refl
+  same_group group = filter-append mine (filter low_of rows) (filter high_of rows) ∙ split (is_from maybe_cmp v group) refl
     where
       mine : Row → Bool
       mine row = same_maybe (group_of row) group
 
-      split : (b : Bool) → is_upto v group ≡ b
+      split : (b : Bool) → is_from maybe_cmp v group ≡ b
           → filter mine (filter low_of rows) ++ filter mine (filter high_of rows) ≡ filter mine rows
-      split true is =
-          ap (λ l. l ++ filter mine (filter high_of rows))
-          (keep_all low_of mine rows (λ r h same. on_side group r same ∙ is))
-          ∙ ap (λ l. filter mine rows ++ l)
-          (keep_none high_of mine rows (λ r h same. ap not (on_side group r same ∙ is)))
-          ∙ append-nil (filter mine rows)
       split false is =
           ap (λ l. l ++ filter mine (filter high_of rows))
-          (keep_none low_of mine rows (λ r h same. on_side group r same ∙ is))
-          ∙ keep_all high_of mine rows (λ r h same. ap not (on_side group r same ∙ is))
+          (keep_all low_of mine rows (λ r h same. ap not (on_side group r same ∙ is)))
+          ∙ ap (λ l. filter mine rows ++ l)
+          (keep_none high_of mine rows (λ r h same. on_side group r same ∙ is))
+          ∙ append-nil (filter mine rows)
+      split true is =
+          ap (λ l. l ++ filter mine (filter high_of rows))
+          (keep_none low_of mine rows (λ r h same. ap not (on_side group r same ∙ is)))
+          ∙ keep_all high_of mine rows (λ r h same. on_side group r same ∙ is)
 
   -- the groups of both shares are apart
   values_apart : AreApart group_of (filter low_of rows) (filter high_of rows)
   unfolding low_of high_of
   values_apart a b here there =
-      let p : is_upto v (group_of a) ≡ true =
-      All-contains (λ (r : Row). low_of r ≡ true) (filter low_of rows) a (filter_passes low_of rows) here in
-      let q : is_upto v (group_of b) ≡ false =
-      denied (is_upto v (group_of b))
-      (All-contains (λ (r : Row). high_of r ≡ true) (filter high_of rows) b (filter_passes high_of rows) there) in
-      upto_before (group_of a) (Some v) (group_of b) (told_upto (group_of a) (Some v) p)
-      (told_after (group_of b) (Some v) q)
+      let p : is_from maybe_cmp v (group_of a) ≡ false =
+      denied (is_from maybe_cmp v (group_of a))
+      (All-contains (λ (r : Row). low_of r ≡ true) (filter low_of rows) a (filter_passes low_of rows) here) in
+      let q : is_from maybe_cmp v (group_of b) ≡ true =
+      All-contains (λ (r : Row). high_of r ≡ true) (filter high_of rows) b (filter_passes high_of rows) there in
+      before_from (group_of a) v (group_of b) (told_before (group_of a) v p) q
 
 -- ---- shares by range
 
--- where both are true, each is
-both_true : (a b : Bool) → a && b ≡ true → (a ≡ true) × (b ≡ true)
-both_true true b e = (refl, e)
-both_true false b e = cc
+-- a range has begun at a key where the range of its groups has at the key's
+begun_same : (from : Option Key) (key : Key)
+    → has_begun ghosts.cmp from key ≡ has_begun maybe_cmp (option_map group_of_key from) (group_of_key key)
+begun_same None key = refl
+begun_same (Some first) key = ap (λ o. not (is_lt o)) (key_cmp-value key first)
 
--- nothing holds with what is false
-and_false : (a : Bool) → a && false ≡ false
-and_false true = refl
-and_false false = refl
+-- it is over there where that is
+ended_same : (end : Option Key) (key : Key)
+    → has_ended ghosts.cmp end key ≡ has_ended maybe_cmp (option_map group_of_key end) (group_of_key key)
+ended_same None key = refl
+ended_same (Some first) key = ap (λ o. not (is_lt o)) (key_cmp-value key first)
 
--- what is true changes nothing
-and_true : (a : Bool) → a && true ≡ a
-and_true true = refl
-and_true false = refl
-
--- a group up to a range's value is within the range's end
-within_more : (end : Option Key) (v : Value) (group : Option Value) → is_within end (Some v) ≡ true
-    → is_upto v group ≡ true → is_within end group ≡ true
-within_more None v group low here = refl
-within_more (Some key) v group low here = upto_more v (value_of_key key) group low here
-
--- a group after a range's value is behind the range's beginning
-behind_more : (first : Option Key) (v : Value) (group : Option Value) → is_behind first (Some v) ≡ true
-    → is_upto v group ≡ false → is_behind first group ≡ true
-behind_more None v group high here = refl
-behind_more (Some key) v group high here =
-    ap not (after_more v (value_of_key key) group (denied (is_upto (value_of_key key) (Some v)) high) here)
-
-module _ (range : KeyRange) (key : Key) (within : in_range range (Some (value_of_key key)) ≡ true) where
-  -- the lower values of a range
-  abbrev lower : KeyRange
-  lower = record { above = range.above; upto = Some key }
-
-  -- and the higher ones
-  abbrev higher : KeyRange
-  higher = record { above = Some key; upto = range.upto }
-
-  ends : (is_behind range.above (Some (value_of_key key)) ≡ true) × (is_within range.upto (Some (value_of_key key)) ≡ true)
-  ends = both_true (is_behind range.above (Some (value_of_key key))) (is_within range.upto (Some (value_of_key key))) within
-
-  -- a group is one of the lower values where it is one of the range and not after the key
-  in_lower : (group : Option Value) → in_range range group && is_upto (value_of_key key) group ≡ in_range lower group
-  in_lower group = by_test (is_upto (value_of_key key) group) refl where
-    by_test : (t : Bool) → is_upto (value_of_key key) group ≡ t
-        → (is_behind range.above group && is_within range.upto group) && t ≡ is_behind range.above group && t
-    by_test true e =
-        and_true (is_behind range.above group && is_within range.upto group)
-        ∙ ap (λ b. is_behind range.above group && b) (within_more range.upto (value_of_key key) group ends.1 e)
-    by_test false e =
-        and_false (is_behind range.above group && is_within range.upto group) ∙ sym (and_false (is_behind range.above group))
-
-  -- and one of the higher values where it is after the key
-  in_higher : (group : Option Value)
-      → in_range range group && not (is_upto (value_of_key key) group) ≡ in_range higher group
-  in_higher group = by_test (is_upto (value_of_key key) group) refl where
-    by_test : (t : Bool) → is_upto (value_of_key key) group ≡ t
-        → (is_behind range.above group && is_within range.upto group) && not t ≡ not t && is_within range.upto group
-    by_test true e = and_false (is_behind range.above group && is_within range.upto group)
-    by_test false e =
-        and_true (is_behind range.above group && is_within range.upto group)
-        ∙ ap (λ b. b && is_within range.upto group) (behind_more range.above (value_of_key key) group ends.0 e)
+-- a range has a key where the range of its groups has the key's
+pub has_same : (keys : Range Key) (key : Key) → has ghosts.cmp keys key ≡ in_range keys (group_of_key key)
+has_same keys key =
+    ap (λ b. b && not (has_ended ghosts.cmp keys.before key)) (begun_same keys.from key)
+    ∙ ap (λ b. has_begun maybe_cmp (option_map group_of_key keys.from) (group_of_key key) && not b)
+    (ended_same keys.before key)
 
 -- what passes one test and then another passes both
 filter_twice : {A : Type 0} (p q : A → Bool) (xs : List A) → filter q (filter p xs) ≡ filter (λ x. p x && q x) xs
@@ -363,24 +302,24 @@ filter_twice p q (x ∷ xs) = split (p x) (filter_twice p q xs)
     split true rest = ap (λ l. cond (q x) (x ∷ l) l) rest
     split false rest = rest
 
--- what the rows of a range come to, from those of its lower values and those of its higher ones
-pub AreAggRows-ranges : (measure : Measure) (amount_of : Row → ℤ) (group_of : Row → Option Value) (range : KeyRange)
-    (key : Key) (rows : List Row) (answer more : List AggRow) → in_range range (Some (value_of_key key)) ≡ true
-    → AreAggRows measure amount_of group_of
-    (rows_in_range group_of (record { above = range.above; upto = Some key }) rows) answer
-    → AreAggRows measure amount_of group_of
-    (rows_in_range group_of (record { above = Some key; upto = range.upto }) rows) more
-    → AreAggRows measure amount_of group_of (rows_in_range group_of range rows) (answer ++ more)
+-- what the rows of a range without an end come to, from those of its values before a key's and those from it on
+AreAggRows-ranges : (measure : Measure) (amount_of : Row → ℤ) (group_of : Row → Option Value) (from : Option Key)
+    (at : Key) (rows : List Row) (answer more : List AggRow) → has_begun ghosts.cmp from at ≡ true
+    → AreAggRows measure amount_of group_of (rows_in_range group_of (range from (Some at)) rows) answer
+    → AreAggRows measure amount_of group_of (rows_in_range group_of (range (Some at) None) rows) more
+    → AreAggRows measure amount_of group_of (rows_in_range group_of (range from None) rows) (answer ++ more)
 unfolding low_of high_of
-AreAggRows-ranges measure amount_of group_of range key rows answer more within one other =
-    let some = rows_in_range group_of range rows in
-    let v = value_of_key key in
-    let low : filter (low_of group_of some v) some ≡ rows_in_range group_of (lower range key within) rows =
-    filter_twice (λ (r : Row). in_range range (group_of r)) (low_of group_of some v) rows
-    ∙ (λ i. filter (λ r. in_lower range key within (group_of r) i) rows) in
-    let high : filter (high_of group_of some v) some ≡ rows_in_range group_of (higher range key within) rows =
-    filter_twice (λ (r : Row). in_range range (group_of r)) (high_of group_of some v) rows
-    ∙ (λ i. filter (λ r. in_higher range key within (group_of r) i) rows) in
+AreAggRows-ranges measure amount_of group_of from at rows answer more begun one other =
+    let some = rows_in_range group_of (range from None) rows in
+    let v = group_of_key at in
+    let first = option_map group_of_key from in
+    let reached : has_begun maybe_cmp first v ≡ true = sym (begun_same from at) ∙ begun in
+    let low : filter (low_of group_of some v) some ≡ rows_in_range group_of (range from (Some at)) rows =
+    filter_twice (λ (r : Row). in_range (range from None) (group_of r)) (low_of group_of some v) rows
+    ∙ sym (λ i. filter (λ (r : Row). low_has maybe_cmp maybe_total first v (group_of r) i) rows) in
+    let high : filter (high_of group_of some v) some ≡ rows_in_range group_of (range (Some at) None) rows =
+    filter_twice (λ (r : Row). in_range (range from None) (group_of r)) (high_of group_of some v) rows
+    ∙ sym (λ i. filter (λ (r : Row). high_has maybe_cmp maybe_total first v (group_of r) reached i) rows) in
     same_answer measure amount_of group_of (filter (low_of group_of some v) some ++ filter (high_of group_of some v) some)
     some (answer ++ more) (same_group group_of some v)
     (both_shares measure amount_of group_of (filter (low_of group_of some v) some)
@@ -389,10 +328,32 @@ AreAggRows-ranges measure amount_of group_of range key rows answer more within o
     (subst (λ (l : List Row). AreAggRows measure amount_of group_of l more) (sym high) other))
 
 -- a range without ends has all rows
-pub rows_in_range-all : (group_of : Row → Option Value) (rows : List Row)
-    → rows_in_range group_of (record { above = None; upto = None }) rows ≡ rows
+rows_in_range-all : (group_of : Row → Option Value) (rows : List Row)
+    → rows_in_range group_of (range None None) rows ≡ rows
 rows_in_range-all group_of [] = refl
 rows_in_range-all group_of (row ∷ rows) = ap (λ l. row ∷ l) (rows_in_range-all group_of rows)
+
+-- what the rows of each range come to, one behind another, is what all rows come to
+pub rows-all : (measure : Measure) (amount_of : Row → ℤ) (group_of : Row → Option Value) (rows : List Row)
+    (post : Range Key → ℕ → Result (List AggRow) AllocError → Type 0) (cuts : List (Cut Key))
+    (lists : List (List AggRow))
+    → ((keys : Range Key) (n : ℕ) (some : List AggRow) → post keys n (Ok some)
+    → AreAggRows measure amount_of group_of (rows_in_range group_of keys rows) some)
+    → GivesFrom ghosts.cmp (Gives post) None cuts lists
+    → AreAggRows measure amount_of group_of rows (flat_map (λ some. some) lists)
+rows-all measure amount_of group_of rows post cuts lists told given =
+    subst (λ (l : List Row). AreAggRows measure amount_of group_of l (flat_map (λ some. some) lists))
+    (rows_in_range-all group_of rows)
+    (all_come ghosts.cmp (Gives post)
+    (λ (keys : Range Key) (all : List (List AggRow)).
+    AreAggRows measure amount_of group_of (rows_in_range group_of keys rows) (flat_map (λ some. some) all))
+    (λ keys some own.
+    subst (AreAggRows measure amount_of group_of (rows_in_range group_of keys rows)) (sym (append-nil some))
+    (told keys own.0 some own.1))
+    (λ from at some more begun one others.
+    AreAggRows-ranges measure amount_of group_of from at rows some (flat_map (λ list. list) more) begun
+    (told (range from (Some at)) one.0 some one.1) others)
+    None cuts lists given)
 
 -- ---- what listed rows come to
 

@@ -11,8 +11,8 @@ use Rattle.row_core.specs.declared.value.Value.TheVariants as value
 use Rattle.agg_core.specs.Agg.{amount_of_value}
 use Rattle.agg_core.specs.Groups.{rows_of_group}
 use Rattle.agg_core.specs.declared.entries.Entry.{Entry}
-use Rattle.agg_core.specs.declared.ranges.Key.{Key}
-use Rattle.agg_core.specs.declared.ranges.Key.TheVariants.{Number, Text}
+use Rattle.agg_core.specs.declared.keys.Key.{Key}
+use Rattle.agg_core.specs.declared.keys.Key.TheVariants.{Number, Text}
 
 -- the place of a column, where one is named
 abbrev pub place_in : List Column → Option (List ℕ) → Option ℕ

@@ -1,7 +1,6 @@
 pub mod Groups
 pub mod Agg
 pub mod Entries
-pub mod Ranges
+pub mod KeyRanges
 pub mod Grouping
 pub mod Shares
-pub mod Spans

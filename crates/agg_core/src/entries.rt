@@ -4,12 +4,13 @@ ghost use Rattle.std.specs.Prelude.{◌≡◌, ◌<◌, All, IfOk, IsPermutation
 ghost use Rattle.std.specs.List.Sorted.{IsStableByKey};
 ghost use Rattle.row_core.specs.ValueOrder.{value_cmp};
 ghost use Rattle.agg_core.specs.Entries.{AreEntries, AreEntriesSorted, AreKeyed, sort_value, value_at_place, value_of_key};
-ghost use Rattle.agg_core.specs.Ranges.{in_range, rows_in_range};
+ghost use Rattle.agg_core.specs.KeyRanges.{rows_in_range};
 
-use crate::ranges::{Key, KeyRange, has_key};
+use crate::keys::{Key, has_key};
 use list_core::room_for_half;
 use period_core::NoMemory;
 use row_core::{Row, Value};
+use share_core::Range;
 use sort_core::sort_by_key;
 use std::alloc::{AllocError, Global};
 use std::thread::Threads;
@@ -23,8 +24,8 @@ pub(crate) struct Entry<'a> {
 }
 
 /// Room for the entries of a range: for all rows where it has no end, else for somewhat more than half of them.
-fn room_for(range: &KeyRange<'_>, rows: usize) -> usize {
-    if range.above.is_none() && range.upto.is_none() {
+fn room_for(range: &Range<Key<'_>>, rows: usize) -> usize {
+    if range.from.is_none() && range.before.is_none() {
         rows
     } else {
         room_for_half(rows)
@@ -36,11 +37,11 @@ pub(crate) fn entries_of<'a>(
     alloc: Global,
     rows: &'a [Row],
     place: u32,
-    range: &KeyRange<'_>,
+    range: &Range<Key<'a>>,
 ) -> Result<Vec<Entry<'a>>, NoMemory>
     requires { All (λ row. place < length row.values) rows.now }
-    ensures { IfOk result (λ entries.
-        AreEntries place (rows_in_range (value_at_place (Some place)) range.entry.now rows.entry.now) entries.items) }
+    ensures { IfOk result (λ entries. AreEntries place
+        (rows_in_range (value_at_place (Some place)) range.entry.now rows.entry.now) entries.items) }
 {
     let mut entries = Vec::with_capacity(alloc, room_for(range, rows.len()))?;
     for row in rows {
@@ -62,7 +63,7 @@ pub(crate) fn key_at_place(row: &Row, place: u32) -> Key<'_>
     key_of(value_at_place(row, place))
 }
 
-// The row's value at that place.
+/// The row's value at that place.
 fn value_at_place(row: &Row, place: u32) -> &Value
     requires { place < length row.now.values }
     ensures { value_at_place (Some place) row.now ≡ Some result.now }
@@ -70,7 +71,7 @@ fn value_at_place(row: &Row, place: u32) -> &Value
     &row.values.as_slice()[place as usize]
 }
 
-// The value's key.
+/// The value's key.
 fn key_of(value: &Value) -> Key<'_>
     ensures { value_of_key result ≡ value.now }
 {
@@ -80,7 +81,7 @@ fn key_of(value: &Value) -> Key<'_>
     }
 }
 
-// Puts the entries by rising value, those of one value in the order in which they stood.
+/// Puts the entries by rising value, those of one value in the order in which they stood.
 fn sort_entries<R: Threads + Sync>(
     rt: &R,
     alloc: Global,

@@ -21,6 +21,13 @@ pub enum Func {
     Max(Name),
 }
 
+/// What is asked of rows: what the numbers that they have at a place come to, where one is given.
+#[derive(Clone, Copy)]
+pub(crate) struct Asked {
+    pub measure: Measure,
+    pub amount: Option<u32>,
+}
+
 /// What is asked of a tally.
 pub(crate) fn measure_of(func: &Func) -> Measure
     ensures { result ≡ measure_of func.now }
@@ -59,7 +66,7 @@ pub(crate) fn agg_refusal(
     }
 }
 
-// Why no numbers can be taken from a column, where one is named.
+/// Why no numbers can be taken from a column, where one is named.
 fn number_refusal(schema: &Schema, name: Option<Name>) -> Option<QueryRefused>
     ensures { result ≡ first_of (number_tests schema.now name) }
 {
@@ -73,7 +80,7 @@ fn number_refusal(schema: &Schema, name: Option<Name>) -> Option<QueryRefused>
     }
 }
 
-// Why rows can't be grouped by a column, where one is named.
+/// Why rows can't be grouped by a column, where one is named.
 fn group_refusal(schema: &Schema, name: Option<Name>) -> Option<QueryRefused>
     ensures { result ≡ first_of (group_tests schema.now name) }
 {

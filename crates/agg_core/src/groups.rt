@@ -46,7 +46,7 @@ pub(crate) fn group_entries<'a>(
     Ok(GroupedRows { items, groups })
 }
 
-// The number of the value's group, which is the last one, or is added behind it.
+/// The number of the value's group, which is the last one, or is added behind it.
 fn enter_group<'a>(groups: &mut Vec<&'a Value>, value: &'a Value) -> Result<u64, NoMemory>
     requires rise { RisesByGroup (groups_of groups.old.items) }
     requires upto { AreNotAfter (groups_of groups.old.items) (Some value.now) }
@@ -63,7 +63,7 @@ fn enter_group<'a>(groups: &mut Vec<&'a Value>, value: &'a Value) -> Result<u64,
     Ok(class)
 }
 
-// Whether the value is that of the last group.
+/// Whether the value is that of the last group.
 fn is_last(groups: &[&Value], value: &Value) -> bool
     ensures { MatchBool result (IsLast (groups_of groups.now) (Some value.now))
         (IsLast (groups_of groups.now) (Some value.now) → ⊥) }
@@ -74,7 +74,7 @@ fn is_last(groups: &[&Value], value: &Value) -> bool
     }
 }
 
-// Whether both are one value.
+/// Whether both are one value.
 fn is_same(a: &Value, b: &Value) -> bool
     ensures { MatchBool result (a.now ≡ b.now) (a.now ≢ b.now) }
 {
@@ -93,7 +93,7 @@ pub(crate) fn amount_item(row: &Row, amount: Option<u32>, class: u64) -> Item
     }
 }
 
-// The number that the row has at the place; 0 where there is none.
+/// The number that the row has at the place; 0 where there is none.
 fn amount_at(row: &Row, place: Option<u32>) -> i64
     ensures { result ≡ amount_at place row.now }
 {

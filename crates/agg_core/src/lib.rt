@@ -6,12 +6,12 @@
 mod aggregates;
 mod entries;
 mod func;
+mod group_rows;
 mod groups;
+mod keys;
 mod laws;
-mod ranges;
+mod one_group;
 mod rows;
-mod shares;
-mod spans;
 
 pub use aggregates::agg;
 pub use func::Func;

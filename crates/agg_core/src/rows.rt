@@ -1,9 +1,8 @@
 //! The rows of an aggregate.
 
-ghost use Rattle.std.specs.Prelude.{◌≡◌, ◌<◌, ◌≤◌, ◌++◌, AllPairs, IfOk, OnOk, length, map, option_map, slice_get};
+ghost use Rattle.std.specs.Prelude.{◌≡◌, ◌≤◌, ◌++◌, AllPairs, IfOk, OnOk, flat_map, length, map, option_map, slice_get};
 ghost use Rattle.std.specs.Option.{option_copied};
 ghost use Rattle.dip_core.specs.Item.{item_limit};
-ghost use Rattle.work_core.specs.Limits.{worker_limit};
 ghost use Rattle.agg_core.specs.Grouping.{ArePlateauRows, agg_row_of, groups_of};
 ghost use Rattle.agg_core.specs.Shares.{lent_row, rows_in, rows_in_shares};
 
@@ -15,7 +14,7 @@ use row_core::Value;
 use std::alloc::{AllocError, Global};
 use std::marker::Model;
 use std::thread::Threads;
-use work_core::Gate;
+use work_core::{Crew, Gate};
 
 /// A group, and a maximal period at each instant of which some of its rows hold and come to one value.
 #[derive(Debug, Drop, PartialEq, Eq)]
@@ -61,7 +60,7 @@ impl AggShare {
         }
     }
 
-    // The row at that place of the share.
+    /// The row at that place of the share.
     fn row_at(&self, place: usize) -> Option<AggRowRef<'_>>
         ensures { option_map lent_row result ≡ slice_get (rows_in self.now) place }
     {
@@ -128,8 +127,22 @@ impl AggRows {
         &self.shares
     }
 
+    /// The rows of all lists, one list behind another.
+    pub(crate) fn of_all(alloc: Global, lists: Vec<AggRows>) -> Result<AggRows, NoMemory>
+        ensures { IfOk result (λ rows. rows ≡ flat_map (λ some. some) lists.items) }
+    {
+        let mut all = AggRows {
+            shares: Vec::new(alloc),
+            len: 0,
+        };
+        for list in lists {
+            all = all.followed_by(list)?;
+        }
+        Ok(all)
+    }
+
     /// These, and others behind them.
-    pub(crate) fn followed_by(self, later: AggRows) -> Result<AggRows, NoMemory>
+    fn followed_by(self, later: AggRows) -> Result<AggRows, NoMemory>
         ensures { IfOk result (λ rows. rows ≡ self ++ later) }
     {
         let mut shares = self.shares;
@@ -157,7 +170,7 @@ impl AggRows {
     }
 }
 
-// The row at that place of all shares.
+/// The row at that place of all shares.
 fn row_in_shares(shares: &[AggShare], place: usize) -> Option<AggRowRef<'_>>
     ensures { option_map lent_row result ≡ slice_get (rows_in_shares shares.now) place }
 {
@@ -172,7 +185,7 @@ fn row_in_shares(shares: &[AggShare], place: usize) -> Option<AggRowRef<'_>>
     None
 }
 
-// Adds the rows of a share.
+/// Adds the rows of a share.
 fn push_share(alloc: Global, share: &AggShare, rows: &mut Vec<AggRow>) -> Result<(), NoMemory>
     ensures { OnOk result (rows.new.items ≡ rows.old.items ++ rows_in share.now) }
 {
@@ -182,7 +195,7 @@ fn push_share(alloc: Global, share: &AggShare, rows: &mut Vec<AggRow>) -> Result
     Ok(())
 }
 
-// Adds the rows of some plateaus of a share.
+/// Adds the rows of some plateaus of a share.
 fn push_chunk(
     alloc: Global,
     share: &AggShare,
@@ -204,25 +217,21 @@ fn push_chunk(
 
 /// The rows of grouped rows: one for each plateau of their items.
 pub(crate) fn rows_of_groups<R: Threads + Sync, G: Gate>(
-    rt: &R,
-    alloc: Global,
+    crew: &Crew<'_, R, G>,
     measure: Measure,
     grouped: &GroupedRows<'_>,
-    workers: u32,
-    gate: &G,
 ) -> Result<AggRows, NoMemory>
-    requires workers { (0 < workers) × (workers ≤ worker_limit) }
     requires few { length grouped.now.items.items ≤ item_limit }
     requires classes { AllPairs (λ a b. a.class ≤ b.class) grouped.now.items.items }
     ensures { IfOk result (λ rows. ArePlateauRows measure grouped.now.items.items
         (groups_of grouped.now.groups.items) rows) }
 {
-    let plateaus = plateaus_of(rt, alloc, measure, &grouped.items, workers, gate)?;
-    let groups = copy_groups(alloc, &grouped.groups)?;
-    AggRows::of(alloc, AggShare { groups, plateaus })
+    let plateaus = plateaus_of(crew, measure, &grouped.items)?;
+    let groups = copy_groups(crew.alloc, &grouped.groups)?;
+    AggRows::of(crew.alloc, AggShare { groups, plateaus })
 }
 
-// The groups, each with a value of its own.
+/// The groups, each with a value of its own.
 fn copy_groups(alloc: Global, values: &[&Value]) -> Result<Vec<Option<Value>>, NoMemory>
     ensures { IfOk result (λ groups. groups.items ≡ groups_of values.now) }
 {
@@ -233,7 +242,7 @@ fn copy_groups(alloc: Global, values: &[&Value]) -> Result<Vec<Option<Value>>, N
     Ok(groups)
 }
 
-// The group with a value of its own.
+/// The group with a value of its own.
 fn copy_group(alloc: Global, group: Option<&Value>) -> Result<Option<Value>, NoMemory>
     ensures { IfOk result (λ copy. copy ≡ option_copied group.entry) }
 {

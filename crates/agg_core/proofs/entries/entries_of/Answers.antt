@@ -2,7 +2,7 @@ use Rattle.std.proofs.Common.{◌≡◌, ◌∙◌, ◌+◌, Global, Some, Vec, 
 use Rattle.row_core.specs.declared.value.Value.{Value}
 use Rattle.agg_core.specs.declared.entries.Entry.{Entry}
 use Rattle.agg_core.specs.Entries.{AreEntries, value_at_place}
-use Rattle.agg_core.specs.Ranges.{in_range, rows_in_range}
+use Rattle.agg_core.specs.KeyRanges.{in_range, rows_in_range}
 use Rattle.agg_core.proofs.EntryLemmas.{entry_more, entry_same}
 use Rattle.agg_core.proofs.entries.entries_of.Goals as goal
 use Rattle.agg_core.proofs.entries.entries_of.Goals.{then-has_key+in_default, else-has_key}

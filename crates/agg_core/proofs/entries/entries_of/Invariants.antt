@@ -1,7 +1,7 @@
 -- The entries so far, those of the range.
 use Rattle.std.proofs.Common.{Some, take}
 use Rattle.agg_core.specs.Entries.{AreEntries, value_at_place}
-use Rattle.agg_core.specs.Ranges.{rows_in_range}
+use Rattle.agg_core.specs.KeyRanges.{rows_in_range}
 use Rattle.agg_core.proofs.entries.entries_of.Given as goal
 
 abbrev pub invariant-loop-row : goal.invariant-loop-row

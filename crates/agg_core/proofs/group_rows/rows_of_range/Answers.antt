@@ -7,10 +7,10 @@ use Rattle.dip_core.specs.Item.{item_limit}
 use Rattle.row_core.specs.declared.row.Row.{Row}
 use Rattle.agg_core.specs.Entries.{AreRising, amount_at, value_at_place}
 use Rattle.agg_core.specs.Grouping.{AreItemsByGroup, IsNumberedItem, groups_of}
-use Rattle.agg_core.specs.Ranges.{in_range, rows_in_range}
+use Rattle.agg_core.specs.KeyRanges.{in_range, rows_in_range}
 use Rattle.agg_core.proofs.EntryLemmas.{keyed_entries, length-entries}
 use Rattle.agg_core.proofs.ShareLemmas.{answer_of_entries}
-use Rattle.agg_core.proofs.shares.rows_of_share.Goals as goal
+use Rattle.agg_core.proofs.group_rows.rows_of_range.Goals as goal
 
 pub sorted-requires-after_bounds : goal.sorted-requires-after_bounds
 sorted-requires-after_bounds g c κs within =
@@ -33,7 +33,7 @@ rows_of_groups-requires-clause-few g c κs within =
     length_permutation c.in_ok-entries.entries.items c.in_ok-entries-2.entries.items c.in_ok-entries-2.ensures.moved in
     let value = ap length c.deref.ensures.value in
     let same =
-    AllZip-long (IsNumberedItem (amount_at c.args.amount) (groups_of c.in_ok-grouped.grouped.groups.items))
+    AllZip-long (IsNumberedItem (amount_at c.args.asked.amount) (groups_of c.in_ok-grouped.grouped.groups.items))
     c.deref.result.now items c.in_ok-grouped.ensures.each in
     omega (arith, few, both, listed, moved, value, same)
 
@@ -44,8 +44,8 @@ returns g c =
     let groups = groups_of c.in_ok-grouped.grouped.groups.items in
     IfOk-weaker c.rows_of_groups.result _ _
     (λ answer made.
-    answer_of_entries c.args.measure (amount_at c.args.amount) c.args.place rows c.in_ok-entries.entries.items
+    answer_of_entries c.args.asked.measure (amount_at c.args.asked.amount) c.args.place rows c.in_ok-entries.entries.items
     c.in_ok-entries-2.entries.items items groups answer c.in_ok-entries.ensures c.in_ok-entries-2.ensures
-    (subst (λ l. AreItemsByGroup (amount_at c.args.amount) l items groups) c.deref.ensures.value c.in_ok-grouped.ensures)
+    (subst (λ l. AreItemsByGroup (amount_at c.args.asked.amount) l items groups) c.deref.ensures.value c.in_ok-grouped.ensures)
     made)
     c.rows_of_groups.ensures

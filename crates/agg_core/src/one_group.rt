@@ -1,0 +1,88 @@
+//! The rows of one group of all rows.
+
+ghost use Rattle.std.specs.Prelude.{◌≡◌, ◌≤◌, IfOk, None, length, map};
+ghost use Rattle.dip_core.specs.Item.{item_limit};
+ghost use Rattle.list_core.specs.Chunks.{all_in};
+ghost use Rattle.share_core.specs.Pieces.{piece};
+ghost use Rattle.agg_core.specs.Agg.{AreAggRows};
+ghost use Rattle.agg_core.specs.Entries.{amount_at, value_at_place};
+ghost use Rattle.agg_core.specs.Grouping.{amount_item};
+
+use crate::func::Asked;
+use crate::groups::amount_item;
+use crate::rows::{AggRows, AggShare};
+use dip_core::Item;
+use period_core::NoMemory;
+use round_core::plateaus_of;
+use row_core::Row;
+use share_core::{Range, Shares, piece, shared_out};
+use std::alloc::Global;
+use std::thread::Threads;
+use work_core::{Crew, Gate};
+
+/// Some rows as items of one class, with the numbers that they have at the place.
+fn items_of_piece(alloc: Global, rows: &[Row], amount: Option<u32>) -> Result<Vec<Item>, NoMemory>
+    ensures { IfOk result (λ items.
+        items.items ≡ map (amount_item (amount_at amount) 0) rows.now) }
+{
+    let mut items = Vec::with_capacity(alloc, rows.len())?;
+    for row in rows {
+        items.push(amount_item(row, amount, 0))?;
+    }
+    Ok(items)
+}
+
+/// The items of some lists in one of them, behind one another.
+fn in_one_list(alloc: Global, lists: Vec<Vec<Item>>) -> Result<Vec<Item>, NoMemory>
+    ensures { IfOk result (λ items. items.items ≡ all_in lists.items) }
+{
+    let mut items = Vec::new(alloc);
+    for mut list in lists {
+        if items.is_empty() {
+            items = list;
+        } else {
+            items.append(&mut list)?;
+        }
+    }
+    Ok(items)
+}
+
+/// Rows as items of one class, with the numbers that they have at the place. Workers share them out by their places.
+fn items_of_rows<R: Threads + Sync, G>(
+    crew: &Crew<'_, R, G>,
+    rows: &[Row],
+    amount: Option<u32>,
+) -> Result<Vec<Item>, NoMemory>
+    ensures { IfOk result (λ items.
+        items.items ≡ map (amount_item (amount_at amount) 0) rows.now) }
+{
+    let Crew { rt, alloc, .. } = *crew;
+    let shares = Shares::of(alloc, rows.len(), crew.workers, &|place: usize| place)?;
+    let lists = shared_out(
+        rt,
+        alloc,
+        &shares,
+        &|places: Range<usize>, _workers: u32| -> Result<Vec<Item>, NoMemory>
+            ensures { IfOk result (λ items. items.items
+                ≡ map (amount_item (amount_at amount) 0) (piece places rows.entry.now)) }
+        { items_of_piece(alloc, piece(places, rows), amount) },
+    )?;
+    in_one_list(alloc, lists)
+}
+
+/// The rows of one group of all rows.
+pub(crate) fn rows_of_one_group<R: Threads + Sync, G: Gate>(
+    crew: &Crew<'_, R, G>,
+    asked: Asked,
+    rows: &[Row],
+) -> Result<AggRows, NoMemory>
+    requires few { length rows.now ≤ item_limit }
+    ensures { IfOk result (λ answer.
+        AreAggRows asked.measure (amount_at asked.amount) (value_at_place None) rows.now answer) }
+{
+    let items = items_of_rows(crew, rows, asked.amount)?;
+    let plateaus = plateaus_of(crew, asked.measure, &items)?;
+    let mut groups = Vec::new(crew.alloc);
+    groups.push(None)?;
+    AggRows::of(crew.alloc, AggShare { groups, plateaus })
+}
