@@ -41,7 +41,8 @@ pub(crate) fn entries_of<'a>(
 ) -> Result<Vec<Entry<'a>>, NoMemory>
     requires { All (λ row. place < length row.values) rows.now }
     ensures { IfOk result (λ entries. AreEntries place
-        (rows_in_range (value_at_place (Some place)) range.entry.now rows.entry.now) entries.items) }
+        (rows_in_range (value_at_place (Some place)) range.entry.now rows.entry.now)
+        entries.items) }
 {
     let mut entries = Vec::with_capacity(alloc, room_for(range, rows.len()))?;
     for row in rows {

@@ -50,7 +50,8 @@ pub(crate) fn rows_by_group<R: Threads + Sync, G: Gate>(
     requires few { length rows.now ≤ item_limit }
     requires values { All (λ row. place < length row.values) rows.now }
     ensures { IfOk result (λ answer.
-        AreAggRows asked.measure (amount_at asked.amount) (value_at_place (Some place)) rows.now answer) }
+        AreAggRows asked.measure (amount_at asked.amount) (value_at_place (Some place))
+        rows.now answer) }
 {
     let Crew {
         rt,

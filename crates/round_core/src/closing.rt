@@ -93,7 +93,8 @@ pub(crate) fn plateaus_in(
 ) -> Result<Vec<Plateau>, NoMemory>
     requires ones { HaveNoNeighbours lists.items }
     requires rise { RisesFrom 0 lists.items }
-    ensures { IfOk result (λ plateaus. IsListOf PlateauBefore (IsPlateauOfSome measure lists.items) plateaus.items) }
+    ensures { IfOk result (λ plateaus.
+        IsListOf PlateauBefore (IsPlateauOfSome measure lists.items) plateaus.items) }
 {
     let mut lists = lists;
     let mut plateaus = Vec::new(alloc);

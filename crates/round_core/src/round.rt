@@ -32,7 +32,8 @@ pub(crate) struct Round {
 /// Takes the first list if it is of that class.
 fn take_neighbour(lists: &mut VecDeque<ClassSteps>, class: u64) -> Option<ClassSteps>
     ensures split { lists.old.items ≡ option_to_list result ++ lists.new.items }
-    ensures class { MatchOption result (StartsOtherwise class lists.new.items) (λ list. list.class ≡ class) }
+    ensures class { MatchOption result (StartsOtherwise class lists.new.items)
+        (λ list. list.class ≡ class) }
 {
     let first = lists.front()?;
     if first.class == class {
@@ -44,7 +45,8 @@ fn take_neighbour(lists: &mut VecDeque<ClassSteps>, class: u64) -> Option<ClassS
 
 /// Sorts the lists out, from the first on: two neighbours of one class go, and another list is put aside.
 pub(crate) fn sort_out(alloc: Global, lists: VecDeque<ClassSteps>) -> Result<Round, NoMemory>
-    ensures lists { IfOk result (λ round. sorted_lists round.slots.items round.twos.items ≡ lists.items) }
+    ensures lists { IfOk result (λ round.
+        sorted_lists round.slots.items round.twos.items ≡ lists.items) }
     ensures count { IfOk result (λ round. length round.twos.items ≡ twos_in round.slots.items * 2) }
     ensures done { IfOk result (λ round. round.twos.items ≡ [] → HaveNoNeighbours lists.items) }
 {

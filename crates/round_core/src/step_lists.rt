@@ -137,7 +137,8 @@ pub(crate) fn shared_lists<R: Threads + Sync, G>(
         &|range: Range<usize>, workers: u32| -> Result<VecDeque<ClassSteps>, NoMemory>
             requires { IsSync R.row × (length items.now ≤ item_limit)
                 × AllPairs (λ a b. a.class ≤ b.class) items.now }
-            ensures { IfOk result (λ lists. AreStepLists (piece range items.entry.now) lists.items) }
+            ensures { IfOk result (λ lists.
+                AreStepLists (piece range items.entry.now) lists.items) }
         { class_lists(rt, alloc, piece(range, items), workers) },
     )?;
     in_one(alloc, lists)
