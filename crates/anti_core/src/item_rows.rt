@@ -111,7 +111,7 @@ fn rows_of_piece<R: Threads + Sync, G: Gate>(
     requires ids { HasDistinctIds left.now }
     ensures { IfOk result (λ rows. AreItemsRows left.now (all_of rights.now) rows.items) }
 {
-    let lefts = divided(crew.rt, crew.alloc, left, crew.workers)?;
+    let lefts = divided(crew, left)?;
     rows_of_parts(crew, &GapPairs::new(&lefts, rights))
 }
 
@@ -126,6 +126,6 @@ pub(crate) fn rows_of_items<R: Threads + Sync, G: Gate>(
     requires ids { HasDistinctIds left.now }
     ensures { IfOk result (λ rows. AreItemsRows left.now right.now rows.items) }
 {
-    let rights = divided(crew.rt, crew.alloc, right, crew.workers)?;
+    let rights = divided(crew, right)?;
     rows_of_lefts(crew, left, &rights)
 }
