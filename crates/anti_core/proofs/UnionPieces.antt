@@ -1,13 +1,12 @@
 -- The unions of pieces of rows.
-use Rattle.std.proofs.Common.{◌≤◌, ◌∙◌, ℕ, List, ◌++◌, Option, Some, None, length, sym, subst, ap, arith, append-nil}
+use Rattle.std.proofs.Common.{◌∙◌, ℕ, List, ◌++◌, Some, None, sym, subst, ap, append-nil}
 use Rattle.std.specs.Global.{Vec}
 use Rattle.std.specs.Ordering.{nat_cmp}
-use Rattle.std.proofs.lemmas.List.{length-drop, length-take}
 use Rattle.std.proofs.lemmas.List.Elements.{filter-append}
 use Rattle.row_core.specs.declared.row.Row.{Row}
 use Rattle.dip_core.specs.declared.item.Item.{Item}
 use Rattle.list_core.specs.Chunks.{all_in}
-use Rattle.share_core.specs.Pieces.{piece, piece_before, piece_from}
+use Rattle.share_core.specs.Pieces.{piece}
 use Rattle.share_core.specs.Ranges.{has, range}
 use Rattle.share_core.specs.Shares.{GivesFrom}
 use Rattle.share_core.specs.declared.range.Range.{Range}
@@ -20,24 +19,7 @@ use Rattle.grid_core.specs.Bundles.{items_in}
 use Rattle.anti_core.specs.United.{IsUnion}
 use Rattle.anti_core.proofs.UnitedLemmas.{AreUnions, unions_both}
 
--- of fewer items a piece is no longer than the same piece of more
-before_fewer : {X Y : Type 0} (end : Option ℕ) (xs : List X) (ys : List Y) → length xs ≤ length ys
-    → length (piece_before end xs) ≤ length (piece_before end ys)
-before_fewer None xs ys fewer = fewer
-before_fewer (Some n) xs ys fewer = omega (arith, fewer, length-take n xs, length-take n ys)
-
-from_fewer : {X Y : Type 0} (start : Option ℕ) (xs : List X) (ys : List Y) → length xs ≤ length ys
-    → length (piece_from start xs) ≤ length (piece_from start ys)
-from_fewer None xs ys fewer = fewer
-from_fewer (Some n) xs ys fewer = omega (arith, fewer, length-drop n xs, length-drop n ys)
-
-pub piece_fewer : {X Y : Type 0} (places : Range ℕ) (xs : List X) (ys : List Y) → length xs ≤ length ys
-    → length (piece places xs) ≤ length (piece places ys)
-piece_fewer places xs ys fewer =
-    from_fewer places.from (piece_before places.before xs) (piece_before places.before ys)
-    (before_fewer places.before xs ys fewer)
-
--- what is told of an answer for a piece: the number of workers, its places when it is done, and what it gave
+-- what is told of an answer for a piece: the number of workers, the places when it is done, and what it gave
 abbrev GivenUnion : Range ℕ → List Row → List ℕ → Range ℕ → Vec Item → Type 0
 GivenUnion classed rows classes places union =
     ℕ × (Range ℕ × IsUnion (items_in_range classed (piece places rows) (piece places classes)) union.items)

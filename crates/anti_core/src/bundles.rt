@@ -3,20 +3,60 @@
 //! a bundle of several classes has few items.
 
 ghost use Rattle.std.specs.Prelude.{◌<◌, ◌≤◌, length, IfOk};
+ghost use Rattle.std.specs.Thread.{IsSync};
 ghost use Rattle.dip_core.specs.Item.{item_limit, HasDistinctIds};
-ghost use Rattle.grid_core.specs.Bundles.{ClassesRise};
+ghost use Rattle.grid_core.specs.Bundles.{ClassesRise, items_in};
+ghost use Rattle.work_core.specs.Limits.{worker_limit};
 ghost use Rattle.anti_core.specs.ItemAnti.{AreItemsRows};
 
 use crate::item_rows::rows_of_items;
+use crate::lists::in_one_list;
 use crate::rows::AntiRow;
 use dip_core::Item;
-use grid_core::{items_from, last_class, parted_behind};
+use grid_core::{class_shares, items_from, items_in, last_class, parted_behind};
 use period_core::NoMemory;
+use share_core::{Range, shared_out};
 use std::thread::Threads;
 use work_core::{Crew, Gate};
 
 /// Fewer items would be answered before another thread has started.
 const ITEMS_FOR_THREADS: usize = 16_384;
+
+/// The rows of all left items: where these are many and of several classes, some of the workers take a range of these.
+pub(crate) fn rows_by_class<R: Threads + Sync, G: Gate>(
+    crew: &Crew<'_, R, G>,
+    left: &[Item],
+    right: &[Item],
+) -> Result<Vec<AntiRow>, NoMemory>
+    requires left_few { length left.now ≤ item_limit }
+    requires right_few { length right.now ≤ item_limit }
+    requires left_rise { ClassesRise left.now }
+    requires right_rise { ClassesRise right.now }
+    requires ids { HasDistinctIds left.now }
+    ensures { IfOk result (λ rows. AreItemsRows left.now right.now rows.items) }
+{
+    let (rt, alloc, gate) = (crew.rt, crew.alloc, crew.gate);
+    let shares = class_shares(alloc, left, right, crew.workers)?;
+    if shares.len() == 1 {
+        return rows_of_bundles(crew, left, right);
+    }
+    let lists = shared_out(
+        rt,
+        alloc,
+        &shares,
+        &|classes: Range<u64>, workers: u32| -> Result<Vec<AntiRow>, NoMemory>
+            requires { IsSync R.row × IsSync G.row × (0 < workers) × (workers ≤ worker_limit)
+                × (length left.now ≤ item_limit) × (length right.now ≤ item_limit)
+                × ClassesRise left.now × ClassesRise right.now × HasDistinctIds left.now }
+            ensures { IfOk result (λ rows. AreItemsRows
+                (items_in classes left.entry.now) (items_in classes right.entry.now) rows.items) }
+        {
+            let crew = Crew::new(rt, alloc, workers, gate);
+            rows_of_bundles(&crew, items_in(classes, left), items_in(classes, right))
+        },
+    )?;
+    in_one_list(alloc, lists)
+}
 
 /// How many workers find the rows of a bundle: one where it is small, and isn't all that there is.
 fn workers_for(bundle: &[Item], all: &[Item], workers: u32) -> u32
@@ -31,7 +71,7 @@ fn workers_for(bundle: &[Item], all: &[Item], workers: u32) -> u32
 }
 
 /// The rows of all left items, which are found bundle by bundle.
-pub(crate) fn rows_of_bundles<R: Threads + Sync, G: Gate>(
+fn rows_of_bundles<R: Threads + Sync, G: Gate>(
     crew: &Crew<'_, R, G>,
     left: &[Item],
     right: &[Item],

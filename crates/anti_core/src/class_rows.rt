@@ -1,7 +1,7 @@
-//! The rows of both sides by their classes: some of the workers take a range of the classes, and pick its rows out before
-//! they make them items.
+//! The rows of both sides by their classes: some of the workers take a range of these, and pick its rows out before they
+//! make them items.
 
-ghost use Rattle.std.specs.Prelude.{◌<◌, ◌≤◌, IfOk};
+ghost use Rattle.std.specs.Prelude.{◌+◌, ◌<◌, ◌≤◌, length, IfOk};
 ghost use Rattle.std.specs.Thread.{IsSync};
 ghost use Rattle.dip_core.specs.Item.{HasDistinctIds};
 ghost use Rattle.list_core.specs.Chunks.{all_in};
@@ -9,7 +9,7 @@ ghost use Rattle.match_core.specs.Items.{items_in_range, items_with};
 ghost use Rattle.work_core.specs.Limits.{worker_limit};
 ghost use Rattle.anti_core.specs.ItemAnti.{AreItemsRows, IsItemsAnti};
 
-use crate::bundles::rows_of_bundles;
+use crate::bundles::rows_by_class;
 use crate::classed_rows::ClassedRows;
 use crate::ordering::ordered;
 use crate::rows::{AntiRow, AntiRows};
@@ -34,7 +34,8 @@ pub(crate) fn anti_sides<R: Threads + Sync, G: Gate>(
     ordered(crew, lists, left.rows)
 }
 
-/// The rows of all left items, in a list for each range of the classes. These are cut by the side that has more rows.
+/// The rows of all left items, in a list for each range of the classes. These are cut so that each worker has about as
+/// many rows of both sides.
 fn rows_of_sides<R: Threads + Sync, G: Gate>(
     crew: &Crew<'_, R, G>,
     left: &ClassedRows<'_>,
@@ -44,13 +45,14 @@ fn rows_of_sides<R: Threads + Sync, G: Gate>(
     ensures { IfOk result (λ lists. AreItemsRows (items_with left.now.rows.now left.now.classes.now)
         (items_with right.now.rows.now right.now.classes.now) (all_in lists.items)) }
 {
-    let classes = if left.rows.len() < right.rows.len() {
-        right.classes
-    } else {
-        left.classes
-    };
     let (rt, alloc, gate) = (crew.rt, crew.alloc, crew.gate);
-    let shares = Shares::of(alloc, classes.len(), crew.workers, &|i: usize| classes[i])?;
+    let count = left.rows.len() + right.rows.len();
+    let shares = Shares::of(
+        alloc,
+        count,
+        crew.workers,
+        &|i: usize| class_at(left, right, i),
+    )?;
     shared_out(
         rt,
         alloc,
@@ -69,6 +71,18 @@ fn rows_of_sides<R: Threads + Sync, G: Gate>(
     )
 }
 
+/// The class of a row: those of the left ones come first.
+fn class_at(left: &ClassedRows<'_>, right: &ClassedRows<'_>, i: usize) -> u64
+    requires { i < length left.now.rows.now + length right.now.rows.now }
+{
+    let lefts = left.rows.len();
+    if i < lefts {
+        left.classes[i]
+    } else {
+        right.classes[i - lefts]
+    }
+}
+
 /// The rows of the left items in a range of the classes.
 fn rows_of_range<R: Threads + Sync, G: Gate>(
     crew: &Crew<'_, R, G>,
@@ -82,5 +96,5 @@ fn rows_of_range<R: Threads + Sync, G: Gate>(
         (items_in_range range right.now.rows.now right.now.classes.now) rows.items) }
 {
     let (lefts, united) = items_of_sides(crew, left, right, range)?;
-    rows_of_bundles(crew, &lefts, &united)
+    rows_by_class(crew, &lefts, &united)
 }

@@ -98,7 +98,7 @@ fn rows_of_lefts<R: Threads + Sync, G: Gate>(
             rows_of_piece(&crew, piece(places, left), rights)
         },
     )?;
-    Ok(in_one_list(alloc, lists)?)
+    in_one_list(alloc, lists)
 }
 
 /// The rows of a piece of the left items, which is divided.

@@ -41,9 +41,8 @@ pub(crate) fn united_rows<R: Threads + Sync>(
         &shares,
         &|places: Range<usize>, _workers: u32| -> Result<Vec<Item>, NoMemory>
             requires { length rows.now ≤ length classes.now }
-            ensures { IfOk result (λ united. IsUnion
-                (items_in_range range (piece places rows.entry.now) (piece places classes.entry.now))
-                united.items) }
+            ensures { IfOk result (λ united. IsUnion (items_in_range range
+                (piece places rows.entry.now) (piece places classes.entry.now)) united.items) }
         { united_piece(alloc, piece(places, rows), piece(places, classes), range) },
     )?;
     united_again(alloc, unions)

@@ -20,8 +20,8 @@ moved : (g : Over) (c : After-deref-2 g)
     → IsPermutation (items_in_range c.args.range c.args.left.now.rows.now c.args.left.now.classes.now) c.deref.result.now
 moved g c = rw c.deref.ensures.value c.in_ok-lefts.ensures.permutation
 
-pub rows_of_bundles-requires-clause-left_few : goal.rows_of_bundles-requires-clause-left_few
-rows_of_bundles-requires-clause-left_few g c = λ κs outlives.
+pub rows_by_class-requires-clause-left_few : goal.rows_by_class-requires-clause-left_few
+rows_by_class-requires-clause-left_few g c = λ κs outlives.
     (let rows = c.args.left.now.rows.now in
     let classes = c.args.left.now.classes.now in
     let few : length rows ≤ item_limit = c.args.left.now.few in
@@ -30,8 +30,8 @@ rows_of_bundles-requires-clause-left_few g c = λ κs outlives.
     let same = length_permutation (items_in_range c.args.range rows classes) c.deref.result.now (moved g c) in
     omega (arith, few, all, some, same))
 
-pub rows_of_bundles-requires-clause-right_few : goal.rows_of_bundles-requires-clause-right_few
-rows_of_bundles-requires-clause-right_few g c = λ κs outlives.
+pub rows_by_class-requires-clause-right_few : goal.rows_by_class-requires-clause-right_few
+rows_by_class-requires-clause-right_few g c = λ κs outlives.
     (let rows = c.args.right.now.rows.now in
     let classes = c.args.right.now.classes.now in
     let few : length rows ≤ item_limit = c.args.right.now.few in
@@ -41,12 +41,12 @@ rows_of_bundles-requires-clause-right_few g c = λ κs outlives.
     rw c.deref-2.ensures.value c.in_ok-lefts.ensures.union.fewer in
     omega (arith, few, all, some, fewer))
 
-pub rows_of_bundles-requires-clause-right_rise : goal.rows_of_bundles-requires-clause-right_rise
-rows_of_bundles-requires-clause-right_rise g c = λ κs outlives.
+pub rows_by_class-requires-clause-right_rise : goal.rows_by_class-requires-clause-right_rise
+rows_by_class-requires-clause-right_rise g c = λ κs outlives.
     rw c.deref-2.ensures.value (united-rise c.in_ok-lefts.united.items c.in_ok-lefts.ensures.union.all.ordered)
 
-pub rows_of_bundles-requires-clause-ids : goal.rows_of_bundles-requires-clause-ids
-rows_of_bundles-requires-clause-ids g c = λ κs outlives.
+pub rows_by_class-requires-clause-ids : goal.rows_by_class-requires-clause-ids
+rows_by_class-requires-clause-ids g c = λ κs outlives.
     HasDistinctIds-permutation (items_in_range c.args.range c.args.left.now.rows.now c.args.left.now.classes.now)
     c.deref.result.now (moved g c)
     (in-distinct c.args.range (items_with c.args.left.now.rows.now c.args.left.now.classes.now) c.requires.ids)
@@ -57,10 +57,10 @@ returns g c =
     let right = items_in_range c.args.range c.args.right.now.rows.now c.args.right.now.classes.now in
     let lefts = c.deref.result.now in
     let united = c.deref-2.result.now in
-    IfOk-weaker c.rows_of_bundles.result _ _
+    IfOk-weaker c.rows_by_class.result _ _
     (λ found rows.
     rows-alike (λ (a b : AntiRow). a ≢ b) left right united found.items
     (rw c.deref-2.ensures.value c.in_ok-lefts.ensures.union.alike)
     (rows-permutation left lefts united united (rw c.deref.ensures.value c.in_ok-lefts.ensures.permutation)
     (IsPermutation-refl united) (λ (a b : AntiRow). a ≢ b) found.items rows))
-    c.rows_of_bundles.ensures
+    c.rows_by_class.ensures
