@@ -27,6 +27,7 @@ use std::alloc::{AllocError, Global};
 use std::sync::Wait;
 use std::thread::Threads;
 use store_core::{Future, Snapshot};
+use work_core::{Crew, OpenGate};
 
 /// What a query is answered from and by: threads, memory, what all commits show, and how many workers run it.
 #[derive(Drop)]
@@ -74,6 +75,7 @@ pub(crate) fn query<T: Threads + Sync>(
         newest,
         workers,
     } = *context;
+    let crew = Crew::new(rt, alloc, workers, &OpenGate);
     match command {
         Command::Refused(fault) => Ok(Answer::Refused(fault)),
         Command::Rows { table, asof } => {
@@ -88,19 +90,19 @@ pub(crate) fn query<T: Threads + Sync>(
         Command::FromTo { table, first, end } => from_to(newest, number, table, first, end),
         Command::Dip { table, asof } => {
             let shown = shown_asof(newest, number, asof)?;
-            divide(rt, alloc, &shown, number, table, workers)
+            divide(&crew, &shown, number, table)
         }
         Command::Join { tables, asof } => {
             let shown = shown_asof(newest, number, asof)?;
-            join_tables(rt, alloc, &shown, number, tables, workers)
+            join_tables(&crew, &shown, number, tables)
         }
         Command::Anti { tables, asof } => {
             let shown = shown_asof(newest, number, asof)?;
-            anti_tables(rt, alloc, &shown, number, tables, workers)
+            anti_tables(&crew, &shown, number, tables)
         }
         Command::Agg { aggregate, asof } => {
             let shown = shown_asof(newest, number, asof)?;
-            agg_table(rt, alloc, &shown, number, aggregate, workers)
+            agg_table(&crew, &shown, number, aggregate)
         }
         Command::Check {
             table,
@@ -119,20 +121,23 @@ pub(crate) fn query<T: Threads + Sync>(
 
 /// Does a command, whose first record has this number.
 pub(crate) fn perform<T: Threads + Wait + Sync>(
-    rt: &T,
-    alloc: Global,
+    crew: &Crew<'_, T, OpenGate>,
     ledger: &mut Ledger,
     number: u64,
     command: Command<'_>,
-    workers: u32,
 ) -> Result<Answer, Failure>
     requires numbers { number + behind_length (meaning_of command) < 2 ^ 64 }
-    requires workers { (0 < workers) × (workers ≤ worker_limit) }
     requires left { 2 ≤ left_in ledger.old }
     ensures performs { Performs (ledger_history ledger.old) number (meaning_of command.entry) result
         (ledger_history ledger.new) }
     ensures left { left_in ledger.old ≤ left_in ledger.new + 2 }
 {
+    let Crew {
+        rt,
+        alloc,
+        workers,
+        ..
+    } = *crew;
     match command {
         Command::Make { table, schema } => make(rt, ledger, number, table, schema),
         Command::Load { table, body } => load(rt, alloc, ledger, number, table, body),
@@ -222,16 +227,13 @@ pub(crate) fn answer_query<T: Threads + Sync>(
 /// Does a command, whose first record has this number, and prints its answer; tells how many records of it tell of a
 /// refusal.
 pub(crate) fn answer_command<T: Threads + Wait + Sync>(
-    rt: &T,
-    alloc: Global,
+    crew: &Crew<'_, T, OpenGate>,
     ledger: &mut Ledger,
     number: u64,
     command: Command<'_>,
-    workers: u32,
     printer: &mut AnswerWriter,
 ) -> Result<u64, NoMemory>
     requires numbers { number + behind_length (meaning_of command) < 2 ^ 64 }
-    requires workers { (0 < workers) × (workers ≤ worker_limit) }
     requires begins { printer.old.fields ≡ [] }
     requires left { 2 ≤ left_in ledger.old }
     ensures printed { IfOk result (PrintsOne (ledger_history ledger.old) number (meaning_of command.entry)
@@ -240,6 +242,6 @@ pub(crate) fn answer_command<T: Threads + Wait + Sync>(
     ensures few { IfOk result (λ errors. errors ≤ 1) }
     ensures left { left_in ledger.old ≤ left_in ledger.new + 2 }
 {
-    let answer = answer_of(perform(rt, alloc, ledger, number, command, workers));
+    let answer = answer_of(perform(crew, ledger, number, command));
     print_given(printer, answer)
 }

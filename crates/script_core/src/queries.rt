@@ -32,7 +32,7 @@ use row_core::{Name, RowList, Schema};
 use std::alloc::Global;
 use std::thread::{self, Threads};
 use store_core::Snapshot;
-use work_core::OpenGate;
+use work_core::{Crew, OpenGate};
 
 /// What a snapshot shows of a table: its columns and its rows.
 type Shown<'a> = (&'a Schema, RowList);
@@ -53,22 +53,21 @@ fn shown_table(snapshot: &Snapshot, number: u64, table: Name) -> Result<Shown<'_
 
 /// Both tables that the command of this number compares. Two workers and more read them on two threads.
 fn shown_tables<'a, T: Threads + Sync>(
-    rt: &T,
+    crew: &Crew<'_, T, OpenGate>,
     snapshot: &'a Snapshot,
     number: u64,
     left: Name,
     right: Name,
-    workers: u32,
 ) -> (Result<Shown<'a>, Failure>, Result<Shown<'a>, Failure>)
     ensures left { IsShown number (history snapshot.now) (commit_shown snapshot.now) left result.0 }
     ensures right { IsShown number (history snapshot.now) (commit_shown snapshot.now) right result.1 }
 {
-    if workers < 2 {
+    if crew.workers < 2 {
         let left = shown_table(snapshot, number, left);
         return (left, shown_table(snapshot, number, right));
     }
     thread::join(
-        rt,
+        crew.rt,
         || -> Result<Shown<'_>, Failure>
             ensures { IsShown number (history snapshot.entry.now) (commit_shown snapshot.entry.now) left result }
         { shown_table(snapshot, number, left) },
@@ -89,12 +88,11 @@ struct BothTables<'a> {
 
 /// Both tables that the command of this number compares, where both are there.
 fn both_tables<'a, T: Threads + Sync>(
-    rt: &T,
+    crew: &Crew<'_, T, OpenGate>,
     snapshot: &'a Snapshot,
     number: u64,
     left: Name,
     right: Name,
-    workers: u32,
 ) -> Result<BothTables<'a>, Failure>
     ensures left { IfOk result (λ both. IsShown number (history snapshot.now) (commit_shown snapshot.now) left
         (Ok (both.left_columns, both.left))) }
@@ -102,7 +100,7 @@ fn both_tables<'a, T: Threads + Sync>(
         (Ok (both.right_columns, both.right))) }
     ensures fails { IfErr result (FailsToCompare number (history snapshot.now) (commit_shown snapshot.now) left right) }
 {
-    let (left, right) = shown_tables(rt, snapshot, number, left, right, workers);
+    let (left, right) = shown_tables(crew, snapshot, number, left, right);
     let (left_columns, left) = left?;
     let (right_columns, right) = right?;
     Ok(BothTables {
@@ -140,12 +138,10 @@ pub(crate) fn rows_on(
 
 /// The division of a table's rows.
 pub(crate) fn divide<T: Threads + Sync>(
-    rt: &T,
-    alloc: Global,
+    crew: &Crew<'_, T, OpenGate>,
     snapshot: &Snapshot,
     number: u64,
     table: Name,
-    workers: u32,
 ) -> Result<Answer, Failure>
     ensures { Gives (rows_told number (history snapshot.now) (commit_shown snapshot.now) table)
         (λ rows answer. IsDipOf (items_of rows) answer) result }
@@ -157,31 +153,28 @@ pub(crate) fn divide<T: Threads + Sync>(
     };
     Ok(Answer::Division {
         rows: rows.len(),
-        division: dip(rt, alloc, side, workers)?,
+        division: dip(crew.rt, crew.alloc, side, crew.workers)?,
     })
 }
 
 /// The rows of two tables that are equal in each pair of columns and held together, by so many workers.
 pub(crate) fn join_tables<T: Threads + Sync>(
-    rt: &T,
-    alloc: Global,
+    crew: &Crew<'_, T, OpenGate>,
     snapshot: &Snapshot,
     number: u64,
     tables: TwoTables<'_>,
-    workers: u32,
 ) -> Result<Answer, Failure>
-    requires { (0 < workers) × (workers ≤ worker_limit) }
     ensures { Gives (sides_told number (history snapshot.now) (commit_shown snapshot.now)
         (compared_in tables.entry))
         (λ sides. IsJoinOf sides.0 sides.1 (name_pairs_in tables.entry.on)) result }
 {
-    let on = name_pairs(alloc, tables.on)?;
+    let on = name_pairs(crew.alloc, tables.on)?;
     let BothTables {
         left_columns,
         left,
         right_columns,
         right,
-    } = both_tables(rt, snapshot, number, tables.left, tables.right, workers)?;
+    } = both_tables(crew, snapshot, number, tables.left, tables.right)?;
     let left_side = Side {
         schema: left_columns,
         rows: &left,
@@ -190,7 +183,13 @@ pub(crate) fn join_tables<T: Threads + Sync>(
         schema: right_columns,
         rows: &right,
     };
-    match join(rt, alloc, left_side, right_side, &on, workers, &OpenGate) {
+    let Crew {
+        rt,
+        alloc,
+        workers,
+        gate,
+    } = *crew;
+    match join(rt, alloc, left_side, right_side, &on, workers, gate) {
         Ok(found) => Ok(Answer::Join(Joined::new(left, right, found.rows))),
         Err(why) => Err(failure_at(number, why)),
     }
@@ -199,25 +198,22 @@ pub(crate) fn join_tables<T: Threads + Sync>(
 /// When the rows of a table hold and no row of another does that is equal to them in each pair of columns, by so
 /// many workers.
 pub(crate) fn anti_tables<T: Threads + Sync>(
-    rt: &T,
-    alloc: Global,
+    crew: &Crew<'_, T, OpenGate>,
     snapshot: &Snapshot,
     number: u64,
     tables: TwoTables<'_>,
-    workers: u32,
 ) -> Result<Answer, Failure>
-    requires { (0 < workers) × (workers ≤ worker_limit) }
     ensures { Gives (sides_told number (history snapshot.now) (commit_shown snapshot.now)
         (compared_in tables.entry))
         (λ sides. IsAntiOf sides.0 sides.1 (name_pairs_in tables.entry.on)) result }
 {
-    let on = name_pairs(alloc, tables.on)?;
+    let on = name_pairs(crew.alloc, tables.on)?;
     let BothTables {
         left_columns,
         left,
         right_columns,
         right,
-    } = both_tables(rt, snapshot, number, tables.left, tables.right, workers)?;
+    } = both_tables(crew, snapshot, number, tables.left, tables.right)?;
     let left_side = Side {
         schema: left_columns,
         rows: &left,
@@ -226,7 +222,13 @@ pub(crate) fn anti_tables<T: Threads + Sync>(
         schema: right_columns,
         rows: &right,
     };
-    match anti(rt, alloc, left_side, right_side, &on, workers, &OpenGate) {
+    let Crew {
+        rt,
+        alloc,
+        workers,
+        gate,
+    } = *crew;
+    match anti(rt, alloc, left_side, right_side, &on, workers, gate) {
         Ok(rows) => Ok(Answer::Anti(Unmatched::new(left, rows))),
         Err(why) => Err(failure_at(number, why)),
     }
@@ -234,14 +236,11 @@ pub(crate) fn anti_tables<T: Threads + Sync>(
 
 /// What the rows of a table come to, group by group, by so many workers.
 pub(crate) fn agg_table<T: Threads + Sync>(
-    rt: &T,
-    alloc: Global,
+    crew: &Crew<'_, T, OpenGate>,
     snapshot: &Snapshot,
     number: u64,
     aggregate: Aggregate,
-    workers: u32,
 ) -> Result<Answer, Failure>
-    requires { (0 < workers) × (workers ≤ worker_limit) }
     ensures { Gives (aggregated_told number (history snapshot.now) (commit_shown snapshot.now) aggregate)
         (λ table. IsAggOf table aggregate) result }
 {
@@ -251,7 +250,13 @@ pub(crate) fn agg_table<T: Threads + Sync>(
         schema,
         rows: &rows,
     };
-    match agg(rt, alloc, side, func, aggregate.by, workers, &OpenGate) {
+    let Crew {
+        rt,
+        alloc,
+        workers,
+        gate,
+    } = *crew;
+    match agg(rt, alloc, side, func, aggregate.by, workers, gate) {
         Ok(rows) => Ok(Answer::Agg(rows)),
         Err(why) => Err(failure_at(number, why)),
     }

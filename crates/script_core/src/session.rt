@@ -26,21 +26,19 @@ use std::io::{Read, Write};
 use std::sync::Wait;
 use std::thread::Threads;
 use stream_core::{Counted, Patience, RunFault, read_script};
+use work_core::{Crew, OpenGate};
 
 /// Does a statement, whose first record has this number, and prints its answer; tells how many commands there are in
 /// it, and how many records of the answer tell of a refusal.
 fn answer_statement<T: Threads + Wait + Sync>(
-    rt: &T,
-    alloc: Global,
+    crew: &Crew<'_, T, OpenGate>,
     ledger: &mut Ledger,
     number: u64,
     statement: Statement<'_>,
-    workers: u32,
     printer: &mut AnswerWriter,
 ) -> Result<Outcome, NoMemory>
     requires stands { (meant : said.Statement) × StandsFor number statement meant }
     requires numbers { number + behind_of statement < 2 ^ 64 }
-    requires workers { (0 < workers) × (workers ≤ worker_limit) }
     requires begins { printer.old.fields ≡ [] }
     requires left { 2 ≤ left_in ledger.old }
     ensures printed { IfOk result (λ told. (meant : said.Statement) → StandsFor number statement.entry meant
@@ -51,31 +49,26 @@ fn answer_statement<T: Threads + Wait + Sync>(
 {
     match statement {
         Statement::One(command) => {
-            let errors = answer_command(rt, alloc, ledger, number, command, workers, printer)?;
+            let errors = answer_command(crew, ledger, number, command, printer)?;
             Ok(Outcome {
                 commands: 1,
                 errors,
             })
         }
-        Statement::Together(body) => {
-            answer_together(rt, alloc, ledger, number, body, workers, printer)
-        }
+        Statement::Together(body) => { answer_together(crew, ledger, number, body, printer) }
     }
 }
 
 /// Answers the statement that begins at a place, and prints its answer; tells what of it is told, and how many records
 /// it takes.
 fn answer_next<T: Threads + Wait + Sync>(
-    rt: &T,
-    alloc: Global,
+    crew: &Crew<'_, T, OpenGate>,
     ledger: &mut Ledger,
     lines: Lines<'_>,
     at: usize,
-    workers: u32,
     printer: &mut AnswerWriter,
 ) -> Result<(Outcome, usize), NoMemory>
     requires below { at < length (lines_in lines) }
-    requires workers { (0 < workers) × (workers ≤ worker_limit) }
     requires begins { printer.old.fields ≡ [] }
     requires left { 2 ≤ left_in ledger.old }
     ensures printed { IfOk result (λ told. PrintsNext (drop at (lines_in lines.entry)) (at + 1)
@@ -86,23 +79,20 @@ fn answer_next<T: Threads + Wait + Sync>(
 {
     let number = at as u64 + 1;
     let rest = lines.range(at, lines.len());
-    let StatementCut { statement, taken } = next_statement(alloc, rest, number)?;
-    let told = answer_statement(rt, alloc, ledger, number, statement, workers, printer)?;
+    let StatementCut { statement, taken } = next_statement(crew.alloc, rest, number)?;
+    let told = answer_statement(crew, ledger, number, statement, printer)?;
     Ok((told, taken))
 }
 
 /// Answers the statements of some records, and writes each answer whole. The printer is empty.
 fn answer_each<T: Threads + Wait + Sync, W: Write>(
-    rt: &T,
-    alloc: Global,
+    crew: &Crew<'_, T, OpenGate>,
     ledger: &mut Ledger,
     records: &Records,
-    workers: u32,
     printer: &mut AnswerWriter,
     writer: &mut Counted<W>,
     patience: &mut Patience,
 ) -> Result<Outcome, RunFault>
-    requires workers { (0 < workers) × (workers ≤ worker_limit) }
     requires begun { ledger_history ledger.old ≡ [] }
     requires empty { printer.old ≡ nothing }
     requires left { 2 * length records.now ≤ left_in ledger.old }
@@ -120,7 +110,7 @@ fn answer_each<T: Threads + Wait + Sync, W: Write>(
     };
     let mut at = 0;
     while at < lines.len() {
-        let (told, taken) = answer_next(rt, alloc, ledger, lines, at, workers, printer)?;
+        let (told, taken) = answer_next(crew, ledger, lines, at, printer)?;
         printer.write_to(writer, patience)?;
         outcome.commands += told.commands;
         outcome.errors += told.errors;
@@ -131,15 +121,12 @@ fn answer_each<T: Threads + Wait + Sync, W: Write>(
 
 /// Answers the statements of some records, the first of them on an empty ledger, and writes each answer whole.
 fn answer_all<T: Threads + Wait + Sync, W: Write>(
-    rt: &T,
-    alloc: Global,
+    crew: &Crew<'_, T, OpenGate>,
     mut ledger: Ledger,
     records: &Records,
-    workers: u32,
     writer: &mut Counted<W>,
     patience: &mut Patience,
 ) -> Result<Outcome, RunFault>
-    requires workers { (0 < workers) × (workers ≤ worker_limit) }
     requires begun { ledger_history ledger ≡ [] }
     requires left { 2 * length records.now ≤ left_in ledger }
     ensures ok { IfOk result (AnswersAll records.now (sink_of W.contents writer.old) (sink_of W.contents writer.new)) }
@@ -149,17 +136,8 @@ fn answer_all<T: Threads + Wait + Sync, W: Write>(
     ensures tries { failures_of writer.new + patience.new.left
         ≤ failures_of writer.old + patience.old.left + last_failures result }
 {
-    let mut printer = AnswerWriter::new(alloc);
-    answer_each(
-        rt,
-        alloc,
-        &mut ledger,
-        records,
-        workers,
-        &mut printer,
-        writer,
-        patience,
-    )
+    let mut printer = AnswerWriter::new(crew.alloc);
+    answer_each(crew, &mut ledger, records, &mut printer, writer, patience)
 }
 
 /// Reads a script whole, answers its statements in order, each a command or a block of commands, and writes each
@@ -221,5 +199,6 @@ pub fn run<T: Threads + Wait + Sync, R: Read, W: Write>(
         let script = read_script(alloc, reader, &mut patience)?;
         read_records(alloc, script.as_slice())?
     };
-    answer_all(rt, alloc, ledger, &records, workers, writer, &mut patience)
+    let crew = Crew::new(rt, alloc, workers, &OpenGate);
+    answer_all(&crew, ledger, &records, writer, &mut patience)
 }

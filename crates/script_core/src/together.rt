@@ -23,6 +23,7 @@ use row_core::Name;
 use std::alloc::Global;
 use std::sync::Wait;
 use std::thread::{Threads, join_mut};
+use work_core::{Crew, OpenGate};
 
 /// Some whole commands of a block, one after another: their records, and the number of the first of these.
 #[derive(Clone, Copy)]
@@ -295,17 +296,14 @@ fn answer_commands<T: Threads + Wait + Sync>(
 /// Answers a block of commands, whose first record has this number: each query from what all commits
 /// showed at its beginning.
 pub(crate) fn answer_together<T: Threads + Wait + Sync>(
-    rt: &T,
-    alloc: Global,
+    crew: &Crew<'_, T, OpenGate>,
     ledger: &mut Ledger,
     number: u64,
     body: Lines<'_>,
-    workers: u32,
     printer: &mut AnswerWriter,
 ) -> Result<Outcome, NoMemory>
     requires whole { (members : List Member) × AreMembers (number + 1) (lines_in body) members }
     requires numbers { number + 1 + length (lines_in body) < 2 ^ 64 }
-    requires workers { (0 < workers) × (workers ≤ worker_limit) }
     requires begins { printer.old.fields ≡ [] }
     requires left { 2 ≤ left_in ledger.old }
     ensures printed { IfOk result (λ told. (members : List Member)
@@ -316,17 +314,17 @@ pub(crate) fn answer_together<T: Threads + Wait + Sync>(
     ensures few { IfOk result (λ told. told.errors ≤ told.commands) }
     ensures left { left_in ledger.old ≤ left_in ledger.new + 2 }
 {
-    let newest = ledger.newest(rt)?;
+    let newest = ledger.newest(crew.rt)?;
     printer.together(newest.number())?;
     let block = Section {
         lines: body,
         first: number + 1,
     };
     let context = QueryContext {
-        rt,
-        alloc,
+        rt: crew.rt,
+        alloc: crew.alloc,
         newest: &newest,
-        workers,
+        workers: crew.workers,
     };
     let told = answer_commands(&context, ledger, block, printer)?;
     Ok(Outcome {
