@@ -40,7 +40,8 @@ pub enum Answer {
 impl Answer {
     /// How many of its records tell of a refusal: one where it is one, else none.
     pub fn refusals(&self) -> u64
-        ensures told { (records : List Record) → IsPrintedAs self.now records → errors_in records ≡ result }
+        ensures told { (records : List Record) → IsPrintedAs self.now records
+            → errors_in records ≡ result }
         ensures few { result ≤ 1 }
     {
         match self {

@@ -26,7 +26,8 @@ struct KeptFields {
 /// Adds a field of bytes that call for no quotes.
 fn push_plain(records: &mut Vec<u8>, field: &[u8]) -> Result<(), NoMemory>
     requires { All (λ b. 45 ≤ b) field.now }
-    ensures { OnOk result (records.new.items ≡ records.old.items ++ fields_text answer_writer (field.now ∷ [])) }
+    ensures { OnOk result
+        (records.new.items ≡ records.old.items ++ fields_text answer_writer (field.now ∷ [])) }
 {
     records.push(b',')?;
     records.extend_from_slice(field)?;
@@ -35,7 +36,8 @@ fn push_plain(records: &mut Vec<u8>, field: &[u8]) -> Result<(), NoMemory>
 
 /// Adds a number.
 fn push_number(records: &mut Vec<u8>, number: u64) -> Result<(), NoMemory>
-    ensures { OnOk result (records.new.items ≡ records.old.items ++ fields_text answer_writer (decimal number ∷ [])) }
+    ensures { OnOk result
+        (records.new.items ≡ records.old.items ++ fields_text answer_writer (decimal number ∷ [])) }
 {
     let mut digits = Buffer::new();
     push_plain(records, digits.format(number).as_bytes())
@@ -48,7 +50,8 @@ fn push_front(
     to: &mut KeptText,
     row: &JoinRow,
 ) -> Result<(), NoMemory>
-    ensures { OnOk result (records.new.items ≡ records.old.items ++ row_body answer_writer (join_front row.now)) }
+    ensures { OnOk result
+        (records.new.items ≡ records.old.items ++ row_body answer_writer (join_front row.now)) }
 {
     records.extend_from_slice(b"row")?;
     push_plain(records, from.text_of(row.period.from)?)?;
@@ -68,7 +71,8 @@ fn push_values_of(
     requires { IsBegun writer.old }
     ensures begun { OnOk result (IsBegun writer.new) }
     ensures text { OnOk result (records.new.items
-        ≡ records.old.items ++ fields_text answer_writer (map value_text (values_with rows.now id))) }
+        ≡ records.old.items ++ fields_text answer_writer
+        (map value_text (values_with rows.now id))) }
 {
     let found = rows.of(id);
     if found.is_empty() {

@@ -22,7 +22,8 @@ impl Model for KeptText {
 
     ghost view = { λ kept. kept.point };
 
-    ghost invariant = { λ kept. (point : ℤ) → kept.point ≡ Some point → kept.text.items ≡ point_text point };
+    ghost invariant = { λ kept. (point : ℤ) → kept.point ≡ Some point
+        → kept.text.items ≡ point_text point };
 }
 
 impl KeptText {

@@ -20,7 +20,8 @@ impl AnswerWriter {
     pub fn print(&mut self, answer: &Answer) -> Result<(), NoMemory>
         requires { self.old.fields ≡ [] }
         ensures ok { OnOk result
-            ((records : List Record) × IsPrintedAs answer.now records × Adds self.old self.new records) }
+            ((records : List Record) × IsPrintedAs answer.now records
+            × Adds self.old self.new records) }
         ensures err { OnErr result (self.new ≡ nothing) }
     {
         let printed = self.print_records(answer);
@@ -57,7 +58,8 @@ impl AnswerWriter {
     fn print_records(&mut self, answer: &Answer) -> Result<(), NoMemory>
         requires { self.old.fields ≡ [] }
         ensures { OnOk result
-            ((records : List Record) × IsPrintedAs answer.now records × Adds self.old self.new records) }
+            ((records : List Record) × IsPrintedAs answer.now records
+            × Adds self.old self.new records) }
     {
         match answer {
             Answer::Refused(fault) => self.refuse(*fault),
@@ -167,7 +169,8 @@ impl AnswerWriter {
     }
 
     fn system_end(&mut self, end: Option<u64>) -> Result<(), NoMemory>
-        ensures { OnOk result (self.new ≡ record self.old { fields = self.old.fields ++ end_text end ∷ [] }) }
+        ensures { OnOk result
+            (self.new ≡ record self.old { fields = self.old.fields ++ end_text end ∷ [] }) }
     {
         match end {
             Some(commit) => self.number(commit),
@@ -176,7 +179,8 @@ impl AnswerWriter {
     }
 
     pub(crate) fn values(&mut self, values: &[Value]) -> Result<(), NoMemory>
-        ensures { OnOk result (self.new ≡ record self.old { fields = self.old.fields ++ map value_text values.now }) }
+        ensures { OnOk result
+            (self.new ≡ record self.old { fields = self.old.fields ++ map value_text values.now }) }
     {
         for value in values {
             self.value(value)?;
@@ -185,7 +189,8 @@ impl AnswerWriter {
     }
 
     pub(crate) fn value(&mut self, value: &Value) -> Result<(), NoMemory>
-        ensures { OnOk result (self.new ≡ record self.old { fields = self.old.fields ++ value_text value.now ∷ [] }) }
+        ensures { OnOk result
+            (self.new ≡ record self.old { fields = self.old.fields ++ value_text value.now ∷ [] }) }
     {
         match value {
             Value::Int(number) => self.signed(*number),

@@ -23,7 +23,8 @@ impl AnswerWriter {
 
     fn agg_shares(&mut self, shares: &[AggShare]) -> Result<(), NoMemory>
         requires { self.old.fields ≡ [] }
-        ensures { OnOk result (Adds self.old self.new (map agg_record (rows_in_shares shares.now))) }
+        ensures { OnOk result
+            (Adds self.old self.new (map agg_record (rows_in_shares shares.now))) }
     {
         for share in shares {
             self.agg_share(share)?;
@@ -71,7 +72,10 @@ impl AnswerWriter {
     /// The value of a group; nothing where all rows are one group.
     fn group(&mut self, group: Option<&Value>) -> Result<(), NoMemory>
         ensures { OnOk result (self.new
-            ≡ record self.old { fields = self.old.fields ++ group_fields (option_copied group.entry) }) }
+            ≡ record self.old {
+              fields = self.old.fields ++ group_fields
+                  (option_copied group.entry);
+            }) }
     {
         match group {
             Some(value) => self.value(value),

@@ -23,7 +23,8 @@ impl AnswerWriter {
 
     fn anti_chunks(&mut self, chunks: &[Vec<AntiRow>], left: &RowValues<'_>) -> Result<(), NoMemory>
         requires { self.old.fields ≡ [] }
-        ensures { OnOk result (Adds self.old self.new (map (anti_record left.now) (all_in chunks.now))) }
+        ensures { OnOk result
+            (Adds self.old self.new (map (anti_record left.now) (all_in chunks.now))) }
     {
         for chunk in chunks {
             self.anti_rows(chunk, left)?;

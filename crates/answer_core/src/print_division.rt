@@ -27,7 +27,8 @@ impl AnswerWriter {
         instant: Option<Point>,
     ) -> Result<(), NoMemory>
         requires { self.old.fields ≡ [] }
-        ensures { OnOk result (Adds self.old self.new (division_records rows division.now instant)) }
+        ensures { OnOk result
+            (Adds self.old self.new (division_records rows division.now instant)) }
     {
         self.heading(rows, division.parts(), instant)?;
         for number in 0..division.parts() {
@@ -52,7 +53,8 @@ impl AnswerWriter {
 
     fn part(&mut self, number: u32, part: Part<'_>) -> Result<(), NoMemory>
         requires { self.old.fields ≡ [] }
-        ensures { OnOk result (Adds self.old self.new (part_record number part.entry.items.now ∷ [])) }
+        ensures { OnOk result
+            (Adds self.old self.new (part_record number part.entry.items.now ∷ [])) }
     {
         self.field(b"part")?;
         self.number(u64::from(number))?;
@@ -84,7 +86,8 @@ impl AnswerWriter {
 
     fn refutation(&mut self, name: &[u8], numbers: &[u64]) -> Result<(), NoMemory>
         requires { self.old.fields ≡ [] }
-        ensures { OnOk result (Adds self.old self.new ((codes "no" ∷ name.now ∷ map decimal numbers.now) ∷ [])) }
+        ensures { OnOk result
+            (Adds self.old self.new ((codes "no" ∷ name.now ∷ map decimal numbers.now) ∷ [])) }
     {
         self.field(b"no")?;
         self.field(name)?;

@@ -29,7 +29,8 @@ impl AnswerWriter {
         right: &RowValues<'_>,
     ) -> Result<(), NoMemory>
         requires { self.old.fields ≡ [] }
-        ensures { OnOk result (Adds self.old self.new (map (join_record left.now right.now) rows.now)) }
+        ensures { OnOk result
+            (Adds self.old self.new (map (join_record left.now right.now) rows.now)) }
     {
         let mut text = self.take_text()?;
         push_records(self.alloc(), &mut text, rows, left, right)?;

@@ -42,7 +42,8 @@ impl AnswerWriter {
     }
 
     fn kind(&mut self, kind: ChangeKind) -> Result<(), NoMemory>
-        ensures { OnOk result (self.new ≡ record self.old { fields = self.old.fields ++ kind_text kind ∷ [] }) }
+        ensures { OnOk result
+            (self.new ≡ record self.old { fields = self.old.fields ++ kind_text kind ∷ [] }) }
     {
         match kind {
             ChangeKind::Make => self.field(b"table"),

@@ -27,7 +27,8 @@ pub(crate) fn begun(alloc: Global) -> Result<Writer<Vec<u8>>, NoMemory>
 fn push_field(writer: &mut Writer<Vec<u8>>, field: &[u8]) -> Result<(), NoMemory>
     requires { IsBegun writer.old }
     ensures begun { OnOk result (IsBegun writer.new) }
-    ensures text { OnOk result (text_in writer.new ≡ text_in writer.old ++ fields_text answer_writer (field.now ∷ [])) }
+    ensures text { OnOk result
+        (text_in writer.new ≡ text_in writer.old ++ fields_text answer_writer (field.now ∷ [])) }
 {
     if writer.write_field(field).is_err() {
         return Err(AllocError);
@@ -40,7 +41,8 @@ fn push_value(writer: &mut Writer<Vec<u8>>, value: &Value) -> Result<(), NoMemor
     requires { IsBegun writer.old }
     ensures begun { OnOk result (IsBegun writer.new) }
     ensures text { OnOk result
-        (text_in writer.new ≡ text_in writer.old ++ fields_text answer_writer (value_text value.now ∷ [])) }
+        (text_in writer.new ≡ text_in writer.old ++ fields_text answer_writer
+        (value_text value.now ∷ [])) }
 {
     match value {
         Value::Int(number) => {
@@ -56,7 +58,8 @@ fn push_values(writer: &mut Writer<Vec<u8>>, values: &[Value]) -> Result<(), NoM
     requires { IsBegun writer.old }
     ensures begun { OnOk result (IsBegun writer.new) }
     ensures text { OnOk result
-        (text_in writer.new ≡ text_in writer.old ++ fields_text answer_writer (map value_text values.now)) }
+        (text_in writer.new ≡ text_in writer.old ++ fields_text answer_writer
+        (map value_text values.now)) }
 {
     for value in values {
         push_value(writer, value)?;

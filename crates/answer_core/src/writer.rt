@@ -58,7 +58,8 @@ pub(crate) fn writer_behind(text: Vec<u8>) -> Writer<Vec<u8>>
 
 /// All that a writer of `csv` was given.
 fn text_of(writer: Writer<Vec<u8>>) -> Result<Vec<u8>, NoMemory>
-    ensures { IfOk result (λ text. text.items ≡ (writer_under writer).items ++ writer_pending writer) }
+    ensures { IfOk result
+        (λ text. text.items ≡ (writer_under writer).items ++ writer_pending writer) }
 {
     match writer.into_inner() {
         Ok(text) => Ok(text),
@@ -146,14 +147,16 @@ impl AnswerWriter {
 
     /// Adds a field to the record at hand.
     pub(crate) fn field(&mut self, field: &[u8]) -> Result<(), NoMemory>
-        ensures { OnOk result (self.new ≡ record self.old { fields = self.old.fields ++ field.now ∷ [] }) }
+        ensures { OnOk result
+            (self.new ≡ record self.old { fields = self.old.fields ++ field.now ∷ [] }) }
     {
         push(&mut self.row, field)
     }
 
     /// Adds a number to the record at hand.
     pub(crate) fn number(&mut self, number: u64) -> Result<(), NoMemory>
-        ensures { OnOk result (self.new ≡ record self.old { fields = self.old.fields ++ decimal number ∷ [] }) }
+        ensures { OnOk result
+            (self.new ≡ record self.old { fields = self.old.fields ++ decimal number ∷ [] }) }
     {
         let mut digits = Buffer::new();
         push(&mut self.row, digits.format(number).as_bytes())
@@ -161,7 +164,11 @@ impl AnswerWriter {
 
     /// Adds a number that may be negative to the record at hand.
     pub(crate) fn signed(&mut self, number: i64) -> Result<(), NoMemory>
-        ensures { OnOk result (self.new ≡ record self.old { fields = self.old.fields ++ signed_decimal number ∷ [] }) }
+        ensures { OnOk result
+            (self.new ≡ record self.old {
+              fields = self.old.fields
+                  ++ signed_decimal number ∷ [];
+            }) }
     {
         let mut digits = Buffer::new();
         push(&mut self.row, digits.format(number).as_bytes())
@@ -169,7 +176,11 @@ impl AnswerWriter {
 
     /// Adds a number of up to 128 bits that may be negative to the record at hand.
     pub(crate) fn wide(&mut self, number: i128) -> Result<(), NoMemory>
-        ensures { OnOk result (self.new ≡ record self.old { fields = self.old.fields ++ signed_decimal number ∷ [] }) }
+        ensures { OnOk result
+            (self.new ≡ record self.old {
+              fields = self.old.fields
+                  ++ signed_decimal number ∷ [];
+            }) }
     {
         let mut digits = Buffer::new();
         push(&mut self.row, digits.format(number).as_bytes())
@@ -177,7 +188,8 @@ impl AnswerWriter {
 
     /// Adds a point to the record at hand.
     pub(crate) fn point(&mut self, point: Point) -> Result<(), NoMemory>
-        ensures { OnOk result (self.new ≡ record self.old { fields = self.old.fields ++ point_text point ∷ [] }) }
+        ensures { OnOk result
+            (self.new ≡ record self.old { fields = self.old.fields ++ point_text point ∷ [] }) }
     {
         push(&mut self.row, self.from_text.text_of(point)?)
     }
@@ -195,7 +207,11 @@ impl AnswerWriter {
     /// Ends the record at hand.
     pub(crate) fn end_record(&mut self) -> Result<(), NoMemory>
         ensures { OnOk result
-            (self.new ≡ record { text = self.old.text ++ row_text answer_writer self.old.fields; fields = [] }) }
+            (self.new ≡ record {
+              text = self.old.text
+                  ++ row_text answer_writer self.old.fields;
+              fields = [];
+            }) }
     {
         if self.writer.write_byte_record(&self.row).is_err() {
             *self = AnswerWriter::new(self.alloc);
@@ -213,7 +229,8 @@ impl AnswerWriter {
     pub fn append(&mut self, other: AnswerWriter) -> Result<(), NoMemory>
         requires here { self.old.fields ≡ [] }
         requires there { other.fields ≡ [] }
-        ensures ok { OnOk result (self.new ≡ record { text = self.old.text ++ other.text; fields = [] }) }
+        ensures ok { OnOk result
+            (self.new ≡ record { text = self.old.text ++ other.text; fields = [] }) }
         ensures err { OnErr result (self.new ≡ nothing) }
     {
         let own = mem::replace(self, AnswerWriter::new(self.alloc));
@@ -225,7 +242,8 @@ impl AnswerWriter {
     fn followed_by(self, other: AnswerWriter) -> Result<AnswerWriter, NoMemory>
         requires here { self.fields ≡ [] }
         requires there { other.fields ≡ [] }
-        ensures { IfOk result (λ both. both ≡ record { text = self.text ++ other.text; fields = [] }) }
+        ensures { IfOk result
+            (λ both. both ≡ record { text = self.text ++ other.text; fields = [] }) }
     {
         let AnswerWriter {
             alloc,
@@ -258,10 +276,12 @@ impl AnswerWriter {
         patience: &mut Patience,
     ) -> Result<(), RunFault>
         ensures ok { OnOk result
-            (Appends (W.contents (inner_of writer.old)) (W.contents (inner_of writer.new)) self.old.text) }
+            (Appends (W.contents (inner_of writer.old))
+            (W.contents (inner_of writer.new)) self.old.text) }
         ensures begins { OnOk result (self.new ≡ nothing) }
         ensures fault { IfErr result
-            (ExplainsWriting self.old.text (sink_of W.contents writer.old) (sink_of W.contents writer.new)) }
+            (ExplainsWriting self.old.text (sink_of W.contents writer.old)
+            (sink_of W.contents writer.new)) }
         ensures after { IfErr result (λ why. self.new ≡ left_by why self.old) }
         ensures counts { failures_of writer.old ≤ failures_of writer.new }
         ensures tries { failures_of writer.new + patience.new.left

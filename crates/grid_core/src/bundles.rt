@@ -36,8 +36,8 @@ pub fn last_class(first: &Item, lefts: &[Item], rights: &[Item]) -> u64
     class.max(first.class)
 }
 
-// The class up to which there are no more items than are enough; where there are none more at all, the greatest that
-// can be.
+/// The class up to which there are no more items than are enough; where there are none more at all, the greatest that
+/// can be.
 fn class_of_enough(items: &[Item]) -> u64 {
     match items.get(BUNDLE_ITEMS) {
         Some(item) => item.class.saturating_sub(1),

@@ -41,7 +41,7 @@ pub fn same_part(some: &Division, others: &Division, number: u32) -> bool
     are_same(some.part(number).items(), others.part(number).items())
 }
 
-// Whether both are the same items in the same order.
+/// Whether both are the same items in the same order.
 fn are_same(some: &[Item], others: &[Item]) -> bool
     ensures { IsTrue result ↔ (some.now ≡ others.now) }
 {

@@ -29,7 +29,7 @@ pub fn stretch_len(left: &Division, right: &Division, first: u64) -> u64
     most
 }
 
-// How many items both parts of the pair of that number have.
+/// How many items both parts of the pair of that number have.
 fn items_of_pair(left: &Division, right: &Division, number: u64) -> u64
     requires { number < length left.now * length right.now }
     ensures { result ≤ 2 * item_limit }
@@ -38,7 +38,7 @@ fn items_of_pair(left: &Division, right: &Division, number: u64) -> u64
     items_of_part(left, pair.left) + items_of_part(right, pair.right)
 }
 
-// How many items a part has.
+/// How many items a part has.
 fn items_of_part(division: &Division, number: u32) -> u64
     requires { number < length division.now }
     ensures { result ≤ item_limit }

@@ -71,7 +71,8 @@ pub(crate) fn turns_answered<R: Threads + Sync, G>(
     requires right_ids { HasDistinctIds right.now }
     requires made { AreMade left.now right.now advances }
     ensures { IfOk result (λ turns. (k m : ℕ) → IsLeast (map unclassed left.now) k
-        → IsLeast (map unclassed right.now) m → IsWithin k m (length left.now) (length right.now) turns) }
+        → IsLeast (map unclassed right.now) m → IsWithin k m (length left.now)
+        (length right.now) turns) }
 {
     if advances.are_enough() {
         return Ok(advances.made);

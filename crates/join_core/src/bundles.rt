@@ -45,7 +45,8 @@ fn add_rows_of_tile<R: Threads + Sync, G: Gate>(
 ) -> Result<u64, NoMemory>
     requires { IsDivisible tile.now }
     ensures rows { IfOk result
-        (λ _. AddsItemsRows tile.now.left.items tile.now.right.items rows.old.items rows.new.items) }
+        (λ _. AddsItemsRows tile.now.left.items tile.now.right.items rows.old.items
+        rows.new.items) }
     ensures few { IfOk result
         (λ made. made ≤ 2 * (length tile.now.left.items * length tile.now.right.items)) }
 {
@@ -87,7 +88,8 @@ fn add_rows_of_bundle<R: Threads + Sync, G: Gate>(
     requires right_few { length right.now ≤ item_limit }
     requires left_ids { HasDistinctIds left.now }
     requires right_ids { HasDistinctIds right.now }
-    ensures rows { IfOk result (λ _. AddsItemsRows left.now right.now rows.old.items rows.new.items) }
+    ensures rows { IfOk result
+        (λ _. AddsItemsRows left.now right.now rows.old.items rows.new.items) }
     ensures advances { IfOk result (AreMade left.now right.now) }
 {
     let lefts = divided(crew, left)?;

@@ -43,7 +43,8 @@ fn rows_by_class<R: Threads + Sync, G: Gate>(
     requires right_ids { HasDistinctIds right.now }
     ensures rows { IfOk result (λ answer. AreItemsRows left.now right.now answer.0.items) }
     ensures turns { IfOk result (λ answer. (k m : ℕ) → IsLeast (map unclassed left.now) k
-        → IsLeast (map unclassed right.now) m → IsWithin k m (length left.now) (length right.now) answer.1) }
+        → IsLeast (map unclassed right.now) m → IsWithin k m (length left.now)
+        (length right.now) answer.1) }
 {
     let FoundRows { rows, advances } = rows_of_classes(crew, left, right)?;
     let turns = turns_answered(crew, left, right, advances)?;
@@ -62,7 +63,8 @@ pub(crate) fn join_items<R: Threads + Sync, G: Gate>(
     requires right_ids { HasDistinctIds right.items }
     ensures rows { IfOk result (λ answer. IsItemsJoin left.items right.items answer.rows) }
     ensures turns { IfOk result (λ answer. (k m : ℕ) → IsLeast (map unclassed left.items) k
-        → IsLeast (map unclassed right.items) m → IsWithin k m (length left.items) (length right.items) answer.turns) }
+        → IsLeast (map unclassed right.items) m → IsWithin k m (length left.items)
+        (length right.items) answer.turns) }
 {
     order_by_class(&mut left);
     order_by_class(&mut right);

@@ -39,7 +39,8 @@ pub fn join<R: Threads + Sync, G: Gate>(
 ) -> Result<JoinAnswer, Failure<QueryRefused>>
     requires workers { (0 < workers) × (workers ≤ worker_limit) }
     ensures answer { AnswersOr (columns_refusal left.entry.schema.now right.entry.schema.now on.now)
-        (λ answer. IsJoin (MatchesOn left.entry.schema.now right.entry.schema.now on.now) left.entry.rows.now
+        (λ answer. IsJoin
+        (MatchesOn left.entry.schema.now right.entry.schema.now on.now) left.entry.rows.now
         right.entry.rows.now answer.rows) result }
     ensures turns { IfOk result (λ answer. (k m : ℕ) → IsLeast (items_of left.entry.rows.now) k
         → IsLeast (items_of right.entry.rows.now) m

@@ -10,9 +10,11 @@ ghost use Rattle.join_core.specs.Join.{IsJoin};
 
 /// The rows of two tables have exactly one join by given columns.
 pub fn join_has_one_list()
-    ensures exists { (left_columns right_columns : List Column) (on : List NamePair) (left right : List Row)
+    ensures exists { (left_columns right_columns : List Column) (on : List NamePair)
+        (left right : List Row)
         → (rows : List JoinRow) × IsJoin (MatchesOn left_columns right_columns on) left right rows }
-    ensures one { (left_columns right_columns : List Column) (on : List NamePair) (left right : List Row)
+    ensures one { (left_columns right_columns : List Column) (on : List NamePair)
+        (left right : List Row)
         (one other : List JoinRow)
         → IsJoin (MatchesOn left_columns right_columns on) left right one
         → IsJoin (MatchesOn left_columns right_columns on) left right other → one ≡ other }

@@ -17,7 +17,8 @@ pub(crate) fn add_rows_of_pairs<R: Threads + Sync, G: Gate>(
     rows: &mut Vec<JoinRow>,
 ) -> Result<u64, NoMemory>
     ensures { IfOk result (λ turns. AddsFirstPairs pairs.now.left.now pairs.now.right.now
-        (length pairs.now.left.now * length pairs.now.right.now) rows.old.items rows.new.items turns) }
+        (length pairs.now.left.now * length pairs.now.right.now) rows.old.items
+        rows.new.items turns) }
 {
     // What is known of each division.
     let _ = pairs.left.parts();

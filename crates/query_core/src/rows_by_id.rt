@@ -69,7 +69,7 @@ impl<'a> RowsById<'a> {
     }
 }
 
-// The first row's id, and 0 without rows.
+/// The first row's id, and 0 without rows.
 fn first_id(rows: &[Row]) -> u64
     requires { RowsRise rows.now }
     ensures { All (λ row. result ≤ row.id) rows.now }
@@ -80,7 +80,7 @@ fn first_id(rows: &[Row]) -> u64
     rows[0].id
 }
 
-// How many places are kept of the rows.
+/// How many places are kept of the rows.
 fn count_of_places(rows: &[Row], first: u64) -> usize
     ensures limit { result ≤ place_limit }
     ensures few { result ≤ 4 * length rows.now }
@@ -97,7 +97,7 @@ fn count_of_places(rows: &[Row], first: u64) -> usize
     }
 }
 
-// The places of the rows by their ids.
+/// The places of the rows by their ids.
 fn places_of(alloc: Global, rows: &[Row], first: u64) -> Result<Vec<u32>, NoMemory>
     requires rise { RowsRise rows.now }
     requires low { All (λ row. first ≤ row.id) rows.now }
@@ -109,7 +109,7 @@ fn places_of(alloc: Global, rows: &[Row], first: u64) -> Result<Vec<u32>, NoMemo
     Ok(places)
 }
 
-// Puts the place of each row to its id.
+/// Puts the place of each row to its id.
 fn put_places(rows: &[Row], first: u64, places: &mut [u32])
     requires rise { RowsRise rows.now }
     requires low { All (λ row. first ≤ row.id) rows.now }
@@ -125,7 +125,7 @@ fn put_places(rows: &[Row], first: u64, places: &mut [u32])
     }
 }
 
-// The row of that id.
+/// The row of that id.
 fn row_with<'a>(rows: &'a [Row], first: u64, places: &[u32], id: u64) -> Option<&'a Row>
     requires { ArePlacesOfRows first rows.now places.now }
     ensures { option_copied result ≡ find (λ row. row.id == id) rows.now }
@@ -140,10 +140,11 @@ fn row_with<'a>(rows: &'a [Row], first: u64, places: &[u32], id: u64) -> Option<
     if row.id == id { Some(row) } else { None }
 }
 
-// The place of the row of that id; any place, or none, where there is no such row.
+/// The place of the row of that id; any place, or none, where there is no such row.
 fn place_of(rows: &[Row], first: u64, places: &[u32], id: u64) -> Option<usize>
     requires { ArePlacesOfRows first rows.now places.now }
-    ensures { (k : ℕ) (d : Row) → k < length rows.now → (slice_index_or rows.now k d).id ≡ id → result ≡ Some k }
+    ensures { (k : ℕ) (d : Row) → k < length rows.now → (slice_index_or rows.now k d).id ≡ id
+        → result ≡ Some k }
 {
     let at = id.saturating_sub(first);
     if at < places.len() as u64 {

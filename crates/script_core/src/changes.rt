@@ -28,7 +28,8 @@ fn apply<R: Wait>(
     change: Change,
 ) -> Result<Answer, Failure>
     requires { 0 < left_in ledger.old }
-    ensures changes { Changes (change_in number (ledger_history ledger.old) change) (ledger_history ledger.old)
+    ensures changes { Changes (change_in number (ledger_history ledger.old) change)
+        (ledger_history ledger.old)
         (ledger_history ledger.new) result }
     ensures left { left_in ledger.new + 1 ≡ left_in ledger.old }
 {
@@ -86,7 +87,8 @@ pub(crate) fn load_by<R: Wait>(
     requires newest { history newest.now ≡ ledger_history ledger.old }
     requires numbers { number + 1 + length (lines_in body) < 2 ^ 64 }
     requires left { 0 < left_in ledger.old }
-    ensures changes { Changes (load_in number (ledger_history ledger.old) table (lines_in body.entry))
+    ensures changes { Changes
+        (load_in number (ledger_history ledger.old) table (lines_in body.entry))
         (ledger_history ledger.old) (ledger_history ledger.new) result }
     ensures left { left_in ledger.old ≤ left_in ledger.new + 1 }
 {
@@ -105,7 +107,8 @@ pub(crate) fn load<R: Wait>(
 ) -> Result<Answer, Failure>
     requires numbers { number + 1 + length (lines_in body) < 2 ^ 64 }
     requires left { 2 ≤ left_in ledger.old }
-    ensures changes { Changes (load_in number (ledger_history ledger.old) table (lines_in body.entry))
+    ensures changes { Changes
+        (load_in number (ledger_history ledger.old) table (lines_in body.entry))
         (ledger_history ledger.old) (ledger_history ledger.new) result }
     ensures left { left_in ledger.old ≤ left_in ledger.new + 2 }
 {
@@ -162,7 +165,8 @@ pub(crate) fn delete<R: Wait>(
     conds: TextPairs<'_>,
 ) -> Result<Answer, Failure>
     requires { 2 ≤ left_in ledger.old }
-    ensures changes { Changes (delete_in number (ledger_history ledger.old) table portion (pairs_in conds.entry))
+    ensures changes { Changes
+        (delete_in number (ledger_history ledger.old) table portion (pairs_in conds.entry))
         (ledger_history ledger.old) (ledger_history ledger.new) result }
     ensures left { left_in ledger.old ≤ left_in ledger.new + 2 }
 {

@@ -12,7 +12,8 @@ use std::alloc::Global;
 /// Adds the part that a record of a check claims, whose number is this one.
 fn push_part(claim: &mut Claim, line: Line<'_>, number: u64) -> Result<(), Failure>
     ensures { MatchResult result
-        (λ _. (ids : List ℕ) × (part_of (fields_in line.entry) ≡ Ok ids) × (claim.new ≡ claim.old ++ ids ∷ []))
+        (λ _. (ids : List ℕ) × (part_of (fields_in line.entry) ≡ Ok ids)
+        × (claim.new ≡ claim.old ++ ids ∷ []))
         (IsRecordFailure number (part_of (fields_in line.entry))) }
 {
     if !begins(line, b"part") {

@@ -11,7 +11,8 @@ ghost use Rattle.script_core.specs.declared.outcome.Outcome.{Outcome};
 /// A script has exactly one output, whatever its bytes are, and one list of statements and answers makes it up.
 pub fn script_has_one_output()
     ensures exists { (script : List ℕ) → (output : List ℕ) × IsOutput script output }
-    ensures one { (script one other : List ℕ) → IsOutput script one → IsOutput script other → one ≡ other }
+    ensures one { (script one other : List ℕ) → IsOutput script one → IsOutput script other
+        → one ≡ other }
     ensures answers { (script : List ℕ) (one other : List Done)
         → AreStatementsOf script one → AreStatementsOf script other → one ≡ other }
 {}
@@ -21,8 +22,10 @@ pub fn script_has_one_output()
 pub fn statement_has_one_answer()
     ensures exists { (before : History) (number : ℕ) (statement : Statement) → IsLegal before
         → (own later : List Record) → States number own later statement
-        → (answer : List Record) × (after : History) × Answers before number statement answer after }
-    ensures one { (before after later : History) (number : ℕ) (statement : Statement) (one other : List Record)
+        → (answer : List Record) × (after : History)
+        × Answers before number statement answer after }
+    ensures one { (before after later : History) (number : ℕ) (statement : Statement)
+        (one other : List Record)
         → Answers before number statement one after → Answers before number statement other later
         → (one ≡ other) × (after ≡ later) }
 {}
@@ -30,7 +33,8 @@ pub fn statement_has_one_answer()
 /// Two runs that come to their end, over one script and the same old contents, leave the same contents and
 /// tell the same numbers.
 pub fn complete_runs_agree()
-    ensures { (script text : List ℕ) (one one_after other other_after : Streams) (outcome told : Outcome)
+    ensures { (script text : List ℕ) (one one_after other other_after : Streams)
+        (outcome told : Outcome)
         → one.reader.unread ≡ Some script → one.writer.written ≡ Some text
         → other.reader.unread ≡ Some script → other.writer.written ≡ Some text
         → RunsAll one one_after outcome → RunsAll other other_after told

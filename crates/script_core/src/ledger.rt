@@ -29,7 +29,8 @@ impl Ledger {
 
     /// A store without a table.
     pub(crate) fn new(alloc: Global) -> Result<Ledger, NoMemory>
-        ensures { IfOk result (λ ledger. (ledger_history ledger ≡ []) × (left_in ledger ≡ call_limit)) }
+        ensures { IfOk result
+            (λ ledger. (ledger_history ledger ≡ []) × (left_in ledger ≡ call_limit)) }
     {
         match Store::new(alloc, 1, CALL_LIMIT) {
             Ok((store, mut passes)) => match passes.pop() {
@@ -49,7 +50,8 @@ impl Ledger {
         change: Change,
     ) -> Result<u64, Failure<BookRefused>>
         requires { 0 < left_in self.old }
-        ensures made { CommitsTo (ledger_history self.old) 1 change result (ledger_history self.new) }
+        ensures made { CommitsTo (ledger_history self.old) 1 change result
+            (ledger_history self.new) }
         ensures left { left_in self.new + 1 ≡ left_in self.old }
     {
         match self.store.commit(rt, &mut self.pass, change) {
@@ -64,7 +66,8 @@ impl Ledger {
     pub(crate) fn newest<R: Wait>(&mut self, rt: &R) -> Result<Snapshot, NoMemory>
         requires { 0 < left_in self.old }
         ensures same { ledger_history self.new ≡ ledger_history self.old }
-        ensures shows { IfOk result (λ snapshot. (history snapshot ≡ ledger_history self.old) × ShowsAll snapshot) }
+        ensures shows { IfOk result
+            (λ snapshot. (history snapshot ≡ ledger_history self.old) × ShowsAll snapshot) }
         ensures left { left_in self.new + 1 ≡ left_in self.old }
     {
         match self.store.snapshot(rt, &mut self.pass, None) {

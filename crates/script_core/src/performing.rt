@@ -196,7 +196,8 @@ pub(crate) fn print_given(
 ) -> Result<u64, NoMemory>
     requires { printer.old.fields ≡ [] }
     ensures printed { IfOk result (λ errors.
-        (answer : Answer) × (given ≡ Ok answer) × PrintsAnswer answer printer.old printer.new errors) }
+        (answer : Answer) × (given ≡ Ok answer)
+        × PrintsAnswer answer printer.old printer.new errors) }
     ensures few { IfOk result (λ errors. errors ≤ 1) }
 {
     match given {
@@ -216,7 +217,8 @@ pub(crate) fn answer_query<T: Threads + Sync>(
     requires query { is_allowed true (meaning_of command) ≡ true }
     requires numbers { number + behind_length (meaning_of command) < 2 ^ 64 }
     requires begins { printer.old.fields ≡ [] }
-    ensures printed { IfOk result (PrintsOne (history context.now.newest.now) number (meaning_of command.entry)
+    ensures printed { IfOk result
+        (PrintsOne (history context.now.newest.now) number (meaning_of command.entry)
         (history context.now.newest.now) printer.old printer.new) }
     ensures few { IfOk result (λ errors. errors ≤ 1) }
 {
@@ -236,7 +238,8 @@ pub(crate) fn answer_command<T: Threads + Wait + Sync>(
     requires numbers { number + behind_length (meaning_of command) < 2 ^ 64 }
     requires begins { printer.old.fields ≡ [] }
     requires left { 2 ≤ left_in ledger.old }
-    ensures printed { IfOk result (PrintsOne (ledger_history ledger.old) number (meaning_of command.entry)
+    ensures printed { IfOk result
+        (PrintsOne (ledger_history ledger.old) number (meaning_of command.entry)
         (ledger_history ledger.new)
         printer.old printer.new) }
     ensures few { IfOk result (λ errors. errors ≤ 1) }

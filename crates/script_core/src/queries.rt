@@ -60,7 +60,8 @@ fn shown_tables<'a, T: Threads + Sync>(
     right: Name,
 ) -> (Result<Shown<'a>, Failure>, Result<Shown<'a>, Failure>)
     ensures left { IsShown number (history snapshot.now) (commit_shown snapshot.now) left result.0 }
-    ensures right { IsShown number (history snapshot.now) (commit_shown snapshot.now) right result.1 }
+    ensures right { IsShown number (history snapshot.now)
+        (commit_shown snapshot.now) right result.1 }
 {
     if crew.workers < 2 {
         let left = shown_table(snapshot, number, left);
@@ -69,10 +70,12 @@ fn shown_tables<'a, T: Threads + Sync>(
     thread::join(
         crew.rt,
         || -> Result<Shown<'_>, Failure>
-            ensures { IsShown number (history snapshot.entry.now) (commit_shown snapshot.entry.now) left result }
+            ensures { IsShown number (history snapshot.entry.now)
+                (commit_shown snapshot.entry.now) left result }
         { shown_table(snapshot, number, left) },
         || -> Result<Shown<'_>, Failure>
-            ensures { IsShown number (history snapshot.entry.now) (commit_shown snapshot.entry.now) right result }
+            ensures { IsShown number (history snapshot.entry.now)
+                (commit_shown snapshot.entry.now) right result }
         { shown_table(snapshot, number, right) },
     )
 }
@@ -94,11 +97,14 @@ fn both_tables<'a, T: Threads + Sync>(
     left: Name,
     right: Name,
 ) -> Result<BothTables<'a>, Failure>
-    ensures left { IfOk result (λ both. IsShown number (history snapshot.now) (commit_shown snapshot.now) left
+    ensures left { IfOk result
+        (λ both. IsShown number (history snapshot.now) (commit_shown snapshot.now) left
         (Ok (both.left_columns, both.left))) }
-    ensures right { IfOk result (λ both. IsShown number (history snapshot.now) (commit_shown snapshot.now) right
+    ensures right { IfOk result
+        (λ both. IsShown number (history snapshot.now) (commit_shown snapshot.now) right
         (Ok (both.right_columns, both.right))) }
-    ensures fails { IfErr result (FailsToCompare number (history snapshot.now) (commit_shown snapshot.now) left right) }
+    ensures fails { IfErr result
+        (FailsToCompare number (history snapshot.now) (commit_shown snapshot.now) left right) }
 {
     let (left, right) = shown_tables(crew, snapshot, number, left, right);
     let (left_columns, left) = left?;
@@ -241,7 +247,8 @@ pub(crate) fn agg_table<T: Threads + Sync>(
     number: u64,
     aggregate: Aggregate,
 ) -> Result<Answer, Failure>
-    ensures { Gives (aggregated_told number (history snapshot.now) (commit_shown snapshot.now) aggregate)
+    ensures { Gives
+        (aggregated_told number (history snapshot.now) (commit_shown snapshot.now) aggregate)
         (λ table. IsAggOf table aggregate) result }
 {
     let func = agg_func(&aggregate.func);
@@ -300,7 +307,8 @@ pub(crate) fn check(
     body: Lines<'_>,
 ) -> Result<Answer, Failure>
     requires { number + 1 + length (lines_in body) < 2 ^ 64 }
-    ensures { Gives (both_ok (rows_told number (history snapshot.now) (commit_shown snapshot.now) table)
+    ensures { Gives
+        (both_ok (rows_told number (history snapshot.now) (commit_shown snapshot.now) table)
         (claim_of (number + 1) (lines_in body.entry)))
         (λ read answer. IsVerdictOn (items_of read.0) read.1 certificate answer) result }
 {
@@ -319,7 +327,8 @@ pub(crate) fn between(
 ) -> Result<Answer, Failure>
     requires { ShowsAll snapshot.now }
     ensures { Gives (versions_told number (history snapshot.now) (nat_lt last first) table)
-        (λ _ answer. IsVersions (AreBetween (history snapshot.now) (length (history snapshot.now)) first last table)
+        (λ _ answer. IsVersions
+        (AreBetween (history snapshot.now) (length (history snapshot.now)) first last table)
         answer) result }
 {
     match snapshot.between(first, last, table) {
@@ -338,7 +347,8 @@ pub(crate) fn from_to(
 ) -> Result<Answer, Failure>
     requires { ShowsAll snapshot.now }
     ensures { Gives (versions_told number (history snapshot.now) (nat_le end first) table)
-        (λ _ answer. IsVersions (AreFromTo (history snapshot.now) (length (history snapshot.now)) first end table)
+        (λ _ answer. IsVersions
+        (AreFromTo (history snapshot.now) (length (history snapshot.now)) first end table)
         answer) result }
 {
     match snapshot.from_to(first, end, table) {

@@ -41,8 +41,10 @@ fn answer_statement<T: Threads + Wait + Sync>(
     requires numbers { number + behind_of statement < 2 ^ 64 }
     requires begins { printer.old.fields ≡ [] }
     requires left { 2 ≤ left_in ledger.old }
-    ensures printed { IfOk result (λ told. (meant : said.Statement) → StandsFor number statement.entry meant
-        → PrintsStatement (ledger_history ledger.old) number meant (ledger_history ledger.new) printer.old
+    ensures printed { IfOk result
+        (λ told. (meant : said.Statement) → StandsFor number statement.entry meant
+        → PrintsStatement (ledger_history ledger.old) number meant
+        (ledger_history ledger.new) printer.old
         printer.new told) }
     ensures few { IfOk result (λ told. told.errors ≤ told.commands) }
     ensures left { left_in ledger.old ≤ left_in ledger.new + 2 }
@@ -96,9 +98,11 @@ fn answer_each<T: Threads + Wait + Sync, W: Write>(
     requires begun { ledger_history ledger.old ≡ [] }
     requires empty { printer.old ≡ nothing }
     requires left { 2 * length records.now ≤ left_in ledger.old }
-    ensures ok { IfOk result (AnswersAll records.now (sink_of W.contents writer.old) (sink_of W.contents writer.new)) }
+    ensures ok { IfOk result
+        (AnswersAll records.now (sink_of W.contents writer.old) (sink_of W.contents writer.new)) }
     ensures fault { IfErr result
-        (ExplainsAnswering records.now (sink_of W.contents writer.old) (sink_of W.contents writer.new)) }
+        (ExplainsAnswering records.now (sink_of W.contents writer.old)
+        (sink_of W.contents writer.new)) }
     ensures counts { failures_of writer.old ≤ failures_of writer.new }
     ensures tries { failures_of writer.new + patience.new.left
         ≤ failures_of writer.old + patience.old.left + last_failures result }
@@ -129,9 +133,11 @@ fn answer_all<T: Threads + Wait + Sync, W: Write>(
 ) -> Result<Outcome, RunFault>
     requires begun { ledger_history ledger ≡ [] }
     requires left { 2 * length records.now ≤ left_in ledger }
-    ensures ok { IfOk result (AnswersAll records.now (sink_of W.contents writer.old) (sink_of W.contents writer.new)) }
+    ensures ok { IfOk result
+        (AnswersAll records.now (sink_of W.contents writer.old) (sink_of W.contents writer.new)) }
     ensures fault { IfErr result
-        (ExplainsAnswering records.now (sink_of W.contents writer.old) (sink_of W.contents writer.new)) }
+        (ExplainsAnswering records.now (sink_of W.contents writer.old)
+        (sink_of W.contents writer.new)) }
     ensures counts { failures_of writer.old ≤ failures_of writer.new }
     ensures tries { failures_of writer.new + patience.new.left
         ≤ failures_of writer.old + patience.old.left + last_failures result }
@@ -167,7 +173,8 @@ pub fn run<T: Threads + Wait + Sync, R: Read, W: Write>(
     // front of it.
     ensures written { (script output : List ℕ)
         → R.remaining (inner_of reader.old) ≡ Some script → IsOutput script output
-        → IfOk result (λ _. Appends (W.contents (inner_of writer.old)) (W.contents (inner_of writer.new)) output) }
+        → IfOk result (λ _. Appends (W.contents (inner_of writer.old))
+        (W.contents (inner_of writer.new)) output) }
     ensures front { (script output : List ℕ)
         → R.remaining (inner_of reader.old) ≡ Some script → IsOutput script output
         → IfErr result (λ _.

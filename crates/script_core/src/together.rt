@@ -58,7 +58,8 @@ fn answer_queries<T: Threads + Sync>(
     section: Section<'_>,
     printer: &mut AnswerWriter,
 ) -> Result<Outcome, NoMemory>
-    requires whole { (members : List Member) × AreMembers section.first (lines_in section.lines) members }
+    requires whole { (members : List Member) × AreMembers section.first
+        (lines_in section.lines) members }
     requires numbers { section.first + length (lines_in section.lines) < 2 ^ 64 }
     requires begins { printer.old.fields ≡ [] }
     ensures { IfOk result (PrintsSection (history context.now.newest.now) section.entry.first
@@ -107,7 +108,8 @@ fn answer_load<T: Wait>(
     requires numbers { number + behind_length (first_load_meaning load.now) < 2 ^ 64 }
     requires left { 0 < left_in ledger.old }
     ensures answers { IfOk result (λ answer.
-        IsAnswerTo (ledger_history ledger.old) number (first_load_meaning load.now) answer (ledger_history ledger.new)) }
+        IsAnswerTo (ledger_history ledger.old) number (first_load_meaning load.now) answer
+        (ledger_history ledger.new)) }
     ensures left { left_in ledger.old ≤ left_in ledger.new + 1 }
 {
     match load {
@@ -141,16 +143,19 @@ fn answer_both<T: Threads + Wait + Sync>(
     requires numbers { CanBeNumbered block.now }
     requires begins { (printer.old.fields ≡ []) × (later.old.fields ≡ []) }
     requires left { 0 < left_in ledger.old }
-    ensures front { IfOk result.0 (λ told. PrintsSection (history context.now.newest.now) block.now.front.first
+    ensures front { IfOk result.0
+        (λ told. PrintsSection (history context.now.newest.now) block.now.front.first
         (lines_in block.now.front.lines) printer.old printer.new told.0) }
-    ensures back { IfOk result.0 (λ told. PrintsSection (history context.now.newest.now) block.now.back.first
+    ensures back { IfOk result.0
+        (λ told. PrintsSection (history context.now.newest.now) block.now.back.first
         (lines_in block.now.back.lines) later.old later.new told.1) }
     ensures load { IfOk result.1 (λ answer. IsAnswerTo (ledger_history ledger.old) block.now.number
         (first_load_meaning block.now.load) answer (ledger_history ledger.new)) }
     ensures left { left_in ledger.old ≤ left_in ledger.new + 1 }
 {
     let mut queries = || -> Result<(Outcome, Outcome), NoMemory>
-        requires { IsSync T.row × ((members : List Member) × IsCutAt block.now members) × CanBeNumbered block.now
+        requires { IsSync T.row × ((members : List Member) × IsCutAt block.now members)
+            × CanBeNumbered block.now
             × ((printer.now.fields ≡ []) × (later.now.fields ≡ [])) }
         ensures front { IfOk result (λ told. PrintsSection (history context.entry.now.newest.now)
             block.entry.now.front.first
@@ -164,9 +169,11 @@ fn answer_both<T: Threads + Wait + Sync>(
         Ok((before, behind))
     };
     let mut loading = || -> Result<Answer, NoMemory>
-        requires { (history context.now.newest.now ≡ ledger_history ledger.now) × CanBeNumbered block.now
+        requires { (history context.now.newest.now ≡ ledger_history ledger.now)
+            × CanBeNumbered block.now
             × (0 < left_in ledger.now) }
-        ensures answers { IfOk result (λ answer. IsAnswerTo (ledger_history ledger.entry.now) block.entry.now.number
+        ensures answers { IfOk result
+            (λ answer. IsAnswerTo (ledger_history ledger.entry.now) block.entry.now.number
             (first_load_meaning block.entry.now.load) answer (ledger_history ledger.exit.now)) }
         ensures left { left_in ledger.entry.now ≤ left_in ledger.exit.now + 1 }
     { answer_load(context, ledger, block.number, &block.load) };
@@ -175,12 +182,15 @@ fn answer_both<T: Threads + Wait + Sync>(
 
 /// Cuts a block of commands at its first load, which stands behind so many records.
 fn cut_at<'a>(block: Section<'a>, place: usize) -> BlockCut<'a>
-    requires whole { (members : List Member) × AreMembers block.first (lines_in block.lines) members }
+    requires whole { (members : List Member) × AreMembers block.first
+        (lines_in block.lines) members }
     requires within { place < length (lines_in block.lines) }
     requires split { (members : List Member) → AreMembers block.first (lines_in block.lines) members
-        → IsSplit block.first members (take place (lines_in block.lines)) (drop place (lines_in block.lines)) }
+        → IsSplit block.first members (take place (lines_in block.lines))
+        (drop place (lines_in block.lines)) }
     requires numbers { block.first + length (lines_in block.lines) < 2 ^ 64 }
-    ensures cut { (members : List Member) → AreMembers block.entry.first (lines_in block.entry.lines) members
+    ensures cut { (members : List Member) → AreMembers block.entry.first
+        (lines_in block.entry.lines) members
         → IsCutAt result members }
     ensures numbers { CanBeNumbered result }
     ensures within { length (lines_in result.front.lines) + length (lines_in result.back.lines)
@@ -255,7 +265,8 @@ fn answer_beside_load<T: Threads + Wait + Sync>(
     requires begins { printer.old.fields ≡ [] }
     requires left { 0 < left_in ledger.old }
     ensures printed { IfOk result (λ told. (members : List Member) → IsCutAt block.now members
-        → PrintsBlock (history context.now.newest.now) (placed_in false members) (ledger_history ledger.new)
+        → PrintsBlock (history context.now.newest.now) (placed_in false members)
+        (ledger_history ledger.new)
         printer.old printer.new told) }
     ensures few { IfOk result (λ told. told.errors ≤ told.commands) }
     ensures fewer { IfOk result (λ told. told.commands ≤ length (lines_in block.now.front.lines)
@@ -275,13 +286,15 @@ fn answer_commands<T: Threads + Wait + Sync>(
     printer: &mut AnswerWriter,
 ) -> Result<Outcome, NoMemory>
     requires same { history context.now.newest.now ≡ ledger_history ledger.old }
-    requires whole { (members : List Member) × AreMembers block.first (lines_in block.lines) members }
+    requires whole { (members : List Member) × AreMembers block.first
+        (lines_in block.lines) members }
     requires numbers { block.first + length (lines_in block.lines) < 2 ^ 64 }
     requires begins { printer.old.fields ≡ [] }
     requires left { 0 < left_in ledger.old }
     ensures printed { IfOk result (λ told. (members : List Member)
         → AreMembers block.entry.first (lines_in block.entry.lines) members
-        → PrintsBlock (history context.now.newest.now) (placed_in false members) (ledger_history ledger.new)
+        → PrintsBlock (history context.now.newest.now) (placed_in false members)
+        (ledger_history ledger.new)
         printer.old printer.new told) }
     ensures few { IfOk result (λ told. told.errors ≤ told.commands) }
     ensures fewer { IfOk result (λ told. told.commands ≤ length (lines_in block.entry.lines)) }
