@@ -71,11 +71,9 @@ impl AnswerWriter {
 
     /// The value of a group; nothing where all rows are one group.
     fn group(&mut self, group: Option<&Value>) -> Result<(), NoMemory>
-        ensures { OnOk result (self.new
-            ≡ record self.old {
-              fields = self.old.fields ++ group_fields
-                  (option_copied group.entry);
-            }) }
+        ensures { OnOk result (self.new ≡ record self.old {
+          fields = self.old.fields ++ group_fields (option_copied group.entry);
+        }) }
     {
         match group {
             Some(value) => self.value(value),

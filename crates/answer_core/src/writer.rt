@@ -164,11 +164,8 @@ impl AnswerWriter {
 
     /// Adds a number that may be negative to the record at hand.
     pub(crate) fn signed(&mut self, number: i64) -> Result<(), NoMemory>
-        ensures { OnOk result
-            (self.new ≡ record self.old {
-              fields = self.old.fields
-                  ++ signed_decimal number ∷ [];
-            }) }
+        ensures { OnOk result (self.new
+            ≡ record self.old { fields = self.old.fields ++ signed_decimal number ∷ [] }) }
     {
         let mut digits = Buffer::new();
         push(&mut self.row, digits.format(number).as_bytes())
@@ -176,11 +173,8 @@ impl AnswerWriter {
 
     /// Adds a number of up to 128 bits that may be negative to the record at hand.
     pub(crate) fn wide(&mut self, number: i128) -> Result<(), NoMemory>
-        ensures { OnOk result
-            (self.new ≡ record self.old {
-              fields = self.old.fields
-                  ++ signed_decimal number ∷ [];
-            }) }
+        ensures { OnOk result (self.new
+            ≡ record self.old { fields = self.old.fields ++ signed_decimal number ∷ [] }) }
     {
         let mut digits = Buffer::new();
         push(&mut self.row, digits.format(number).as_bytes())
@@ -208,8 +202,7 @@ impl AnswerWriter {
     pub(crate) fn end_record(&mut self) -> Result<(), NoMemory>
         ensures { OnOk result
             (self.new ≡ record {
-              text = self.old.text
-                  ++ row_text answer_writer self.old.fields;
+              text = self.old.text ++ row_text answer_writer self.old.fields;
               fields = [];
             }) }
     {
