@@ -1,5 +1,5 @@
 -- The order of cells, and which are the same.
-use Rattle.std.proofs.Common.{◌≡◌, ℕ, ℤ, Bool, true, false, not, List, refl, sym, subst, ap, ◌∙◌}
+use Rattle.std.proofs.Common.{◌≡◌, ℕ, ℤ, Bool, true, false, not, ◌&&◌, List, Option, Some, None, refl, sym, subst, ap, ◌∙◌}
 use Rattle.std.specs.Bool.{Decides}
 use Rattle.std.specs.Cmp.{IsTotalOrder}
 use Rattle.std.specs.Cmp.Lexicographic.{slice_cmp, bytes_decides, texts_ties}
@@ -9,9 +9,9 @@ use Rattle.std.specs.declared.cmp.Ordering.TheVariants.{Less, Equal, Greater}
 use Rattle.std.proofs.lemmas.Bool.Decides.{Decides-eqb, Decides-int_eq, Decides-and}
 use Rattle.std.proofs.lemmas.Cmp.{then_total, on_total, int_cmp_total, nat_cmp_total, nat_list_cmp_total, tied_itself, ranked, int_ranked}
 use Rattle.match_core.specs.declared.cells.Cell.{Cell}
-use Rattle.match_core.specs.declared.cells.CellRange.{CellRange}
-use Rattle.match_core.specs.declared.cells.CellRange.TheVariants as part
-use Rattle.match_core.specs.Cells.{cell_cmp, has_cell, is_before, same_cell}
+use Rattle.share_core.specs.Ranges.{has, has_begun, has_ended}
+use Rattle.share_core.specs.declared.range.Range.{Range}
+use Rattle.match_core.specs.Cells.{cell_cmp, is_before, same_cell}
 
 -- one class so far, and one value
 abbrev pub SameCell : Cell → Cell → Type 0
@@ -120,8 +120,22 @@ before-same a x y s =
     (cell_total.antisymm a x ∙ ap ordering_reverse (cell_total.congr x y a (same_tied x y s))
     ∙ sym (cell_total.antisymm a y))
 
+-- and both come before it or neither does
+same-before : (a x y : Cell) → SameCell x y → is_before x a ≡ is_before y a
+same-before a x y s = ap is_lt (cell_total.congr x y a (same_tied x y s))
+
+-- a range has begun at both or at neither
+begun_same : (from : Option Cell) (x y : Cell) → SameCell x y → has_begun cell_cmp from x ≡ has_begun cell_cmp from y
+begun_same None x y s = refl
+begun_same (Some first) x y s = ap not (same-before first x y s)
+
+-- it is over at both or at neither
+ended_same : (end : Option Cell) (x y : Cell) → SameCell x y → has_ended cell_cmp end x ≡ has_ended cell_cmp end y
+ended_same None x y s = refl
+ended_same (Some first) x y s = ap not (same-before first x y s)
+
 -- a range has both or neither
-pub has_cell-same : (range : CellRange) (x y : Cell) → SameCell x y → has_cell range x ≡ has_cell range y
-has_cell-same part.All x y s = refl
-has_cell-same (part.UpTo last) x y s = ap not (before-same last x y s)
-has_cell-same (part.Above last) x y s = before-same last x y s
+pub has-same : (range : Range Cell) (x y : Cell) → SameCell x y → has cell_cmp range x ≡ has cell_cmp range y
+has-same range x y s =
+    ap (λ b. b && not (has_ended cell_cmp range.before x)) (begun_same range.from x y s)
+    ∙ ap (λ b. has_begun cell_cmp range.from y && not b) (ended_same range.before x y s)

@@ -1,18 +1,25 @@
 -- Cells that are made of the rows of one side.
-use Rattle.std.proofs.Common.{◌≡◌, ℕ, zero, suc, ◌+◌, ◌-◌, ◌<◌, ◌≤◌, Bool, true, false, not, List, [], ◌∷◌, ◌++◌, length, get_or, Option, Some, inl, inr, refl, sym, subst, ap, ◌∙◌, arith}
+use Rattle.std.proofs.Common.{◌≡◌, ℕ, zero, suc, ◌+◌, ◌-◌, ◌<◌, ◌≤◌, Bool, true, false, not, ◌&&◌, List, [], ◌∷◌, ◌++◌, append-nil, length, get_or, Option, Some, None, Result, Ok, inl, inr, refl, sym, subst, ap, ◌∙◌, arith}
 use Rattle.std.specs.Prelude.{All, IsPermutation, IsSorted, slice_get}
 use Rattle.std.proofs.lemmas.List.{get_or_default, length-append, length-map, get_or_append_left, get_or-append_right}
 use Rattle.std.proofs.lemmas.Bool.{cases_lt}
 use Rattle.std.proofs.lemmas.List.Elements.{All-append, All-push, Contains-append_left, Contains-append_right, Contains-push}
 use Rattle.std.proofs.lemmas.List.Sorted.{All-permutation, Contains-permutation}
 use Rattle.std.proofs.lemmas.Option.{slice_get_read}
+use Rattle.std.specs.Global.{Vec}
+use Rattle.std.specs.declared.alloc.AllocError.{AllocError}
+use Rattle.list_core.specs.Chunks.{all_in}
+use Rattle.share_core.specs.Ranges.{has, has_begun, is_from, range}
+use Rattle.share_core.specs.Shares.{Gives, GivesFrom}
+use Rattle.share_core.specs.declared.range.Range.{Range}
+use Rattle.share_core.specs.declared.shares.Cut.{Cut}
+use Rattle.share_core.proofs.RangeLemmas.{begun_on}
+use Rattle.share_core.proofs.ShareLemmas.{all_come}
 use Rattle.row_core.specs.declared.row.Row.{Row}
 use Rattle.row_core.specs.declared.value.Value.{Value}
 use Rattle.match_core.specs.declared.cells.Cell.{Cell}
-use Rattle.match_core.specs.declared.cells.CellRange.{CellRange}
-use Rattle.match_core.specs.declared.cells.CellRange.TheVariants as part
-use Rattle.match_core.specs.Cells.{AreCells, AreSorted, HasPlace, IsCellAt, cell_cmp, column_at, has_cell, is_before, number_in, text_in}
-use Rattle.match_core.proofs.CellOrder.{SameCell, before-trans, has_cell-same}
+use Rattle.match_core.specs.Cells.{AreCells, AreSorted, AreSortedIn, HasPlace, IsCellAt, cell_cmp, column_at, is_before, number_in, text_in}
+use Rattle.match_core.proofs.CellOrder.{SameCell, before-trans, cell_total, has-same}
 use Rattle.match_core.proofs.CellValues.{cells_same, one_value}
 use Rattle.match_core.proofs.Tell.{slice_get-map}
 
@@ -27,22 +34,22 @@ column_at-row place rows i x h e =
 -- ---- the cells of a range
 
 -- the cells of a range, of the first rows
-pub record Listed (range : CellRange) (classes : List ℕ) (column : List (Option Value)) (i : ℕ)
+pub record Listed (range : Range Cell) (classes : List ℕ) (column : List (Option Value)) (i : ℕ)
     (cells : List Cell) : Type 0 where
   pub own : All (λ (cell : Cell). IsCellAt classes column cell.place cell) cells
-  pub within : All (λ (cell : Cell). has_cell range cell ≡ true) cells
-  pub each : (k : ℕ) (cell : Cell) → k < i → IsCellAt classes column k cell → has_cell range cell ≡ true
+  pub within : All (λ (cell : Cell). has cell_cmp range cell ≡ true) cells
+  pub each : (k : ℕ) (cell : Cell) → k < i → IsCellAt classes column k cell → has cell_cmp range cell ≡ true
       → HasPlace cells k
 
 -- a cell of one more row
-pub listed_more : (range : CellRange) (classes : List ℕ) (column : List (Option Value)) (i : ℕ) (cell : Cell)
-    (cells new : List Cell) → IsCellAt classes column i cell → has_cell range cell ≡ true → new ≡ cells ++ cell ∷ []
+pub listed_more : (range : Range Cell) (classes : List ℕ) (column : List (Option Value)) (i : ℕ) (cell : Cell)
+    (cells new : List Cell) → IsCellAt classes column i cell → has cell_cmp range cell ≡ true → new ≡ cells ++ cell ∷ []
     → Listed range classes column i cells → Listed range classes column (i + 1) new
 listed_more range classes column i cell cells new at test put was =
     subst (Listed range classes column (i + 1)) (sym put) (record {
       own = All-push (λ (c : Cell). IsCellAt classes column c.place c) cells cell was.own
           (subst (λ n. IsCellAt classes column n cell) (sym at.made.place_is) at);
-      within = All-push (λ (c : Cell). has_cell range c ≡ true) cells cell was.within test;
+      within = All-push (λ (c : Cell). has cell_cmp range c ≡ true) cells cell was.within test;
       each = λ k c lt here passes. elim (cases_lt k i) [
         | inl less ↦ (let (x, has, place) = was.each k c less here passes in
             (x, Contains-append_left cells (cell ∷ []) x has, place))
@@ -58,8 +65,8 @@ cells_of_place classes column i x y a b =
     (one_value column i a.value b.value a.there b.there)
 
 -- and of a row whose cell isn't of the range, none
-pub listed_same : (range : CellRange) (classes : List ℕ) (column : List (Option Value)) (i : ℕ) (cell : Cell)
-    (cells : List Cell) → IsCellAt classes column i cell → has_cell range cell ≡ false
+pub listed_same : (range : Range Cell) (classes : List ℕ) (column : List (Option Value)) (i : ℕ) (cell : Cell)
+    (cells : List Cell) → IsCellAt classes column i cell → has cell_cmp range cell ≡ false
     → Listed range classes column i cells → Listed range classes column (i + 1) cells
 listed_same range classes column i cell cells at test was = record {
   own = was.own;
@@ -70,12 +77,12 @@ listed_same range classes column i cell cells at test was = record {
         let e : k ≡ i = omega arith in
         let same : SameCell c cell =
         cells_of_place classes column i c cell (subst (λ n. IsCellAt classes column n c) e here) at in
-        let bad : true ≡ false = sym passes ∙ has_cell-same range c cell same ∙ test in cc)
+        let bad : true ≡ false = sym passes ∙ has-same range c cell same ∙ test in cc)
   ];
 }
 
 -- those of all rows are listed
-pub all_listed : (range : CellRange) (classes : List ℕ) (column : List (Option Value)) (i : ℕ) (cells : List Cell)
+pub all_listed : (range : Range Cell) (classes : List ℕ) (column : List (Option Value)) (i : ℕ) (cells : List Cell)
     → length column ≤ i → Listed range classes column i cells → AreCells range classes column cells
 all_listed range classes column i cells end was = record {
   own = was.own;
@@ -84,11 +91,11 @@ all_listed range classes column i cells end was = record {
 }
 
 -- in another order they are the same ones
-pub cells_moved : (range : CellRange) (classes : List ℕ) (column : List (Option Value)) (made sorted : List Cell)
+pub cells_moved : (range : Range Cell) (classes : List ℕ) (column : List (Option Value)) (made sorted : List Cell)
     → IsPermutation made sorted → AreCells range classes column made → AreCells range classes column sorted
 cells_moved range classes column made sorted moved are = record {
   own = All-permutation (λ (c : Cell). IsCellAt classes column c.place c) made sorted moved are.own;
-  within = All-permutation (λ (c : Cell). has_cell range c ≡ true) made sorted moved are.within;
+  within = All-permutation (λ (c : Cell). has cell_cmp range c ≡ true) made sorted moved are.within;
   each = λ i c lt here passes.
       (let (x, has, place) = are.each i c lt here passes in
       (x, Contains-permutation made sorted x moved has, place));
@@ -130,21 +137,21 @@ cell_there classes place rows wide i within =
       },
     )
 
--- the cells of all rows, in rising order
-pub sorted_whole : (classes : List ℕ) (column : List (Option Value)) (cells : List Cell)
+-- the cells of a range without ends, in rising order, are those of all rows
+sorted_whole : (classes : List ℕ) (column : List (Option Value)) (cells : List Cell)
     → ((i : ℕ) → i < length column → (cell : Cell) × IsCellAt classes column i cell)
-    → AreCells part.All classes column cells → IsSorted cell_cmp cells → AreSorted classes column cells
-sorted_whole classes column cells there are rise = record {
-  own = are.own;
-  each = λ i lt. (let (c, at) = there i lt in are.each i c lt at refl);
-  rise = rise;
+    → AreSortedIn (range None None) classes column cells → AreSorted classes column cells
+sorted_whole classes column cells there sorted = record {
+  own = sorted.are.own;
+  each = λ i lt. (let (c, at) = there i lt in sorted.are.each i c lt at refl);
+  rise = sorted.rise;
 }
 
--- lists of which the one has nothing that comes after the other's are sorted behind each other
-sorted-append : (low high : List Cell) (middle : Cell) → All (λ c. not (is_before middle c) ≡ true) low
-    → All (λ c. is_before middle c ≡ true) high → IsSorted cell_cmp low → IsSorted cell_cmp high
+-- lists of which the one has only what comes before a cell, and the other nothing that does, are sorted behind each other
+sorted-append : (low high : List Cell) (at : Cell) → All (λ c. is_before c at ≡ true) low
+    → All (λ c. is_before c at ≡ false) high → IsSorted cell_cmp low → IsSorted cell_cmp high
     → IsSorted cell_cmp (low ++ high)
-sorted-append low high middle upto above up down k d lt inside = elim (cases_lt (k + 1) (length low)) [
+sorted-append low high at before from up down k d lt inside = elim (cases_lt (k + 1) (length low)) [
   | inl less ↦
       subst (λ x. is_before x (get_or (low ++ high) k d) ≡ false) (sym (get_or_append_left low high d (k + 1) less))
       (subst (λ x. is_before (get_or low (k + 1) d) x ≡ false)
@@ -157,11 +164,11 @@ sorted-append low high middle upto above up down k d lt inside = elim (cases_lt 
         | inl last ↦ (
             let here : get_or (low ++ high) k d ≡ get_or low k d = get_or_append_left low high d k last in
             let none : k + 1 - length low ≡ 0 = omega arith in
-            let after : is_before middle (get_or high 0 d) ≡ true = above 0 d (omega (arith, n, inside, last)) in
+            let behind : is_before (get_or high 0 d) at ≡ false = from 0 d (omega (arith, n, inside, last)) in
             subst (λ x. is_before x (get_or (low ++ high) k d) ≡ false)
             (sym (next ∙ ap (λ m. get_or high m d) none))
             (subst (λ x. is_before (get_or high 0 d) x ≡ false) (sym here)
-            (not_before (get_or high 0 d) (get_or low k d) after (upto k d last))))
+            (not_before (get_or high 0 d) (get_or low k d) behind (before k d last))))
         | inr behind ↦ (
             let m = k - length low in
             let here : get_or (low ++ high) k d ≡ get_or high m d =
@@ -174,28 +181,85 @@ sorted-append low high middle upto above up down k d lt inside = elim (cases_lt 
       ])
 ]
   where
-    not_before : (x y : Cell) → is_before middle x ≡ true → not (is_before middle y) ≡ true → is_before x y ≡ false
-    not_before x y after upto = by_test (is_before x y) refl where
+    not_before : (x y : Cell) → is_before x at ≡ false → is_before y at ≡ true → is_before x y ≡ false
+    not_before x y behind less = by_test (is_before x y) refl where
       by_test : (t : Bool) → is_before x y ≡ t → is_before x y ≡ false
       by_test false e = e
       by_test true e = absurd (
-          let bad : false ≡ true = ap not (sym (before-trans middle x y after e)) ∙ upto in cc)
+          let bad : true ≡ false = sym (before-trans x y at e less) ∙ behind in cc)
 
--- the cells up to a middle one, and those above it, each in rising order
-pub sorted_halves : (classes : List ℕ) (column : List (Option Value)) (middle : Cell) (low high : List Cell)
+-- what a range up to a cell has: it has begun there, and that comes before the cell
+low_parts : (b t : Bool) → b && not (not t) ≡ true → (b ≡ true) × (t ≡ true)
+low_parts true true e = (refl, refl)
+low_parts true false e = absurd (cc)
+low_parts false t e = absurd (cc)
+
+-- what a range has that has no end
+high_part : (b : Bool) → b && true ≡ true → b ≡ true
+high_part true e = refl
+high_part false e = absurd (cc)
+
+-- what isn't denied
+from_denied : (t : Bool) → not t ≡ true → t ≡ false
+from_denied true e = absurd (cc)
+from_denied false e = refl
+
+module _ (classes : List ℕ) (column : List (Option Value)) (from : Option Cell) (at : Cell)
+    (begun : has_begun cell_cmp from at ≡ true) where
+  -- the cells of a range without an end: those before a cell, and behind them the others
+  cells-append : (low high : List Cell) → AreCells (range from (Some at)) classes column low
+      → AreCells (range (Some at) None) classes column high → AreCells (range from None) classes column (low ++ high)
+  cells-append low high lows highs = record {
+    own = All-append (λ (c : Cell). IsCellAt classes column c.place c) low high lows.own highs.own;
+    within = All-append (λ (c : Cell). has cell_cmp (range from None) c ≡ true) low high
+        (λ k d lt. ap (λ b. b && true)
+        (low_parts (has_begun cell_cmp from (get_or low k d)) (is_before (get_or low k d) at) (lows.within k d lt)).0)
+        (λ k d lt. ap (λ b. b && true)
+        (begun_on cell_cmp cell_total from at (get_or high k d) begun
+        (high_part (is_from cell_cmp at (get_or high k d)) (highs.within k d lt))));
+    each = λ i c lt here passes.
+        by_test i c lt here (high_part (has_begun cell_cmp from c) passes) (is_before c at) refl;
+  }
+    where
+      by_test : (i : ℕ) (c : Cell) → i < length column → IsCellAt classes column i c
+          → has_begun cell_cmp from c ≡ true → (t : Bool) → is_before c at ≡ t → HasPlace (low ++ high) i
+      by_test i c lt here starts true e =
+          let (x, has, place) = lows.each i c lt here
+          (ap (λ b. b && not (not (is_before c at))) starts ∙ ap (λ t. true && not (not t)) e) in
+          (x, Contains-append_left low high x has, place)
+      by_test i c lt here starts false e =
+          let (x, has, place) = highs.each i c lt here (ap (λ t. not t && true) e) in
+          (x, Contains-append_right low high x has, place)
+
+  -- and in rising order
+  sorted_ranges : (low high : List Cell) → AreSortedIn (range from (Some at)) classes column low
+      → AreSortedIn (range (Some at) None) classes column high
+      → AreSortedIn (range from None) classes column (low ++ high)
+  sorted_ranges low high lows highs = record {
+    are = cells-append low high lows.are highs.are;
+    rise = sorted-append low high at
+        (λ k d lt.
+        (low_parts (has_begun cell_cmp from (get_or low k d)) (is_before (get_or low k d) at)
+        (lows.are.within k d lt)).1)
+        (λ k d lt.
+        from_denied (is_before (get_or high k d) at)
+        (high_part (is_from cell_cmp at (get_or high k d)) (highs.are.within k d lt)))
+        lows.rise highs.rise;
+  }
+
+-- the lists of all ranges, one behind another, are the sorted cells of all rows
+pub sorted_lists : (classes : List ℕ) (column : List (Option Value))
+    (post : Range Cell → ℕ → Result (Vec Cell) AllocError → Type 0) (cuts : List (Cut Cell)) (lists : List (Vec Cell))
     → ((i : ℕ) → i < length column → (cell : Cell) × IsCellAt classes column i cell)
-    → AreCells (part.UpTo middle) classes column low → IsSorted cell_cmp low
-    → AreCells (part.Above middle) classes column high → IsSorted cell_cmp high
-    → AreSorted classes column (low ++ high)
-sorted_halves classes column middle low high there lows up highs down = record {
-  own = All-append (λ (c : Cell). IsCellAt classes column c.place c) low high lows.own highs.own;
-  each = λ i lt. (let (c, at) = there i lt in by_test i c lt at (is_before middle c) refl);
-  rise = sorted-append low high middle lows.within highs.within up down;
-}
-  where
-    by_test : (i : ℕ) (c : Cell) → i < length column → IsCellAt classes column i c → (t : Bool)
-        → is_before middle c ≡ t → HasPlace (low ++ high) i
-    by_test i c lt at true e =
-        let (x, has, place) = highs.each i c lt at e in (x, Contains-append_right low high x has, place)
-    by_test i c lt at false e =
-        let (x, has, place) = lows.each i c lt at (ap not e) in (x, Contains-append_left low high x has, place)
+    → ((r : Range Cell) (n : ℕ) (cells : Vec Cell) → post r n (Ok cells) → AreSortedIn r classes column cells.items)
+    → GivesFrom cell_cmp (Gives post) None cuts lists → AreSorted classes column (all_in lists)
+sorted_lists classes column post cuts lists there told given =
+    sorted_whole classes column (all_in lists) there
+    (all_come cell_cmp (Gives post)
+    (λ (r : Range Cell) (all : List (Vec Cell)). AreSortedIn r classes column (all_in all))
+    (λ r cells own.
+    subst (AreSortedIn r classes column) (sym (append-nil cells.items)) (told r own.0 cells own.1))
+    (λ from at cells more begun one others.
+    sorted_ranges classes column from at begun cells.items (all_in more)
+    (told (range from (Some at)) one.0 cells one.1) others)
+    None cuts lists given)

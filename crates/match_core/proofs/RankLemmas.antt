@@ -1,14 +1,17 @@
 -- The ranks of sorted cells: each different cell has one.
-use Rattle.std.proofs.Common.{◌≡◌, ◌≢◌, ℕ, ◌+◌, ◌-◌, ◌<◌, true, List, [], ◌∷◌, ◌++◌, length, set, get_or, refl, sym, subst, ap, ◌∙◌, inl, inr, arith, get_or-set_same, get_or-set_other}
+use Rattle.std.proofs.Common.{◌≡◌, ◌≢◌, ℕ, zero, suc, ◌+◌, ◌-◌, ◌<◌, true, List, [], ◌∷◌, ◌++◌, length, length-append, append-nil, take, set, get_or, Some, refl, sym, subst, ap, ◌∙◌, inl, inr, arith, get_or-set_same, get_or-set_other}
 use Rattle.std.specs.Prelude.{IsSorted, Option, slice_get}
 use Rattle.std.proofs.lemmas.Bool.{cases_eq}
 use Rattle.std.proofs.lemmas.List.{get_or_append_left, get_or-append_right, get_or_read, length_push}
 use Rattle.std.proofs.lemmas.List.Elements.{All-contains}
 use Rattle.std.proofs.lemmas.List.Quantifiers.{all_pairs_push}
 use Rattle.std.proofs.lemmas.Option.{get_or_from_slice_get, slice_get-get_or}
+use Rattle.std.specs.Global.{Vec}
+use Rattle.list_core.specs.Chunks.{all_in}
+use Rattle.list_core.proofs.PlaceLemmas.{slice_get-append_left, slice_get-append_right}
 use Rattle.row_core.specs.declared.value.Value.{Value}
 use Rattle.match_core.specs.declared.cells.Cell.{Cell}
-use Rattle.match_core.specs.Cells.{AgreeOnPlaces, AreRanked, AreRanksOf, AreRising, AreSorted, HasLast, HasRank, IsCellAt, IsEntered, IsFromLast, IsRankAt, cell_cmp, is_before, same_cell}
+use Rattle.match_core.specs.Cells.{AgreeOnPlaces, AreRanked, AreRankedUpto, AreRanksOf, AreRising, AreSorted, HasLast, HasRank, IsCellAt, IsEntered, IsFromLast, IsRankAt, cell_cmp, count_before, is_before, same_cell}
 use Rattle.match_core.proofs.CellOrder.{SameCell, SameCell-sym, SameCell-trans, SameCell-itself, after-from, before-same, before-trans, same_cell-decides, told_apart}
 
 -- ---- a cell enters those that differ
@@ -75,25 +78,56 @@ entered_other old new cell rank rise upto other put count =
               (last_before (length old - 1) d end)
         ]
 
--- ---- the loop
+-- ---- lists one behind another
 
--- the rows of the first cells have ranks among those that differ, the last of which is the same as the last cell
-pub record Ranking (cells : List Cell) (i : ℕ) (firsts : List Cell) (ranks : List ℕ) : Type 0 where
-  pub rise : AreRising firsts
-  pub none : i ≡ 0 → length firsts ≡ 0
-  pub last : (k j : ℕ) (d : Cell) → k + 1 ≡ length firsts → j + 1 ≡ i → SameCell (get_or firsts k d) (get_or cells j d)
-  pub told : (k : ℕ) (d : Cell) → k < i → HasRank ranks firsts (get_or cells k d)
+-- one list more
+pub count_before-more : (lists : List (Vec Cell)) (number : ℕ) (list : Vec Cell) → number < length lists
+    → list ≡ get_or lists number list → count_before (suc number) lists ≡ count_before number lists + length list.items
+count_before-more [] number list lt is = absurd (omega (arith, lt))
+count_before-more (l ∷ ls) zero list lt is =
+    let nil : length (l.items ++ []) ≡ length l.items = ap length (append-nil l.items) in
+    let same : length list.items ≡ length l.items = ap (λ (v : Vec Cell). length v.items) is in
+    let none : count_before zero (l ∷ ls) ≡ 0 = refl in
+    nil ∙ sym same ∙ omega (arith, none)
+count_before-more (l ∷ ls) (suc number) list lt is =
+    let longer : count_before (suc (suc number)) (l ∷ ls) ≡ length l.items + count_before (suc number) ls =
+    length-append l.items (all_in (take (suc number) ls)) in
+    let long : count_before (suc number) (l ∷ ls) ≡ length l.items + count_before number ls =
+    length-append l.items (all_in (take number ls)) in
+    let more = count_before-more ls number list (omega (arith, lt)) is in
+    omega (arith, longer, long, more)
+
+-- where a list's cell stands among all
+pub slice_get-all_in : (lists : List (Vec Cell)) (number i : ℕ) (list : Vec Cell) (cell : Cell)
+    → number < length lists → list ≡ get_or lists number list → slice_get list.items i ≡ Some cell
+    → slice_get (all_in lists) (count_before number lists + i) ≡ Some cell
+slice_get-all_in [] number i list cell lt is at = absurd (omega (arith, lt))
+slice_get-all_in (l ∷ ls) zero i list cell lt is at =
+    let none : count_before zero (l ∷ ls) + i ≡ i = omega arith in
+    ap (slice_get (all_in (l ∷ ls))) none
+    ∙ slice_get-append_left l.items (all_in ls) i cell (ap (λ (v : Vec Cell). slice_get v.items i) (sym is) ∙ at)
+slice_get-all_in (l ∷ ls) (suc number) i list cell lt is at =
+    let count : count_before (suc number) (l ∷ ls) ≡ length l.items + count_before number ls =
+    length-append l.items (all_in (take number ls)) in
+    let place : count_before (suc number) (l ∷ ls) + i ≡ length l.items + (count_before number ls + i) =
+    omega (arith, count) in
+    ap (slice_get (all_in (l ∷ ls))) place
+    ∙ slice_get-append_right l.items (all_in ls) (count_before number ls + i)
+    ∙ slice_get-all_in ls number i list cell (omega (arith, lt)) is at
+
+-- ---- the loop
 
 -- the next cell doesn't come before the last of those that differ
 pub next_from_last : (cells : List Cell) (i : ℕ) (firsts : List Cell) (ranks : List ℕ) (cell : Cell)
     → IsSorted cell_cmp cells → i < length cells
-    → cell ≡ get_or cells i cell → Ranking cells i firsts ranks → IsFromLast firsts cell
+    → cell ≡ get_or cells i cell → AreRankedUpto cells i firsts ranks → IsFromLast firsts cell
 next_from_last cells i firsts ranks cell sorted inside here was k d e = elim (cases_eq i 0) [
-  | inl zero ↦ absurd (let no = was.none zero in omega (arith, no, e))
+  | inl first ↦ absurd (let no = was.none first in omega (arith, no, e))
   | inr some ↦ (
       let j = i - 1 in
       let next : j + 1 ≡ i = omega (arith, some) in
-      before-same cell (get_or firsts k d) (get_or cells j d) (was.last k j d e next)
+      before-same cell (get_or firsts k d) (get_or cells j d)
+      ((same_cell-decides (get_or firsts k d) (get_or cells j d)).0 (was.last k j d e next))
       ∙ ap (λ x. is_before x (get_or cells j d))
       (get_or_read cells i cell inside here d ∙ ap (λ m. get_or cells m d) (sym next))
       ∙ sorted j d (omega (arith, next, inside)) (omega (arith, next, inside)))
@@ -102,8 +136,8 @@ next_from_last cells i firsts ranks cell sorted inside here was k d e = elim (ca
 -- one more row has its rank
 pub ranked_more : (cells : List Cell) (i : ℕ) (firsts new : List Cell) (rank : ℕ) (cell : Cell) (ranks : List ℕ)
     → i < length cells → cell ≡ get_or cells i cell → cell.place < length ranks → AgreeOnPlaces cells
-    → Ranking cells i firsts ranks → IsEntered firsts cell new rank
-    → Ranking cells (i + 1) new (set ranks cell.place rank)
+    → AreRankedUpto cells i firsts ranks → IsEntered firsts cell new rank
+    → AreRankedUpto cells (i + 1) new (set ranks cell.place rank)
 ranked_more cells i firsts new rank cell ranks inside here room agree was entered = record {
   rise = entered.rise;
   none = λ e. absurd (omega (arith, e));
@@ -111,16 +145,16 @@ ranked_more cells i firsts new rank cell ranks inside here room agree was entere
   told = told_now;
 }
   where
-    last_now : (k j : ℕ) (d : Cell) → k + 1 ≡ length new → j + 1 ≡ i + 1 → SameCell (get_or new k d) (get_or cells j d)
+    last_now : (k j : ℕ) (d : Cell) → k + 1 ≡ length new → j + 1 ≡ i + 1
+        → same_cell (get_or new k d) (get_or cells j d) ≡ true
     last_now k j d e f =
         let own = entered.last in
         let k_is : rank ≡ k = omega (arith, own, e) in
         let j_is : i ≡ j = omega (arith, f) in
-        let same : SameCell (get_or new rank d) cell =
-        (same_cell-decides (get_or new rank d) cell).0 (entered.same d) in
-        subst (λ m. SameCell (get_or new m d) (get_or cells j d)) k_is
-        (subst (λ m. SameCell (get_or new rank d) (get_or cells m d)) j_is
-        (subst (SameCell (get_or new rank d)) (get_or_read cells i cell inside here d) same))
+        subst (λ m. same_cell (get_or new m d) (get_or cells j d) ≡ true) k_is
+        (subst (λ m. same_cell (get_or new rank d) (get_or cells m d) ≡ true) j_is
+        (subst (λ c. same_cell (get_or new rank d) c ≡ true) (get_or_read cells i cell inside here d)
+        (entered.same d)))
 
     -- a row of the same place has it
     placed : (y : Cell) → y.place ≡ cell.place → SameCell cell y → HasRank (set ranks cell.place rank) new y

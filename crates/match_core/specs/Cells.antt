@@ -1,6 +1,7 @@
 -- The values of a column of two tables, with the classes of their rows so far.
-use Rattle.std.specs.Prelude.{◌≡◌, ◌↔◌, ◌⊎◌, ℕ, ◌+◌, ◌-◌, ◌/◌, ◌<◌, ◌≤◌, ℤ, pos, List, [], ◌++◌, length, map, All, AllPairs, Bool, true, false, not, ◌&&◌, Contains, Option, Some, None, IsSorted, nat_eq, replicate, slice_get, slice_index, slice_index_or, take}
+use Rattle.std.specs.Prelude.{◌≡◌, ◌↔◌, ◌⊎◌, ℕ, ◌+◌, ◌-◌, ◌/◌, ◌<◌, ◌≤◌, ℤ, pos, List, [], ◌++◌, length, map, All, AllPairs, Bool, true, false, ◌&&◌, Contains, Option, Some, None, IsSorted, nat_eq, replicate, slice_get, slice_index, slice_index_or, take}
 use Rattle.std.specs.Borrow.{Bor}
+use Rattle.std.specs.Global.{Vec}
 use Rattle.std.specs.Cmp.Lexicographic.{pointwise, slice_cmp}
 use Rattle.std.specs.Hash.FoldHasher.{initial, write, finish}
 use Rattle.std.specs.Ordering.{int_eq, is_lt, ordering_then, nat_cmp, int_cmp}
@@ -12,8 +13,9 @@ use Rattle.row_core.specs.declared.value.Value.{Value}
 use Rattle.row_core.specs.declared.value.Value.TheVariants.{Int, Text}
 use Rattle.match_core.specs.declared.cells.Cell.{Cell}
 use Rattle.match_core.specs.declared.side_column.SideColumn.{SideColumn}
-use Rattle.match_core.specs.declared.cells.CellRange.{CellRange}
-use Rattle.match_core.specs.declared.cells.CellRange.TheVariants as range
+use Rattle.list_core.specs.Chunks.{all_in}
+use Rattle.share_core.specs.Ranges.{has}
+use Rattle.share_core.specs.declared.range.Range.{Range}
 
 -- the values at that place of the rows
 abbrev pub column_at : ℕ → List Row → List (Option Value)
@@ -81,23 +83,23 @@ cell_cmp a b = ordering_then (nat_cmp a.class b.class)
 abbrev pub is_before : Cell → Cell → Bool
 is_before a b = is_lt (cell_cmp a b)
 
--- a range has a cell: all do, or those that aren't after one, or those that are
-abbrev pub has_cell : CellRange → Cell → Bool
-has_cell range.All cell = true
-has_cell (range.UpTo last) cell = not (is_before last cell)
-has_cell (range.Above last) cell = is_before last cell
-
 -- there is a cell of the row at that place
 abbrev pub HasPlace : List Cell → ℕ → Type 0
 HasPlace cells i = (cell : Cell) × Contains cells cell × (cell.place ≡ i)
 
 -- the cells of a range of a side's rows: each is that of its place, and each place whose cell is of the range has one
-pub record AreCells (range : CellRange) (classes : List ℕ) (column : List (Option Value)) (cells : List Cell)
+pub record AreCells (range : Range Cell) (classes : List ℕ) (column : List (Option Value)) (cells : List Cell)
     : Type 0 where
   pub own : All (λ (cell : Cell). IsCellAt classes column cell.place cell) cells
-  pub within : All (λ (cell : Cell). has_cell range cell ≡ true) cells
-  pub each : (i : ℕ) (cell : Cell) → i < length column → IsCellAt classes column i cell → has_cell range cell ≡ true
-      → HasPlace cells i
+  pub within : All (λ (cell : Cell). has cell_cmp range cell ≡ true) cells
+  pub each : (i : ℕ) (cell : Cell) → i < length column → IsCellAt classes column i cell
+      → has cell_cmp range cell ≡ true → HasPlace cells i
+
+-- these in rising order
+pub record AreSortedIn (range : Range Cell) (classes : List ℕ) (column : List (Option Value)) (cells : List Cell)
+    : Type 0 where
+  pub are : AreCells range classes column cells
+  pub rise : IsSorted cell_cmp cells
 
 -- the cells of all rows of a side, by rising order: each is that of its place, and each place has one
 pub record AreSorted (classes : List ℕ) (column : List (Option Value)) (cells : List Cell) : Type 0 where
@@ -127,6 +129,18 @@ pub record HasRank (ranks : List ℕ) (firsts : List Cell) (cell : Cell) : Type 
 -- the rows of cells have ranks among those that differ
 abbrev pub AreRanksOf : List Cell → List ℕ → List Cell → Type 0
 AreRanksOf cells ranks firsts = All (HasRank ranks firsts) cells
+
+-- the rows of the first cells have ranks among those that differ, the last of which is the same as the last cell
+pub record AreRankedUpto (cells : List Cell) (i : ℕ) (firsts : List Cell) (ranks : List ℕ) : Type 0 where
+  pub rise : AreRising firsts
+  pub none : i ≡ 0 → length firsts ≡ 0
+  pub last : (k j : ℕ) (d : Cell) → k + 1 ≡ length firsts → j + 1 ≡ i
+      → same_cell (slice_index_or firsts k d) (slice_index_or cells j d) ≡ true
+  pub told : (k : ℕ) (d : Cell) → k < i → HasRank ranks firsts (slice_index_or cells k d)
+
+-- how many cells stand in the lists before the one of that number
+abbrev pub count_before : ℕ → List (Vec Cell) → ℕ
+count_before number lists = length (all_in (take number lists))
 
 -- a cell doesn't come before the last one of others, if there is one
 abbrev pub IsFromLast : List Cell → Cell → Type 0

@@ -1,30 +1,31 @@
 //! The rows of one side with their values in the column that they are compared by, sorted by these.
 
-ghost use Rattle.std.specs.Prelude.{◌≡◌, ◌<◌, ◌++◌, All, Some, IfOk, IsSorted, length, slice_get, slice_index};
+ghost use Rattle.std.specs.Prelude.{◌≡◌, ◌<◌, All, Some, IfOk, length, slice_get, slice_index};
 ghost use Rattle.std.specs.Thread.{IsSync};
+ghost use Rattle.list_core.specs.Chunks.{all_in};
+ghost use Rattle.share_core.specs.Ranges.{has};
 ghost use Rattle.match_core.specs.Cells.{
   AreCells,
   AreSorted,
+  AreSortedIn,
   IsCell,
   IsCellAt,
   cell_cmp,
   classes_in,
   column_at,
   column_in,
-  has_cell,
   hash_of,
   is_before,
 };
-ghost use Rattle.match_core.specs.declared.cells.CellRange.TheVariants.{UpTo, Above};
 
 use crate::NoMemory;
 use crate::side_column::SideColumn;
-use list_core::room_for_half;
 use row_core::{Row, Value};
+use share_core::{Range, Shares, shared_out};
 use sort_core::sort_unstable;
 use std::alloc::Global;
 use std::hash::{FoldHasher, Hasher};
-use std::thread::{Threads, join_mut};
+use std::thread::Threads;
 
 /// A row's value in a column, with the class of the row so far, so that no value is looked up while they are
 /// sorted, and none is copied. Numbers have the empty text. Texts have a hash as their number, which mostly
@@ -40,107 +41,55 @@ pub(crate) struct Cell<'a> {
     pub(crate) place: usize,
 }
 
-/// Some of the cells of a side: what one thread lists and sorts.
-#[derive(Clone, Copy)]
-pub(crate) enum CellRange<'a> {
-    /// All cells.
-    All,
-    /// Those that don't come after one.
-    UpTo(Cell<'a>),
-    /// Those that do.
-    Above(Cell<'a>),
-}
-
-/// Of fewer rows half would be sorted before the other half's thread has started.
-const ROWS_FOR_HALVES: usize = 16_384;
-
-/// By so many rows the middle cell is told.
-const SAMPLE: usize = 255;
-
-/// The cells of a side in rising order: those of one thread, and behind them those of another.
-#[derive(Drop)]
-pub(crate) struct SortedCells<'a> {
-    pub low: Vec<Cell<'a>>,
-    pub high: Vec<Cell<'a>>,
-}
-
-/// A cell for each row of a side, in rising order. Where rows are many, one thread lists and sorts those up to about the
-/// middle one, and another those above it.
+/// A cell for each row of a side, in rising order: lists that stand one behind another. Where rows are many, workers share
+/// them out by ranges of cells, and each range is listed and sorted by itself.
 pub(crate) fn sorted_cells<'a, R: Threads + Sync>(
     rt: &R,
     alloc: Global,
     side: SideColumn<'a, '_>,
     workers: u32,
-) -> Result<SortedCells<'a>, NoMemory>
-    ensures { IfOk result (λ cells. AreSorted (classes_in side.entry)
-        (column_in side.entry) (cells.low.items ++ cells.high.items)) }
+) -> Result<Vec<Vec<Cell<'a>>>, NoMemory>
+    ensures { IfOk result (λ lists. AreSorted (classes_in side.entry) (column_in side.entry)
+        (all_in lists.items)) }
 {
-    let Some(middle) = middle_cell(side, workers) else {
-        let low = sorted_range(rt, alloc, side, CellRange::All, workers)?;
-        let high = Vec::new(alloc);
-        return Ok(SortedCells { low, high });
-    };
-    let (low, high) = join_mut(
+    let shares = Shares::of(
+        alloc,
+        side.rows.len(),
+        workers.max(1),
+        &|i: usize| -> Cell<'_>
+            requires { i < length side.rows.now }
+        { cell_at(side, i) },
+    )?;
+    let room = room_for_cells(side.rows.len(), shares.len());
+    shared_out(
         rt,
-        &mut move || -> Result<Vec<Cell>, NoMemory>
+        alloc,
+        &shares,
+        &|range: Range<Cell<'_>>, workers: u32| -> Result<Vec<Cell<'_>>, NoMemory>
             requires { IsSync R.row }
-            ensures range { IfOk result (λ cells. AreCells (UpTo middle.entry) (classes_in side.entry)
+            ensures { IfOk result (λ cells. AreSortedIn range.entry (classes_in side.entry)
                 (column_in side.entry) cells.items) }
-            ensures rise { IfOk result (λ cells. IsSorted cell_cmp cells.items) }
-        { sorted_range(rt, alloc, side, CellRange::UpTo(middle), workers / 2) },
-        &mut move || -> Result<Vec<Cell>, NoMemory>
-            requires { IsSync R.row }
-            ensures range { IfOk result (λ cells. AreCells (Above middle.entry) (classes_in side.entry)
-                (column_in side.entry) cells.items) }
-            ensures rise { IfOk result (λ cells. IsSorted cell_cmp cells.items) }
-        { sorted_range(rt, alloc, side, CellRange::Above(middle), workers / 2) },
-    );
-    let low = low?;
-    let high = high?;
-    Ok(SortedCells { low, high })
+        {
+            let mut cells = cells_of(alloc, side, &range, room)?;
+            sort_unstable(rt, &mut cells, workers);
+            Ok(cells)
+        },
+    )
 }
 
-// About the middle one of the cells of some rows. None for one worker, and where rows are few.
-fn middle_cell<'a>(side: SideColumn<'a, '_>, workers: u32) -> Option<Cell<'a>> {
-    let count = side.rows.len();
-    if workers < 2 || count < ROWS_FOR_HALVES {
-        return None;
-    }
-    let step = count / SAMPLE;
-    let mut sample = [cell_at(side, 0); SAMPLE];
-    for i in 0..SAMPLE {
-        sample[i] = cell_at(side, i * step);
-    }
-    sample.sort_unstable();
-    Some(sample[SAMPLE / 2])
-}
-
-// The cells of a range, in rising order.
-fn sorted_range<'a, R: Threads + Sync>(
-    rt: &R,
-    alloc: Global,
-    side: SideColumn<'a, '_>,
-    range: CellRange<'_>,
-    workers: u32,
-) -> Result<Vec<Cell<'a>>, NoMemory>
-    ensures range { IfOk result (λ cells. AreCells range.entry (classes_in side.entry)
-        (column_in side.entry) cells.items) }
-    ensures rise { IfOk result (λ cells. IsSorted cell_cmp cells.items) }
+// Room for the cells of one of so many ranges: somewhat more than its part of the rows, and for all where there is one.
+fn room_for_cells(rows: usize, ranges: usize) -> usize
+    requires { 0 < ranges }
 {
-    let mut cells = cells_of(alloc, side, range)?;
-    sort_unstable(rt, &mut cells, workers);
-    Ok(cells)
+    let part = rows / ranges;
+    part.saturating_add(part / 4).min(rows)
 }
 
 // Whether a range has the cell.
-fn has_cell(range: &CellRange<'_>, cell: &Cell<'_>) -> bool
-    ensures { result ≡ has_cell range.now cell.now }
+fn has_cell(range: &Range<Cell<'_>>, cell: &Cell<'_>) -> bool
+    ensures { result ≡ has cell_cmp range.now cell.now }
 {
-    match range {
-        CellRange::All => true,
-        CellRange::UpTo(last) => !is_before(last, cell),
-        CellRange::Above(last) => is_before(last, cell),
-    }
+    range.has(cell)
 }
 
 /// Whether the one cell comes before the other.
@@ -150,28 +99,20 @@ pub(crate) fn is_before(a: &Cell, b: &Cell) -> bool
     a < b
 }
 
-// Room for the cells of a range: for all rows where it has no end, else for somewhat more than half of them.
-fn room_for_cells(range: &CellRange<'_>, rows: usize) -> usize {
-    match range {
-        CellRange::All => rows,
-        CellRange::UpTo(_) | CellRange::Above(_) => room_for_half(rows),
-    }
-}
-
 // The cells of a range, in the order of the rows.
 fn cells_of<'a>(
     alloc: Global,
     side: SideColumn<'a, '_>,
-    range: CellRange<'_>,
+    range: &Range<Cell<'_>>,
+    room: usize,
 ) -> Result<Vec<Cell<'a>>, NoMemory>
-    ensures { IfOk result (λ cells. AreCells range.entry (classes_in side.entry)
+    ensures { IfOk result (λ cells. AreCells range.entry.now (classes_in side.entry)
         (column_in side.entry) cells.items) }
 {
-    let room = room_for_cells(&range, side.rows.len());
     let mut cells = Vec::with_capacity(alloc, room)?;
     for i in 0..side.rows.len() {
         let cell = cell_at(side, i);
-        if has_cell(&range, &cell) {
+        if has_cell(range, &cell) {
             cells.push(cell)?;
         }
     }

@@ -1,9 +1,11 @@
 //! Numbers the rows of one side by their values: rows of one class so far and one value have one rank.
 
-ghost use Rattle.std.specs.Prelude.{◌≡◌, ◌+◌, ◌++◌, ◌<◌, All, IfOk, IsSorted, MatchBool, Some, length, slice_get};
+ghost use Rattle.std.specs.Prelude.{◌≡◌, ◌+◌, ◌<◌, All, IfOk, IsSorted, MatchBool, length};
+ghost use Rattle.list_core.specs.Chunks.{all_in};
 ghost use Rattle.match_core.specs.Cells.{
   AgreeOnPlaces,
   AreRanked,
+  AreRankedUpto,
   AreRanksOf,
   AreRising,
   AreSorted,
@@ -13,6 +15,7 @@ ghost use Rattle.match_core.specs.Cells.{
   cell_cmp,
   classes_in,
   column_in,
+  count_before,
   same_cell,
 };
 
@@ -41,43 +44,53 @@ pub(crate) fn rank_side<'a, R: Threads + Sync>(
     ensures { IfOk result (λ ranked. AreRanked (classes_in side.entry) (column_in side.entry)
         ranked.ranks.items ranked.firsts.items) }
 {
-    let cells = sorted_cells(rt, alloc, side, workers)?;
+    let lists = sorted_cells(rt, alloc, side, workers)?;
     let mut ranks = vec![in alloc; 0; side.rows.len()]?;
-    let firsts = rank_cells(alloc, &cells.low, &cells.high, &mut ranks)?;
+    let firsts = rank_cells(alloc, &lists, &mut ranks)?;
     Ok(Ranked { ranks, firsts })
 }
 
 // Gives each cell's row the number of different cells before it, and lists those that differ.
 fn rank_cells<'a>(
     alloc: Global,
-    low: &[Cell<'a>],
-    high: &[Cell<'a>],
+    lists: &[Vec<Cell<'a>>],
     ranks: &mut [u64],
 ) -> Result<Vec<Cell<'a>>, NoMemory>
-    requires within { All (λ cell. cell.place < length ranks.old) (low.now ++ high.now) }
-    requires agree { AgreeOnPlaces (low.now ++ high.now) }
-    requires rise { IsSorted cell_cmp (low.now ++ high.now) }
-    ensures ranks { IfOk result (λ firsts. AreRanksOf (low.now ++ high.now) ranks.new firsts.items) }
+    requires within { All (λ cell. cell.place < length ranks.old) (all_in lists.now) }
+    requires agree { AgreeOnPlaces (all_in lists.now) }
+    requires rise { IsSorted cell_cmp (all_in lists.now) }
+    ensures ranks { IfOk result (λ firsts. AreRanksOf (all_in lists.now) ranks.new firsts.items) }
     ensures rise { IfOk result (λ firsts. AreRising firsts.items) }
 {
     let mut firsts = Vec::new(alloc);
-    for i in 0..low.len() + high.len() {
-        let cell = cell_in(low, high, i);
-        ranks[cell.place] = enter_cell(&mut firsts, cell)?;
+    for number in 0..lists.len() {
+        rank_list(lists, number, &mut firsts, ranks)?;
     }
     Ok(firsts)
 }
 
-// The cell at that place of two lists, the one behind the other.
-fn cell_in<'l, 'a>(low: &'l [Cell<'a>], high: &'l [Cell<'a>], i: usize) -> &'l Cell<'a>
-    requires { i < length low.now + length high.now }
-    ensures { slice_get (low.now ++ high.now) i ≡ Some result.now }
+// The same for the cells of the list of that number alone, where those of the lists before it have their ranks.
+fn rank_list<'a>(
+    lists: &[Vec<Cell<'a>>],
+    number: usize,
+    firsts: &mut Vec<Cell<'a>>,
+    ranks: &mut [u64],
+) -> Result<(), NoMemory>
+    requires number { number < length lists.now }
+    requires within { All (λ cell. cell.place < length ranks.old) (all_in lists.now) }
+    requires agree { AgreeOnPlaces (all_in lists.now) }
+    requires rise { IsSorted cell_cmp (all_in lists.now) }
+    requires before { AreRankedUpto (all_in lists.now) (count_before number lists.now)
+        firsts.old.items ranks.old }
+    ensures { IfOk result (λ _. AreRankedUpto (all_in lists.now) (count_before (number + 1) lists.now)
+        firsts.new.items ranks.new) }
 {
-    if i < low.len() {
-        &low[i]
-    } else {
-        &high[i - low.len()]
+    let cells = lists[number].as_slice();
+    for i in 0..cells.len() {
+        let cell = &cells[i];
+        ranks[cell.place] = enter_cell(firsts, cell)?;
     }
+    Ok(())
 }
 
 // The number of the last cell where that is the same, else of a new one behind it.

@@ -10,7 +10,7 @@ use Rattle.match_core.proofs.cells.cells_of.Goals.{then-has_cell+in_ok-push, els
 
 pub loop-i-preserved : goal.loop-i-preserved
 loop-i-preserved c =
-    let range = c.args.range in
+    let range = c.args.range.now in
     let classes = classes_in c.args.side in
     let column = column_at c.args.side.place c.args.side.rows.now in
     let i = c.loop-i.i in
@@ -30,5 +30,5 @@ returns c =
     let rows = c.args.side.rows.now in
     let end = c.loop-i-test.false in
     let len = length-map rows (λ (row : Row). slice_get row.values c.args.side.place) in
-    all_listed c.args.range (classes_in c.args.side) (column_at c.args.side.place rows) c.loop-i.i c.loop-i.cells.items
+    all_listed c.args.range.now (classes_in c.args.side) (column_at c.args.side.place rows) c.loop-i.i c.loop-i.cells.items
     (omega (arith, end, len)) c.loop-i.invariant

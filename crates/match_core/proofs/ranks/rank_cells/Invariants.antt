@@ -1,7 +1,8 @@
--- the rows of the cells so far have ranks
-use Rattle.std.proofs.Common.{◌++◌}
-use Rattle.match_core.proofs.RankLemmas.{Ranking}
+-- the rows of the cells of the lists so far have ranks
+use Rattle.list_core.specs.Chunks.{all_in}
+use Rattle.match_core.specs.Cells.{AreRankedUpto, count_before}
 use Rattle.match_core.proofs.ranks.rank_cells.Given as goal
 
-abbrev pub invariant-loop-i : goal.invariant-loop-i
-invariant-loop-i l = Ranking (l.low ++ l.high) l.i l.firsts.items l.ranks
+abbrev pub invariant-loop-number : goal.invariant-loop-number
+invariant-loop-number l =
+    AreRankedUpto (all_in l.lists) (count_before l.number l.lists) l.firsts.items l.ranks

@@ -1,6 +1,8 @@
-use Rattle.std.proofs.Common.{◌≡◌, ◌∙◌, ◌++◌, ap, length, subst, sym}
+use Rattle.std.proofs.Common.{◌≡◌, ◌∙◌, ap, length, subst, sym}
 use Rattle.std.specs.Prelude.{List, slice_get}
 use Rattle.std.proofs.lemmas.List.{length-map}
+use Rattle.std.specs.Global.{Vec}
+use Rattle.list_core.specs.Chunks.{all_in}
 use Rattle.row_core.specs.declared.row.Row.{Row}
 use Rattle.match_core.specs.declared.cells.Cell.{Cell}
 use Rattle.match_core.specs.Cells.{AreRanked, AreRanksOf, classes_in, column_at}
@@ -13,8 +15,7 @@ returns g c =
     let rows = c.args.side.rows.now in
     let classes = classes_in c.args.side in
     let column = column_at c.args.side.place rows in
-    let low = c.in_ok-cells.cells.low.items in
-    let high = c.in_ok-cells.cells.high.items in
+    let cells = all_in c.in_ok-lists.lists.items in
     let firsts = c.in_ok-firsts.firsts.items in
     let old = c.in_ok-ranks.ranks.items in
     let new = c.rank_cells.new.ranks in
@@ -22,9 +23,7 @@ returns g c =
     let kept = written_back old new c.in_ok-ranks.ranks.len len (sym c.in_ok-ranks.ranks.ok.0) in
     let count : length new ≡ length column =
     len ∙ sym c.in_ok-ranks.ranks.ok.0 ∙ c.in_ok-ranks.ensures.len ∙ sym (length-map rows (λ (row : Row). slice_get row.values c.args.side.place)) in
-    let told : AreRanksOf (low ++ high) new firsts =
-    subst (λ (l : List Cell). AreRanksOf (l ++ high) new firsts) c.deref.ensures.value
-    (subst (λ (l : List Cell). AreRanksOf (c.deref.result.now ++ l) new firsts) c.deref-2.ensures.value
-    c.in_ok-firsts.ensures.ranks) in
+    let told : AreRanksOf cells new firsts =
+    subst (λ (l : List (Vec Cell)). AreRanksOf (all_in l) new firsts) c.deref.ensures.value c.in_ok-firsts.ensures.ranks in
     subst (λ l. AreRanked classes column l firsts) (sym kept)
-    (ranked_from classes column (low ++ high) firsts new count c.in_ok-cells.ensures told c.in_ok-firsts.ensures.rise)
+    (ranked_from classes column cells firsts new count c.in_ok-lists.ensures told c.in_ok-firsts.ensures.rise)

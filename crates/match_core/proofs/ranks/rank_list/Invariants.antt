@@ -1,0 +1,9 @@
+-- the rows of the cells so far have ranks
+use Rattle.std.proofs.Common.{◌+◌}
+use Rattle.list_core.specs.Chunks.{all_in}
+use Rattle.match_core.specs.Cells.{AreRankedUpto, count_before}
+use Rattle.match_core.proofs.ranks.rank_list.Given as goal
+
+abbrev pub invariant-loop-i : goal.invariant-loop-i
+invariant-loop-i l =
+    AreRankedUpto (all_in l.lists) (count_before l.number l.lists + l.i) l.firsts.items l.ranks
