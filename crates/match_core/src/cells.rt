@@ -77,7 +77,7 @@ pub(crate) fn sorted_cells<'a, R: Threads + Sync>(
     )
 }
 
-// Room for the cells of one of so many ranges: somewhat more than its part of the rows, and for all where there is one.
+/// Room for the cells of one of so many ranges: somewhat more than its part of the rows, and for all where there is one.
 fn room_for_cells(rows: usize, ranges: usize) -> usize
     requires { 0 < ranges }
 {
@@ -85,7 +85,7 @@ fn room_for_cells(rows: usize, ranges: usize) -> usize
     part.saturating_add(part / 4).min(rows)
 }
 
-// Whether a range has the cell.
+/// Whether a range has the cell.
 fn has_cell(range: &Range<Cell<'_>>, cell: &Cell<'_>) -> bool
     ensures { result ≡ has cell_cmp range.now cell.now }
 {
@@ -99,7 +99,7 @@ pub(crate) fn is_before(a: &Cell, b: &Cell) -> bool
     a < b
 }
 
-// The cells of a range, in the order of the rows.
+/// The cells of a range, in the order of the rows.
 fn cells_of<'a>(
     alloc: Global,
     side: SideColumn<'a, '_>,
@@ -119,7 +119,7 @@ fn cells_of<'a>(
     Ok(cells)
 }
 
-// The cell of the row at that place.
+/// The cell of the row at that place.
 fn cell_at<'a>(side: SideColumn<'a, '_>, i: usize) -> Cell<'a>
     requires { i < length side.rows.now }
     ensures { IsCellAt (classes_in side.entry) (column_in side.entry) i result }
@@ -127,7 +127,7 @@ fn cell_at<'a>(side: SideColumn<'a, '_>, i: usize) -> Cell<'a>
     cell_of(class_at(side, i), value_at(side.rows, side.place, i), i)
 }
 
-// The class so far of the row at that place.
+/// The class so far of the row at that place.
 fn class_at(side: SideColumn<'_, '_>, i: usize) -> u64
     requires { i < length side.rows.now }
     ensures { result ≡ slice_index (classes_in side.entry) i }
@@ -138,7 +138,7 @@ fn class_at(side: SideColumn<'_, '_>, i: usize) -> u64
     }
 }
 
-// The value of row i at that place.
+/// The value of row i at that place.
 fn value_at(rows: &[Row], place: usize, i: usize) -> &Value
     requires within { i < length rows.now }
     requires wide { All (λ row. place < length row.values) rows.now }
@@ -147,7 +147,7 @@ fn value_at(rows: &[Row], place: usize, i: usize) -> &Value
     value_in(&rows[i], place)
 }
 
-// The row's value at that place.
+/// The row's value at that place.
 fn value_in(row: &Row, place: usize) -> &Value
     requires { place < length row.now.values }
     ensures { slice_get row.now.values place ≡ Some result.now }
@@ -155,7 +155,7 @@ fn value_in(row: &Row, place: usize) -> &Value
     &row.values.as_slice()[place]
 }
 
-// The cell of a value.
+/// The cell of a value.
 fn cell_of<'a>(class: u64, value: &'a Value, place: usize) -> Cell<'a>
     ensures { IsCell class value.now place result }
 {
@@ -175,7 +175,7 @@ fn cell_of<'a>(class: u64, value: &'a Value, place: usize) -> Cell<'a>
     }
 }
 
-// A hash of the text.
+/// A hash of the text.
 fn hash_of(text: &str) -> u64
     ensures { result ≡ hash_of text.now }
 {

@@ -42,8 +42,10 @@ pub fn classes_of<R: Threads + Sync>(
 ) -> Result<Classes, NoMemory>
     requires { columns_refusal left.schema.now right.schema.now on.now ≡ None }
     ensures left { IfOk result (λ classes. length classes.left.items ≡ length left.entry.rows.now) }
-    ensures right { IfOk result (λ classes. length classes.right.items ≡ length right.entry.rows.now) }
-    ensures tell { IfOk result (λ classes. AreClasses left.entry.schema.now right.entry.schema.now left.entry.rows.now
+    ensures right { IfOk result
+        (λ classes. length classes.right.items ≡ length right.entry.rows.now) }
+    ensures tell { IfOk result
+        (λ classes. AreClasses left.entry.schema.now right.entry.schema.now left.entry.rows.now
         right.entry.rows.now on.now (classes.left.items ++ classes.right.items)) }
 {
     let Some((first, others)) = on.split_first() else {
@@ -58,7 +60,7 @@ pub fn classes_of<R: Threads + Sync>(
     Ok(classes)
 }
 
-// One class for so many left rows, and so many right ones.
+/// One class for so many left rows, and so many right ones.
 fn one_class(alloc: Global, lefts: usize, rights: usize) -> Result<Classes, NoMemory>
     ensures left { IfOk result (λ classes. classes.left.items ≡ replicate lefts 0) }
     ensures right { IfOk result (λ classes. classes.right.items ≡ replicate rights 0) }
@@ -69,7 +71,7 @@ fn one_class(alloc: Global, lefts: usize, rights: usize) -> Result<Classes, NoMe
     })
 }
 
-// The classes so far of both sides, split by one pair of columns; where none are given all rows are of one.
+/// The classes so far of both sides, split by one pair of columns; where none are given all rows are of one.
 fn split_by<R: Threads + Sync>(
     rt: &R,
     alloc: Global,

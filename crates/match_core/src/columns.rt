@@ -32,7 +32,7 @@ pub fn refusal_of_pairs(left: &Schema, right: &Schema, on: &[(Name, Name)]) -> O
     None
 }
 
-// What refuses a pair of names: a column is missing, or they are of two kinds.
+/// What refuses a pair of names: a column is missing, or they are of two kinds.
 fn refusal_of_pair(left: &Schema, right: &Schema, pair: &(Name, Name)) -> Option<QueryRefused>
     ensures { result ≡ first_of (tests_of_names left.now right.now pair.now) }
 {

@@ -27,7 +27,7 @@ pub(crate) fn numbers_of(
     Ok(numbers)
 }
 
-// The first place from there on at which the left cell doesn't come before the other.
+/// The first place from there on at which the left cell doesn't come before the other.
 fn first_from(lefts: &[Cell], from: usize, cell: &Cell) -> usize
     requires from { from ≤ length lefts.now }
     requires before { All (λ x. is_before x cell.now ≡ true) (take from lefts.now) }
@@ -43,7 +43,7 @@ fn first_from(lefts: &[Cell], from: usize, cell: &Cell) -> usize
     lefts.len()
 }
 
-// The number of the right cell at its place, where that left one is the first that doesn't come before it.
+/// The number of the right cell at its place, where that left one is the first that doesn't come before it.
 fn number_of(lefts: &[Cell], left: usize, rights: &[Cell], right: usize) -> u64
     requires right { right < length rights.now }
     requires within { left ≤ length lefts.now }

@@ -50,7 +50,7 @@ pub(crate) fn rank_side<'a, R: Threads + Sync>(
     Ok(Ranked { ranks, firsts })
 }
 
-// Gives each cell's row the number of different cells before it, and lists those that differ.
+/// Gives each cell's row the number of different cells before it, and lists those that differ.
 fn rank_cells<'a>(
     alloc: Global,
     lists: &[Vec<Cell<'a>>],
@@ -69,7 +69,7 @@ fn rank_cells<'a>(
     Ok(firsts)
 }
 
-// The same for the cells of the list of that number alone, where those of the lists before it have their ranks.
+/// The same for the cells of the list of that number alone, where those of the lists before it have their ranks.
 fn rank_list<'a>(
     lists: &[Vec<Cell<'a>>],
     number: usize,
@@ -82,7 +82,8 @@ fn rank_list<'a>(
     requires rise { IsSorted cell_cmp (all_in lists.now) }
     requires before { AreRankedUpto (all_in lists.now) (count_before number lists.now)
         firsts.old.items ranks.old }
-    ensures { IfOk result (λ _. AreRankedUpto (all_in lists.now) (count_before (number + 1) lists.now)
+    ensures { IfOk result
+        (λ _. AreRankedUpto (all_in lists.now) (count_before (number + 1) lists.now)
         firsts.new.items ranks.new) }
 {
     let cells = lists[number].as_slice();
@@ -93,7 +94,7 @@ fn rank_list<'a>(
     Ok(())
 }
 
-// The number of the last cell where that is the same, else of a new one behind it.
+/// The number of the last cell where that is the same, else of a new one behind it.
 fn enter_cell<'a>(firsts: &mut Vec<Cell<'a>>, cell: &Cell<'a>) -> Result<u64, NoMemory>
     requires rise { AreRising firsts.old.items }
     requires upto { IsFromLast firsts.old.items cell.now }
@@ -105,7 +106,7 @@ fn enter_cell<'a>(firsts: &mut Vec<Cell<'a>>, cell: &Cell<'a>) -> Result<u64, No
     Ok(firsts.len() as u64 - 1)
 }
 
-// Whether the last cell is the same.
+/// Whether the last cell is the same.
 fn is_last(firsts: &[Cell], cell: &Cell) -> bool
     ensures { MatchBool result (HasLast firsts.now cell.now) (HasLast firsts.now cell.now → ⊥) }
 {

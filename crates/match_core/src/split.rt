@@ -33,9 +33,12 @@ pub(crate) fn refine<R: Threads + Sync>(
 ) -> Result<Classes, NoMemory>
     requires kind { AreOneKind (column_in left ++ column_in right) }
     ensures left { IfOk result (λ classes. length classes.left.items ≡ length left.entry.rows.now) }
-    ensures right { IfOk result (λ classes. length classes.right.items ≡ length right.entry.rows.now) }
-    ensures split { IfOk result (λ classes. Refines (classes_in left.entry ++ classes_in right.entry)
-        (column_in left.entry ++ column_in right.entry) (classes.left.items ++ classes.right.items)) }
+    ensures right { IfOk result
+        (λ classes. length classes.right.items ≡ length right.entry.rows.now) }
+    ensures split { IfOk result
+        (λ classes. Refines (classes_in left.entry ++ classes_in right.entry)
+        (column_in left.entry ++ column_in right.entry)
+        (classes.left.items ++ classes.right.items)) }
 {
     let (lefts, rights) = ranked_sides(rt, alloc, left, right, workers)?;
     let numbers = numbers_of(alloc, &lefts.firsts, &rights.firsts)?;
@@ -47,7 +50,7 @@ pub(crate) fn refine<R: Threads + Sync>(
     })
 }
 
-// The rows of both sides by rank: each side by half of the workers, where rows are many.
+/// The rows of both sides by rank: each side by half of the workers, where rows are many.
 fn ranked_sides<'a, R: Threads + Sync>(
     rt: &R,
     alloc: Global,
@@ -72,12 +75,14 @@ fn ranked_sides<'a, R: Threads + Sync>(
         rt,
         &mut move || -> Result<Ranked, NoMemory>
             requires { IsSync R.row }
-            ensures { IfOk result (λ ranked. AreRanked (classes_in left.entry) (column_in left.entry)
+            ensures { IfOk result
+                (λ ranked. AreRanked (classes_in left.entry) (column_in left.entry)
                 ranked.ranks.items ranked.firsts.items) }
         { rank_side(rt, alloc, left, few) },
         &mut move || -> Result<Ranked, NoMemory>
             requires { IsSync R.row }
-            ensures { IfOk result (λ ranked. AreRanked (classes_in right.entry) (column_in right.entry)
+            ensures { IfOk result
+                (λ ranked. AreRanked (classes_in right.entry) (column_in right.entry)
                 ranked.ranks.items ranked.firsts.items) }
         { rank_side(rt, alloc, right, others) },
     );
