@@ -1,7 +1,7 @@
 """Draws pictures as SVG, which a browser shows. Each bar tells its record where the pointer rests on it."""
 from collections import Counter
 from html import escape
-from typing import Iterator, List, Optional, Sequence
+from typing import Iterator, Optional, Sequence, Tuple
 
 from ruzgalt.forms import print_point, at_second, seconds
 from ruzgalt.pictures import NOTHING, Bar, Bars, Picture, Steps
@@ -30,12 +30,15 @@ def draw_bars(picture: Bars, width: Optional[int]) -> str:
         if name:
             parts.append(text(margin - 6, TOP + place * HEIGHT + 14, cut(name, margin - 8), "end"))
             parts.append(line(margin, TOP + place * HEIGHT, margin + across, TOP + place * HEIGHT, "#eee"))
-    shown = (bar for bar in picture.bars if picture.span.shows(bar.start, bar.end))
-    parts.extend(part for bar in shown for part in bar_parts(bar, picture.span, margin, across))
+    shown = [bar for bar in picture.bars if picture.span.shows(bar.start, bar.end)]
+    drawn = [bar_parts(bar, picture.span, margin, across) for bar in shown]
+    parts.extend(shape for shape, _ in drawn)
     if picture.instant and picture.span.start <= seconds(picture.instant) < picture.span.end:
         place = margin + picture.span.place(seconds(picture.instant), across)
         parts.append(line(place, TOP - 6, place, bottom + 6, "#c00", 2))
         parts.append(text(place, TOP - 10, picture.instant, side_of(place, margin, across), "#c00"))
+    # No line runs over a label.
+    parts.extend(label for _, label in drawn if label)
     return document(margin + across + EDGE, bottom + 30, picture.title, parts)
 
 
@@ -86,15 +89,16 @@ def axis(span: Span, margin: int, across: int, bottom: int) -> Iterator[str]:
     yield line(margin, bottom, margin + across, bottom, "#555")
 
 
-def bar_parts(bar: Bar, span: Span, margin: int, across: int) -> List[str]:
+def bar_parts(bar: Bar, span: Span, margin: int, across: int) -> Tuple[str, str]:
+    """The bar's box and its label, which is empty where there is no room."""
     left, right = (margin + span.place(second, across) for second in (bar.start, bar.end))
     # What goes on past an edge is drawn past it.
     left, right = left - 4 * (bar.start < span.start), right + EDGE // 2 * (bar.end > span.end)
     top, height = TOP + bar.lane * HEIGHT + 2, bar.lanes * HEIGHT - 4
     width = max(right - left, 1)
-    parts = [box(left, top, width, height, SHADES[bar.shade % len(SHADES)], bar.told, "#666")]
     label = fitting(bar.label, width - 6)
-    return parts + ([text(left + 4, top + height // 2 + 4, label)] if label else [])
+    shape = box(left, top, width, height, SHADES[bar.shade % len(SHADES)], bar.told, "#666")
+    return shape, text(left + 4, top + height // 2 + 4, label) if label else ""
 
 
 def fitting(label: str, width: float) -> str:
