@@ -5,7 +5,7 @@ from typing import Iterator, Optional, Sequence, Tuple
 
 from ruzgalt.forms import print_point, at_second, seconds
 from ruzgalt.pictures import NOTHING, Bar, Bars, Picture, Steps
-from ruzgalt.timeline import Span, begun_at, levels_of, ticks
+from ruzgalt.timeline import Span, base_of, begun_at, levels_of, ticks
 
 # Light enough for black letters, and told apart by readers who see few colours.
 SHADES = ["#9ecae1", "#fdd0a2", "#c7e9c0", "#dadaeb", "#fee391", "#d9d9d9", "#fcbba1", "#ccece6"]
@@ -43,13 +43,15 @@ def draw_bars(picture: Bars, width: Optional[int]) -> str:
 
 
 def draw_steps(picture: Steps, width: Optional[int]) -> str:
-    """An area under the values, with a line at each level."""
+    """An area between zero and the values, with a line at each level."""
     values = picture.values
     foot, levels = levels_of(values, 12)
     margin = margin_for([str(level) for level in (foot, *levels)])
     across = max(width - margin - EDGE, 100) if width else min(max(len(values) * 6, NARROW), WIDE)
     bottom = TOP + DEPTH
     for_one = DEPTH / (max([*values, levels[-1]]) - foot)
+    base = base_of(foot, levels)
+    ground = round(bottom - (base - foot) * for_one, 1)
     parts = [*axis(picture.span, margin, across, bottom)]
     for level in (foot, *levels):
         top = round(bottom - (level - foot) * for_one, 1)
@@ -60,9 +62,10 @@ def draw_steps(picture: Steps, width: Optional[int]) -> str:
         top, right = round(bottom - (value - foot) * for_one, 1), max(right, left + 1)
         points = (print_point(at_second(second)) for second in (start, end))
         told = "valid_from: {}, valid_to: {}, {}: {}".format(*points, picture.name, value)
-        parts.append(box(left, top, right - left, bottom - top, SHADES[0], told))
+        parts.append(box(left, min(top, ground), right - left, round(abs(ground - top), 1), SHADES[0], told))
         parts.append(line(left, top, right, top, "#08519c", 2))
-    return document(margin + across + EDGE, bottom + 30, begun_at(picture.title, foot), parts)
+    parts.append(line(margin, ground, margin + across, ground, "#555"))
+    return document(margin + across + EDGE, bottom + 30, begun_at(picture.title, base), parts)
 
 
 def margin_for(names: Sequence[str]) -> int:

@@ -1,14 +1,14 @@
 """Draws pictures as text: `[==)` is a period from its first cell on and before the one behind it.
 
 A period that goes on past the edge has `<` or `>` there. One that is shorter than a cell is `|`, several of them in one
-cell are `*`. Of steps, `#` is a value up to the line's, and `.` one below the lowest line.
+cell are `*`. Of steps, `#` is a value that reaches the line, `.` one that reaches none, and `-` a line at zero.
 """
 import unicodedata
 from typing import List, Optional, Sequence
 
 from ruzgalt.forms import seconds
 from ruzgalt.pictures import NOTHING, Bar, Bars, Picture, Steps
-from ruzgalt.timeline import Span, begun_at, levels_of, ticks
+from ruzgalt.timeline import Span, base_of, begun_at, levels_of, ticks
 
 # So many lines has the height of steps at most.
 LINES = 12
@@ -108,19 +108,30 @@ def axis(span: Span, margin: int, cells: int) -> List[str]:
 
 
 def draw_steps(picture: Steps, width: int) -> str:
-    """Columns of `#` up to the greatest value of each cell's time; no column where there is no value."""
+    """Columns of `#` from zero to the greatest value of each cell's time; no column where there is no value."""
     foot, levels = levels_of(picture.values, LINES)
     margin = margin_for([str(level) for level in (foot, *levels)], width)
     cells = width - margin
     columns = columns_of(picture, cells)
-    lines = [begun_at(picture.title, foot)]
+    lines = [begun_at(picture.title, base_of(foot, levels))]
     for level in reversed(levels):
-        below = "." if level == levels[0] else " "
-        drawn = "".join(" " if value is None else "#" if value >= level else below for value in columns)
+        drawn = "".join(step_cell(value, level, levels) for value in columns)
         lines.append(str(level).rjust(margin - 1) + " " + drawn)
     marks, texts = axis(picture.span, margin, cells)
     lines.extend([str(foot).rjust(margin - 1) + marks[margin - 1:], texts])
     return "\n".join(line.rstrip() for line in lines) + "\n"
+
+
+def step_cell(value: Optional[int], level: int, levels: Sequence[int]) -> str:
+    """What stands for a value in the line of a level. A line at zero goes through, and negative ones hang from it."""
+    none = "-" if level == 0 else " "
+    if value is None:
+        return none
+    if level == 0:
+        return none if any(0 < one <= value or value <= one < 0 for one in levels) else "."
+    if 0 in levels:
+        return "#" if 0 < level <= value or value <= level < 0 else none
+    return "#" if level <= value else "." if level == levels[0] else none
 
 
 def columns_of(picture: Steps, cells: int) -> List[Optional[int]]:

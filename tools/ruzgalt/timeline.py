@@ -81,19 +81,26 @@ def text_of(second: int, step: int, is_first: bool) -> str:
     return text[0 if is_first else 11:19 if step < 60 else 16]
 
 
-def begun_at(title: str, foot: int) -> str:
+def begun_at(title: str, base: int) -> str:
     """The title of steps, which tells where their heights aren't in proportion to their values."""
-    return f"{title}; the scale begins at {foot}" if foot else title
+    return f"{title}; the scale begins at {base}" if base else title
+
+
+def base_of(foot: int, levels: Sequence[int]) -> int:
+    """Where steps begin: at zero, if that is on the scale, and else at its foot."""
+    return 0 if 0 in levels else foot
 
 
 def levels_of(values: Sequence[int], most: int) -> Tuple[int, List[int]]:
     """The value at the foot of steps, and at most so many above it, round ones at equal distances, rising.
 
-    The foot is zero, or no more than the least value, where one is below zero, or where all are so near each other that
-    their steps would be lost.
+    Zero is the foot, or where a value is below it among those above. It isn't where all are so near each other that
+    their steps would be lost; the foot is then no more than the least value.
     """
     low, high = min(values, default=0), max(values, default=1)
-    foot = 0 if low >= 0 and (low == high or (high - low) * most >= high) else low
+    if low == high or (high - low) * most >= max(high, -low):
+        low, high = min(low, 0), max(high, 0)
+    foot = low
     distance = 1
     while (high - foot) // distance >= most:
         distance = distance * 5 // 2 if str(distance)[0] == "2" else distance * 2
