@@ -86,7 +86,7 @@ def do_list(options: Namespace) -> None:
 def do_csv(options: Namespace) -> None:
     found = read(options)
     if options.folder:
-        export.to_folder(chosen(found, options.pick), Path(options.folder))
+        export.to_folder(chosen(found, options.pick), Path(options.folder), options.replace)
     else:
         show(export.to_csv(last(found, options.pick, 1)[0].table))
 
@@ -171,6 +171,7 @@ def with_picks(parser: ArgumentParser, count: str = "*") -> None:
 def words_of_csv(parser: ArgumentParser) -> None:
     with_picks(parser)
     parser.add_argument("--folder", metavar="FOLDER", help="a file NAME.csv for each answer there, and not one table")
+    parser.add_argument("--replace", action="store_true", help="replaces files of these names in the folder")
 
 
 def words_of_sqlite(parser: ArgumentParser) -> None:

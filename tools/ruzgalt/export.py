@@ -15,13 +15,17 @@ def to_csv(table: Table) -> str:
     return to_text([table.names, *table.texts()])
 
 
-def to_folder(picks: Sequence[Pick], folder: Path) -> None:
-    """A file NAME.csv for each answer."""
+def to_folder(picks: Sequence[Pick], folder: Path, is_replacing: bool = False) -> None:
+    """A file NAME.csv for each answer. None is written where one of them is there and isn't to be replaced."""
     folder.mkdir(parents=True, exist_ok=True)
-    for pick in picks:
+    files = [folder / f"{pick.name}.csv" for pick in picks]
+    for pick, file in zip(picks, files):
         if "/" in pick.name or pick.name.startswith("."):
             raise Misfit(f"{pick.name}: no name of a file")
-        (folder / f"{pick.name}.csv").write_bytes(encode(to_csv(pick.answer.table)))
+        if file.exists() and not is_replacing:
+            raise Misfit(f"{file} is there, so no file was written: --replace replaces it")
+    for pick, file in zip(picks, files):
+        file.write_bytes(encode(to_csv(pick.answer.table)))
 
 
 # Stands in the text of each table that is made here, which SQLite keeps.
