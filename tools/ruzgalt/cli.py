@@ -100,7 +100,8 @@ def do_sqlite(options: Namespace) -> None:
         raise Misfit(f"{options.database}: the DATABASE is missing: it stands behind SCRIPT, and before the first PICK")
     found = chosen(read(options), options.pick)
     database = sqlite3.connect(options.database)
-    export.to_sqlite(found, database, options.replace)
+    for column in export.to_sqlite(found, database, options.replace):
+        warn(f"{column} has sums past SQLite's integers, so it is a text there, and isn't in the order of numbers")
     for query in options.query:
         show(export.ask(database, query))
     if not options.query:
@@ -281,5 +282,9 @@ def main(words: Sequence[str]) -> int:
 
 
 def fail(told: str) -> int:
-    sys.stderr.write(f"answers: {told}\n".encode("utf-8", "replace").decode())
+    warn(told)
     return 1
+
+
+def warn(told: str) -> None:
+    sys.stderr.write(f"answers: {told}\n".encode("utf-8", "replace").decode())

@@ -32,19 +32,27 @@ def to_folder(picks: Sequence[Pick], folder: Path, is_replacing: bool = False) -
 MARK = "/* made by tools/answers */"
 
 
-def to_sqlite(picks: Sequence[Pick], database: sqlite3.Connection, is_replacing: bool = False) -> None:
-    """A table for each answer, in place of one of its name that was made so. Numbers are integers, all else is text."""
+def to_sqlite(picks: Sequence[Pick], database: sqlite3.Connection, is_replacing: bool = False) -> List[str]:
+    """A table for each answer, in place of one of its name that was made so. Numbers are integers, all else is text.
+
+    What is given back are the columns of numbers that are texts there.
+    """
     if not is_replacing:
         refuse_others(picks, database)
+    texts = []
     with database:
         for pick in picks:
             table, name = pick.answer.table, quoted(pick.name)
-            declared = ", ".join(f"{quoted(column.name)} {kind}" for column, kind in zip(table.columns, kinds(table)))
+            typed = list(zip(table.columns, kinds(table)))
+            declared = ", ".join(f"{quoted(column.name)} {kind}" for column, kind in typed)
             database.execute(f"drop table if exists {name}")
             database.execute(f"create table {name} ({declared} {MARK})")
             # SQLite turns a number's text into an integer where the column is one.
             places = ", ".join("?" * len(table.columns))
             database.executemany(f"insert into {name} values ({places})", table.records)
+            longest = (column.name for column, kind in typed if column.kind is Kind.INT and kind == "text")
+            texts.extend(f"{pick.name}.{long}" for long in longest)
+    return texts
 
 
 def refuse_others(picks: Sequence[Pick], database: sqlite3.Connection) -> None:
