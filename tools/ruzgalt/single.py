@@ -1,9 +1,10 @@
 """A change of one row alone. The language knows rows by their values and periods, and not by their ids."""
 from typing import List, Sequence, Tuple
 
-from ruzgalt import store
+from ruzgalt import refusals, store
 from ruzgalt.answers import Answer
 from ruzgalt.errors import Misfit
+from ruzgalt.fields import Field, Role
 
 
 def command_for(answers: Sequence[Answer], table: str, row_id: int, set_to: Sequence[Tuple[str, str]]) -> List[str]:
@@ -19,8 +20,11 @@ def command_for(answers: Sequence[Answer], table: str, row_id: int, set_to: Sequ
         meets = other.row.start < row.end and row.start < other.row.end
         if meets and other.row_id != row_id and other.row.values == row.values:
             raise Misfit(f"row {other.row_id} has the values of row {row_id} too, and shares some of its time")
-    for name, _ in set_to:
-        tables[table].place(name)
+    for name, value in set_to:
+        column = tables[table].columns[tables[table].place(name)]
+        told = refusals.told_of_value(answers[-1], Field(0, value, Role.VALUE, tables[table], column))
+        if told:
+            raise Misfit(f"--set {name}: {told}")
     values = [text for pair in zip(tables[table].names, row.values) for text in pair]
     changes = ["set", *(text for pair in set_to for text in pair)] if set_to else []
     word = "update" if set_to else "delete"
