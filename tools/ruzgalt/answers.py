@@ -100,7 +100,7 @@ class Reading:
         try:
             columns = tables.header(command, self.tables)
         except (KeyError, IndexError, Misfit):
-            raise misfit(command, "error,RECORD,NAME, as its tables or columns aren't there", first) from None
+            raise misfit(command, "error,RECORD,NAME, as its tables, columns or point aren't there", first) from None
         return Table(columns, READERS[command.word](self, command, first, columns))
 
     def has_commits(self, command: Command) -> bool:

@@ -1,10 +1,11 @@
 """What really changed between two answers: the time for which values hold in one of them alone."""
 from collections import Counter, defaultdict
 from typing import Counter as Counts
-from typing import DefaultDict, Iterator, List, Tuple
+from typing import DefaultDict, Iterator, List, Optional, Tuple
 
 from ruzgalt.answers import Answer
 from ruzgalt.errors import Misfit
+from ruzgalt.forms import next_second, printed
 from ruzgalt.records import short
 from ruzgalt.tables import PERIOD, Column, Kind, Table, unique
 
@@ -16,15 +17,22 @@ def between(before: Answer, after: Answer) -> Table:
     """`-` with the time in which values held before and don't now, and `+` the other way round."""
     kept = compared(before), compared(after)
     names = [[column.name for column in columns] for columns, _ in kept]
+    places = f"{before.place} and {after.place}"
     if names[0] != names[1]:
-        raise Misfit(
-            f"lines {before.line} and {after.line}: {','.join(names[0])} can't be compared with {','.join(names[1])}"
-        )
+        raise Misfit(f"{places}: {','.join(names[0])} can't be compared with {','.join(names[1])}")
+    if point_of(before) != point_of(after):
+        asked = f"{short(before.command.text)} and {short(after.command.text)}"
+        raise Misfit(f"{places}: {asked}: an `at` tells of its point alone: ask both for that, or both by `rows`")
     columns = unique([Column("change", Kind.TEXT), *PERIOD, *kept[0][0]])
     return Table(columns, list(changes(kept[0][1], kept[1][1])))
 
 
 Held = Tuple[str, str, Tuple[str, ...]]
+
+
+def point_of(answer: Answer) -> Optional[str]:
+    """The point that an `at` asks for."""
+    return printed(answer.command.front[2]) if answer.command.word == "at" else None
 
 
 def compared(answer: Answer) -> Tuple[List[Column], List[Held]]:
@@ -36,7 +44,11 @@ def compared(answer: Answer) -> Tuple[List[Column], List[Held]]:
     start = table.names.index("valid_from")
     left_out = {start, start + 1, *(table.names.index(name) for name in IDS[answer.command.word])}
     places = [place for place in range(len(table.columns)) if place not in left_out]
-    held = [(record[start], record[start + 1], tuple(record[place] for place in places)) for record in table.texts()]
+    # Of an `at` it is the second that was asked for, since what else held before or behind it isn't told.
+    point = point_of(answer)
+    records = table.texts()
+    periods = [(point, next_second(point)) if point else (record[start], record[start + 1]) for record in records]
+    held = [(*period, tuple(record[place] for place in places)) for period, record in zip(periods, records)]
     return [table.columns[place] for place in places], held
 
 

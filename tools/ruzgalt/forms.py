@@ -34,6 +34,12 @@ def printed(text: str) -> str:
     return print_point(point) if point else text
 
 
+@lru_cache(1 << 4)
+def next_second(point: str) -> str:
+    """The end of the period of that second alone, in which a row holds, so that one is behind it."""
+    return print_point(read_point(point) + timedelta(seconds=1))
+
+
 @lru_cache(1 << 16)
 def is_printed(text: str) -> bool:
     """Whether it is a point as dipq prints it."""

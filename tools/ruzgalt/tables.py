@@ -5,7 +5,7 @@ from typing import Dict, Iterable, List, Optional, Sequence, Tuple, Union
 
 from ruzgalt.commands import Command
 from ruzgalt.errors import Misfit
-from ruzgalt.forms import is_name
+from ruzgalt.forms import is_name, read_point
 
 
 class Kind(Enum):
@@ -98,11 +98,13 @@ DIVISION = [*ints("part", "row_id"), Column("instant", Kind.POINT)]
 
 
 def header(command: Command, tables: Dict[str, Schema]) -> List[Column]:
-    """The columns of the answer to a command that wasn't refused. Raises KeyError where its table isn't there."""
+    """The columns of the answer to a command that wasn't refused. Raises KeyError where its table or point is none."""
     word, front = command.word, command.front
     for name in front[1:{"join": 3, "anti": 3, "log": 1}.get(word, 2)]:
         if name not in tables:
             raise KeyError(name)
+    if word == "at" and (len(front) != 3 or read_point(front[2]) is None):
+        raise KeyError(word)
     if word in ("rows", "at", "anti"):
         return unique([*ints("row_id"), *PERIOD, *tables[front[1]].columns])
     if word in ("between", "fromto"):
