@@ -17,13 +17,13 @@ def to_csv(table: Table) -> str:
 
 def to_folder(picks: Sequence[Pick], folder: Path, is_replacing: bool = False) -> None:
     """A file NAME.csv for each answer. None is written where one of them is there and isn't to be replaced."""
-    folder.mkdir(parents=True, exist_ok=True)
     files = [folder / f"{pick.name}.csv" for pick in picks]
     for pick, file in zip(picks, files):
         if "/" in pick.name or pick.name.startswith("."):
             raise Misfit(f"{pick.name}: no name of a file")
         if file.exists() and not is_replacing:
             raise Misfit(f"{file} is there, so no file was written: --replace replaces it")
+    folder.mkdir(parents=True, exist_ok=True)
     for pick, file in zip(picks, files):
         file.write_bytes(encode(to_csv(pick.answer.table)))
 

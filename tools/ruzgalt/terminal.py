@@ -113,25 +113,23 @@ def draw_steps(picture: Steps, width: int) -> str:
     margin = margin_for([str(level) for level in (foot, *levels)], width)
     cells = width - margin
     columns = columns_of(picture, cells)
-    lines = [begun_at(picture.title, base_of(foot, levels))]
+    base = base_of(foot, levels)
+    lines = [begun_at(picture.title, base)]
     for level in reversed(levels):
-        drawn = "".join(step_cell(value, level, levels) for value in columns)
+        drawn = "".join(step_cell(value, level, levels, base) for value in columns)
         lines.append(str(level).rjust(margin - 1) + " " + drawn)
     marks, texts = axis(picture.span, margin, cells)
     lines.extend([str(foot).rjust(margin - 1) + marks[margin - 1:], texts])
     return "\n".join(line.rstrip() for line in lines) + "\n"
 
 
-def step_cell(value: Optional[int], level: int, levels: Sequence[int]) -> str:
+def step_cell(value: Optional[int], level: int, levels: Sequence[int], base: int) -> str:
     """What stands for a value in the line of a level. A line at zero goes through, and negative ones hang from it."""
-    none = "-" if level == 0 else " "
-    if value is None:
-        return none
-    if level == 0:
-        return none if any(0 < one <= value or value <= one < 0 for one in levels) else "."
-    if 0 in levels:
-        return "#" if 0 < level <= value or value <= level < 0 else none
-    return "#" if level <= value else "." if level == levels[0] else none
+    reached = [] if value is None else [one for one in levels if base < one <= value or value <= one < base]
+    if level in reached:
+        return "#"
+    is_lowest = level == (base if base in levels else levels[0])
+    return "." if is_lowest and value is not None and not reached else "-" if level == 0 else " "
 
 
 def columns_of(picture: Steps, cells: int) -> List[Optional[int]]:
