@@ -35,8 +35,11 @@ class Found(NamedTuple):
     asked: List[Answer]
 
 
-def read(options: Namespace) -> Found:
-    """The answers to the script. Ends where a command was refused, unless it is told to go on."""
+def read(options: Namespace, shows_refusals: bool = False) -> Found:
+    """The answers to the script. Ends where a command was refused, unless it is told to go on.
+
+    A question that is asked just now isn't passed over, since another one's answer would stand in its place.
+    """
     if options.script == options.answers == "-":
         raise Misfit("standard input is the script, or its answers, and not both")
     script = questions.put_behind(bytes_of(options.script), options.ask)
@@ -45,10 +48,13 @@ def read(options: Namespace) -> Found:
     else:
         output = bytes_of(options.answers)
     found = answers.of_records(script.records, output)
-    refused = [answer for answer in found if answer.refusal]
+    refused = [answer for answer in found if answer.refusal and not shows_refusals]
     if refused and not options.go_on:
         more = f"{len(refused)} refused; `{NAME} refusals` explains, --go-on goes on"
         raise Misfit(f"{refusals.told(refused[0])} ({more})")
+    for answer in refused:
+        if answer.command.record.is_asked:
+            raise Misfit(f"{refusals.told(answer)} (--go-on passes over no question that is asked)")
     return Found(found, [answer for answer in found if answer.command.record.is_asked])
 
 
@@ -79,8 +85,7 @@ def show(text: str) -> None:
 
 
 def do_list(options: Namespace) -> None:
-    options.go_on = True
-    show(export.listing(read(options).answers))
+    show(export.listing(read(options, shows_refusals=True).answers))
 
 
 def do_csv(options: Namespace) -> None:
@@ -137,8 +142,7 @@ def columns_of_terminal() -> int:
 
 def do_refusals(options: Namespace) -> int:
     """Tells each refusal, and of one for a key the rows. The status is 1 where there is one."""
-    options.go_on = True
-    found = read(options).answers
+    found = read(options, shows_refusals=True).answers
     refused = [answer for answer in found if answer.refusal]
     for answer in refused:
         show(refusals.told(answer) + "\n")
