@@ -157,9 +157,15 @@ def do_only(options: Namespace) -> None:
 
 
 def do_faulty(options: Namespace) -> int:
-    lines = program.faulty(options.program, bytes_of(options.script))
+    """Tells the faulty rows, and that something else was refused. The status is 1 where there is either."""
+    script = bytes_of(options.script)
+    lines = program.faulty(options.program, script)
     show("".join(line + "\n" for line in lines))
-    return 1 if lines else 0
+    others = program.refused_otherwise(options.program, script)
+    if others:
+        more = f"{len(others)} refused for no row's fault; `{NAME} refusals` explains"
+        warn(f"{refusals.told(others[0])} ({more})")
+    return 1 if lines or others else 0
 
 
 def pair(word: str) -> Tuple[str, str]:

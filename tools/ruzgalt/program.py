@@ -6,7 +6,7 @@ from pathlib import Path
 from typing import Iterator, List, Sequence, Tuple
 
 from ruzgalt import answers, commands, records
-from ruzgalt.commands import Command
+from ruzgalt.answers import Answer
 from ruzgalt.errors import Misfit
 from ruzgalt.refusals import reason
 
@@ -47,6 +47,12 @@ def faulty(program: str, script: bytes) -> List[str]:
     return lines
 
 
+def refused_otherwise(program: str, script: bytes) -> List[Answer]:
+    """What was refused for another reason than a row of a load: a key, a table that isn't there, no command."""
+    refused = [answer for answer in answers.of(script, output(program, script)) if answer.refusal]
+    return [one for one in refused if one.command.word != "load" or one.refusal.record is one.command.record]
+
+
 Tried = Tuple[records.Record, List[Sequence[str]]]
 
 
@@ -60,6 +66,6 @@ def single_loads(script: List[records.Record]) -> Iterator[Tried]:
             yield from ((row, [command.record.fields, row.fields, ["end"]]) for row in rows)
 
 
-def without_key(table: Command) -> Sequence[str]:
+def without_key(table: commands.Command) -> Sequence[str]:
     texts = table.record.fields
     return next((texts[:place] for place in range(2, len(texts), 2) if texts[place] == "key"), texts)
