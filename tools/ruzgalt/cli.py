@@ -285,7 +285,7 @@ def main(words: Sequence[str]) -> int:
         return tool.do(options) or 0
     except OSError as error:
         return fail(f"{error.filename}: {error.strerror}" if error.filename else str(error))
-    except (Misfit, sqlite3.Error) as error:
+    except (Misfit, sqlite3.Error, sqlite3.Warning) as error:
         return fail(str(error))
     except UnicodeEncodeError as error:
         return fail(f"SQLite has UTF-8 alone, and none is {records.visible(error.object)}")

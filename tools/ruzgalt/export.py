@@ -82,10 +82,23 @@ def quoted(name: str) -> str:
 
 
 def ask(database: sqlite3.Connection, query: str) -> str:
-    """The answer to a query, as CSV with a header."""
-    found = database.execute(query)
-    header = [name for name, *_ in found.description or []]
-    return to_text([header, *(["" if field is None else str(field) for field in row] for row in found)])
+    """The answer to a query, as CSV with a header; nothing where it has none. What it changes is kept."""
+    if not query.strip("; \t\r\n"):
+        raise Misfit("--query: the query is empty")
+    refuse_quoted_texts(database)
+    with database:
+        found = database.execute(query)
+        if found.description is None:
+            return ""
+        header = [name for name, *_ in found.description]
+        return to_text([header, *(["" if field is None else str(field) for field in row] for row in found)])
+
+
+def refuse_quoted_texts(database: sqlite3.Connection) -> None:
+    """A column's name in double quotes that isn't there is no text, where Python can tell SQLite so, from 3.12 on."""
+    if hasattr(database, "setconfig"):
+        database.setconfig(sqlite3.SQLITE_DBCONFIG_DQS_DML, False)
+        database.setconfig(sqlite3.SQLITE_DBCONFIG_DQS_DDL, False)
 
 
 def to_json(picks: Sequence[Pick]) -> str:
