@@ -39,7 +39,9 @@ def pairs(rows: Iterable[Tuple[str, str, Thing]]) -> Iterator[Pair[Thing]]:
 
 def in_answer(answer: Answer, key: Sequence[str]) -> Table:
     """The pairs of rows of an answer that a key of these columns would forbid."""
-    if answer.command.word not in ("rows", "at"):
+    if answer.command.word == "at":
+        raise Misfit(f"{answer.place}: {answer.command.text}: an `at` tells of its point alone: ask by `rows`")
+    if answer.command.word != "rows":
         raise Misfit(f"{answer.place}: {answer.command.text}: no list of rows")
     table, schema = answer.table, answer.tables[answer.command.front[1]]
     places = [3 + schema.place(name) for name in key]
