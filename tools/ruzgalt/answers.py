@@ -6,7 +6,7 @@ from typing import Callable, Dict, Iterator, List, Optional, Sequence, Tuple, Un
 from ruzgalt import commands, records, tables
 from ruzgalt.commands import Command
 from ruzgalt.errors import Misfit
-from ruzgalt.forms import is_count, is_printed, is_sum
+from ruzgalt.forms import is_count, is_printed, is_sum, printed
 from ruzgalt.records import Record, short
 from ruzgalt.tables import Column, Kind, Schema, Table
 
@@ -91,7 +91,7 @@ class Reading:
 
     def table(self, command: Command, first: Record) -> Table:
         """The answer that begins with this record, as a table."""
-        if command.word in ("table", "load", "update", "delete"):
+        if command.word in CHANGES:
             return self.accepted(command, first)
         if command.word == "together":
             return self.opened(command, first)
@@ -120,8 +120,8 @@ class Reading:
     def refusal(self, command: Command, record: Record) -> Refusal:
         number = record.fields[1] if len(record.fields) == 3 else ""
         at_fault = command.record_of(int(number)) if is_count(number) else None
-        if at_fault is None or not is_refusable(record.fields[2], command, self.tables):
-            raise misfit(command, "a refusal of one of its records", record)
+        if at_fault is None or not is_refusable(record.fields[2], at_fault, command, self.tables):
+            raise misfit(command, "a refusal that it can have", record)
         return Refusal(record.fields[2], at_fault)
 
     def accepted(self, command: Command, record: Record) -> Table:
@@ -145,8 +145,12 @@ class Reading:
         """The records of a list up to its end, which counts them."""
         word = {"between": "version", "fromto": "version", "log": "commit"}.get(command.word, "row")
         rows, record, tests = [], first, tests_of(columns)
+        point = printed(command.front[2]) if command.word == "at" else None
         while record.word == word and len(record.fields) == len(columns) + 1:
             rows.append(row_in(command, record, tests))
+            # The texts of points are in the order of time.
+            if point and not record.fields[2] <= point < record.fields[3]:
+                raise misfit(command, "a row that holds at that point", record)
             record = self.take(command, "the list's end")
         if list(record.fields) != ["end", str(len(rows))]:
             names = ",".join(column.name for column in columns)
@@ -190,6 +194,7 @@ VERDICTS = {
     "WrongCount": [0], "EmptyPart": [1], "Unknown": [2], "Twice": [2], "Missing": [2], "Overlap": [2, 3],
     "NotCrowded": [0],
 }
+CHANGES = ("table", "load", "update", "delete")
 LISTS = ("rows", "at", "between", "fromto", "join", "anti", "agg", "log")
 READERS = {**{word: Reading.listed for word in LISTS}, "dip": Reading.divided, "check": Reading.judged}
 
@@ -216,8 +221,27 @@ def row_in(command: Command, record: Record, tests: Tests) -> List[Optional[str]
     return row
 
 
-def is_refusable(name: str, command: Command, there: Dict[str, Schema]) -> bool:
-    """Whether the table is there by whose key or columns the refusal is explained."""
+OF_QUERIES = "BadCommand BadName BadNumber Future NoTable"
+OF_CHANGES = "BadCommand BadName BadPoint BadPeriod NoTable NoColumn BadNumber TooLong BadUtf8 Full"
+OF_PARTS = {"load": "BadCommand WrongWidth BadPoint BadPeriod BadNumber TooLong BadUtf8", "check": "BadCommand BadNumber"}
+# The names of refusals that each command can have, those of its records aside.
+NAMES = {
+    "table": "BadCommand BadName TooMany TwiceNamed NoColumn TableExists Full",
+    "load": "Unended BadCommand BadName NoTable Full KeyOverlap", "update": f"{OF_CHANGES} KeyOverlap",
+    "delete": OF_CHANGES, "rows": OF_QUERIES, "dip": OF_QUERIES, "at": f"{OF_QUERIES} BadPoint",
+    "between": "BadCommand BadName BadNumber BadPeriod NoTable", "fromto": "BadCommand BadName BadNumber BadPeriod NoTable",
+    "check": f"{OF_QUERIES} Unended BadPoint", "together": "BadCommand Unended",
+    **dict.fromkeys(("join", "anti", "agg"), f"{OF_QUERIES} NoColumn WrongKind"),
+}
+
+
+def is_refusable(name: str, record: Record, command: Command, there: Dict[str, Schema]) -> bool:
+    """Whether the refusal can be the command's, and the table is there by whose key or columns it is explained."""
+    if name == "NotInBlock":
+        return command.in_together and command.word in (*CHANGES, "log", "together")
+    told = NAMES if record is command.record else OF_PARTS
+    if (name == "Unended") is command.is_ended or name not in told.get(command.word, "BadCommand").split():
+        return False
     if name == "KeyOverlap":
         return command.word in ("load", "update") and is_doable(command, there)
     return name != "WrongWidth" or command.word == "load" and [*command.record.fields, ""][1] in there
