@@ -223,14 +223,16 @@ def row_in(command: Command, record: Record, tests: Tests) -> List[Optional[str]
 
 OF_QUERIES = "BadCommand BadName BadNumber Future NoTable"
 OF_CHANGES = "BadCommand BadName BadPoint BadPeriod NoTable NoColumn BadNumber TooLong BadUtf8 Full"
-OF_PARTS = {"load": "BadCommand WrongWidth BadPoint BadPeriod BadNumber TooLong BadUtf8", "check": "BadCommand BadNumber"}
+OF_VERSIONS = "BadCommand BadName BadNumber BadPeriod NoTable"
+OF_PARTS = {
+    "load": "BadCommand WrongWidth BadPoint BadPeriod BadNumber TooLong BadUtf8", "check": "BadCommand BadNumber",
+}
 # The names of refusals that each command can have, those of its records aside.
 NAMES = {
     "table": "BadCommand BadName TooMany TwiceNamed NoColumn TableExists Full",
     "load": "Unended BadCommand BadName NoTable Full KeyOverlap", "update": f"{OF_CHANGES} KeyOverlap",
     "delete": OF_CHANGES, "rows": OF_QUERIES, "dip": OF_QUERIES, "at": f"{OF_QUERIES} BadPoint",
-    "between": "BadCommand BadName BadNumber BadPeriod NoTable", "fromto": "BadCommand BadName BadNumber BadPeriod NoTable",
-    "check": f"{OF_QUERIES} Unended BadPoint", "together": "BadCommand Unended",
+    "between": OF_VERSIONS, "fromto": OF_VERSIONS, "check": f"{OF_QUERIES} Unended BadPoint", "together": "BadCommand Unended",
     **dict.fromkeys(("join", "anti", "agg"), f"{OF_QUERIES} NoColumn WrongKind"),
 }
 
