@@ -232,7 +232,8 @@ NAMES = {
     "table": "BadCommand BadName TooMany TwiceNamed NoColumn TableExists Full",
     "load": "Unended BadCommand BadName NoTable Full KeyOverlap", "update": f"{OF_CHANGES} KeyOverlap",
     "delete": OF_CHANGES, "rows": OF_QUERIES, "dip": OF_QUERIES, "at": f"{OF_QUERIES} BadPoint",
-    "between": OF_VERSIONS, "fromto": OF_VERSIONS, "check": f"{OF_QUERIES} Unended BadPoint", "together": "BadCommand Unended",
+    "between": OF_VERSIONS, "fromto": OF_VERSIONS, "check": f"{OF_QUERIES} Unended BadPoint",
+    "together": "BadCommand Unended",
     **dict.fromkeys(("join", "anti", "agg"), f"{OF_QUERIES} NoColumn WrongKind"),
 }
 

@@ -72,7 +72,7 @@ def last(found: Found, words: Sequence[str], count: int) -> List[Answer]:
     told = chosen(found, words)
     if len(told) < count and not words:
         raise Misfit(f"{count} wanted, and {len(told)} of the answers more than an `ok`: ask by --ask, as --ask rows,T")
-    if words and len(told) != count:
+    if len(told) != count and (words or found.asked):
         raise Misfit(f"{len(told)} answers, and not {count}: `csv --folder`, `sqlite` and `json` take several")
     return [pick.answer for pick in told[-count:]]
 
@@ -265,8 +265,9 @@ def parser_of(name: str, tool: Tool) -> ArgumentParser:
 
 def usage() -> str:
     return ABOUT + "".join(f"  {name:10}{tool.about}\n" for name, tool in TOOLS.items()) + (
-        f"\n{NAME} COMMAND --help tells the words of each. The status is 1 where something was refused or isn't"
-        "\nunderstood, and 2 where the words are wrong.\n"
+        f"\n{NAME} COMMAND --help tells the words of each. The status is 2 where the words are wrong, and 1 where"
+        "\nsomething isn't understood, or a command was refused: of `list` it isn't, and with --go-on only of"
+        "\n`refusals`, or where an --ask was.\n"
     )
 
 

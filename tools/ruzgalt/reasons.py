@@ -69,6 +69,15 @@ def bad_number(field: Field, _: Answer) -> str:
     return REASONS["BadNumber"] if field.role is Role.VALUE else "is no whole number from 0 on"
 
 
+def bad_period(_: Field, answer: Answer) -> str:
+    """A `between` may begin and end with one commit."""
+    more = {
+        "between": "is greater than the field behind it",
+        "fromto": "isn't less than the field behind it: of one commit it ends on the next",
+    }
+    return more.get(answer.command.word, f"{REASONS['BadPeriod']}: one day ends on the next")
+
+
 def no_table(_: Field, answer: Answer) -> str:
     return f"is no table that is there: {', '.join(answer.tables) or 'there is none'}"
 
@@ -103,5 +112,5 @@ def future(_: Field, answer: Answer) -> str:
 
 MORE: Dict[str, Callable[[Field, Answer], str]] = {
     "BadName": bad_name, "BadPoint": bad_point, "BadNumber": bad_number, "NoTable": no_table, "NoColumn": no_column,
-    "WrongKind": wrong_kind, "Future": future,
+    "WrongKind": wrong_kind, "Future": future, "BadPeriod": bad_period,
 }

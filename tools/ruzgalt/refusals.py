@@ -43,6 +43,7 @@ def bad_command(answer: Answer) -> str:
     if record is not command.record:
         wanted = "row" if command.word == "load" else "part"
         end = "; its end is the one word end" if is_like_end(record) else ""
+        end = "; is its end missing before it?" if record.word in reasons.FORMS else end
         return f"a {command.word} has {wanted} records alone, and not {visible(record.text)}{end}"
     if command.word == "end":
         return "an end without a block"
