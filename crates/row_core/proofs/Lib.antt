@@ -7,3 +7,4 @@ pub mod KeyLemmas
 pub mod SchemaLemmas
 pub mod RefusalLemmas
 pub mod ValueLemmas
+pub mod BlockLemmas

@@ -1,3 +1,4 @@
+pub mod Blocks
 pub mod Limits
 pub mod Name
 pub mod Number
@@ -5,6 +6,7 @@ pub mod Reading
 pub mod Refusals
 pub mod Rows
 pub mod Schema
+pub mod Texts
 pub mod Value
 pub mod ValueOrder
 pub mod Values

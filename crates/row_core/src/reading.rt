@@ -1,9 +1,11 @@
 //! Rows and values, read from a record's fields.
 
-ghost use Rattle.std.specs.Prelude.{◌≡◌, ◌≤◌, length, map, IfOk};
+ghost use Rattle.std.specs.Prelude.{◌≡◌, ◌≤◌, List, length, map, IfErr, IfOk, OnOk};
 ghost use Rattle.std.specs.Result.{result_err};
 ghost use Rattle.row_core.specs.Refusals.{IsAnswer, Reads};
-ghost use Rattle.row_core.specs.Reading.{period_of, row_of, values_of};
+ghost use Rattle.row_core.specs.Reading.{AddsRow, AddsValues, period_of, row_of, values_of};
+ghost use Rattle.row_core.specs.declared.draft.Draft.{Draft as AnyDraft};
+ghost use Rattle.row_core.specs.declared.value.Value.{Value as AnyValue};
 
 use crate::NoMemory;
 use crate::draft::Draft;
@@ -134,19 +136,36 @@ impl Schema {
     ) -> Result<Draft, Failure<RowRefused>>
         ensures { IsAnswer (row_of self.now (map F.items fields.now)) result }
     {
-        let columns = self.as_slice();
-        if fields.len() != columns.len() + 2 {
-            return Err(Failure::Refused(RowRefused::WrongWidth));
-        }
-        let period = read_period(fields[0].as_slice(), fields[1].as_slice()).map_err(
-            Failure::Refused,
-        )?;
-        let values = read_values(alloc, columns, &fields[2..])?;
+        let mut values = Vec::new(alloc);
+        let period = read_onto(alloc, &mut values, self.as_slice(), fields)?;
+        let values = Values::of(alloc, values)?;
         Ok(Draft { period, values })
     }
 }
 
-// The period of two points.
+/// The period of the row of the fields, whose values are added to others. Want of memory is
+/// answered only where no field is refused.
+pub(crate) fn read_onto<F: AsSlice<u8>>(
+    alloc: Global,
+    values: &mut Vec<Value>,
+    columns: &[Column],
+    fields: &[F],
+) -> Result<Period, Failure<RowRefused>>
+    ensures ok { IfOk result (λ period.
+        AddsRow (row_of columns.now (map F.items fields.now)) (length columns.now) period
+        values.old.items values.new.items) }
+    ensures err { IfErr result (λ failure.
+        IsAnswer {T = AnyDraft} (row_of columns.now (map F.items fields.now)) (Err failure)) }
+{
+    if fields.len() != columns.len() + 2 {
+        return Err(Failure::Refused(RowRefused::WrongWidth));
+    }
+    let period = read_period(fields[0].as_slice(), fields[1].as_slice()).map_err(Failure::Refused)?;
+    read_values(alloc, values, columns, &fields[2..])?;
+    Ok(period)
+}
+
+/// The period of two points.
 fn read_period(from: &[u8], to: &[u8]) -> Result<Period, RowRefused>
     ensures { result ≡ period_of from.now to.now }
 {
@@ -155,16 +174,20 @@ fn read_period(from: &[u8], to: &[u8]) -> Result<Period, RowRefused>
     Ok(Period::new(from, to)?)
 }
 
-// The fields' values in their columns. Memory is missed only where no field is refused.
+/// Adds the fields' values in their columns. Memory is missed only where no field is refused.
 fn read_values<F: AsSlice<u8>>(
     alloc: Global,
+    values: &mut Vec<Value>,
     columns: &[Column],
     fields: &[F],
-) -> Result<Values, Failure<RowRefused>>
+) -> Result<(), Failure<RowRefused>>
     requires { length columns.now ≤ length fields.now }
-    ensures { IsAnswer (values_of columns.now (map F.items fields.now)) result }
+    ensures ok { OnOk result (AddsValues (values_of columns.now (map F.items fields.now))
+        (length columns.now) values.old.items values.new.items) }
+    ensures err { IfErr result (λ failure. IsAnswer {T = List AnyValue}
+        (values_of columns.now (map F.items fields.now)) (Err failure)) }
 {
-    match collect_values(alloc, columns, fields) {
+    match push_values(alloc, values, columns, fields) {
         Err(Failure::NoMemory) => {
             check_values(columns, fields).map_err(Failure::Refused)?;
             Err(Failure::NoMemory)
@@ -173,24 +196,27 @@ fn read_values<F: AsSlice<u8>>(
     }
 }
 
-// The fields' values in their columns, or what refuses the first that is refused anything.
-fn collect_values<F: AsSlice<u8>>(
+/// Adds the fields' values in their columns, up to the first that is refused anything.
+fn push_values<F: AsSlice<u8>>(
     alloc: Global,
+    values: &mut Vec<Value>,
     columns: &[Column],
     fields: &[F],
-) -> Result<Values, Failure<RowRefused>>
+) -> Result<(), Failure<RowRefused>>
     requires { length columns.now ≤ length fields.now }
-    ensures { Reads (λ values. values) (values_of columns.now (map F.items fields.now)) result }
+    ensures ok { OnOk result (AddsValues (values_of columns.now (map F.items fields.now))
+        (length columns.now) values.old.items values.new.items) }
+    ensures err { IfErr result (λ failure. Reads {T = List AnyValue} (λ read. read)
+        (values_of columns.now (map F.items fields.now)) (Err failure)) }
 {
-    let mut values = Vec::with_capacity(alloc, columns.len())?;
     for i in 0..columns.len() {
         let value = Value::read(alloc, columns[i].kind, fields[i].as_slice())?;
         values.push(value)?;
     }
-    Ok(Values::of(alloc, values)?)
+    Ok(())
 }
 
-// Whether each field is a value of its column.
+/// Whether each field is a value of its column.
 fn check_values<F: AsSlice<u8>>(columns: &[Column], fields: &[F]) -> Result<(), RowRefused>
     requires { length columns.now ≤ length fields.now }
     ensures { result_err result ≡ result_err (values_of columns.now (map F.items fields.now)) }

@@ -7,6 +7,7 @@ ghost use Rattle.std.specs.Cmp.Lexicographic.{nat_list_cmp_total, nat_list_eq_eq
 ghost use Rattle.std.specs.Ordering.{nat_cmp};
 ghost use Rattle.row_core.specs.Refusals.{IsAnswer};
 ghost use Rattle.row_core.specs.Limits.{text_limit};
+ghost use Rattle.row_core.specs.Texts.{bytes_in};
 ghost use Rattle.row_core.specs.Value.{text_of};
 
 use crate::NoMemory;
@@ -15,27 +16,77 @@ use list_core::DeepCopy;
 use std::alloc::Global;
 use std::cmp::Ordering;
 use std::marker::Model;
+use std::sync::Arc;
 use thiserror::Error;
 
 /// The most bytes of a text.
 const TEXT_LIMIT: usize = 4096;
 
+/// The most bytes of a text that lies in its value: as many as leave a value in 24 bytes.
+const SHORT_LIMIT: usize = 14;
+
+/// The bytes of a text: so many of some that lie here, or more of them in a block that copies
+/// share. Most texts of tables are short; they take no block, and none is read to compare them.
+#[derive(Debug, Drop)]
+pub(crate) enum Bytes {
+    Short(u8, [u8; SHORT_LIMIT]),
+    Long(Arc<String>),
+}
+
+impl Bytes {
+    fn new(alloc: Global, text: &str) -> Result<Bytes, NoMemory>
+        ensures { IfOk result (λ bytes. bytes_in bytes ≡ text.now) }
+    {
+        let len = text.len();
+        if len > SHORT_LIMIT {
+            let long = String::from_str(alloc, text)?;
+            return Ok(Bytes::Long(Arc::new(alloc, long)?));
+        }
+        let mut bytes = [0; SHORT_LIMIT];
+        bytes[..len].copy_from_slice(text.as_bytes());
+        Ok(Bytes::Short(len as u8, bytes))
+    }
+
+    fn as_slice(&self) -> &[u8]
+        ensures { result.now ≡ bytes_in self.now }
+    {
+        match self {
+            Bytes::Short(len, bytes) => {
+                let bytes = bytes.as_slice();
+                &bytes[..usize::from(*len).min(bytes.len())]
+            }
+            Bytes::Long(text) => text.as_bytes(),
+        }
+    }
+
+    /// One more owner, or a copy of the few bytes.
+    fn share(&self) -> Result<Bytes, NoMemory>
+        ensures { IfOk result (λ bytes. bytes_in bytes ≡ bytes_in self.now) }
+    {
+        match self {
+            Bytes::Short(len, bytes) => Ok(Bytes::Short(*len, *bytes)),
+            Bytes::Long(text) => Ok(Bytes::Long(Arc::try_clone(text)?)),
+        }
+    }
+}
+
 /// A text of at most 4,096 bytes, ordered by its bytes. Contracts see its bytes.
 #[derive(Debug, Drop)]
 pub struct Text {
-    text: String,
+    bytes: Bytes,
 }
 
 impl Model for Text {
     ghost use Rattle.std.specs.Prelude.{ℕ, List, ◌≤◌, length};
-    ghost use Rattle.std.specs.String.{string_bytes};
+    ghost use Rattle.std.specs.Str.{IsUtf8};
     ghost use Rattle.row_core.specs.Limits.{text_limit};
+    ghost use Rattle.row_core.specs.Texts.{bytes_in};
 
     ghost Value = { List ℕ };
 
-    ghost view = { λ t. string_bytes t.text };
+    ghost view = { λ t. bytes_in t.bytes };
 
-    ghost invariant = { λ t. length (string_bytes t.text) ≤ text_limit };
+    ghost invariant = { λ t. (length (bytes_in t.bytes) ≤ text_limit) × IsUtf8 (bytes_in t.bytes) };
 }
 
 /// Why bytes are no text, in the order of the tests.
@@ -56,7 +107,7 @@ impl Text {
     {
         let text = checked_text(bytes).map_err(Failure::Refused)?;
         Ok(Text {
-            text: String::from_str(alloc, text)?,
+            bytes: Bytes::new(alloc, text)?,
         })
     }
 
@@ -65,7 +116,10 @@ impl Text {
         ensures text { result.now ≡ self.now }
         ensures short { length result.now ≤ text_limit }
     {
-        self.text.as_str()
+        match str::from_utf8(self.as_bytes()) {
+            Ok(text) => text,
+            Err(_) => unreachable!(),
+        }
     }
 
     /// The bytes of the text, which are UTF-8.
@@ -74,14 +128,14 @@ impl Text {
         ensures short { length result.now ≤ text_limit }
         ensures utf8 { IsUtf8 result.now }
     {
-        self.as_str().as_bytes()
+        self.bytes.as_slice()
     }
 }
 
 impl DeepCopy for Text {
-    fn copy(&self, alloc: Global) -> Result<Text, NoMemory> {
+    fn copy(&self, _alloc: Global) -> Result<Text, NoMemory> {
         Ok(Text {
-            text: String::from_str(alloc, self.text.as_str())?,
+            bytes: self.bytes.share()?,
         })
     }
 }
@@ -92,7 +146,7 @@ impl PartialEq for Text {
     ghost laws = { partial_equiv_from_equiv nat_list_eq_equiv };
 
     fn eq(&self, other: &Text) -> bool {
-        self.as_str() == other.as_str()
+        self.as_bytes() == other.as_bytes()
     }
 }
 
@@ -120,7 +174,7 @@ impl Ord for Text {
     ghost matches_eq = { texts_ties };
 
     fn cmp(&self, other: &Text) -> Ordering {
-        self.as_str().cmp(other.as_str())
+        self.as_bytes().cmp(other.as_bytes())
     }
 }
 

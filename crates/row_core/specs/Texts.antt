@@ -1,0 +1,11 @@
+-- The bytes of a text, wherever they lie.
+use Rattle.std.specs.Prelude.{ℕ, List, take}
+use Rattle.std.specs.Arc.{arc_value}
+use Rattle.std.specs.String.{string_bytes}
+use Rattle.row_core.specs.declared.text.Bytes.{Bytes}
+use Rattle.row_core.specs.declared.text.Bytes.TheVariants.{Short, Long}
+
+-- the bytes that are held
+abbrev pub bytes_in : Bytes → List ℕ
+bytes_in (Short len bytes) = take len bytes
+bytes_in (Long text) = string_bytes (arc_value text)
