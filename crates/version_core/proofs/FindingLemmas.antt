@@ -2,7 +2,7 @@
 use Rattle.std.proofs.Common.{◌≡◌, ℕ, ◌+◌, ◌<◌, ◌≤◌, List, [], ◌∷◌, ◌++◌, Bool, true, false, ◌&&◌, not, cond, Option, Some, None, length, map, take, drop, ◌*◌, zero, suc, refl, ap, sym, ◌∙◌, arith, length-append}
 use Rattle.std.specs.Prelude.{slice_get, filter, unwrap_or, option_map, is_none, fold, All}
 use Rattle.std.specs.List.{AllByRecursion, range_with_len}
-use Rattle.std.proofs.lemmas.List.{append-nil, length-map, map-append, take_at}
+use Rattle.std.proofs.lemmas.List.{append-nil, length-map, take_at}
 use Rattle.std.proofs.lemmas.List.Elements.{filter-append, filter_agree, All-append, All-filter, All-from_recursion, All-weaker, recursion_from_All}
 use Rattle.std.proofs.lemmas.List.Sums.{count_by-le-length, length-filter}
 use Rattle.std.proofs.lemmas.Option.{slice_get-map}
@@ -10,7 +10,7 @@ use Rattle.std.proofs.Math.Bool.{and-true}
 use Rattle.list_core.proofs.PlaceLemmas.{slice_get-before, slice_get-seam}
 use Rattle.row_core.specs.declared.row.Row.{Row}
 use Rattle.row_core.specs.declared.schema.Column.{Column}
-use Rattle.version_core.specs.Finding.{AreCandidates, ListsOpen, any_row, passes, row_period}
+use Rattle.version_core.specs.Finding.{AreCandidates, ListsOpen, any_row, passes}
 use Rattle.version_core.specs.OpenVersions.{closed, closed_at, current, is_open, is_taken, places_from, versions_after}
 use Rattle.version_core.specs.Made.{made}
 use Rattle.version_core.specs.Rows.{drafts_of, numbered, parts_of_all, removes}
@@ -323,24 +323,3 @@ versions_after-front n before c schema vs now e b =
     ∙ take_at (map (closed n (removes c schema)) vs)
     (made n (numbered (length vs) (drafts_of c schema (current vs)))) before
     (length-map vs (closed n (removes c schema)) ∙ sym b)
-
--- a version that is closed keeps its period
-periods-closed : (n : ℕ) (goes : Row → Bool) (vs : List Version)
-    → map row_period (map (closed n goes) vs) ≡ map row_period vs
-periods-closed n goes [] = refl
-periods-closed n goes (v ∷ vs) =
-    elim (is_none v.systo && goes v.row) as
-    (λ b. row_period (cond b (record v { systo = Some n }) v) ∷ map row_period (map (closed n goes) vs)
-    ≡ v.row.period ∷ map row_period vs) [
-      | true ↦ ap (λ l. v.row.period ∷ l) (periods-closed n goes vs)
-      | false ↦ ap (λ l. v.row.period ∷ l) (periods-closed n goes vs)
-    ]
-
--- the periods afterwards are those before and of the new ones
-pub periods-versions_after : (n : ℕ) (c : Change) (schema : List Column) (vs fresh : List Version)
-    → fresh ≡ made n (numbered (length vs) (drafts_of c schema (current vs)))
-    → map row_period (versions_after n c schema vs) ≡ map row_period vs ++ map row_period fresh
-periods-versions_after n c schema vs fresh e =
-    ap (λ new. map row_period (map (closed n (removes c schema)) vs ++ new)) (sym e)
-    ∙ map-append row_period (map (closed n (removes c schema)) vs) fresh
-    ∙ ap (λ periods. periods ++ map row_period fresh) (periods-closed n (removes c schema) vs)

@@ -1,5 +1,5 @@
 -- Lists of places, by which a change finds the versions that it closes.
-use Rattle.std.specs.Prelude.{◌≡◌, ℕ, ◌+◌, ◌<◌, List, [], length, filter, Bool, ◌&&◌, if◌then◌else◌, option_map, slice_get, unwrap_or, Option, ◌*◌, ◌%◌, ◌≤◌, get_or, fold, All, true, false, None, ◌==◌, unsigned_abs, is_some, map, IfSome}
+use Rattle.std.specs.Prelude.{◌≡◌, ℕ, ◌+◌, ◌<◌, List, [], length, filter, Bool, ◌&&◌, if◌then◌else◌, option_map, slice_get, unwrap_or, Option, ◌*◌, ◌%◌, ◌≤◌, get_or, fold, All, true, false, None, ◌==◌, unsigned_abs, is_some, IfSome}
 use Rattle.period_core.specs.Period.{meet}
 use Rattle.period_core.specs.declared.period.Period.{Period}
 use Rattle.row_core.specs.Schema.{column_of}
@@ -68,19 +68,9 @@ pub record AreFound (vs : List Version) (places : List ℕ) (indexes : List Inde
   pub all : ListsOpen vs any_row places
   pub by_value : All (IsIndex vs) indexes
 
--- the period of a version's row
-abbrev pub row_period : Version → Period
-row_period v = v.row.period
-
--- the periods are those of the versions' rows, in their order
-abbrev pub ArePeriods : List Version → List Period → Type 0
-ArePeriods vs periods = periods ≡ map row_period vs
-
--- what is kept beside versions: their periods, and what finds the open ones
+-- what is kept beside versions: what finds the open ones
 pub record AreBeside
-    (vs : List Version) (periods : List Period) (places : List ℕ) (indexes : List Index) (key_index : Option KeyIndex)
-    : Type 0 where
-  pub times : ArePeriods vs periods
+    (vs : List Version) (places : List ℕ) (indexes : List Index) (key_index : Option KeyIndex) : Type 0 where
   pub found : AreFound vs places indexes
   pub by_key : IfSome key_index (IsKeyIndex vs)
 

@@ -4,11 +4,10 @@ ghost use Rattle.std.specs.Prelude.{◌≡◌, ◌&&◌, ◌==◌, IfOk, filter,
 ghost use Rattle.std.specs.Option.{option_copied};
 ghost use Rattle.period_core.specs.Period.{holds_at};
 ghost use Rattle.row_core.specs.declared.row.Row.{Row};
-ghost use Rattle.version_core.specs.Finding.{ArePeriods};
 ghost use Rattle.version_core.specs.Shown.{shows, shown, versions_as_of, end_at, is_behind};
 
 use list_core::{DeepCopy, List};
-use period_core::{Period, Point};
+use period_core::Point;
 use row_core::{NoMemory, Row, RowList};
 use std::alloc::Global;
 
@@ -56,30 +55,25 @@ pub fn rows_shown(alloc: Global, versions: &[Version], n: u64) -> Result<RowList
     Ok(RowList::from(rows))
 }
 
-/// Whether commit n shows the version and its row, whose period that is, holds at the point. The version is read only
-/// where the period does.
-fn is_shown_holding(version: &Version, period: &Period, n: u64, point: Point) -> bool
-    requires { period.now ≡ version.now.row.period }
+/// Whether commit n shows the version, and its row holds at the point.
+fn is_shown_holding(version: &Version, n: u64, point: Point) -> bool
     ensures { result ≡ (shows n version.now && holds_at point version.now.row.period) }
 {
-    period.holds(point) && is_shown(version, n)
+    version.row.period.holds(point) && is_shown(version, n)
 }
 
-/// The rows that commit n shows and that hold at the point, of versions with these periods. No other row is copied.
+/// The rows that commit n shows and that hold at the point. No other row is copied.
 pub(crate) fn rows_holding(
     alloc: Global,
     versions: &[Version],
-    periods: &[Period],
     n: u64,
     point: Point,
 ) -> Result<RowList, NoMemory>
-    requires { ArePeriods versions.now periods.now }
     ensures { IfOk result (λ rows. rows ≡ filter (λ row. holds_at point row.period) (shown n versions.now)) }
 {
     let mut rows = RowList::new(alloc);
-    for place in 0..versions.len() {
-        let version = &versions[place];
-        if is_shown_holding(version, &periods[place], n, point) {
+    for version in versions {
+        if is_shown_holding(version, n, point) {
             rows.push(version.row.copy(alloc)?)?;
         }
     }

@@ -8,7 +8,7 @@ ghost use Rattle.row_core.specs.Schema.{key_of};
 ghost use Rattle.row_core.specs.declared.failure.Failure.TheVariants.{NoMemory};
 ghost use Rattle.row_core.specs.declared.row.Row.{Row};
 ghost use Rattle.row_core.specs.declared.schema.Column.{Column};
-ghost use Rattle.version_core.specs.Finding.{AreCandidates, ArePeriods, IsIndex, IsLookupOf, AreSought, row_period};
+ghost use Rattle.version_core.specs.Finding.{AreCandidates, IsIndex, IsLookupOf, AreSought};
 ghost use Rattle.version_core.specs.KeyIndex.{IsKeyIndex};
 ghost use Rattle.version_core.specs.Keys.{overlap_after, rows_left, break_key};
 ghost use Rattle.version_core.specs.Limits.{bucket_count, version_limit};
@@ -31,7 +31,7 @@ use crate::places::Places;
 use crate::portion::{SOUGHT_LIMIT, columns_sought, count_of, is_removed, push_parts, reaches};
 use crate::version::{Version, rows_holding};
 use list_core::{DeepCopy, copy_each};
-use period_core::{Period, Point};
+use period_core::Point;
 use row_core::{Failure, NoMemory, RowList, Schema};
 use std::alloc::Global;
 use std::marker::Model;
@@ -50,8 +50,6 @@ pub struct VersionCounts {
 #[derive(Debug, Drop)]
 pub struct Versions {
     items: Vec<Version>,
-    /// The period of each one's row. A change goes over these, and reads only versions that its portion meets.
-    periods: Vec<Period>,
     /// The places of the open ones, and of closed ones that a change has not come across.
     open_at: Places,
     /// How many were closed since those places were only of open ones.
@@ -71,7 +69,7 @@ impl Model for Versions {
 
     ghost view = { λ v. v.items.items };
 
-    ghost invariant = { λ v. AreBeside v.items.items v.periods.items v.open_at v.indexes.items v.key_index };
+    ghost invariant = { λ v. AreBeside v.items.items v.open_at v.indexes.items v.key_index };
 }
 
 impl DeepCopy for Versions {
@@ -79,7 +77,6 @@ impl DeepCopy for Versions {
     fn copy(&self, alloc: Global) -> Result<Versions, NoMemory> {
         Ok(Versions {
             items: copy_each(alloc, &self.items)?,
-            periods: Vec::from_slice(alloc, &self.periods)?,
             open_at: self.open_at.copy(alloc)?,
             closed: self.closed,
             indexes: Vec::new(alloc),
@@ -95,7 +92,6 @@ impl Versions {
     {
         Versions {
             items: Vec::new(alloc),
-            periods: Vec::new(alloc),
             open_at: Places::new(alloc),
             closed: 0,
             indexes: Vec::new(alloc),
@@ -122,7 +118,7 @@ impl Versions {
         ensures { IfOk result (λ rows. rows
             ≡ filter (λ (row : Row). holds_at point row.period) (shown n self.now)) }
     {
-        rows_holding(alloc, &self.items, &self.periods, n, point)
+        rows_holding(alloc, &self.items, n, point)
     }
 
     /// How many rows a change can put in the place of those that it takes out: three of each.
@@ -141,7 +137,7 @@ impl Versions {
     {
         let lookup = lookup_of(&self.indexes, schema, change);
         let places = candidates(self.open_at.as_slice(), &self.indexes, lookup);
-        count_parts(schema, &self.items, &self.periods, places, change)
+        count_parts(schema, &self.items, places, change)
     }
 
     /// Closes the versions whose rows the change takes out, and adds those that it makes, unless rows of
@@ -207,15 +203,7 @@ impl Versions {
         ensures { IfOk result (IsPlanOf commit change.now schema.now self.now) }
     {
         let places = candidates(self.open_at.as_slice(), &self.indexes, lookup);
-        plan_change(
-            alloc,
-            schema,
-            &self.items,
-            &self.periods,
-            places,
-            commit,
-            change,
-        )
+        plan_change(alloc, schema, &self.items, places, commit, change)
     }
 
     /// Makes the index of the key where it helps to test the plan, and drops it where that isn't small.
@@ -281,7 +269,7 @@ impl Versions {
             added: new.len() as u64,
             closed: taken.len() as u64,
         };
-        add_versions(&mut self.items, &mut self.periods, &mut self.open_at, new)?;
+        add_versions(&mut self.items, &mut self.open_at, new)?;
         close_all(&mut self.items, &taken, commit);
         self.closed = self.closed.saturating_add(taken.len());
         let versions = self.items.as_slice();
@@ -384,13 +372,11 @@ fn plan_change(
     alloc: Global,
     schema: &Schema,
     versions: &[Version],
-    periods: &[Period],
     places: &[usize],
     commit: u64,
     change: &Change,
 ) -> Result<Plan, NoMemory>
     requires few { length versions.now ≤ version_limit }
-    requires periods { ArePeriods versions.now periods.now }
     requires places { AreCandidates change.now schema.now versions.now places.now }
     ensures { IfOk result (IsPlanOf commit change.now schema.now versions.now) }
 {
@@ -400,12 +386,8 @@ fn plan_change(
             let new = versions_of(alloc, versions.len(), commit, rows.as_slice())?;
             Ok(Plan::of(alloc, new))
         }
-        Change::Update { .. } => plan_portion(
-            alloc, schema, versions, periods, places, commit, change,
-        ),
-        Change::Delete { .. } => plan_portion(
-            alloc, schema, versions, periods, places, commit, change,
-        ),
+        Change::Update { .. } => plan_portion(alloc, schema, versions, places, commit, change),
+        Change::Delete { .. } => plan_portion(alloc, schema, versions, places, commit, change),
     }
 }
 
@@ -427,13 +409,11 @@ fn plan_portion(
     alloc: Global,
     schema: &Schema,
     versions: &[Version],
-    periods: &[Period],
     places: &[usize],
     commit: u64,
     change: &Change,
 ) -> Result<Plan, NoMemory>
     requires few { length versions.now ≤ version_limit }
-    requires periods { ArePeriods versions.now periods.now }
     requires places { AreCandidates change.now schema.now versions.now places.now }
     ensures new { IfOk result (λ plan. plan.new.items ≡ made commit
         (numbered (length versions.now) (parts_of_all change.now schema.now (current versions.now)))) }
@@ -445,7 +425,7 @@ fn plan_portion(
     let columns = columns_sought(schema, change);
     for place in places {
         let version = &versions[*place];
-        if is_taken(schema, change, &columns, &periods[*place], version) {
+        if is_taken(schema, change, &columns, version) {
             push_parts(alloc, &mut new, schema, change, &version.row)?;
             taken.push(*place)?;
         }
@@ -457,15 +437,8 @@ fn plan_portion(
 }
 
 /// How many rows come in the place of those that the change takes out.
-fn count_parts(
-    schema: &Schema,
-    versions: &[Version],
-    periods: &[Period],
-    places: &[usize],
-    change: &Change,
-) -> usize
+fn count_parts(schema: &Schema, versions: &[Version], places: &[usize], change: &Change) -> usize
     requires few { length versions.now ≤ version_limit }
-    requires periods { ArePeriods versions.now periods.now }
     requires places { AreCandidates change.now schema.now versions.now places.now }
     ensures { result ≡ length (parts_of_all change.now schema.now (current versions.now)) }
 {
@@ -473,28 +446,26 @@ fn count_parts(
     let columns = columns_sought(schema, change);
     for place in places {
         let version = &versions[*place];
-        if is_taken(schema, change, &columns, &periods[*place], version) {
+        if is_taken(schema, change, &columns, version) {
             count += count_of(change, &version.row);
         }
     }
     count
 }
 
-/// Whether the version, whose row has that period, is open, and the change takes out its row. It is read only
-/// where the period tells that this may be.
+/// Whether the version is open, and the change takes out its row. The period is tested first: few versions
+/// that a change goes over meet its portion.
 #[inline(always)]
 fn is_taken(
     schema: &Schema,
     change: &Change,
     columns: &[Option<u32>; SOUGHT_LIMIT],
-    period: &Period,
     version: &Version,
 ) -> bool
-    requires period { period.now ≡ version.now.row.period }
-    requires sought { AreSought schema.now (conds_of change.now) columns.now }
+    requires { AreSought schema.now (conds_of change.now) columns.now }
     ensures { result ≡ is_taken change.now schema.now version.now }
 {
-    reaches(change, period)
+    reaches(change, &version.row.period)
         && version.systo.is_none()
         && is_removed(schema, change, columns, &version.row)
 }
@@ -540,32 +511,22 @@ fn keep_key_index(
     }
 }
 
-/// Adds versions, their periods and their places. On refusal there are none more.
+/// Adds versions and their places. On refusal there are none more.
 fn add_versions(
     versions: &mut Vec<Version>,
-    periods: &mut Vec<Period>,
     places: &mut Places,
     new: Vec<Version>,
 ) -> Result<(), NoMemory>
-    requires few { length versions.old.items ≤ version_limit }
-    requires periods { length periods.old.items ≡ length versions.old.items }
+    requires { length versions.old.items ≤ version_limit }
     ensures ok { OnOk result (versions.new.items ≡ versions.old.items ++ new.items) }
-    ensures periods { OnOk result (periods.new.items ≡ periods.old.items ++ map row_period new.items) }
     ensures places { OnOk result (places.new
         ≡ places.old ++ range_with_len (length versions.old.items) (length new.items)) }
     ensures err { OnErr result (versions.new.items ≡ versions.old.items) }
-    ensures err_periods { OnErr result (periods.new.items ≡ periods.old.items) }
     ensures err_places { OnErr result (places.new ≡ places.old) }
 {
-    let before = periods.len();
     let open = places.len();
-    push_periods(periods, &new)?;
-    if let Err(error) = places.push_range(versions.len(), new.len()) {
-        periods.truncate(before);
-        return Err(error);
-    }
+    places.push_range(versions.len(), new.len())?;
     if let Err(error) = append(versions, new) {
-        periods.truncate(before);
         places.truncate(open);
         return Err(error);
     }
@@ -581,21 +542,6 @@ fn append(versions: &mut Vec<Version>, mut new: Vec<Version>) -> Result<(), NoMe
         *versions = new;
     } else {
         versions.append(&mut new)?;
-    }
-    Ok(())
-}
-
-/// Adds the periods of the versions' rows. On refusal there are none more.
-fn push_periods(periods: &mut Vec<Period>, versions: &[Version]) -> Result<(), NoMemory>
-    ensures ok { OnOk result (periods.new.items ≡ periods.old.items ++ map row_period versions.now) }
-    ensures err { OnErr result (periods.new.items ≡ periods.old.items) }
-{
-    let before = periods.len();
-    for version in versions {
-        if let Err(error) = periods.push(version.row.period) {
-            periods.truncate(before);
-            return Err(error.into());
-        }
     }
     Ok(())
 }

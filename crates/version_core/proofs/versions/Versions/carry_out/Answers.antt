@@ -1,10 +1,9 @@
-use Rattle.std.proofs.Common.{◌≡◌, ◌∙◌, ◌<◌, ◌++◌, ap, length, length-append, map, take, drop, refl, sym, arith}
+use Rattle.std.proofs.Common.{◌≡◌, ◌∙◌, ◌<◌, ◌++◌, ap, length, length-append, map, take, drop, refl, arith}
 use Rattle.std.specs.Prelude.{All}
-use Rattle.version_core.specs.Finding.{row_period}
 use Rattle.version_core.specs.OpenVersions.{closed, current, is_taken, places_from, versions_after}
 use Rattle.version_core.specs.Made.{draft_of}
 use Rattle.version_core.specs.Rows.{drafts_of, removes}
-use Rattle.version_core.proofs.FindingLemmas.{all-versions_after, periods-versions_after, versions_after-few, versions_after-front, versions_after-written}
+use Rattle.version_core.proofs.FindingLemmas.{all-versions_after, versions_after-few, versions_after-front, versions_after-written}
 use Rattle.version_core.proofs.IndexLemmas.{indexes-closed}
 use Rattle.version_core.proofs.KeyIndexLemmas.{kept-closed}
 use Rattle.version_core.proofs.KeyLemmas.{drafts-made}
@@ -78,10 +77,6 @@ invariant_of-self-2 c =
     let vs = c.self.inside.items.items in
     let fresh = c.args.plan.new.items in
     record {
-      times = c.in_ok-add_versions.ensures.periods
-          ∙ ap (λ periods. periods ++ map row_period fresh) c.self.invariant.times
-          ∙ sym (periods-versions_after c.args.commit c.args.change.now c.args.schema.now vs fresh (rw c.self.view_is c.requires.plan.new))
-          ∙ ap (map row_period) (sym (whole c));
       found = record {
         all = all-versions_after c.args.commit (length vs) (length fresh) c.args.change.now c.args.schema.now vs fresh _
             c.self.inside.open_at c.add_versions.new.places (whole c) (rw c.self.view_is c.requires.plan.new) refl refl

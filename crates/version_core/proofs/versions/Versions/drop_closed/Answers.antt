@@ -10,7 +10,6 @@ invariant_of-self-then-self-len c =
     let swept = c.drop_closed.ensures
     ∙ ap (λ vs. filter (passes vs is_open) c.self.inside.open_at) c.deref-then-self-len.ensures.value in
     record {
-      times = c.self.invariant.times;
       found = record {
         all = rw
             swept (ListsOpen-swept c.self.inside.items.items any_row c.self.inside.open_at c.self.invariant.found.all);
