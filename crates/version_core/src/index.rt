@@ -72,7 +72,7 @@ impl Index {
         ensures { OnOk result (IsIndex (take (place + 1) versions.now) self.new) }
     {
         if let Some(bucket) = bucket_in(self.column, &versions[place]) {
-            self.buckets[bucket].push(place)?;
+            self.buckets[bucket].push(place as u32)?;
         }
         Ok(())
     }
@@ -233,10 +233,10 @@ fn place_of_index(indexes: &[Index], column: u32) -> Option<usize>
 
 /// The places that a change with that lookup looks at: a bucket, or all where no index is there.
 pub(crate) fn candidates<'a>(
-    open_at: &'a [usize],
+    open_at: &'a [u32],
     indexes: &'a [Index],
     lookup: Option<Lookup>,
-) -> &'a [usize]
+) -> &'a [u32]
     requires buckets { All (λ index. length index.buckets.items ≡ bucket_count) indexes.now }
     requires lookup { IfSome lookup (λ lookup. lookup.bucket < bucket_count) }
     ensures { (vs : List Version) (change : Change) (columns : List Column)

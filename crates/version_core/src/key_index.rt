@@ -88,12 +88,12 @@ impl KeyIndex {
     }
 
     /// Takes out those of the versions at the places that are closed.
-    pub(crate) fn drop_closed(&mut self, versions: &[Version], places: &[usize])
+    pub(crate) fn drop_closed(&mut self, versions: &[Version], places: &[u32])
         requires { IsKeyIndex versions.now self.old }
         ensures { IsKeyIndex versions.now self.new }
     {
         for place in places {
-            self.drop_closed_at(versions, *place);
+            self.drop_closed_at(versions, *place as usize);
         }
     }
 

@@ -77,7 +77,7 @@ pub(crate) fn collide_among_all(
     change: &Change,
     key: &[u32],
     versions: &[Version],
-    open_at: &[usize],
+    open_at: &[u32],
     new: &[Version],
 ) -> Result<bool, NoMemory>
     requires { ListsOpen versions.now any_row open_at.now }
@@ -109,7 +109,7 @@ fn rows_left<'a>(
     schema: &Schema,
     change: &Change,
     versions: &'a [Version],
-    open_at: &[usize],
+    open_at: &[u32],
 ) -> Result<Vec<KeyedRow<'a>>, NoMemory>
     requires { ListsOpen versions.now any_row open_at.now }
     ensures { IfOk result (λ rows. map tested_row rows.items
@@ -118,7 +118,7 @@ fn rows_left<'a>(
     let mut rows = Vec::new(alloc);
     let columns = columns_sought(schema, change);
     for place in open_at {
-        let version = &versions[*place];
+        let version = &versions[*place as usize];
         if is_left(schema, change, &columns, version) {
             if let Err(_) = rows.push(keyed(version)) {
                 return Err(AllocError);

@@ -1,8 +1,9 @@
 //! Lists of places of versions.
 
-ghost use Rattle.std.specs.Prelude.{◌≡◌, ◌+◌, ◌<◌, ◌^◌, ◌++◌, [], ◌∷◌, length, filter, take, IfOk, OnErr, OnOk};
+ghost use Rattle.std.specs.Prelude.{◌≡◌, ◌+◌, ◌≤◌, ◌++◌, [], ◌∷◌, length, filter, take, IfOk, OnErr, OnOk};
 ghost use Rattle.std.specs.List.{range_with_len};
 ghost use Rattle.version_core.specs.Finding.{passes};
+ghost use Rattle.version_core.specs.Limits.{version_limit};
 ghost use Rattle.version_core.specs.OpenVersions.{is_open};
 
 use crate::version::Version;
@@ -10,10 +11,11 @@ use row_core::NoMemory;
 use std::alloc::Global;
 use std::marker::Model;
 
-/// Places in a list of versions, rising. Contracts see the list.
+/// Places in a list of versions, rising. Contracts see the list. A table has so few versions that
+/// 32 bits hold a place.
 #[derive(Debug, Drop)]
 pub(crate) struct Places {
-    items: Vec<usize>,
+    items: Vec<u32>,
 }
 
 impl Model for Places {
@@ -42,7 +44,7 @@ impl Places {
     }
 
     /// All places.
-    pub(crate) fn as_slice(&self) -> &[usize]
+    pub(crate) fn as_slice(&self) -> &[u32]
         ensures { result.now ≡ self.now }
     {
         &self.items
@@ -58,7 +60,7 @@ impl Places {
     }
 
     /// Adds a place. On refusal there are none more.
-    pub(crate) fn push(&mut self, place: usize) -> Result<(), NoMemory>
+    pub(crate) fn push(&mut self, place: u32) -> Result<(), NoMemory>
         ensures ok { OnOk result (self.new ≡ self.old ++ place ∷ []) }
         ensures err { OnErr result (self.new ≡ self.old) }
     {
@@ -68,7 +70,7 @@ impl Places {
 
     /// Adds `count` places from `first` on. On refusal there are none more.
     pub(crate) fn push_range(&mut self, first: usize, count: usize) -> Result<(), NoMemory>
-        requires { first + count < 2 ^ 63 }
+        requires { first + count ≤ version_limit }
         ensures ok { OnOk result (self.new ≡ self.old ++ range_with_len first count) }
         ensures err { OnErr result (self.new ≡ self.old) }
     {
@@ -91,14 +93,14 @@ impl Places {
 }
 
 /// Adds `count` places from `first` on. On refusal there are none more.
-fn push_places(places: &mut Vec<usize>, first: usize, count: usize) -> Result<(), NoMemory>
-    requires { first + count < 2 ^ 63 }
+fn push_places(places: &mut Vec<u32>, first: usize, count: usize) -> Result<(), NoMemory>
+    requires { first + count ≤ version_limit }
     ensures ok { OnOk result (places.new.items ≡ places.old.items ++ range_with_len first count) }
     ensures err { OnErr result (places.new.items ≡ places.old.items) }
 {
     let before = places.len();
     for place in first..first + count {
-        if let Err(error) = places.push(place) {
+        if let Err(error) = places.push(place as u32) {
             places.truncate(before);
             return Err(error.into());
         }
@@ -107,17 +109,17 @@ fn push_places(places: &mut Vec<usize>, first: usize, count: usize) -> Result<()
 }
 
 /// Leaves the places of open versions.
-fn drop_closed(places: &mut Vec<usize>, versions: &[Version])
+fn drop_closed(places: &mut Vec<u32>, versions: &[Version])
     ensures { places.new.items ≡ filter (passes versions.now is_open) places.old.items }
 {
     places.retain(|place| is_open_at(versions, *place));
 }
 
 /// Whether an open version has that place.
-fn is_open_at(versions: &[Version], place: usize) -> bool
+fn is_open_at(versions: &[Version], place: u32) -> bool
     ensures { result ≡ passes versions.now is_open place }
 {
-    match versions.get(place) {
+    match versions.get(place as usize) {
         Some(version) => version.systo.is_none(),
         None => false,
     }

@@ -353,7 +353,7 @@ impl Versions {
 #[derive(Drop)]
 struct Plan {
     new: Vec<Version>,
-    taken: Vec<usize>,
+    taken: Vec<u32>,
 }
 
 /// Among so many versions of a table a small plan adds or closes one.
@@ -372,7 +372,7 @@ fn plan_change(
     alloc: Global,
     schema: &Schema,
     versions: &[Version],
-    places: &[usize],
+    places: &[u32],
     commit: u64,
     change: &Change,
 ) -> Result<Plan, NoMemory>
@@ -409,7 +409,7 @@ fn plan_portion(
     alloc: Global,
     schema: &Schema,
     versions: &[Version],
-    places: &[usize],
+    places: &[u32],
     commit: u64,
     change: &Change,
 ) -> Result<Plan, NoMemory>
@@ -424,7 +424,7 @@ fn plan_portion(
     let mut taken = Vec::new(alloc);
     let columns = columns_sought(schema, change);
     for place in places {
-        let version = &versions[*place];
+        let version = &versions[*place as usize];
         if is_taken(schema, change, &columns, version) {
             push_parts(alloc, &mut new, schema, change, &version.row)?;
             taken.push(*place)?;
@@ -437,7 +437,7 @@ fn plan_portion(
 }
 
 /// How many rows come in the place of those that the change takes out.
-fn count_parts(schema: &Schema, versions: &[Version], places: &[usize], change: &Change) -> usize
+fn count_parts(schema: &Schema, versions: &[Version], places: &[u32], change: &Change) -> usize
     requires few { length versions.now ≤ version_limit }
     requires places { AreCandidates change.now schema.now versions.now places.now }
     ensures { result ≡ length (parts_of_all change.now schema.now (current versions.now)) }
@@ -445,7 +445,7 @@ fn count_parts(schema: &Schema, versions: &[Version], places: &[usize], change: 
     let mut count = 0;
     let columns = columns_sought(schema, change);
     for place in places {
-        let version = &versions[*place];
+        let version = &versions[*place as usize];
         if is_taken(schema, change, &columns, version) {
             count += count_of(change, &version.row);
         }
@@ -453,8 +453,8 @@ fn count_parts(schema: &Schema, versions: &[Version], places: &[usize], change: 
     count
 }
 
-/// Whether the version is open, and the change takes out its row. The period is tested first: few versions
-/// that a change goes over meet its portion.
+/// Whether the version is open, and the change takes out its row. The period is tested first: it
+/// tells of most versions that they stay.
 #[inline(always)]
 fn is_taken(
     schema: &Schema,
@@ -477,7 +477,7 @@ fn keep_indexes(
     key_index: &mut Option<KeyIndex>,
     versions: &[Version],
     from: usize,
-    taken: &[usize],
+    taken: &[u32],
 )
     requires few { length versions.now ≤ version_limit }
     requires inside { from ≤ length versions.now }
@@ -496,7 +496,7 @@ fn keep_key_index(
     key_index: &mut Option<KeyIndex>,
     versions: &[Version],
     from: usize,
-    taken: &[usize],
+    taken: &[u32],
 )
     requires inside { from ≤ length versions.now }
     requires before { IfSome key_index.old (IsKeyIndex (take from versions.now)) }
@@ -517,7 +517,7 @@ fn add_versions(
     places: &mut Places,
     new: Vec<Version>,
 ) -> Result<(), NoMemory>
-    requires { length versions.old.items ≤ version_limit }
+    requires { length versions.old.items + length new.items ≤ version_limit }
     ensures ok { OnOk result (versions.new.items ≡ versions.old.items ++ new.items) }
     ensures places { OnOk result (places.new
         ≡ places.old ++ range_with_len (length versions.old.items) (length new.items)) }
@@ -547,11 +547,11 @@ fn append(versions: &mut Vec<Version>, mut new: Vec<Version>) -> Result<(), NoMe
 }
 
 /// Ends the versions at those places with the commit.
-fn close_all(versions: &mut [Version], places: &[usize], commit: u64)
+fn close_all(versions: &mut [Version], places: &[u32], commit: u64)
     requires { All (λ place. place < length versions.old) places.now }
     ensures { versions.new ≡ fold (closed_at commit) versions.old places.now }
 {
     for place in places {
-        versions[*place].systo = Some(commit);
+        versions[*place as usize].systo = Some(commit);
     }
 }

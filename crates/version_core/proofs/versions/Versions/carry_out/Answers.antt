@@ -16,6 +16,12 @@ leaves_overlap-requires-clause-new c =
     ∙ drafts-made c.args.commit (length c.args.self.now)
     (drafts_of c.args.change.now c.args.schema.now (current c.args.self.now))
 
+pub add_versions-requires : goal.add_versions-requires
+add_versions-requires c =
+    let added = fresh-count c.args.commit c.args.change.now c.args.schema.now c.args.self.now c.args.plan.new.items
+    c.requires.plan.new in
+    omega (arith, added, c.requires.room, ap length c.self.view_is)
+
 pub close_all-requires : goal.close_all-requires
 close_all-requires c =
     let vs = c.self.inside.items.items in
