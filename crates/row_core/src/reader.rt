@@ -6,7 +6,7 @@ ghost use Rattle.row_core.specs.Reading.{row_of};
 ghost use Rattle.row_core.specs.Refusals.{IsAnswer, map_ok};
 
 use crate::NoMemory;
-use crate::draft::{Draft, Drafts};
+use crate::draft::Draft;
 use crate::failure::Failure;
 use crate::reading::{RowRefused, read_onto};
 use crate::schema::Schema;
@@ -95,9 +95,9 @@ impl<'a> RowReader<'a> {
         })
     }
 
-    /// The rows.
-    pub fn into_rows(self) -> Result<Drafts, NoMemory>
-        ensures { IfOk result (λ rows. rows ≡ self.entry.rows) }
+    /// The rows, which can be put behind others.
+    pub fn into_rows(self) -> Result<Vec<Draft>, NoMemory>
+        ensures { IfOk result (λ rows. rows.items ≡ self.entry.rows) }
     {
         let RowReader {
             alloc,
@@ -107,7 +107,7 @@ impl<'a> RowReader<'a> {
             values,
         } = self;
         add_rows(alloc, &mut rows, schema.width(), &periods, values)?;
-        Ok(Drafts::from(rows))
+        Ok(rows)
     }
 }
 

@@ -5,8 +5,8 @@ use list_core::DeepCopy;
 use period_core::Point;
 use refusal_core::{Ended, Fault, holds, refuses, try_each};
 use row_core::{
-    Draft, Drafts, Field, KeyRefused, Kind, Row, RowList, RowRefused, Schema, SchemaRefused, Value,
-    Values,
+    Draft, Drafts, Field, KeyRefused, Kind, Row, RowList, RowReader, RowRefused, Schema,
+    SchemaRefused, Value, Values,
 };
 use std::alloc::Global;
 use std::convert::AsSlice;
@@ -97,6 +97,22 @@ fn read_rows(alloc: Global) -> Result<(), Ended> {
     refuses(schema.read_row(alloc, &backwards), RowRefused::BadPeriod)
 }
 
+// Reads a row behind another, and refuses a third.
+fn read_more_rows(alloc: Global) -> Result<(), Ended> {
+    let schema = columns(alloc)?;
+    let long = b"a text of more than fourteen bytes";
+    let first = fields(alloc, &[b"2024-01-01", b"2024-01-02", b"7", long])?;
+    let second = fields(alloc, &[b"2024-01-02", b"2024-01-03", b"8", b"y"])?;
+    let reader = RowReader::new(alloc, &schema).read(&first)?.read(&second)?;
+    let rows = reader.into_rows()?;
+    let row = rows.get(1).ok_or(Ended::Wrong)?;
+    let want = [Value::Int(8), text(alloc, b"y")?];
+    holds(rows.len() == 2 && row.values.as_slice() == want.as_slice())?;
+    let reader = RowReader::new(alloc, &schema).read(&first)?;
+    let narrow = first.get(..3).ok_or(Ended::Wrong)?;
+    refuses(reader.read(narrow), RowRefused::WrongWidth)
+}
+
 // Values of a number and a text; each is added once more where memory was refused, and then none was.
 fn values(alloc: Global) -> Result<Values, Ended> {
     let schema = columns(alloc)?;
@@ -143,5 +159,6 @@ fn add_rows(alloc: Global) -> Result<(), Ended> {
 #[test]
 fn rows_are_read_and_added_or_memory_is_refused(rt: HostRuntime) -> Result<(), Fault> {
     try_each(&rt, read_rows)?;
+    try_each(&rt, read_more_rows)?;
     try_each(&rt, add_rows)
 }

@@ -3,8 +3,8 @@
 use crate::fixtures::{day, name, schema, text};
 use list_core::DeepCopy;
 use row_core::{
-    BadName, Draft, Drafts, Failure, Field, KeyRefused, Kind, Name, Row, RowList, RowRefused,
-    Schema, SchemaRefused, Text, TextRefused, Value, ValueRefused, Values,
+    BadName, Draft, Drafts, Failure, Field, KeyRefused, Kind, Name, Row, RowList, RowReader,
+    RowRefused, Schema, SchemaRefused, Text, TextRefused, Value, ValueRefused, Values,
 };
 use std::alloc::Global;
 use std::convert::AsSlice;
@@ -124,6 +124,40 @@ fn reads_rows(rt: HostRuntime) {
     assert!(rt; draft.period == day(&rt));
     assert!(rt; are_both(draft.values.as_slice(), -7, b"y"));
     assert!(rt; schema.fits(&draft.values));
+}
+
+// The fields of a row of that number, whose text has that many letters.
+fn fields_of(rt: &(impl Abort + Alloc<A = Global>), number: usize, letters: usize) -> [Field; 4] {
+    let digits = number.to_string(rt.alloc()).expect(rt, "memory");
+    let letters = b"abcdefghijklmnopqrst"
+        .get(..letters)
+        .expect(rt, "so many letters");
+    [
+        field(rt, b"2024-01-01"),
+        field(rt, b"2024-01-02"),
+        field(rt, digits.as_bytes()),
+        field(rt, letters),
+    ]
+}
+
+// More rows than have their values in one block, with texts that lie in the value and that don't.
+#[test]
+fn reads_rows_one_after_another(rt: HostRuntime) {
+    let schema = columns(&rt);
+    let mut reader = RowReader::new(rt.alloc(), &schema);
+    for number in 0..2_100 {
+        let fields = fields_of(&rt, number, number % 20);
+        reader = reader.read(&fields).expect(&rt, "a row");
+    }
+    let rows = reader.into_rows().expect(&rt, "memory");
+    assert!(rt; rows.len() == 2_100);
+    for number in [0, 14, 15, 2_047, 2_048, 2_099] {
+        let fields = fields_of(&rt, number, number % 20);
+        let alone = schema.read_row(rt.alloc(), &fields).expect(&rt, "a row");
+        let row = rows.get(number).expect(&rt, "the row");
+        assert!(rt; row.period == alone.period);
+        assert!(rt; row.values.as_slice() == alone.values.as_slice());
+    }
 }
 
 #[test]
