@@ -1,2 +1,4 @@
 pub mod FieldLemmas
+pub mod PieceLemmas
 pub mod Printing
+pub mod WritingLemmas

@@ -1,9 +1,12 @@
 -- Answers, printed record by record.
-use Rattle.std.proofs.Common.{◌≡◌, ℕ, suc, ◌+◌, ◌<◌, ℤ, subst, take, length-take, List, [], ◌∷◌, ◌++◌, Option, false, length, refl, sym, ap, ◌∙◌, arith, append_assoc, cond, map}
-use Rattle.std.specs.Prelude.{codes}
+use Rattle.std.proofs.Common.{◌≡◌, ℕ, zero, suc, ◌+◌, ◌<◌, ◌≤◌, ℤ, drop, subst, take, length-take, List, [], ◌∷◌, ◌++◌, Option, false, length, refl, sym, ap, ◌∙◌, arith, append_assoc, cond, map}
+use Rattle.std.specs.Prelude.{codes, get_or}
 use Rattle.std.proofs.lemmas.List.Concat.{flat_map-append}
 use Rattle.std.proofs.lemmas.List.Sums.{sum_by-cons}
 use Rattle.std.proofs.Math.Seq.{take-suc}
+use Rattle.std.proofs.lemmas.List.{drop-append-le}
+use Rattle.share_core.specs.Pieces.{piece, piece_before, piece_from}
+use Rattle.share_core.specs.declared.range.Range.{Range}
 use Rattle.csv.specs.Writing.{row_text}
 use Rattle.row_core.specs.declared.row.Row.{Row}
 use Rattle.book_core.specs.declared.log.Entry.{Entry}
@@ -37,14 +40,20 @@ Adds-trans a b c xs ys first second =
     (ap (λ t. t ++ bytes_of ys) text
     ∙ (append_assoc a.text (bytes_of xs) (bytes_of ys) ∙ ap (λ t. a.text ++ t) (sym all)))
 
--- one more part behind others
-part_records-more : (k : ℕ) (parts : List (List Item)) (part : List Item)
-    → part_records k (parts ++ part ∷ []) ≡ part_records k parts ++ part_record (k + length parts) part ∷ []
-part_records-more k [] part = let same : k ≡ k + 0 = omega arith in ap (λ n. part_record n part ∷ []) same
-part_records-more k (c ∷ cs) part =
-    let same : k + 1 + length cs ≡ k + suc (length cs) = omega arith in
-    ap (λ l. part_record k c ∷ l)
-    (part_records-more (k + 1) cs part ∙ ap (λ n. part_records (k + 1) cs ++ part_record n part ∷ []) same)
+-- as many records as there are parts
+pub length-part_records : (k : ℕ) (parts : List (List Item)) → length (part_records k parts) ≡ length parts
+length-part_records k [] = refl
+length-part_records k (part ∷ parts) = ap suc (length-part_records (k + 1) parts)
+
+-- the record of each part, by its place
+part_records-at : (k : ℕ) (parts : List (List Item)) (i : ℕ) → i < length parts
+    → get_or (part_records k parts) i [] ≡ part_record (k + i) (part_at parts i)
+part_records-at k [] i within = absurd (omega (arith, within))
+part_records-at k (part ∷ parts) zero within =
+    let same : k ≡ k + 0 = omega arith in ap (λ n. part_record n part) same
+part_records-at k (part ∷ parts) (suc i) within =
+    let same : k + 1 + i ≡ k + suc i = omega arith in
+    part_records-at (k + 1) parts i (omega (arith, within)) ∙ ap (λ n. part_record n (part_at parts i)) same
 
 -- parts tell of no refusal
 errors_in-part_records : (k : ℕ) (parts : List (List Item)) → errors_in (part_records k parts) ≡ 0
@@ -67,22 +76,32 @@ errors_in-division rows parts instant =
       errors_in-part_records 0 parts,
     )
 
--- one more part is printed
-pub Adds-part : (a b c : Unwritten) (heading : Record) (parts : List (List Item)) (k : ℕ) (items : List Item)
-    → k < length parts → items ≡ part_at parts k
-    → Adds a b (heading ∷ part_records 0 (take k parts)) → Adds b c (part_record k items ∷ [])
-    → Adds a c (heading ∷ part_records 0 (take (k + 1) parts))
-Adds-part a b c heading parts k items lt is first second =
+-- from a place on, one more part is printed
+pub Adds-part : (a b c : Unwritten) (parts : List (List Item)) (from k : ℕ) (items : List Item)
+    → from ≤ k → k < length parts → items ≡ part_at parts k
+    → Adds a b (drop from (take k (part_records 0 parts))) → Adds b c (part_record k items ∷ [])
+    → Adds a c (drop from (take (k + 1) (part_records 0 parts)))
+Adds-part a b c parts from k items le lt is first second =
+    let records = part_records 0 parts in
     let next : k + 1 ≡ suc k = omega arith in
-    let size : 0 + length (take k parts) ≡ k = omega (arith, length-take k parts) in
-    let front : take (k + 1) parts ≡ take k parts ++ items ∷ [] =
-    ap (λ n. take n parts) next ∙ (take-suc parts k [] lt ∙ ap (λ l. take k parts ++ l ∷ []) (sym is)) in
-    let records : part_records 0 (take (k + 1) parts) ≡ part_records 0 (take k parts) ++ part_record k items ∷ [] =
-    ap (part_records 0) front
-    ∙ (part_records-more 0 (take k parts) items
-    ∙ ap (λ n. part_records 0 (take k parts) ++ part_record n items ∷ []) size) in
-    subst (Adds a c) (sym (ap (λ l. heading ∷ l) records))
-    (Adds-trans a b c (heading ∷ part_records 0 (take k parts)) (part_record k items ∷ []) first second)
+    let within : k < length records = omega (arith, lt, length-part_records 0 parts) in
+    let enough : from ≤ length (take k records) = omega (arith, le, within, length-take k records) in
+    let same : 0 + k ≡ k = omega arith in
+    let last : get_or records k [] ≡ part_record k items =
+    part_records-at 0 parts k lt ∙ ap (λ n. part_record n (part_at parts k)) same ∙ ap (part_record k) (sym is) in
+    let all : drop from (take (k + 1) records) ≡ drop from (take k records) ++ part_record k items ∷ [] =
+    ap (λ n. drop from (take n records)) next
+    ∙ ap (drop from) (take-suc records k [] within ∙ ap (λ (r : Record). take k records ++ r ∷ []) last)
+    ∙ drop-append-le from (take k records) (part_record k items ∷ []) enough in
+    subst (Adds a c) (sym all) (Adds-trans a b c (drop from (take k records)) (part_record k items ∷ []) first second)
+
+-- the parts of a range, which ends and begins there
+pub Adds-range : (a b : Unwritten) (records : List Record) (places : Range ℕ) (start end : ℕ)
+    → piece_before places.before records ≡ take end records
+    → piece_from places.from (take end records) ≡ drop start (take end records)
+    → Adds a b (drop start (take end records)) → Adds a b (piece places records)
+Adds-range a b records places start end ends begins all =
+    subst (Adds a b) (sym (ap (piece_from places.from) ends ∙ begins)) all
 
 -- a list of records of which none tells of a refusal, and its end
 errors_in-list : {T : Type 0} (record_of : T → Record) → ((x : T) → begins (codes "error") (record_of x) ≡ false)

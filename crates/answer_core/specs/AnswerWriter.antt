@@ -2,6 +2,7 @@
 use Rattle.std.specs.Prelude.{ℕ, ◌≡◌, ◌≤◌, List, [], ◌++◌, false, drop, length}
 use Rattle.csv.specs.Records.{fields_of, partial_of}
 use Rattle.csv.specs.Writing.{fields_written, has_written, writer_pending, writer_setup, writer_under}
+use Rattle.list_core.specs.Chunks.{all_in}
 use Rattle.answer_core.specs.Unwritten.{Unwritten}
 use Rattle.answer_core.specs.RecordBytes.{answer_writer}
 use Rattle.answer_core.specs.declared.writer.AnswerWriter.TheInside.{Inside}
@@ -12,7 +13,10 @@ whole_text a = (writer_under a.writer).items ++ writer_pending a.writer
 
 -- what it has made and not yet written
 abbrev pub unwritten_of : Inside → Unwritten
-unwritten_of a = record { text = drop a.written (whole_text a); fields = fields_of a.row }
+unwritten_of a = record {
+  text = all_in a.done.items ++ drop a.written (whole_text a);
+  fields = fields_of a.row;
+}
 
 -- what it keeps, between two of its calls: the writer of `csv` stands between two records
 pub record IsAnswerWriter (a : Inside) : Type 0 where

@@ -5,26 +5,62 @@ ghost use Rattle.answer_core.specs.Unwritten.{Adds, nothing};
 ghost use Rattle.command_core.specs.Records.{Record};
 
 use crate::answer::Answer;
+use crate::ranges::RecordList;
 use crate::writer::AnswerWriter;
 use book_core::{Version, VersionList};
 use command_core::Fault;
 use period_core::NoMemory;
 use row_core::{Row, RowList, Value};
+use share_core::{Range, piece};
+use std::thread::Threads;
+use work_core::Crew;
+
+/// The records of rows.
+#[derive(Drop)]
+struct RowRecords<'a> {
+    rows: &'a [Row],
+}
+
+impl<'a> RecordList for RowRecords<'a> {
+    ghost records = { λ r. map row_record r.rows.now };
+
+    fn print_piece(&self, writer: &mut AnswerWriter, places: Range<usize>) -> Result<(), NoMemory> {
+        writer.row_items(piece(places, self.rows))
+    }
+}
+
+/// The records of versions.
+#[derive(Drop)]
+struct VersionRecords<'a> {
+    versions: &'a [Version],
+}
+
+impl<'a> RecordList for VersionRecords<'a> {
+    ghost records = { λ r. map version_record r.versions.now };
+
+    fn print_piece(&self, writer: &mut AnswerWriter, places: Range<usize>) -> Result<(), NoMemory> {
+        writer.version_items(piece(places, self.versions))
+    }
+}
 
 impl AnswerWriter {
-    /// Adds the records of an answer.
+    /// Adds the records of an answer. Many rows, versions or parts are shared out among workers.
     ///
     /// # Errors
     ///
     /// `NoMemory` where a growth is refused: then what was printed and is not yet written is lost.
-    pub fn print(&mut self, answer: &Answer) -> Result<(), NoMemory>
+    pub fn print<R: Threads + Sync, G>(
+        &mut self,
+        crew: &Crew<'_, R, G>,
+        answer: &Answer,
+    ) -> Result<(), NoMemory>
         requires { self.old.fields ≡ [] }
         ensures ok { OnOk result
             ((records : List Record) × IsPrintedAs answer.now records
             × Adds self.old self.new records) }
         ensures err { OnErr result (self.new ≡ nothing) }
     {
-        let printed = self.print_records(answer);
+        let printed = self.print_records(crew, answer);
         self.settled(printed)
     }
 
@@ -55,7 +91,11 @@ impl AnswerWriter {
         printed
     }
 
-    fn print_records(&mut self, answer: &Answer) -> Result<(), NoMemory>
+    fn print_records<R: Threads + Sync, G>(
+        &mut self,
+        crew: &Crew<'_, R, G>,
+        answer: &Answer,
+    ) -> Result<(), NoMemory>
         requires { self.old.fields ≡ [] }
         ensures { OnOk result
             ((records : List Record) × IsPrintedAs answer.now records
@@ -64,12 +104,12 @@ impl AnswerWriter {
         match answer {
             Answer::Refused(fault) => self.refuse(*fault),
             Answer::Committed(commit) => self.accept(*commit),
-            Answer::Rows(rows) => self.row_list(rows),
-            Answer::Versions(versions) => self.version_list(versions),
-            Answer::Division { rows, division } => self.division(*rows, division),
-            Answer::Join(joined) => self.joined(joined),
-            Answer::Anti(unmatched) => self.unmatched(unmatched),
-            Answer::Agg(rows) => self.aggregates(rows),
+            Answer::Rows(rows) => self.row_list(crew, rows),
+            Answer::Versions(versions) => self.version_list(crew, versions),
+            Answer::Division { rows, division } => self.division(crew, *rows, division),
+            Answer::Join(joined) => self.joined(crew, joined),
+            Answer::Anti(unmatched) => self.unmatched(crew, unmatched),
+            Answer::Agg(rows) => self.aggregates(crew, rows),
             Answer::Verdict(verdict) => self.verdict(*verdict),
             Answer::Log(log) => self.log(log),
         }
@@ -107,11 +147,18 @@ impl AnswerWriter {
     }
 
     /// Rows, and how many there are.
-    fn row_list(&mut self, rows: &RowList) -> Result<(), NoMemory>
+    fn row_list<R: Threads + Sync, G>(
+        &mut self,
+        crew: &Crew<'_, R, G>,
+        rows: &RowList,
+    ) -> Result<(), NoMemory>
         requires { self.old.fields ≡ [] }
         ensures { OnOk result (Adds self.old self.new (row_records rows.now)) }
     {
-        self.row_items(rows.as_slice())?;
+        let records = RowRecords {
+            rows: rows.as_slice(),
+        };
+        self.by_places(crew, rows.len(), &records)?;
         self.end(rows.len() as u64)
     }
 
@@ -137,11 +184,18 @@ impl AnswerWriter {
     }
 
     /// Versions, and how many there are.
-    fn version_list(&mut self, versions: &VersionList) -> Result<(), NoMemory>
+    fn version_list<R: Threads + Sync, G>(
+        &mut self,
+        crew: &Crew<'_, R, G>,
+        versions: &VersionList,
+    ) -> Result<(), NoMemory>
         requires { self.old.fields ≡ [] }
         ensures { OnOk result (Adds self.old self.new (version_records versions.now)) }
     {
-        self.version_items(versions.as_slice())?;
+        let records = VersionRecords {
+            versions: versions.as_slice(),
+        };
+        self.by_places(crew, versions.len(), &records)?;
         self.end(versions.len() as u64)
     }
 

@@ -6,38 +6,74 @@ ghost use Rattle.agg_core.specs.Shares.{rows_in, rows_in_shares};
 ghost use Rattle.answer_core.specs.PrintedRecords.{agg_record, agg_records, group_fields};
 ghost use Rattle.answer_core.specs.Unwritten.{Adds};
 
+use crate::ranges::RecordList;
 use crate::writer::AnswerWriter;
 use agg_core::{AggRows, AggShare, Plateau};
 use period_core::NoMemory;
 use row_core::Value;
+use share_core::{Range, piece};
+use std::thread::Threads;
+use work_core::Crew;
+
+/// The records of some plateaus of a share.
+#[derive(Drop)]
+struct PlateauRecords<'a> {
+    share: &'a AggShare,
+    plateaus: &'a [Plateau],
+}
+
+impl<'a> RecordList for PlateauRecords<'a> {
+    ghost records = { λ p.
+        map agg_record (map (agg_row_of p.share.now.groups.items) p.plateaus.now) };
+
+    fn print_piece(&self, writer: &mut AnswerWriter, places: Range<usize>) -> Result<(), NoMemory> {
+        writer.agg_rows(self.share, piece(places, self.plateaus))
+    }
+}
 
 impl AnswerWriter {
     /// What the groups come to, and for how many periods.
-    pub(crate) fn aggregates(&mut self, rows: &AggRows) -> Result<(), NoMemory>
+    pub(crate) fn aggregates<R: Threads + Sync, G>(
+        &mut self,
+        crew: &Crew<'_, R, G>,
+        rows: &AggRows,
+    ) -> Result<(), NoMemory>
         requires { self.old.fields ≡ [] }
         ensures { OnOk result (Adds self.old self.new (agg_records rows.now)) }
     {
-        self.agg_shares(rows.shares())?;
+        self.agg_shares(crew, rows.shares())?;
         self.end(rows.len() as u64)
     }
 
-    fn agg_shares(&mut self, shares: &[AggShare]) -> Result<(), NoMemory>
+    fn agg_shares<R: Threads + Sync, G>(
+        &mut self,
+        crew: &Crew<'_, R, G>,
+        shares: &[AggShare],
+    ) -> Result<(), NoMemory>
         requires { self.old.fields ≡ [] }
         ensures { OnOk result
             (Adds self.old self.new (map agg_record (rows_in_shares shares.now))) }
     {
         for share in shares {
-            self.agg_share(share)?;
+            self.agg_share(crew, share)?;
         }
         Ok(())
     }
 
-    fn agg_share(&mut self, share: &AggShare) -> Result<(), NoMemory>
+    fn agg_share<R: Threads + Sync, G>(
+        &mut self,
+        crew: &Crew<'_, R, G>,
+        share: &AggShare,
+    ) -> Result<(), NoMemory>
         requires { self.old.fields ≡ [] }
         ensures { OnOk result (Adds self.old self.new (map agg_record (rows_in share.now))) }
     {
         for chunk in share.plateaus.chunks() {
-            self.agg_rows(share, chunk)?;
+            let records = PlateauRecords {
+                share,
+                plateaus: chunk,
+            };
+            self.by_places(crew, chunk.len(), &records)?;
         }
         Ok(())
     }

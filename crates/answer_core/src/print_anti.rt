@@ -4,30 +4,58 @@ ghost use Rattle.list_core.specs.Chunks.{all_in};
 ghost use Rattle.answer_core.specs.PrintedRecords.{anti_record, anti_records};
 ghost use Rattle.answer_core.specs.Unwritten.{Adds};
 
+use crate::ranges::RecordList;
 use crate::row_values::RowValues;
 use crate::unmatched::Unmatched;
 use crate::writer::AnswerWriter;
 use anti_core::AntiRow;
 use period_core::NoMemory;
+use share_core::{Range, piece};
+use std::thread::Threads;
+use work_core::Crew;
+
+/// The records of rows that none matched.
+#[derive(Drop)]
+struct AntiRecords<'a> {
+    rows: &'a [AntiRow],
+    left: &'a RowValues<'a>,
+}
+
+impl<'a> RecordList for AntiRecords<'a> {
+    ghost records = { λ a. map (anti_record a.left.now) a.rows.now };
+
+    fn print_piece(&self, writer: &mut AnswerWriter, places: Range<usize>) -> Result<(), NoMemory> {
+        writer.anti_rows(piece(places, self.rows), self.left)
+    }
+}
 
 impl AnswerWriter {
     /// The rows with the periods in which none matched them, and how many there are.
-    pub(crate) fn unmatched(&mut self, unmatched: &Unmatched) -> Result<(), NoMemory>
+    pub(crate) fn unmatched<R: Threads + Sync, G>(
+        &mut self,
+        crew: &Crew<'_, R, G>,
+        unmatched: &Unmatched,
+    ) -> Result<(), NoMemory>
         requires { self.old.fields ≡ [] }
         ensures { OnOk result (Adds self.old self.new (anti_records unmatched.now)) }
     {
-        let left = unmatched.left_values(self.alloc())?;
-        self.anti_chunks(unmatched.rows().chunks(), &left)?;
+        let left = unmatched.left_values(crew.alloc)?;
+        self.anti_chunks(crew, unmatched.rows().chunks(), &left)?;
         self.end(unmatched.rows().len() as u64)
     }
 
-    fn anti_chunks(&mut self, chunks: &[Vec<AntiRow>], left: &RowValues<'_>) -> Result<(), NoMemory>
+    fn anti_chunks<'a, R: Threads + Sync, G>(
+        &mut self,
+        crew: &Crew<'_, R, G>,
+        chunks: &'a [Vec<AntiRow>],
+        left: &'a RowValues<'a>,
+    ) -> Result<(), NoMemory>
         requires { self.old.fields ≡ [] }
         ensures { OnOk result
             (Adds self.old self.new (map (anti_record left.now) (all_in chunks.now))) }
     {
         for chunk in chunks {
-            self.anti_rows(chunk, left)?;
+            self.by_places(crew, chunk.len(), &AntiRecords { rows: chunk, left })?;
         }
         Ok(())
     }

@@ -1,27 +1,78 @@
 //! Prints divisions, and the verdicts on claimed ones.
-ghost use Rattle.std.specs.Prelude.{◌≡◌, [], ◌∷◌, ℤ, OnOk, Option, codes, decimal, map};
+ghost use Rattle.std.specs.Prelude.{◌≡◌, ◌≤◌, [], ◌∷◌, ℤ, List, OnOk, Option, codes, decimal, drop, length, map, take};
+ghost use Rattle.share_core.specs.Pieces.{piece, piece_before, piece_from};
+ghost use Rattle.command_core.specs.Records.{Record};
 ghost use Rattle.answer_core.specs.Unwritten.{Adds};
-ghost use Rattle.answer_core.specs.PrintedRecords.{dip_record, division_records, part_record, verdict_record};
+ghost use Rattle.answer_core.specs.PrintedRecords.{dip_record, division_records, part_record, part_records, verdict_record};
 ghost use Rattle.dip_core.specs.Division.{IsInstantOf};
 
+use crate::ranges::RecordList;
 use crate::writer::AnswerWriter;
 use cert_core::Verdict;
 use dip_core::{Division, Part};
 use period_core::{NoMemory, Point};
+use share_core::{Range, Shares};
+use std::thread::Threads;
+use work_core::Crew;
+
+/// The records of a division's parts.
+#[derive(Drop)]
+struct PartRecords<'a> {
+    division: &'a Division,
+}
+
+impl<'a> RecordList for PartRecords<'a> {
+    ghost records = { λ p. part_records 0 p.division.now };
+
+    fn print_piece(&self, writer: &mut AnswerWriter, places: Range<usize>) -> Result<(), NoMemory> {
+        writer.some_parts(self.division, places)
+    }
+}
+
+/// The first of so many places that is behind a range, which ends there, where an end is given.
+fn end_of(before: Option<usize>, count: u32) -> u32
+    ensures piece { (records : List Record) → length records ≡ count
+        → piece_before before records ≡ take result records }
+    ensures within { result ≤ count }
+{
+    match before {
+        Some(end) if end < count as usize => end as u32,
+        _ => count,
+    }
+}
+
+/// The first place before an end of a range, which begins there, where a first place is given.
+fn start_of(from: Option<usize>, end: u32) -> u32
+    ensures piece { (records : List Record) → length records ≤ end
+        → piece_from from records ≡ drop result records }
+    ensures within { result ≤ end }
+{
+    match from {
+        Some(start) if start < end as usize => start as u32,
+        Some(_) => end,
+        None => 0,
+    }
+}
 
 impl AnswerWriter {
     /// A division of so many rows, and its instant.
-    pub(crate) fn division(&mut self, rows: usize, division: &Division) -> Result<(), NoMemory>
+    pub(crate) fn division<R: Threads + Sync, G>(
+        &mut self,
+        crew: &Crew<'_, R, G>,
+        rows: usize,
+        division: &Division,
+    ) -> Result<(), NoMemory>
         requires { self.old.fields ≡ [] }
         ensures { OnOk result
             ((instant : Option ℤ) × IsInstantOf division.now instant
             × Adds self.old self.new (division_records rows division.now instant)) }
     {
-        self.division_with(rows, division, division.instant())
+        self.division_with(crew, rows, division, division.instant())
     }
 
-    fn division_with(
+    fn division_with<R: Threads + Sync, G>(
         &mut self,
+        crew: &Crew<'_, R, G>,
         rows: usize,
         division: &Division,
         instant: Option<Point>,
@@ -31,7 +82,33 @@ impl AnswerWriter {
             (Adds self.old self.new (division_records rows division.now instant)) }
     {
         self.heading(rows, division.parts(), instant)?;
-        for number in 0..division.parts() {
+        self.parts(crew, rows, division)
+    }
+
+    /// The parts of a division of so many rows. Workers share them out as though all were as long.
+    fn parts<R: Threads + Sync, G>(
+        &mut self,
+        crew: &Crew<'_, R, G>,
+        rows: usize,
+        division: &Division,
+    ) -> Result<(), NoMemory>
+        requires { self.old.fields ≡ [] }
+        ensures { OnOk result (Adds self.old self.new (part_records 0 division.now)) }
+    {
+        let size = (rows / (division.parts() as usize).max(1)).max(1);
+        let shares = Shares::of(crew.alloc, rows, crew.workers, &|row: usize| row / size)?;
+        self.by_ranges(crew, &shares, &PartRecords { division })
+    }
+
+    /// The parts of a range of places.
+    fn some_parts(&mut self, division: &Division, places: Range<usize>) -> Result<(), NoMemory>
+        requires { self.old.fields ≡ [] }
+        ensures { OnOk result
+            (Adds self.old self.new (piece places (part_records 0 division.now))) }
+    {
+        let end = end_of(places.before, division.parts());
+        let start = start_of(places.from, end);
+        for number in start..end {
             self.part(number, division.part(number))?;
         }
         Ok(())

@@ -4,6 +4,7 @@ ghost use Rattle.std.specs.Fmt.{signed_decimal};
 ghost use Rattle.std.specs.Io.KnownBytes.{Appends, Keeps};
 ghost use Rattle.csv.specs.Records.{fields_of, partial_of};
 ghost use Rattle.csv.specs.Writing.{fields_written, has_written, row_text, writer_pending, writer_setup, writer_under};
+ghost use Rattle.list_core.specs.Chunks.{all_in};
 ghost use Rattle.period_core.specs.Point.{point_text};
 ghost use Rattle.stream_core.specs.Counted.{failures_of, inner_of, sink_of};
 ghost use Rattle.answer_core.specs.Unwritten.{Unwritten, left_by, nothing};
@@ -11,6 +12,7 @@ ghost use Rattle.stream_core.specs.Faults.{ExplainsWriting, last_failures};
 ghost use Rattle.answer_core.specs.RecordBytes.{answer_writer};
 
 use crate::kept_text::KeptText;
+use crate::texts::write_texts;
 use csv::{ByteRecord, Writer, WriterBuilder};
 use itoa::Buffer;
 use period_core::{NoMemory, Period, Point};
@@ -18,7 +20,7 @@ use std::alloc::{AllocError, Global};
 use std::io::Write;
 use std::marker::Model;
 use std::mem;
-use stream_core::{Counted, Patience, RunFault, write_all};
+use stream_core::{Counted, Patience, RunFault};
 
 /// The bytes that a writer of `csv` keeps before it is made anew.
 pub(crate) const KEPT: usize = 65_536;
@@ -28,6 +30,8 @@ pub(crate) const KEPT: usize = 65_536;
 #[derive(Drop)]
 pub struct AnswerWriter {
     alloc: Global,
+    /// Texts that stand before what the writer of `csv` has: none is moved for another behind it.
+    done: Vec<Vec<u8>>,
     writer: Writer<Vec<u8>>,
     row: ByteRecord,
     from_text: KeptText,
@@ -67,20 +71,28 @@ fn text_of(writer: Writer<Vec<u8>>) -> Result<Vec<u8>, NoMemory>
     }
 }
 
-/// All that a writer of `csv` was given, and behind it what another was given from a place on.
-fn joined_text(
-    first: Writer<Vec<u8>>,
-    second: Writer<Vec<u8>>,
-    place: usize,
-) -> Result<Vec<u8>, NoMemory>
-    requires { place ≤ length ((writer_under second).items ++ writer_pending second) }
-    ensures { IfOk result (λ text. text.items ≡ ((writer_under first).items ++ writer_pending first)
-        ++ drop place ((writer_under second).items ++ writer_pending second)) }
+/// What a writer of `csv` was given from a place on.
+fn text_from(alloc: Global, writer: Writer<Vec<u8>>, place: usize) -> Result<Vec<u8>, NoMemory>
+    requires { place ≤ length ((writer_under writer).items ++ writer_pending writer) }
+    ensures { IfOk result (λ text.
+        text.items ≡ drop place ((writer_under writer).items ++ writer_pending writer)) }
 {
-    let mut text = text_of(first)?;
-    let more = text_of(second)?;
-    text.extend_from_slice(&more[place..])?;
-    Ok(text)
+    let text = text_of(writer)?;
+    if place == 0 {
+        return Ok(text);
+    }
+    Vec::from_slice(alloc, &text[place..])
+}
+
+/// Adds a text behind others, unless it is empty.
+fn push_text(texts: &mut Vec<Vec<u8>>, text: Vec<u8>) -> Result<(), NoMemory>
+    ensures { OnOk result (all_in texts.new.items ≡ all_in texts.old.items ++ text.items) }
+{
+    if text.is_empty() {
+        return Ok(());
+    }
+    texts.push(text)?;
+    Ok(())
 }
 
 impl AnswerWriter {
@@ -99,6 +111,7 @@ impl AnswerWriter {
     {
         AnswerWriter {
             alloc,
+            done: Vec::new(alloc),
             writer: writer_behind(text),
             row: ByteRecord::new(alloc),
             from_text: KeptText::new(alloc),
@@ -119,30 +132,12 @@ impl AnswerWriter {
         *self = AnswerWriter::new(self.alloc);
     }
 
-    /// Takes the bytes of its records that aren't written yet. It begins anew, whether they can be had or not.
-    pub(crate) fn take_text(&mut self) -> Result<Vec<u8>, NoMemory>
-        ensures { IfOk result (λ text. text.items ≡ self.old.text) }
+    /// Adds records of these bytes.
+    pub(crate) fn add_text(&mut self, text: Vec<u8>) -> Result<(), NoMemory>
+        ensures { OnOk result
+            (self.new ≡ record self.old { text = self.old.text ++ text.items }) }
     {
-        let own = mem::replace(self, AnswerWriter::new(self.alloc));
-        own.into_text()
-    }
-
-    /// The bytes of its records that aren't written yet.
-    fn into_text(self) -> Result<Vec<u8>, NoMemory>
-        ensures { IfOk result (λ text. text.items ≡ self.text) }
-    {
-        let text = text_of(self.writer)?;
-        if self.written == 0 {
-            return Ok(text);
-        }
-        Vec::from_slice(self.alloc, &text[self.written..])
-    }
-
-    /// Begins anew, behind records of these bytes.
-    pub(crate) fn put_text(&mut self, text: Vec<u8>)
-        ensures { self.new ≡ record { text = text.items; fields = [] } }
-    {
-        *self = AnswerWriter::behind(self.alloc, text);
+        self.add(AnswerWriter::behind(self.alloc, text))
     }
 
     /// Adds a field to the record at hand.
@@ -226,6 +221,15 @@ impl AnswerWriter {
             (self.new ≡ record { text = self.old.text ++ other.text; fields = [] }) }
         ensures err { OnErr result (self.new ≡ nothing) }
     {
+        self.add(other)
+    }
+
+    /// Adds the records of another answer. On a refusal of memory all are lost.
+    pub(crate) fn add(&mut self, other: AnswerWriter) -> Result<(), NoMemory>
+        ensures ok { OnOk result
+            (self.new ≡ record self.old { text = self.old.text ++ other.text }) }
+        ensures err { OnErr result (self.new ≡ nothing) }
+    {
         let own = mem::replace(self, AnswerWriter::new(self.alloc));
         *self = own.followed_by(other)?;
         Ok(())
@@ -233,27 +237,33 @@ impl AnswerWriter {
 
     /// The records of this answer, and those of another behind them.
     fn followed_by(self, other: AnswerWriter) -> Result<AnswerWriter, NoMemory>
-        requires here { self.fields ≡ [] }
-        requires there { other.fields ≡ [] }
-        ensures { IfOk result
-            (λ both. both ≡ record { text = self.text ++ other.text; fields = [] }) }
+        ensures { IfOk result (λ both. both ≡ record self { text = self.text ++ other.text }) }
     {
         let AnswerWriter {
             alloc,
+            mut done,
             writer,
             row,
             from_text,
             to_text,
             written,
         } = self;
-        let records = joined_text(writer, other.writer, other.written)?;
+        let AnswerWriter {
+            done: mut more,
+            writer: last,
+            written: passed,
+            ..
+        } = other;
+        push_text(&mut done, text_from(alloc, writer, written)?)?;
+        done.append(&mut more)?;
         Ok(AnswerWriter {
             alloc,
-            writer: writer_behind(records),
+            done,
+            writer: last,
             row,
             from_text,
             to_text,
-            written,
+            written: passed,
         })
     }
 
@@ -285,8 +295,9 @@ impl AnswerWriter {
             return Err(RunFault::NoMemory);
         }
         let text = self.writer.get_ref();
-        write_all(writer, patience, &text[self.written..])?;
+        write_texts(writer, patience, &self.done, &text[self.written..])?;
         self.written = text.len();
+        self.done.clear();
         self.row.clear();
         if self.written > KEPT {
             self.restart();

@@ -7,6 +7,6 @@ use Rattle.answer_core.specs.Unwritten.{Adds}
 use Rattle.answer_core.proofs.writer.AnswerWriter.agg_share.Given as goal
 
 abbrev pub invariant-loop-chunk : goal.invariant-loop-chunk
-invariant-loop-chunk l =
+invariant-loop-chunk g l =
     Adds l.fn.self l.self
     (map agg_record (map (agg_row_of l.share.groups.items) (all_in (take l.chunk-index l.chunk-items))))

@@ -6,4 +6,4 @@ use Rattle.answer_core.specs.Unwritten.{Adds}
 use Rattle.answer_core.proofs.writer.AnswerWriter.agg_shares.Given as goal
 
 abbrev pub invariant-loop-share : goal.invariant-loop-share
-invariant-loop-share l = Adds l.fn.self l.self (map agg_record (rows_in_shares (take l.share-index l.shares)))
+invariant-loop-share g l = Adds l.fn.self l.self (map agg_record (rows_in_shares (take l.share-index l.shares)))

@@ -6,4 +6,4 @@ use Rattle.answer_core.specs.Unwritten.{Adds}
 use Rattle.answer_core.proofs.writer.AnswerWriter.anti_chunks.Given as goal
 
 abbrev pub invariant-loop-chunk : goal.invariant-loop-chunk
-invariant-loop-chunk l = Adds l.fn.self l.self (map (anti_record l.left) (all_in (take l.chunk-index l.chunks)))
+invariant-loop-chunk g l = Adds l.fn.self l.self (map (anti_record l.left) (all_in (take l.chunk-index l.chunks)))

@@ -1,0 +1,54 @@
+-- Pieces of lists of records, and what answers of them come to.
+use Rattle.std.proofs.Common.{◌≡◌, ◌∙◌, ℕ, ◌++◌, List, Option, None, Some, Result, Ok, append-nil, map, refl, sym, ap}
+use Rattle.std.specs.Prelude.{flat_map}
+use Rattle.std.specs.Ordering.{nat_cmp}
+use Rattle.std.specs.declared.alloc.AllocError.{AllocError}
+use Rattle.std.proofs.lemmas.List.{drop-map, take-map}
+use Rattle.std.proofs.lemmas.List.Concat.{flat_map-append}
+use Rattle.csv.specs.Writing.{row_text}
+use Rattle.share_core.specs.Pieces.{piece, piece_before, piece_from}
+use Rattle.share_core.specs.Ranges.{range}
+use Rattle.share_core.specs.Shares.{Gives, GivesFrom}
+use Rattle.share_core.specs.declared.range.Range.{Range}
+use Rattle.share_core.specs.declared.shares.Cut.{Cut}
+use Rattle.share_core.proofs.PieceLemmas.{piece_cut}
+use Rattle.share_core.proofs.ShareLemmas.{all_come}
+use Rattle.command_core.specs.Records.{Record}
+use Rattle.answer_core.specs.RecordBytes.{answer_writer, bytes_of}
+use Rattle.answer_core.specs.Unwritten.{Unwritten}
+
+before-map : {X Y : Type 0} (f : X → Y) (end : Option ℕ) (xs : List X)
+    → map f (piece_before end xs) ≡ piece_before end (map f xs)
+before-map f None xs = refl
+before-map f (Some end) xs = sym (take-map f end xs)
+
+from-map : {X Y : Type 0} (f : X → Y) (start : Option ℕ) (xs : List X)
+    → map f (piece_from start xs) ≡ piece_from start (map f xs)
+from-map f None xs = refl
+from-map f (Some start) xs = sym (drop-map f start xs)
+
+-- what is made of a piece is that piece of what is made of all
+pub map-piece : {X Y : Type 0} (f : X → Y) (places : Range ℕ) (xs some : List X) → some ≡ piece places xs
+    → map f some ≡ piece places (map f xs)
+map-piece f places xs some is =
+    ap (map f) is ∙ from-map f places.from (piece_before places.before xs)
+    ∙ ap (piece_from places.from) (before-map f places.before xs)
+
+-- the bytes of answers of the pieces of some records, one behind another, are the bytes of the records
+pub texts-all : (records : List Record) (post : Range ℕ → ℕ → Result Unwritten AllocError → Type 0)
+    (cuts : List (Cut ℕ)) (parts : List Unwritten)
+    → ((places : Range ℕ) (n : ℕ) (part : Unwritten) → post places n (Ok part)
+    → part.text ≡ bytes_of (piece places records))
+    → GivesFrom nat_cmp (Gives post) None cuts parts
+    → flat_map (λ (part : Unwritten). part.text) parts ≡ bytes_of records
+texts-all records post cuts parts told given =
+    let text : Unwritten → List ℕ = λ part. part.text in
+    all_come nat_cmp (Gives post)
+    (λ (places : Range ℕ) (all : List Unwritten). flat_map text all ≡ bytes_of (piece places records))
+    (λ places part own. append-nil part.text ∙ told places own.0 part own.1)
+    (λ from at part more begun one others.
+    ap (λ l. l ++ flat_map text more) (told (range from (Some at)) one.0 part one.1)
+    ∙ ap (λ l. bytes_of (piece (range from (Some at)) records) ++ l) others
+    ∙ sym (flat_map-append (row_text answer_writer) (piece (range from (Some at)) records) (piece (range (Some at) None) records))
+    ∙ ap bytes_of (sym (piece_cut from at records begun)))
+    None cuts parts given

@@ -1,0 +1,109 @@
+//! Records that workers make, each those of a range of places.
+ghost use Rattle.std.specs.Prelude.{◌≡◌, ◌++◌, [], List, IfOk, OnOk, flat_map};
+ghost use Rattle.share_core.specs.Pieces.{piece};
+ghost use Rattle.command_core.specs.Records.{Record};
+ghost use Rattle.answer_core.specs.RecordBytes.{bytes_of};
+ghost use Rattle.answer_core.specs.Unwritten.{Adds};
+
+use crate::writer::AnswerWriter;
+use period_core::NoMemory;
+use share_core::{Range, Shares, shared_out};
+use std::alloc::Global;
+use std::thread::Threads;
+use work_core::Crew;
+
+/// A list of records, of which those of some places can be made without the others.
+pub(crate) trait RecordList: Sync {
+    // The records.
+    ghost records: { Self → List Record };
+
+    /// Adds those of a range of places.
+    fn print_piece(&self, writer: &mut AnswerWriter, places: Range<usize>) -> Result<(), NoMemory>
+        requires { writer.old.fields ≡ [] }
+        ensures { OnOk result (Adds writer.old writer.new (piece places (records self.now))) };
+}
+
+/// An answer of the records of a range of places.
+fn part_of<L: RecordList>(
+    alloc: Global,
+    list: &L,
+    places: Range<usize>,
+) -> Result<AnswerWriter, NoMemory>
+    ensures { IfOk result (λ part. part.text ≡ bytes_of (piece places (L.records list.now))) }
+{
+    let mut part = AnswerWriter::new(alloc);
+    list.print_piece(&mut part, places)?;
+    Ok(part)
+}
+
+/// The records of a list in several answers, one for each of the ranges.
+fn parts_of<R: Threads + Sync, G, L: RecordList>(
+    crew: &Crew<'_, R, G>,
+    shares: &Shares<usize>,
+    list: &L,
+) -> Result<Vec<AnswerWriter>, NoMemory>
+    ensures { IfOk result (λ parts.
+        flat_map (λ part. part.text) parts.items ≡ bytes_of (L.records list.now)) }
+{
+    let Crew { rt, alloc, .. } = *crew;
+    shared_out(
+        rt,
+        alloc,
+        shares,
+        &|places: Range<usize>, _workers: u32| -> Result<AnswerWriter, NoMemory>
+            ensures { IfOk result (λ part.
+                part.text ≡ bytes_of (piece places (L.records list.entry.now))) }
+        { part_of(alloc, list, places) },
+    )
+}
+
+impl AnswerWriter {
+    /// Adds the records of a list, of which there are so many. Workers share them out by places.
+    pub(crate) fn by_places<R: Threads + Sync, G, L: RecordList>(
+        &mut self,
+        crew: &Crew<'_, R, G>,
+        count: usize,
+        list: &L,
+    ) -> Result<(), NoMemory>
+        requires { self.old.fields ≡ [] }
+        ensures { OnOk result (Adds self.old self.new (L.records list.now)) }
+    {
+        let shares = Shares::of(crew.alloc, count, crew.workers, &|place: usize| place)?;
+        self.by_ranges(crew, &shares, list)
+    }
+
+    /// Adds the records of a list, those of each range by a worker of its own.
+    pub(crate) fn by_ranges<R: Threads + Sync, G, L: RecordList>(
+        &mut self,
+        crew: &Crew<'_, R, G>,
+        shares: &Shares<usize>,
+        list: &L,
+    ) -> Result<(), NoMemory>
+        requires { self.old.fields ≡ [] }
+        ensures { OnOk result (Adds self.old self.new (L.records list.now)) }
+    {
+        if shares.len() == 1 {
+            let all = Range {
+                from: None,
+                before: None,
+            };
+            return list.print_piece(self, all);
+        }
+        let parts = parts_of(crew, shares, list)?;
+        self.add_all(parts)
+    }
+
+    /// Adds the records of several answers.
+    fn add_all(&mut self, parts: Vec<AnswerWriter>) -> Result<(), NoMemory>
+        requires { self.old.fields ≡ [] }
+        ensures { OnOk result (self.new ≡ record {
+          text = self.old.text ++ flat_map (λ part. part.text) parts.items;
+          fields = [];
+        }) }
+    {
+        for part in parts {
+            self.add(part)?;
+        }
+        Ok(())
+    }
+}
