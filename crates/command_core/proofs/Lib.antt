@@ -13,6 +13,8 @@ pub mod MeaningUniqueness
 pub mod RecordsUniqueness
 pub mod PortionLemmas
 pub mod Shrinking
+pub mod ScriptSizes
+pub mod FlatLemmas
 pub mod RecordsExistence
 pub mod TableLemmas
 pub mod Members

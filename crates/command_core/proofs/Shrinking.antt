@@ -11,7 +11,7 @@ use Rattle.command_core.specs.Records.{Record}
 abbrev pub work_left : State → List ℕ → ℕ
 work_left s xs = 2 * length xs + cond (ends_at_end s) 1 0
 
-at_most_one : (b : Bool) → cond b 1 0 ≤ 1
+pub at_most_one : (b : Bool) → cond b 1 0 ≤ 1
 at_most_one true = omega arith
 at_most_one false = omega arith
 

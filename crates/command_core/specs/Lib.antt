@@ -1,6 +1,7 @@
 pub mod Aggregates
 pub mod Command
 pub mod Fields
+pub mod Flat
 pub mod Lines
 pub mod Meaning
 pub mod Pairs

@@ -1,13 +1,12 @@
 -- The records and the fields that parts of a script in memory stand for.
 use Rattle.std.specs.Prelude.{List, ◌-◌, take, drop}
-use Rattle.csv.specs.Records.{fields_of}
 use Rattle.command_core.specs.Records.{Record}
 use Rattle.command_core.specs.declared.line.Line.{Line}
 use Rattle.command_core.specs.declared.lines.Lines.{Lines}
 
 -- the fields of a record
 abbrev pub fields_in : Line → Record
-fields_in line = take (line.to - line.from) (drop line.from (fields_of line.fields.now))
+fields_in line = take (line.to - line.from) (drop line.from line.fields.now)
 
 -- the records, one after another
 abbrev pub lines_in : Lines → List Record

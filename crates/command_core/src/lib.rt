@@ -4,6 +4,7 @@
 mod aggregate;
 mod command;
 mod fields;
+mod flat_fields;
 mod laws;
 mod line;
 mod lines;
@@ -20,6 +21,7 @@ mod words;
 pub use aggregate::{Aggregate, Func};
 pub use command::Command;
 pub use fields::natural_in;
+pub use flat_fields::FlatFields;
 pub use laws::{records_have_one_first_statement, script_has_one_list_of_records};
 pub use line::Line;
 pub use lines::Lines;

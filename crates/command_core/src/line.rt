@@ -1,30 +1,29 @@
 //! One record of a script in memory.
 ghost use Rattle.std.specs.Prelude.{◌≡◌, ◌-◌, ◌≤◌, length, take, drop, slice_get, option_map};
-ghost use Rattle.csv.specs.Records.{fields_of};
 
-use csv::ByteRecord;
+use crate::flat_fields::FlatFields;
 
 /// One record of a script.
 #[derive(Clone, Copy)]
 pub struct Line<'a> {
     /// Fields one after another.
-    pub fields: &'a ByteRecord,
+    pub fields: &'a FlatFields,
     /// The place of the record's first field among them.
     pub from: usize,
     /// The place behind its last.
     pub to: usize,
     pub ghost ordered: { from ≤ to },
-    pub ghost within: { to ≤ length (fields_of fields.now) },
+    pub ghost within: { to ≤ length fields.now },
 }
 
 impl<'a> Line<'a> {
     ghost use Rattle.command_core.specs.Lines.{fields_in};
 
     /// The record of those fields from one place on and before another.
-    pub fn new(fields: &'a ByteRecord, from: usize, to: usize) -> Line<'a>
+    pub fn new(fields: &'a FlatFields, from: usize, to: usize) -> Line<'a>
         requires ordered { from ≤ to }
-        requires within { to ≤ length (fields_of fields.now) }
-        ensures { fields_in result ≡ take (to - from) (drop from (fields_of fields.entry.now)) }
+        requires within { to ≤ length fields.now }
+        ensures { fields_in result ≡ take (to - from) (drop from fields.entry.now) }
     {
         Line { fields, from, to }
     }

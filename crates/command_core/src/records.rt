@@ -1,33 +1,14 @@
-//! The records of a script, kept flat: all their fields in one record of `csv`, and where each
-//! record of the script ends among them.
-ghost use Rattle.std.specs.Prelude.{
-  ◌≡◌,
-  ◌+◌,
-  ◌<◌,
-  ◌≤◌,
-  ◌++◌,
-  [],
-  length,
-  take,
-  drop,
-  slice_get,
-  ◌-◌,
-  IfOk,
-  OnOk,
-  OnErr,
-  Some,
-  option_map,
-  true,
-};
+//! The records of a script, kept flat: all their fields one behind another, and where each record
+//! ends among them.
+ghost use Rattle.std.specs.Prelude.{◌≡◌, ◌<◌, ◌^◌, length, slice_get, IfOk, Some, true};
 ghost use Rattle.csv.specs.Reading.{error_kind, stops_reader};
-ghost use Rattle.csv.specs.Records.{fields_of, partial_of};
 ghost use Rattle.list_core.specs.Cut.{cut, EndsAt};
 ghost use Rattle.command_core.specs.Lines.{fields_in};
 ghost use Rattle.command_core.specs.Records.{AreScriptRecords};
 
+use crate::flat_fields::{FlatFields, start_at};
 use crate::line::Line;
 use csv::{ByteRecord, Error, ErrorKind, ReaderBuilder};
-use list_core::start_at;
 use period_core::NoMemory;
 use std::alloc::{AllocError, Global};
 use std::marker::Model;
@@ -36,20 +17,19 @@ use std::marker::Model;
 /// fields' bytes.
 #[derive(Drop)]
 pub struct Records {
-    fields: ByteRecord,
-    ends: Vec<usize>,
+    fields: FlatFields,
+    ends: Vec<u32>,
 }
 
 impl Model for Records {
     ghost use Rattle.std.specs.Prelude.{ℕ, List, length};
-    ghost use Rattle.csv.specs.Records.{fields_of};
     ghost use Rattle.list_core.specs.Cut.{cut, EndsAt};
 
     ghost Value = { List (List (List ℕ)) };
 
-    ghost view = { λ r. cut 0 r.ends.items (fields_of r.fields) };
+    ghost view = { λ r. cut 0 r.ends.items r.fields };
 
-    ghost invariant = { λ r. EndsAt 0 r.ends.items (length (fields_of r.fields)) };
+    ghost invariant = { λ r. EndsAt 0 r.ends.items (length r.fields) };
 }
 
 impl Records {
@@ -70,26 +50,12 @@ impl Records {
 }
 
 /// The record at a place.
-fn line_at<'a>(fields: &'a ByteRecord, ends: &[usize], place: usize) -> Line<'a>
+fn line_at<'a>(fields: &'a FlatFields, ends: &[u32], place: usize) -> Line<'a>
     requires place { place < length ends.now }
-    requires ends { EndsAt 0 ends.now (length (fields_of fields.now)) }
-    ensures { slice_get (cut 0 ends.now (fields_of fields.entry.now)) place ≡ Some (fields_in result) }
+    requires ends { EndsAt 0 ends.now (length fields.now) }
+    ensures { slice_get (cut 0 ends.now fields.entry.now) place ≡ Some (fields_in result) }
 {
-    Line::new(fields, start_at(ends, place), ends[place])
-}
-
-/// Adds the fields of a record at the end.
-fn append(fields: &mut ByteRecord, row: &ByteRecord) -> Result<(), NoMemory>
-    requires { partial_of fields.old ≡ [] }
-    ensures ok { OnOk result (fields_of fields.new ≡ fields_of fields.old ++ fields_of row.now) }
-    ensures whole { OnOk result (partial_of fields.new ≡ []) }
-{
-    for place in 0..row.len() {
-        if let Some(field) = row.get(place) {
-            fields.push_field(field)?;
-        }
-    }
-    Ok(())
+    Line::new(fields, start_at(ends, place), ends[place] as usize)
 }
 
 /// Why bytes in memory are not read: memory is refused. No record is refused for its length, nor for
@@ -111,6 +77,7 @@ fn not_read(fault: Error) -> NoMemory
 ///
 /// `NoMemory` where a growth is refused.
 pub fn read_records(alloc: Global, script: &[u8]) -> Result<Records, NoMemory>
+    requires { length script.now < 2 ^ 31 }
     ensures { IfOk result (AreScriptRecords script.now) }
 {
     let mut reader = ReaderBuilder::new()
@@ -118,13 +85,13 @@ pub fn read_records(alloc: Global, script: &[u8]) -> Result<Records, NoMemory>
         .flexible(true)
         .from_reader(alloc, script);
     let mut row = ByteRecord::new(alloc);
-    let mut fields = ByteRecord::new(alloc);
+    let mut fields = FlatFields::with_capacity(alloc, script.len())?;
     let mut ends = Vec::new(alloc);
     loop {
         match reader.read_byte_record(&mut row) {
             Ok(true) => {
-                append(&mut fields, &row)?;
-                ends.push(fields.len())?;
+                fields.append(&row)?;
+                ends.push(fields.len() as u32)?;
             }
             Ok(false) => return Ok(Records { fields, ends }),
             Err(fault) => return Err(not_read(fault)),

@@ -1,11 +1,29 @@
-use Rattle.std.proofs.Common.{◌≤◌, arith, subst, sym}
+use Rattle.std.proofs.Common.{◌≤◌, ◌∙◌, ap, arith, inl, subst, sym, take}
 use Rattle.command_core.specs.Command.{meaning_of}
-use Rattle.command_core.specs.Lines.{fields_in}
-use Rattle.command_core.specs.Meaning.{behind_length, told}
+use Rattle.command_core.specs.Lines.{fields_in, lines_in}
+use Rattle.command_core.specs.Meaning.{MeansRecord, behind_length, told}
 use Rattle.command_core.specs.Words.{verb_of}
 use Rattle.command_core.proofs.BehindLemmas.{record-behind}
+use Rattle.command_core.proofs.Cuts.{record-means}
 use Rattle.command_core.proofs.reading.next_command.Goals.{in-Ok, in-Err-Refused}
 use Rattle.command_core.proofs.reading.next_command.Goals as goal
+
+pub returns-clause-means : goal.returns-clause-means
+returns-clause-means c =
+    let lines = lines_in c.args.lines in
+    let own = record-means lines (fields_in c.get-opening.result) c.args.number c.get-opening.ensures
+    (sym c.opens_block.ensures ∙ c.if-opens_block.false) in
+    elim c.match-read_record.branch [
+      | in-Ok w ↦
+          rw w.command-is
+          (inl (subst (λ m. MeansRecord c.args.number (take 1 lines) m)
+          (ap (told c.args.number) w.in-Ok.ensures.reads) own))
+      | in-Err-Refused w ↦
+          let reads = rw w.in-Err-Refused.field-0-is at w.in-Err-Refused.ensures.reads in
+          rw w.command-is
+          (inl (subst (λ m. MeansRecord c.args.number (take 1 lines) m)
+          (ap (told c.args.number) reads ∙ sym w.refused-command.ensures) own))
+    ]
 
 pub returns-clause-behind : goal.returns-clause-behind
 returns-clause-behind c =

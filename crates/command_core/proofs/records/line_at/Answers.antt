@@ -1,4 +1,3 @@
-use Rattle.csv.specs.Records.{fields_of}
 use Rattle.list_core.proofs.CutLemmas.{EndsAt-part, slice_get-cut}
 use Rattle.command_core.proofs.records.line_at.Goals as goal
 
@@ -13,4 +12,4 @@ pub returns : goal.returns
 returns c =
     rw c.new.ensures
     (rw c.start_at.ensures
-    (slice_get-cut 0 c.args.ends.now (fields_of c.args.fields.now) c.args.place c.requires.place))
+    (slice_get-cut 0 c.args.ends.now c.args.fields.now c.args.place c.requires.place))

@@ -1,4 +1,4 @@
-use Rattle.std.proofs.Common.{Bor, List, ℕ, ◌≡◌, ◌+◌, ◌++◌, ◌∙◌, ap, sym, refl, inl, inr, Some, ◌∷◌, [], length, length-append}
+use Rattle.std.proofs.Common.{Bor, List, ℕ, ◌≡◌, ◌+◌, ◌++◌, ◌∙◌, ap, sym, refl, inl, inr, Some, ◌∷◌, [], length, length-append, arith}
 use Rattle.csv.specs.Reading.{Reached, default_config, reader_state, strip_bom}
 use Rattle.csv.specs.Records.{fields_of}
 use Rattle.csv.specs.declared.parser.State.TheVariants as st
@@ -6,6 +6,7 @@ use Rattle.csv.proofs.ReadFacts.{rows-more}
 use Rattle.list_core.specs.Cut.{cut}
 use Rattle.list_core.proofs.CutLemmas.{EndsAt-more, cut-more}
 use Rattle.command_core.proofs.Faults.{flexible-stops}
+use Rattle.command_core.proofs.ScriptSizes.{next-few}
 use Rattle.command_core.proofs.Shrinking.{Reached-shrinks}
 use Rattle.command_core.proofs.records.read_records.Goals as goal
 
@@ -20,8 +21,7 @@ loop-fields-init c =
       ready = inr (inr (rw (flex, named) at fr.has_headers, fr.headers));
       flexible = rw flex at fr.flexible;
       config = rw (flex, named) at fr.config ∙ c.new.ensures.config;
-      whole = c.new-fields.ensures.partial;
-      ends = rw c.new-ends.ensures.items (sym (ap length c.new-fields.ensures.fields));
+      ends = rw c.new-ends.ensures.items (sym (ap length c.in_ok-fields.ensures));
       left = strip_bom c.args.script.now;
       source = fr.source;
       reached = rw c.new-ends.ensures.items (sym fr.state, refl);
@@ -42,7 +42,7 @@ loop-fields-smaller c =
 pub loop-fields-preserved : goal.loop-fields-preserved
 loop-fields-preserved c =
     let inv = c.loop-fields.invariant in
-    let before = fields_of c.loop-fields.fields in
+    let before = c.loop-fields.fields in
     let row = fields_of c.read_byte_record.new.row in
     let ends = c.loop-fields.ends.items in
     let read = rw c.in-Ok-true.field-0-test at (c.in-Ok-true.ensures.reads inv.plain inv.ready) in
@@ -52,22 +52,45 @@ loop-fields-preserved c =
     (strip_bom c.args.script.now) inv.left (cut 0 ends before) inv.config inv.source inv.reached read in
     let added = c.in_ok-append-in-Ok-true.ensures in
     let size : c.len.result ≡ length before + length row =
-    c.len.ensures ∙ (ap length added.ok ∙ length-append before row) in
+    c.len.ensures ∙ (ap length added ∙ length-append before row) in
     let pushed = c.in_ok-push-in-Ok-true.ensures.items in
-    let cuts : cut 0 c.push.new.self.items (fields_of c.append.new.fields) ≡ cut 0 ends before ++ row ∷ [] =
-    rw (pushed, added.ok, size) (cut-more 0 ends before row inv.ends) in
+    let cuts : cut 0 c.push.new.self.items c.append.new.self ≡ cut 0 ends before ++ row ∷ [] =
+    rw (pushed, added, size) (cut-more 0 ends before row inv.ends) in
     record {
       plain = read.3 ∙ inv.plain;
       ready = inl (c.in-Ok-true.ensures.ready inv.plain);
       flexible = c.in-Ok-true.ensures.flexible ∙ inv.flexible;
       config = read.2 ∙ inv.config;
-      whole = added.whole;
-      ends = rw (pushed, added.ok, size, length-append before row)
+      ends = rw (pushed, added, size, length-append before row)
           (EndsAt-more 0 ends (length before) (length row) inv.ends);
       left = more.0;
       source = more.1;
       reached = rw cuts more.2;
     }
+
+pub append-requires-clause-few : goal.append-requires-clause-few
+append-requires-clause-few c =
+    let inv = c.loop-fields.invariant in
+    (next-few (λ (s : Bor (List ℕ)). Some s.now) c.loop-fields.reader c.read_byte_record.new.self c.args.script.now
+    c.loop-fields.ends.items inv.left c.loop-fields.fields (fields_of c.read_byte_record.new.row) c.requires inv.ends
+    inv.config inv.source inv.reached
+    (rw c.in-Ok-true.field-0-test at (c.in-Ok-true.ensures.reads inv.plain inv.ready))).0
+
+pub overflow_cast-len : goal.overflow_cast-len
+overflow_cast-len c =
+    let inv = c.loop-fields.invariant in
+    let row = fields_of c.read_byte_record.new.row in
+    let few = next-few (λ (s : Bor (List ℕ)). Some s.now) c.loop-fields.reader c.read_byte_record.new.self
+    c.args.script.now c.loop-fields.ends.items inv.left c.loop-fields.fields row c.requires inv.ends inv.config
+    inv.source inv.reached
+    (rw c.in-Ok-true.field-0-test at (c.in-Ok-true.ensures.reads inv.plain inv.ready)) in
+    omega (
+      arith,
+      few.1,
+      c.len.ensures,
+      ap length c.in_ok-append-in-Ok-true.ensures,
+      length-append c.loop-fields.fields row,
+    )
 
 pub not_read-requires : goal.not_read-requires
 not_read-requires c =

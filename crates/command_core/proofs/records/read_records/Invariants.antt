@@ -1,9 +1,8 @@
 -- The records so far are those that the reader took from the script.
-use Rattle.std.proofs.Common.{◌≡◌, ◌+◌, ◌*◌, ℕ, List, [], Some, length, cond, true}
+use Rattle.std.proofs.Common.{◌≡◌, ◌+◌, ◌*◌, ℕ, List, Some, length, cond, true}
 use Rattle.std.specs.Prelude.{option_map, unwrap_or}
 use Rattle.csv.specs.Machine.{ends_at_end}
 use Rattle.csv.specs.Reading.{Reached, Ready, default_config, is_flexible, reader_trim, source_of, strip_bom}
-use Rattle.csv.specs.Records.{fields_of, partial_of}
 use Rattle.csv.specs.declared.parser.State.TheVariants as st
 use Rattle.csv.specs.declared.reader.Trim.TheVariants as trim
 use Rattle.list_core.specs.Cut.{cut, EndsAt}
@@ -15,12 +14,11 @@ invariant-loop-fields l = record {
   ready : Ready l.reader;
   flexible : is_flexible l.reader ≡ true;
   config : l.reader.config ≡ default_config;
-  whole : partial_of l.fields ≡ [];
-  ends : EndsAt 0 l.ends.items (length (fields_of l.fields));
+  ends : EndsAt 0 l.ends.items (length l.fields);
   left : List ℕ;
   source : source_of (λ s. Some s.now) l.reader ≡ Some left;
   reached : Reached default_config st.StartRecord (strip_bom l.fn.script)
-      (cut 0 l.ends.items (fields_of l.fields)) l.reader.state left;
+      (cut 0 l.ends.items l.fields) l.reader.state left;
 }
 
 abbrev pub decreases-loop-fields : goal.decreases-loop-fields

@@ -1,17 +1,14 @@
-use Rattle.std.proofs.Common.{◌+◌, ◌∙◌, sym}
-use Rattle.csv.specs.Records.{fields_of}
-use Rattle.command_core.proofs.Cutting.{field_at-slice_get, slice_get-part, slice_get-part-past}
+use Rattle.std.proofs.Common.{◌∙◌, sym}
+use Rattle.command_core.proofs.Cutting.{slice_get-part, slice_get-part-past}
 use Rattle.command_core.proofs.line.Line.get.Goals as goal
 
 pub returns-then-place-self : goal.returns-then-place-self
 returns-then-place-self c =
     let line = c.args.self in
-    let fields = fields_of line.fields.now in
-    c.get.ensures.value
-    ∙ (field_at-slice_get fields (line.from + c.args.place)
-    ∙ sym (slice_get-part line.from line.to fields c.args.place c.if-place-self.true))
+    let fields = line.fields.now in
+    c.get.ensures ∙ sym (slice_get-part line.from line.to fields c.args.place c.if-place-self.true)
 
 pub returns-else-place-self : goal.returns-else-place-self
 returns-else-place-self c =
     let line = c.args.self in
-    sym (slice_get-part-past line.from line.to (fields_of line.fields.now) c.args.place c.if-place-self.false)
+    sym (slice_get-part-past line.from line.to line.fields.now c.args.place c.if-place-self.false)

@@ -1,9 +1,8 @@
 use Rattle.std.proofs.Common.{arith, ap, length}
-use Rattle.csv.specs.Records.{fields_of}
 use Rattle.list_core.proofs.CutLemmas.{length-cut}
 use Rattle.command_core.proofs.records.Records.len.Goals as goal
 
 pub returns : goal.returns
 returns c =
-    let size = length-cut 0 c.self.inside.ends.items (fields_of c.self.inside.fields) in
+    let size = length-cut 0 c.self.inside.ends.items c.self.inside.fields in
     omega (arith, c.len.ensures, size, ap length c.self.view_is, c.self.inside.ends.ok)
