@@ -1,5 +1,5 @@
 -- What a script's changes make of the book, and what its queries read of it.
-use Rattle.std.specs.Prelude.{ℕ, ◌+◌, ℤ, List, [], ◌∷◌, ◌++◌, Bool, Option, Some, None, Result, Err, codes, drop, length, option_map, unwrap_or, if◌then◌else◌}
+use Rattle.std.specs.Prelude.{ℕ, ◌+◌, List, [], ◌∷◌, ◌++◌, Bool, Option, Some, None, Result, Err, codes, drop, length, option_map, unwrap_or, if◌then◌else◌}
 use Rattle.std.specs.List.{enumerate_from}
 use Rattle.std.specs.Option.{ok_or}
 use Rattle.period_core.specs.declared.period.Period.{Period}

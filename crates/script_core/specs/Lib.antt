@@ -2,6 +2,7 @@ pub mod Answer
 pub mod BlockCuts
 pub mod Failure
 pub mod Ledgers
+pub mod Loads
 pub mod Performing
 pub mod Refusal
 pub mod Script

@@ -18,7 +18,9 @@ use period_core::Period;
 use row_core::{Drafts, Name, Schema};
 use std::alloc::Global;
 use std::sync::Wait;
+use std::thread::Threads;
 use store_core::Snapshot;
+use work_core::{Crew, OpenGate};
 
 /// Makes a change, which the command of this number asks for.
 fn apply<R: Wait>(
@@ -56,8 +58,8 @@ pub(crate) fn make<R: Wait>(
 }
 
 /// The rows of a load's records, by the columns that a snapshot of all commits shows.
-fn read_load(
-    alloc: Global,
+fn read_load<T: Threads + Sync>(
+    crew: &Crew<'_, T, OpenGate>,
     newest: &Snapshot,
     number: u64,
     table: Name,
@@ -68,16 +70,15 @@ fn read_load(
         (λ meant rows. rows ≡ meant) result }
 {
     match newest.schema(table) {
-        Ok(schema) => loaded_rows(alloc, schema, body, number + 1),
+        Ok(schema) => loaded_rows(crew, schema, body, number + 1),
         Err(_) => Err(refused(number, Refusal::NoTable)),
     }
 }
 
 /// Adds the rows of a load's records to a table, the first of them with the number behind this one; they are read by
 /// the columns that a snapshot of all commits shows.
-pub(crate) fn load_by<R: Wait>(
-    rt: &R,
-    alloc: Global,
+pub(crate) fn load_by<T: Threads + Wait + Sync>(
+    crew: &Crew<'_, T, OpenGate>,
     ledger: &mut Ledger,
     newest: &Snapshot,
     number: u64,
@@ -92,14 +93,13 @@ pub(crate) fn load_by<R: Wait>(
         (ledger_history ledger.old) (ledger_history ledger.new) result }
     ensures left { left_in ledger.old ≤ left_in ledger.new + 1 }
 {
-    let rows = read_load(alloc, newest, number, table, body)?;
-    apply(rt, ledger, number, Change::Load { table, rows })
+    let rows = read_load(crew, newest, number, table, body)?;
+    apply(crew.rt, ledger, number, Change::Load { table, rows })
 }
 
 /// Adds the rows of a load's records to a table, the first of them with the number behind this one.
-pub(crate) fn load<R: Wait>(
-    rt: &R,
-    alloc: Global,
+pub(crate) fn load<T: Threads + Wait + Sync>(
+    crew: &Crew<'_, T, OpenGate>,
     ledger: &mut Ledger,
     number: u64,
     table: Name,
@@ -114,10 +114,10 @@ pub(crate) fn load<R: Wait>(
 {
     // The snapshot is given back before the commit, so that nothing is copied.
     let rows = {
-        let newest = ledger.newest(rt)?;
-        read_load(alloc, &newest, number, table, body)?
+        let newest = ledger.newest(crew.rt)?;
+        read_load(crew, &newest, number, table, body)?
     };
-    apply(rt, ledger, number, Change::Load { table, rows })
+    apply(crew.rt, ledger, number, Change::Load { table, rows })
 }
 
 /// Changes a portion of a table's rows.

@@ -5,7 +5,6 @@ ghost use Rattle.command_core.specs.Command.{meaning_of};
 ghost use Rattle.command_core.specs.Meaning.{behind_length};
 ghost use Rattle.command_core.specs.Statement.{is_allowed};
 ghost use Rattle.answer_core.specs.declared.answer.Answer.{Answer};
-ghost use Rattle.work_core.specs.Limits.{worker_limit};
 ghost use Rattle.store_core.specs.Snapshots.{asked, history, number_shown};
 ghost use Rattle.script_core.specs.Answer.{IsAnswerTo};
 ghost use Rattle.script_core.specs.Effects.{rows_told};
@@ -23,22 +22,18 @@ use answer_core::{Answer, AnswerWriter};
 use cert_core::Certificate;
 use command_core::{Command, Refusal};
 use period_core::NoMemory;
-use std::alloc::{AllocError, Global};
+use std::alloc::AllocError;
 use std::sync::Wait;
 use std::thread::Threads;
 use store_core::{Future, Snapshot};
 use work_core::{Crew, OpenGate};
 
-/// What a query is answered from and by: threads, memory, what all commits show, and how many workers run it.
+/// What a query is answered by and from: a crew, and what all commits show.
 #[derive(Drop)]
 pub(crate) struct QueryContext<'a, T> {
-    pub rt: &'a T,
-    pub alloc: Global,
+    pub crew: &'a Crew<'a, T, OpenGate>,
     pub newest: &'a Snapshot,
-    pub workers: u32,
     pub ghost all: { ShowsAll newest.now },
-    pub ghost some: { 0 < workers },
-    pub ghost few: { workers ≤ worker_limit },
 }
 
 /// What the commit shows that the command of this number tells, the newest where none is told.
@@ -69,13 +64,7 @@ pub(crate) fn query<T: Threads + Sync>(
     ensures { Performs (history context.now.newest.now) number (meaning_of command.entry) result
         (history context.now.newest.now) }
 {
-    let QueryContext {
-        rt,
-        alloc,
-        newest,
-        workers,
-    } = *context;
-    let crew = Crew::new(rt, alloc, workers, &OpenGate);
+    let QueryContext { crew, newest } = *context;
     match command {
         Command::Refused(fault) => Ok(Answer::Refused(fault)),
         Command::Rows { table, asof } => {
@@ -90,19 +79,19 @@ pub(crate) fn query<T: Threads + Sync>(
         Command::FromTo { table, first, end } => from_to(newest, number, table, first, end),
         Command::Dip { table, asof } => {
             let shown = shown_asof(newest, number, asof)?;
-            divide(&crew, &shown, number, table)
+            divide(crew, &shown, number, table)
         }
         Command::Join { tables, asof } => {
             let shown = shown_asof(newest, number, asof)?;
-            join_tables(&crew, &shown, number, tables)
+            join_tables(crew, &shown, number, tables)
         }
         Command::Anti { tables, asof } => {
             let shown = shown_asof(newest, number, asof)?;
-            anti_tables(&crew, &shown, number, tables)
+            anti_tables(crew, &shown, number, tables)
         }
         Command::Agg { aggregate, asof } => {
             let shown = shown_asof(newest, number, asof)?;
-            agg_table(&crew, &shown, number, aggregate)
+            agg_table(crew, &shown, number, aggregate)
         }
         Command::Check {
             table,
@@ -113,7 +102,7 @@ pub(crate) fn query<T: Threads + Sync>(
         } => {
             let shown = shown_asof(newest, number, asof)?;
             let certificate = Certificate { parts, instant };
-            check(alloc, &shown, number, table, certificate, body)
+            check(crew.alloc, &shown, number, table, certificate, body)
         }
         _ => unreachable!(),
     }
@@ -132,15 +121,10 @@ pub(crate) fn perform<T: Threads + Wait + Sync>(
         (ledger_history ledger.new) }
     ensures left { left_in ledger.old ≤ left_in ledger.new + 2 }
 {
-    let Crew {
-        rt,
-        alloc,
-        workers,
-        ..
-    } = *crew;
+    let Crew { rt, alloc, .. } = *crew;
     match command {
         Command::Make { table, schema } => make(rt, ledger, number, table, schema),
-        Command::Load { table, body } => load(rt, alloc, ledger, number, table, body),
+        Command::Load { table, body } => load(crew, ledger, number, table, body),
         Command::Update {
             table,
             portion,
@@ -157,10 +141,8 @@ pub(crate) fn perform<T: Threads + Wait + Sync>(
         asked => {
             let newest = ledger.newest(rt)?;
             let context = QueryContext {
-                rt,
-                alloc,
+                crew,
                 newest: &newest,
-                workers,
             };
             query(&context, number, asked)
         }

@@ -1,13 +1,20 @@
 //! The rows of a load.
-ghost use Rattle.std.specs.Prelude.{◌≡◌, ◌+◌, ◌<◌, ◌^◌, OnOk, Ok, MatchResult, drop, length, map};
+ghost use Rattle.std.specs.Prelude.{◌≡◌, ◌+◌, ◌<◌, ◌^◌, IfOk, OnOk, Ok, MatchResult, drop, length, map};
+ghost use Rattle.std.specs.List.{enumerate_from};
+ghost use Rattle.share_core.specs.Pieces.{piece};
 ghost use Rattle.script_core.specs.Failure.{IsFailureOf, IsRecordFailure};
 ghost use Rattle.command_core.specs.Lines.{fields_in, lines_in};
 ghost use Rattle.script_core.specs.Effects.{loaded_row, loaded_rows};
+ghost use Rattle.script_core.specs.Loads.{all_drafts, drafts_of, drafts_told};
 
 use crate::failure::{Failure, failure_at, refused};
-use command_core::{Line, Lines, Refusal, begins};
+use command_core::{Fault, Line, Lines, Refusal, begins};
+use period_core::NoMemory;
 use row_core::{Draft, Drafts, Schema};
+use share_core::{Range, Shares, shared_out};
 use std::alloc::{AllocError, Global};
+use std::thread::Threads;
+use work_core::{Crew, OpenGate};
 
 /// Puts the fields behind a record's word in place of those that are there.
 fn take_fields<'a>(fields: &mut Vec<&'a [u8]>, line: Line<'a>) -> Result<(), AllocError>
@@ -44,9 +51,75 @@ fn loaded_row<'a>(
         .map_err(|why| failure_at(number, why))
 }
 
-/// The rows of a load's records, the first of them of this number.
-pub(crate) fn loaded_rows(
+/// The rows of some records of a load, the first of them of this number.
+fn rows_of_records(
     alloc: Global,
+    schema: &Schema,
+    lines: Lines<'_>,
+    number: u64,
+) -> Result<Vec<Draft>, Failure>
+    requires { number + length (lines_in lines) < 2 ^ 64 }
+    ensures { MatchResult result
+        (λ rows. loaded_rows schema.now number (lines_in lines.entry) ≡ Ok rows.items)
+        (IsFailureOf (loaded_rows schema.now number (lines_in lines.entry))) }
+{
+    let mut rows = Vec::new(alloc);
+    let mut fields = Vec::new(alloc);
+    for place in 0..lines.len() {
+        let line = lines.get(place);
+        let row = loaded_row(alloc, schema, &mut fields, line, number + place as u64)?;
+        rows.push(row)?;
+    }
+    Ok(rows)
+}
+
+/// The rows of a load's records at some places, or the fault of the first of them that has one; the load's first record
+/// is of this number.
+fn rows_at(
+    alloc: Global,
+    schema: &Schema,
+    lines: Lines<'_>,
+    number: u64,
+    places: Range<usize>,
+) -> Result<Result<Vec<Draft>, Fault>, NoMemory>
+    requires { number + length (lines_in lines) < 2 ^ 64 }
+    ensures { IfOk result (λ read. drafts_told schema.now
+        (piece places (enumerate_from number (lines_in lines.entry))) ≡ drafts_of read) }
+{
+    let len = lines.len();
+    let to = places.before.unwrap_or(len).min(len);
+    let from = places.from.unwrap_or(0).min(to);
+    match rows_of_records(alloc, schema, lines.range(from, to), number + from as u64) {
+        Ok(rows) => Ok(Ok(rows)),
+        Err(Failure::Refused(fault)) => Ok(Err(fault)),
+        Err(Failure::NoMemory) => Err(AllocError),
+    }
+}
+
+/// The rows that ranges of records gave, behind one another, or the first range's fault that has one.
+fn in_one_list(alloc: Global, ranges: Vec<Result<Vec<Draft>, Fault>>) -> Result<Drafts, Failure>
+    ensures { MatchResult result (λ rows. all_drafts ranges.items ≡ Ok rows)
+        (IsFailureOf (all_drafts ranges.items)) }
+{
+    let mut rows = Vec::new(alloc);
+    for range in ranges {
+        match range {
+            Ok(mut more) => {
+                if rows.is_empty() {
+                    rows = more;
+                } else {
+                    rows.append(&mut more)?;
+                }
+            }
+            Err(fault) => return Err(Failure::Refused(fault)),
+        }
+    }
+    Ok(Drafts::from(rows))
+}
+
+/// The rows of a load's records, the first of them of this number. Workers share the records out by their places.
+pub(crate) fn loaded_rows<T: Threads + Sync>(
+    crew: &Crew<'_, T, OpenGate>,
     schema: &Schema,
     lines: Lines<'_>,
     number: u64,
@@ -56,12 +129,17 @@ pub(crate) fn loaded_rows(
         (λ rows. loaded_rows schema.now number (lines_in lines.entry) ≡ Ok rows)
         (IsFailureOf (loaded_rows schema.now number (lines_in lines.entry))) }
 {
-    let mut rows = Drafts::new(alloc);
-    let mut fields = Vec::new(alloc);
-    for place in 0..lines.len() {
-        let line = lines.get(place);
-        let row = loaded_row(alloc, schema, &mut fields, line, number + place as u64)?;
-        rows.push(row)?;
-    }
-    Ok(rows)
+    let Crew { rt, alloc, .. } = *crew;
+    let shares = Shares::of(alloc, lines.len(), crew.workers, &|place: usize| place)?;
+    let ranges = shared_out(
+        rt,
+        alloc,
+        &shares,
+        &|places: Range<usize>, _workers: u32| -> Result<Result<Vec<Draft>, Fault>, NoMemory>
+            requires { number + length (lines_in lines) < 2 ^ 64 }
+            ensures { IfOk result (λ read. drafts_told schema.entry.now
+                (piece places (enumerate_from number (lines_in lines.entry))) ≡ drafts_of read) }
+        { rows_at(alloc, schema, lines, number, places) },
+    )?;
+    in_one_list(alloc, ranges)
 }

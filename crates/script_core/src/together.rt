@@ -5,7 +5,6 @@ ghost use Rattle.command_core.specs.Command.{meaning_of};
 ghost use Rattle.command_core.specs.Lines.{lines_in};
 ghost use Rattle.command_core.specs.Meaning.{behind_length};
 ghost use Rattle.command_core.specs.Statement.{AreMembers, IsSplit, Member, Together, placed_in};
-ghost use Rattle.work_core.specs.Limits.{worker_limit};
 ghost use Rattle.store_core.specs.Snapshots.{history};
 ghost use Rattle.script_core.specs.Answer.{IsAnswerTo};
 ghost use Rattle.script_core.specs.Ledgers.{ledger_history, left_in};
@@ -20,7 +19,6 @@ use answer_core::{Answer, AnswerWriter};
 use command_core::{Command, CommandCut, Fault, Lines, first_load, next_inside};
 use period_core::NoMemory;
 use row_core::Name;
-use std::alloc::Global;
 use std::sync::Wait;
 use std::thread::{Threads, join_mut};
 use work_core::{Crew, OpenGate};
@@ -98,7 +96,7 @@ fn load_asked<'a>(command: &Command<'a>) -> FirstLoad<'a>
 }
 
 /// Does the first load of a block, whose first record has this number, or tells why it can't be done.
-fn answer_load<T: Wait>(
+fn answer_load<T: Threads + Wait + Sync>(
     context: &QueryContext<'_, T>,
     ledger: &mut Ledger,
     number: u64,
@@ -114,8 +112,7 @@ fn answer_load<T: Wait>(
 {
     match load {
         FirstLoad::Rows { table, body } => answer_of(load_by(
-            context.rt,
-            context.alloc,
+            context.crew,
             ledger,
             context.newest,
             number,
@@ -169,7 +166,7 @@ fn answer_both<T: Threads + Wait + Sync>(
         Ok((before, behind))
     };
     let mut loading = || -> Result<Answer, NoMemory>
-        requires { (history context.now.newest.now ≡ ledger_history ledger.now)
+        requires { IsSync T.row × (history context.now.newest.now ≡ ledger_history ledger.now)
             × CanBeNumbered block.now
             × (0 < left_in ledger.now) }
         ensures answers { IfOk result
@@ -177,7 +174,7 @@ fn answer_both<T: Threads + Wait + Sync>(
             (first_load_meaning block.entry.now.load) answer (ledger_history ledger.exit.now)) }
         ensures left { left_in ledger.entry.now ≤ left_in ledger.exit.now + 1 }
     { answer_load(context, ledger, block.number, &block.load) };
-    join_mut(context.rt, &mut queries, &mut loading)
+    join_mut(context.crew.rt, &mut queries, &mut loading)
 }
 
 /// Cuts a block of commands at its first load, which stands behind so many records.
@@ -273,7 +270,7 @@ fn answer_beside_load<T: Threads + Wait + Sync>(
         + length (lines_in block.now.back.lines) + 1) }
     ensures left { left_in ledger.old ≤ left_in ledger.new + 1 }
 {
-    let mut later = AnswerWriter::new(context.alloc);
+    let mut later = AnswerWriter::new(context.crew.alloc);
     let (queries, load) = answer_both(context, ledger, block, printer, &mut later);
     print_behind(printer, queries, load, later)
 }
@@ -334,10 +331,8 @@ pub(crate) fn answer_together<T: Threads + Wait + Sync>(
         first: number + 1,
     };
     let context = QueryContext {
-        rt: crew.rt,
-        alloc: crew.alloc,
+        crew,
         newest: &newest,
-        workers: crew.workers,
     };
     let told = answer_commands(&context, ledger, block, printer)?;
     Ok(Outcome {

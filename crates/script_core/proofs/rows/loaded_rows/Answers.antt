@@ -1,24 +1,26 @@
-use Rattle.std.proofs.Common.{◌∙◌}
-use Rattle.std.proofs.lemmas.Result.{err_from_is_err_and}
-use Rattle.command_core.specs.Lines.{fields_in, lines_in}
-use Rattle.script_core.specs.Effects.{loaded_row, loaded_rows}
-use Rattle.script_core.proofs.Loading.{behind-failed, behind-more}
+use Rattle.std.proofs.Common.{◌≡◌, Global, IfOk, List, MatchResult, Ok, Result, Vec, subst, ℕ}
+use Rattle.std.specs.List.{enumerate_from}
+use Rattle.std.specs.declared.alloc.AllocError.{AllocError}
+use Rattle.share_core.specs.Pieces.{piece}
+use Rattle.share_core.specs.declared.range.Range.{Range}
+use Rattle.row_core.specs.declared.draft.Draft.{Draft}
+use Rattle.command_core.specs.Lines.{lines_in}
+use Rattle.command_core.specs.declared.refusal.Fault.{Fault}
+use Rattle.script_core.specs.Failure.{IsFailureOf}
+use Rattle.script_core.specs.Effects.{loaded_row}
+use Rattle.script_core.specs.Loads.{drafts_of, drafts_told}
+use Rattle.script_core.proofs.Ranges.{ranges-all}
 use Rattle.script_core.proofs.rows.loaded_rows.Goals as goal
 
-pub returns-in_err-row : goal.returns-in_err-row
-returns-in_err-row c =
+pub returns : goal.returns
+returns g c =
     let columns = c.args.schema.now in
-    let lines = lines_in c.args.lines in
-    let p = err_from_is_err_and c.from_residual.result c.from_residual.ensures.1 in
-    rw (p.1, p.2)
-    (behind-failed (loaded_row columns) c.args.number c.loop-place.place lines
-    (fields_in c.get-line.result) c.loop-place.rows
-    (loaded_rows columns c.args.number lines) c.in_err-row.field-0.0 c.get-line.ensures c.loop-place.invariant
-    c.in_err-row.ensures)
-
-pub loop-place-preserved : goal.loop-place-preserved
-loop-place-preserved c =
-    rw c.in_ok-push.ensures.ok
-    (c.loop-place.invariant
-    ∙ behind-more (loaded_row c.args.schema.now) c.args.number c.loop-place.place (lines_in c.args.lines)
-    (fields_in c.get-line.result) c.loop-place.rows c.in_ok-row.row c.get-line.ensures c.in_ok-row.ensures)
+    let numbered = enumerate_from c.args.number (lines_in c.args.lines) in
+    let post : Range ℕ → ℕ → Result (Result (Vec Draft Global) Fault) AllocError → Type 0 =
+    λ places n read. Range ℕ
+    × IfOk read (λ (own : Result (Vec Draft Global) Fault). drafts_told columns (piece places numbered) ≡ drafts_of own) in
+    subst (λ (meant : Result (List Draft) Fault).
+    MatchResult c.in_one_list.result (λ rows. meant ≡ Ok rows) (IsFailureOf meant))
+    (ranges-all (loaded_row columns) numbered post c.in_ok-shares.shares.cuts.items c.in_ok-ranges.ranges.items
+    (λ places n own given. given.1) c.in_ok-ranges.ensures)
+    c.in_one_list.ensures

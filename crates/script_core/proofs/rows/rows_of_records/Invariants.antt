@@ -3,9 +3,9 @@ use Rattle.std.proofs.Common.{◌≡◌, ◌+◌, drop}
 use Rattle.command_core.specs.Lines.{lines_in}
 use Rattle.script_core.specs.Effects.{loaded_rows}
 use Rattle.script_core.proofs.Loading.{behind}
-use Rattle.script_core.proofs.rows.loaded_rows.Given as goal
+use Rattle.script_core.proofs.rows.rows_of_records.Given as goal
 
 abbrev pub invariant-loop-place : goal.invariant-loop-place
 invariant-loop-place l =
-    loaded_rows l.schema l.number (lines_in l.lines) ≡ behind l.rows
+    loaded_rows l.schema l.number (lines_in l.lines) ≡ behind l.rows.items
     (loaded_rows l.schema (l.number + l.place) (drop l.place (lines_in l.lines)))

@@ -1,0 +1,156 @@
+-- Records of a load that are read range by range.
+use Rattle.std.proofs.Common.{◌≡◌, ◌∙◌, ℕ, zero, suc, ◌+◌, ◌-◌, min, List, [], ◌∷◌, ◌++◌, Option, Some, None, Result, Ok, Err, Vec, Global, refl, sym, ap, arith, take, drop, length, append-nil, append_assoc, unwrap_or}
+use Rattle.std.specs.List.{enumerate_from}
+use Rattle.std.specs.Ordering.{nat_cmp}
+use Rattle.std.specs.declared.alloc.AllocError.{AllocError}
+use Rattle.std.proofs.lemmas.List.{drop-take, drop_min, length-take, take_all, take_min}
+use Rattle.std.proofs.lemmas.List.FromFn.{length-enumerate_from}
+use Rattle.list_core.specs.Chunks.{all_in}
+use Rattle.share_core.specs.Pieces.{piece, piece_before, piece_from}
+use Rattle.share_core.specs.Ranges.{range}
+use Rattle.share_core.specs.Shares.{Gives, GivesFrom}
+use Rattle.share_core.specs.declared.range.Range.{Range}
+use Rattle.share_core.specs.declared.shares.Cut.{Cut}
+use Rattle.share_core.proofs.PieceLemmas.{piece_cut}
+use Rattle.share_core.proofs.ShareLemmas.{all_come}
+use Rattle.row_core.specs.Refusals.{and_then, map_err, map_ok, read_each}
+use Rattle.row_core.specs.declared.draft.Draft.{Draft}
+use Rattle.command_core.specs.Records.{Record}
+use Rattle.command_core.specs.Refusal.{fault}
+use Rattle.command_core.specs.declared.refusal.Fault.{Fault}
+use Rattle.command_core.specs.declared.refusal.Refusal.{Refusal}
+use Rattle.script_core.specs.Effects.{told_by}
+use Rattle.script_core.specs.Loads.{all_drafts, drafts_of, told_of}
+use Rattle.script_core.proofs.Loading.{behind}
+
+-- the numbered items from a place on
+drop-enumerate_from : {X : Type 0} (k n : ℕ) (xs : List X)
+    → drop k (enumerate_from n xs) ≡ enumerate_from (n + k) (drop k xs)
+drop-enumerate_from zero n xs =
+    let same : n ≡ n + 0 = omega arith in ap (λ m. enumerate_from m xs) same
+drop-enumerate_from (suc k) n [] = refl
+drop-enumerate_from (suc k) n (x ∷ xs) =
+    let same : n + 1 + k ≡ n + suc k = omega arith in
+    drop-enumerate_from k (n + 1) xs ∙ ap (λ m. enumerate_from m (drop k xs)) same
+
+-- the numbered items before a place
+take-enumerate_from : {X : Type 0} (k n : ℕ) (xs : List X)
+    → take k (enumerate_from n xs) ≡ enumerate_from n (take k xs)
+take-enumerate_from zero n xs = refl
+take-enumerate_from (suc k) n [] = refl
+take-enumerate_from (suc k) n (x ∷ xs) = ap (λ l. (n, x) ∷ l) (take-enumerate_from k (n + 1) xs)
+
+-- what comes before an end, which may be past the last
+piece_before-min : {X : Type 0} (before : Option ℕ) (to : ℕ) (xs : List X)
+    → to ≡ min (unwrap_or before (length xs)) (length xs) → piece_before before xs ≡ take to xs
+piece_before-min None to xs e = sym (take_all to xs (omega (arith, e)))
+piece_before-min (Some end) to xs e = sym (ap (λ n. take n xs) e ∙ take_min end xs)
+
+-- what comes from a start on, which may be past the last
+piece_from-min : {X : Type 0} (start : Option ℕ) (from : ℕ) (xs : List X)
+    → from ≡ min (unwrap_or start 0) (length xs) → piece_from start xs ≡ drop from xs
+piece_from-min None from xs e = let none : from ≡ 0 = omega (arith, e) in sym (ap (λ n. drop n xs) none)
+piece_from-min (Some start) from xs e = sym (ap (λ n. drop n xs) e ∙ drop_min start xs)
+
+-- a piece, by the places between which it lies
+piece-part : {X : Type 0} (places : Range ℕ) (from to : ℕ) (xs : List X)
+    → to ≡ min (unwrap_or places.before (length xs)) (length xs) → from ≡ min (unwrap_or places.from 0) to
+    → piece places xs ≡ take (to - from) (drop from xs)
+piece-part places from to xs end start =
+    let len : length (take to xs) ≡ to = omega (arith, length-take to xs, end) in
+    let whole : to ≡ from + (to - from) = omega (arith, start) in
+    ap (piece_from places.from) (piece_before-min places.before to xs end)
+    ∙ piece_from-min places.from from (take to xs) (start ∙ ap (min (unwrap_or places.from 0)) (sym len))
+    ∙ ap (λ n. drop from (take n xs)) whole
+    ∙ drop-take from (to - from) xs
+
+-- what the records of a piece give, which lies between two places
+pub told-part : {T : Type 0} (read : Record → Result T Refusal) (places : Range ℕ) (number from to n : ℕ)
+    (lines part : List Record) → n ≡ length lines → to ≡ min (unwrap_or places.before n) n
+    → from ≡ min (unwrap_or places.from 0) to → part ≡ take (to - from) (drop from lines)
+    → told_of read (piece places (enumerate_from number lines)) ≡ told_by read (number + from) part
+told-part read places number from to n lines part size end start is =
+    let numbered = enumerate_from number lines in
+    let count : n ≡ length numbered = size ∙ sym (length-enumerate_from number lines) in
+    let within : to ≡ min (unwrap_or places.before (length numbered)) (length numbered) =
+    end ∙ ap (λ k. min (unwrap_or places.before k) k) count in
+    ap (told_of read)
+    (piece-part places from to numbered within start
+    ∙ ap (take (to - from)) (drop-enumerate_from from number lines)
+    ∙ take-enumerate_from (to - from) (number + from) (drop from lines)
+    ∙ ap (enumerate_from (number + from)) (sym is))
+
+-- what was read before all else is what is read
+pub behind-none : {T E : Type 0} (read : Result (List T) E) → behind [] read ≡ read
+behind-none (Ok more) = refl
+behind-none (Err wrong) = refl
+
+-- what was read twice, one part behind another
+pub behind-twice : {T E : Type 0} (had next : List T) (read : Result (List T) E)
+    → behind had (behind next read) ≡ behind (had ++ next) read
+behind-twice had next (Ok more) = ap Ok (sym (append_assoc had next more))
+behind-twice had next (Err wrong) = refl
+
+-- what one part gives, and then the rest
+abbrev then_rest : {T E : Type 0} → Result (List T) E → Result (List T) E → Result (List T) E
+then_rest first rest = and_then first (λ had. behind had rest)
+
+-- one value before those of two parts
+then_rest-first : {T E : Type 0} (x : Result T E) (first rest : Result (List T) E)
+    → and_then x (λ v. map_ok (λ more. v ∷ more) (then_rest first rest))
+    ≡ then_rest (and_then x (λ v. map_ok (λ more. v ∷ more) first)) rest
+then_rest-first (Ok v) (Ok had) (Ok more) = refl
+then_rest-first (Ok v) (Ok had) (Err wrong) = refl
+then_rest-first (Ok v) (Err wrong) rest = refl
+then_rest-first (Err wrong) first rest = refl
+
+-- what two lists give, one behind another
+read_each-append : {X T E : Type 0} (read : X → Result T E) (xs ys : List X)
+    → read_each read (xs ++ ys) ≡ then_rest (read_each read xs) (read_each read ys)
+read_each-append read [] ys = sym (behind-none (read_each read ys))
+read_each-append read (x ∷ xs) ys =
+    ap (λ r. and_then (read x) (λ v. map_ok (λ more. v ∷ more) r)) (read_each-append read xs ys)
+    ∙ then_rest-first (read x) (read_each read xs) (read_each read ys)
+
+-- the rows of one more range come before those of the others
+pub all_drafts-more : (rows : Vec Draft Global) (ranges : List (Result (Vec Draft Global) Fault))
+    → all_drafts (Ok rows ∷ ranges) ≡ behind rows.items (all_drafts ranges)
+all_drafts-more rows ranges = more (read_each (λ range. range) ranges)
+  where
+    more : (read : Result (List (Vec Draft Global)) Fault)
+        → map_ok all_in (map_ok (λ others. rows ∷ others) read) ≡ behind rows.items (map_ok all_in read)
+    more (Ok others) = refl
+    more (Err wrong) = refl
+
+-- one range, and then the others
+all_drafts-range : (range : Result (Vec Draft Global) Fault) (ranges : List (Result (Vec Draft Global) Fault))
+    → all_drafts (range ∷ ranges) ≡ then_rest (drafts_of range) (all_drafts ranges)
+all_drafts-range (Ok rows) ranges = all_drafts-more rows ranges
+all_drafts-range (Err wrong) ranges = refl
+
+-- one range alone
+all_drafts-one : (range : Result (Vec Draft Global) Fault) → all_drafts (range ∷ []) ≡ drafts_of range
+all_drafts-one (Ok rows) = ap Ok (append-nil rows.items)
+all_drafts-one (Err wrong) = refl
+
+-- what the ranges of numbered records give, range by range, is what all of them give
+pub ranges-all : (read : Record → Result Draft Refusal) (numbered : List (ℕ × Record))
+    (post : Range ℕ → ℕ → Result (Result (Vec Draft Global) Fault) AllocError → Type 0)
+    (cuts : List (Cut ℕ)) (ranges : List (Result (Vec Draft Global) Fault))
+    → ((places : Range ℕ) (n : ℕ) (own : Result (Vec Draft Global) Fault) → post places n (Ok own)
+    → told_of read (piece places numbered) ≡ drafts_of own)
+    → GivesFrom nat_cmp (Gives post) None cuts ranges → all_drafts ranges ≡ told_of read numbered
+ranges-all read numbered post cuts ranges told given =
+    all_come nat_cmp (Gives post)
+    (λ (places : Range ℕ) (all : List (Result (Vec Draft Global) Fault)).
+    all_drafts all ≡ told_of read (piece places numbered))
+    (λ places own gave. all_drafts-one own ∙ sym (told places gave.0 own gave.1))
+    (λ from at own more begun one others.
+    let near = piece (range from (Some at)) numbered in
+    let far = piece (range (Some at) None) numbered in
+    all_drafts-range own more
+    ∙ ap (λ r. then_rest r (all_drafts more)) (sym (told (range from (Some at)) one.0 own one.1))
+    ∙ ap (then_rest (told_of read near)) others
+    ∙ sym (read_each-append (λ line. map_err (fault line.0) (read line.1)) near far)
+    ∙ ap (told_of read) (sym (piece_cut from at numbered begun)))
+    None cuts ranges given

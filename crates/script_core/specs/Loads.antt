@@ -1,0 +1,28 @@
+-- What ranges of a load's records give, one range behind another.
+use Rattle.std.specs.Prelude.{ℕ, List, Result}
+use Rattle.std.specs.Global.{Vec}
+use Rattle.list_core.specs.Chunks.{all_in}
+use Rattle.row_core.specs.Refusals.{map_err, map_ok, read_each}
+use Rattle.row_core.specs.declared.draft.Draft.{Draft}
+use Rattle.row_core.specs.declared.schema.Column.{Column}
+use Rattle.command_core.specs.Records.{Record}
+use Rattle.command_core.specs.Refusal.{fault}
+use Rattle.command_core.specs.declared.refusal.Fault.{Fault}
+use Rattle.command_core.specs.declared.refusal.Refusal.{Refusal}
+use Rattle.script_core.specs.Effects.{loaded_row}
+
+-- what numbered records give, each read alone, or the first fault
+abbrev pub told_of : {T : Type 0} → (Record → Result T Refusal) → List (ℕ × Record) → Result (List T) Fault
+told_of read numbered = read_each (λ line. map_err (fault line.0) (read line.1)) numbered
+
+-- the rows of numbered records of a load, or the first fault
+abbrev pub drafts_told : List Column → List (ℕ × Record) → Result (List Draft) Fault
+drafts_told columns numbered = told_of (loaded_row columns) numbered
+
+-- the rows of a range, or its fault
+abbrev pub drafts_of : Result (Vec Draft) Fault → Result (List Draft) Fault
+drafts_of range = map_ok (λ (rows : Vec Draft). rows.items) range
+
+-- the rows of all ranges, one range behind another, or the first range's fault that has one
+abbrev pub all_drafts : List (Result (Vec Draft) Fault) → Result (List Draft) Fault
+all_drafts ranges = map_ok all_in (read_each (λ range. range) ranges)
