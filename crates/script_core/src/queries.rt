@@ -30,7 +30,7 @@ use period_core::{NoMemory, Point};
 use query_core::{Side, dip, items};
 use row_core::{Name, RowList, Schema};
 use std::alloc::Global;
-use std::thread::{self, Threads};
+use std::thread::Threads;
 use store_core::Snapshot;
 use work_core::{Crew, OpenGate};
 
@@ -51,35 +51,6 @@ fn shown_table(snapshot: &Snapshot, number: u64, table: Name) -> Result<Shown<'_
     }
 }
 
-/// Both tables that the command of this number compares. Two workers and more read them on two threads.
-fn shown_tables<'a, T: Threads + Sync>(
-    crew: &Crew<'_, T, OpenGate>,
-    snapshot: &'a Snapshot,
-    number: u64,
-    left: Name,
-    right: Name,
-) -> (Result<Shown<'a>, Failure>, Result<Shown<'a>, Failure>)
-    ensures left { IsShown number (history snapshot.now) (commit_shown snapshot.now) left result.0 }
-    ensures right { IsShown number (history snapshot.now)
-        (commit_shown snapshot.now) right result.1 }
-{
-    if crew.workers < 2 {
-        let left = shown_table(snapshot, number, left);
-        return (left, shown_table(snapshot, number, right));
-    }
-    thread::join(
-        crew.rt,
-        || -> Result<Shown<'_>, Failure>
-            ensures { IsShown number (history snapshot.entry.now)
-                (commit_shown snapshot.entry.now) left result }
-        { shown_table(snapshot, number, left) },
-        || -> Result<Shown<'_>, Failure>
-            ensures { IsShown number (history snapshot.entry.now)
-                (commit_shown snapshot.entry.now) right result }
-        { shown_table(snapshot, number, right) },
-    )
-}
-
 /// Two tables as a snapshot shows them: the columns and the rows of each.
 #[derive(Drop)]
 struct BothTables<'a> {
@@ -90,13 +61,12 @@ struct BothTables<'a> {
 }
 
 /// Both tables that the command of this number compares, where both are there.
-fn both_tables<'a, T: Threads + Sync>(
-    crew: &Crew<'_, T, OpenGate>,
-    snapshot: &'a Snapshot,
+fn both_tables(
+    snapshot: &Snapshot,
     number: u64,
     left: Name,
     right: Name,
-) -> Result<BothTables<'a>, Failure>
+) -> Result<BothTables<'_>, Failure>
     ensures left { IfOk result
         (λ both. IsShown number (history snapshot.now) (commit_shown snapshot.now) left
         (Ok (both.left_columns, both.left))) }
@@ -106,15 +76,27 @@ fn both_tables<'a, T: Threads + Sync>(
     ensures fails { IfErr result
         (FailsToCompare number (history snapshot.now) (commit_shown snapshot.now) left right) }
 {
-    let (left, right) = shown_tables(crew, snapshot, number, left, right);
-    let (left_columns, left) = left?;
-    let (right_columns, right) = right?;
+    let (left_columns, left_rows) = shown_table(snapshot, number, left)?;
+    let (right_columns, right_rows) = shown_table(snapshot, number, right)?;
     Ok(BothTables {
         left_columns,
-        left,
+        left: left_rows,
         right_columns,
-        right,
+        right: right_rows,
     })
+}
+
+/// With fewer rows than these, of both tables together, starting threads takes longer than their work saves.
+const ROWS_FOR_WORKERS: usize = 16_384;
+
+/// Who answers a query that reads so many rows: the crew, or one worker where the rows are few.
+fn crew_for<'a, T>(crew: &Crew<'a, T, OpenGate>, rows: usize) -> Crew<'a, T, OpenGate> {
+    let workers = if rows < ROWS_FOR_WORKERS {
+        1
+    } else {
+        crew.workers
+    };
+    Crew::new(crew.rt, crew.alloc, workers, crew.gate)
 }
 
 /// All rows of a table.
@@ -157,6 +139,7 @@ pub(crate) fn divide<T: Threads + Sync>(
         schema,
         rows: &rows,
     };
+    let crew = crew_for(crew, rows.len());
     Ok(Answer::Division {
         rows: rows.len(),
         division: dip(crew.rt, crew.alloc, side, crew.workers)?,
@@ -180,7 +163,7 @@ pub(crate) fn join_tables<T: Threads + Sync>(
         left,
         right_columns,
         right,
-    } = both_tables(crew, snapshot, number, tables.left, tables.right)?;
+    } = both_tables(snapshot, number, tables.left, tables.right)?;
     let left_side = Side {
         schema: left_columns,
         rows: &left,
@@ -194,7 +177,7 @@ pub(crate) fn join_tables<T: Threads + Sync>(
         alloc,
         workers,
         gate,
-    } = *crew;
+    } = crew_for(crew, left.len().saturating_add(right.len()));
     match join(rt, alloc, left_side, right_side, &on, workers, gate) {
         Ok(found) => Ok(Answer::Join(Joined::new(left, right, found.rows))),
         Err(why) => Err(failure_at(number, why)),
@@ -219,7 +202,7 @@ pub(crate) fn anti_tables<T: Threads + Sync>(
         left,
         right_columns,
         right,
-    } = both_tables(crew, snapshot, number, tables.left, tables.right)?;
+    } = both_tables(snapshot, number, tables.left, tables.right)?;
     let left_side = Side {
         schema: left_columns,
         rows: &left,
@@ -233,7 +216,7 @@ pub(crate) fn anti_tables<T: Threads + Sync>(
         alloc,
         workers,
         gate,
-    } = *crew;
+    } = crew_for(crew, left.len().saturating_add(right.len()));
     match anti(rt, alloc, left_side, right_side, &on, workers, gate) {
         Ok(rows) => Ok(Answer::Anti(Unmatched::new(left, rows))),
         Err(why) => Err(failure_at(number, why)),
@@ -262,7 +245,7 @@ pub(crate) fn agg_table<T: Threads + Sync>(
         alloc,
         workers,
         gate,
-    } = *crew;
+    } = crew_for(crew, rows.len());
     match agg(rt, alloc, side, func, aggregate.by, workers, gate) {
         Ok(rows) => Ok(Answer::Agg(rows)),
         Err(why) => Err(failure_at(number, why)),

@@ -150,8 +150,8 @@ fn answer_all<T: Threads + Wait + Sync, W: Write>(
 /// answer whole; answers how many commands there were, and how many `error` records were written.
 ///
 /// A script has at most 67,108,864 bytes. A read or a write that was interrupted is tried again, at
-/// most 1,000 times in a run. The writer is not flushed. Joins, anti-joins and aggregates are run by 1 to
-/// 64 workers, and answer the same by any number of them.
+/// most 1,000 times in a run. The writer is not flushed. Where their rows are many, loads, joins, anti-joins and
+/// aggregates are run by 1 to 64 workers, and answer the same by any number of them.
 ///
 /// # Errors
 ///
