@@ -10,7 +10,8 @@ from pathlib import Path
 from typing import Callable, Dict, List, NamedTuple, Optional, Sequence, Tuple
 
 from ruzgalt import (
-    answers, changes, export, overlaps, picks, pictures, program, questions, records, refusals, single, svg, terminal,
+    answers, changes, export, fitting, overlaps, picks, pictures, program, questions, records, refusals, single, svg,
+    terminal,
 )
 from ruzgalt.answers import Answer
 from ruzgalt.errors import Misfit
@@ -29,10 +30,11 @@ environment), which is proved and built at its first use; or --answers names a f
 
 
 class Found(NamedTuple):
-    """What was read: all answers, and those to the questions that were put behind the script."""
+    """What was read: all answers, those to the questions put behind the script, and whether the program was asked."""
 
     answers: List[Answer]
     asked: List[Answer]
+    is_own: bool
 
 
 def read(options: Namespace, shows_refusals: bool = False) -> Found:
@@ -55,7 +57,8 @@ def read(options: Namespace, shows_refusals: bool = False) -> Found:
     for answer in refused:
         if answer.command.record.is_asked:
             raise Misfit(f"{refusals.told(answer)} (--go-on passes over no question that is asked)")
-    return Found(found, [answer for answer in found if answer.command.record.is_asked])
+    asked = [answer for answer in found if answer.command.record.is_asked]
+    return Found(found, asked, is_own=options.answers is None)
 
 
 def bytes_of(name: str) -> bytes:
@@ -64,17 +67,31 @@ def bytes_of(name: str) -> bytes:
 
 def chosen(found: Found, words: Sequence[str]) -> List[picks.Pick]:
     """The answers that were picked, or else all that were asked, or else all of the script."""
+    told = picked(found, words)
+    refuse_unfit(found, [pick.answer for pick in told])
+    return told
+
+
+def picked(found: Found, words: Sequence[str]) -> List[picks.Pick]:
     return picks.pick(found.answers if words or not found.asked else found.asked, words)
+
+
+def refuse_unfit(found: Found, told: Sequence[Answer]) -> None:
+    """What the program has just answered is of this script; what is read may be of another."""
+    if not found.is_own:
+        fitting.refuse_unfit(found.answers, told)
 
 
 def last(found: Found, words: Sequence[str], count: int) -> List[Answer]:
     """So many answers: those that were picked, or else the last that are more than an `ok`."""
-    told = chosen(found, words)
+    told = picked(found, words)
     if len(told) < count and not words:
         raise Misfit(f"{count} wanted, and {len(told)} of the answers more than an `ok`: ask by --ask, as --ask rows,T")
     if len(told) != count and (words or found.asked):
         raise Misfit(f"{len(told)} answers, and not {count}: `csv --folder`, `sqlite` and `json` take several")
-    return [pick.answer for pick in told[-count:]]
+    taken = [pick.answer for pick in told[-count:]]
+    refuse_unfit(found, taken)
+    return taken
 
 
 def show(text: str) -> None:
