@@ -106,6 +106,8 @@ def do_list(options: Namespace) -> None:
 
 
 def do_csv(options: Namespace) -> None:
+    if options.replace and not options.folder:
+        raise Misfit("--replace replaces files of a --folder, and none is told: what is printed replaces no file")
     found = read(options)
     if options.folder:
         export.to_folder(chosen(found, options.pick), Path(options.folder), options.replace)
@@ -209,9 +211,7 @@ def words_of_sqlite(parser: ArgumentParser) -> None:
         "--query", action="append", default=[], metavar="SQL",
         help="prints what the database answers, as CSV; without one the tables are told",
     )
-    parser.add_argument(
-        "--replace", action="store_true", help="replaces tables of these names that this tool hasn't made",
-    )
+    parser.add_argument("--replace", action="store_true", help="replaces tables of these names in the database")
 
 
 def words_of_picture(parser: ArgumentParser) -> None:

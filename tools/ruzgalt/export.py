@@ -1,5 +1,6 @@
 """Writes answers as CSV with a header, as tables of SQLite, and as JSON."""
 import json
+import re
 import sqlite3
 from pathlib import Path
 from typing import Any, Dict, List, Sequence
@@ -28,17 +29,14 @@ def to_folder(picks: Sequence[Pick], folder: Path, is_replacing: bool = False) -
         file.write_bytes(encode(to_csv(pick.answer.table)))
 
 
-# Stands in the text of each table that is made here, which SQLite keeps.
-MARK = "/* made by tools/answers */"
-
-
 def to_sqlite(picks: Sequence[Pick], database: sqlite3.Connection, is_replacing: bool = False) -> List[str]:
-    """A table for each answer, in place of one of its name that was made so. Numbers are integers, all else is text.
+    """A table for each answer. Numbers are integers, all else is text.
 
-    What is given back are the columns of numbers that are texts there.
+    None is made where one of their names is there and isn't to be replaced. What is given back are the columns of
+    numbers that are texts there.
     """
     if not is_replacing:
-        refuse_others(picks, database)
+        refuse_present(picks, database)
     texts = []
     with database:
         for pick in picks:
@@ -46,7 +44,7 @@ def to_sqlite(picks: Sequence[Pick], database: sqlite3.Connection, is_replacing:
             typed = list(zip(table.columns, kinds(table)))
             declared = ", ".join(f"{quoted(column.name)} {kind}" for column, kind in typed)
             database.execute(f"drop table if exists {name}")
-            database.execute(f"create table {name} ({declared} {MARK})")
+            database.execute(f"create table {name} ({declared})")
             # SQLite turns a number's text into an integer where the column is one.
             places = ", ".join("?" * len(table.columns))
             database.executemany(f"insert into {name} values ({places})", table.records)
@@ -55,11 +53,12 @@ def to_sqlite(picks: Sequence[Pick], database: sqlite3.Connection, is_replacing:
     return texts
 
 
-def refuse_others(picks: Sequence[Pick], database: sqlite3.Connection) -> None:
-    """A table or view that someone else has made is not to be lost."""
-    for name, made_by in database.execute("select name, sql from sqlite_master where type in ('table', 'view')"):
-        if MARK not in (made_by or "") and name.casefold() in (pick.name.casefold() for pick in picks):
-            raise Misfit(f"{name} is in the database, and wasn't made by this tool: --replace replaces it")
+def refuse_present(picks: Sequence[Pick], database: sqlite3.Connection) -> None:
+    """What is in the database isn't to be lost. Capitals and small letters are one in its names."""
+    present = {name.casefold() for name, in database.execute("select name from sqlite_master")}
+    for pick in picks:
+        if pick.name.casefold() in present:
+            raise Misfit(f"{pick.name} is in the database, so no table was made: --replace replaces it")
 
 
 def told_tables(picks: Sequence[Pick]) -> str:
@@ -85,20 +84,29 @@ def ask(database: sqlite3.Connection, query: str) -> str:
     """The answer to a query, as CSV with a header; nothing where it has none. What it changes is kept."""
     if not query.strip("; \t\r\n"):
         raise Misfit("--query: the query is empty")
-    refuse_quoted_texts(database)
     with database:
-        found = database.execute(query)
+        found = database.execute(with_names(query))
         if found.description is None:
             return ""
         header = [name for name, *_ in found.description]
         return to_text([header, *(["" if field is None else str(field) for field in row] for row in found)])
 
 
-def refuse_quoted_texts(database: sqlite3.Connection) -> None:
-    """A column's name in double quotes that isn't there is no text, where Python can tell SQLite so, from 3.12 on."""
-    if hasattr(database, "setconfig"):
-        database.setconfig(sqlite3.SQLITE_DBCONFIG_DQS_DML, False)
-        database.setconfig(sqlite3.SQLITE_DBCONFIG_DQS_DDL, False)
+# Texts, names in their three kinds of quotes, and comments.
+QUOTED = re.compile(r"'(?:[^']|'')*'|\"(?:[^\"]|\"\")*\"|`[^`]*`|\[[^\]]*\]|--[^\n]*|/\*.*?\*/", re.DOTALL)
+
+
+def with_names(query: str) -> str:
+    """The query with names in backquotes where they are in double ones.
+
+    SQLite takes what stands in double quotes for a text where no column has that name, so that a misspelt one would be
+    an answer. Not all versions of Python can tell it to refuse; in backquotes it is always a name.
+    """
+    return QUOTED.sub(lambda found: in_backquotes(found[0]) if found[0].startswith('"') else found[0], query)
+
+
+def in_backquotes(name: str) -> str:
+    return "`" + name[1:-1].replace('""', '"').replace("`", "``") + "`"
 
 
 def to_json(picks: Sequence[Pick]) -> str:
