@@ -106,7 +106,8 @@ class Reading:
     def has_commits(self, command: Command) -> bool:
         """Whether the commits that a query tells are numbers, and that of its suffix is there."""
         if command.as_of is not None:
-            return is_count(command.as_of) and int(command.as_of) <= self.commits
+            newest = self.commits if self.held is None else self.held
+            return is_count(command.as_of) and int(command.as_of) <= newest
         if command.word not in ("between", "fromto"):
             return True
         return len(command.front) == 4 and all(map(is_count, command.front[2:]))

@@ -1,7 +1,11 @@
-"""What really changed between two answers: the time for which values hold in one of them alone."""
+"""What really changed between two answers: the time for which values hold in one of them alone.
+
+The records are by their values, columns from the left and numbers by size, and then by start; those of aggregates by
+group and then by start, `-` before `+`, so that the old and the new number of a time stand beside each other.
+"""
 from collections import Counter, defaultdict
 from typing import Counter as Counts
-from typing import DefaultDict, Iterator, List, Optional, Tuple
+from typing import Callable, DefaultDict, Iterator, List, Optional, Tuple
 
 from ruzgalt.answers import Answer
 from ruzgalt.errors import Misfit
@@ -24,7 +28,8 @@ def between(before: Answer, after: Answer) -> Table:
         asked = f"{short(before.command.text)} and {short(after.command.text)}"
         raise Misfit(f"{places}: {asked}: an `at` tells of its point alone: ask both for that, or both by `rows`")
     columns = unique([Column("change", Kind.TEXT), *PERIOD, *kept[0][0]])
-    return Table(columns, list(changes(kept[0][1], kept[1][1])))
+    found = list(changes(kept[0][1], kept[1][1]))
+    return Table(columns, sorted(found, key=order(kept[0][0], before.command.word == "agg")))
 
 
 Held = Tuple[str, str, Tuple[str, ...]]
@@ -52,6 +57,19 @@ def compared(answer: Answer) -> Tuple[List[Column], List[Held]]:
     return [table.columns[place] for place in places], held
 
 
+def order(columns: List[Column], is_aggregate: bool) -> Callable[[List[str]], Tuple[object, ...]]:
+    """By what changes are told one behind the other."""
+    is_int = [column.kind is Kind.INT for column in columns]
+
+    def key(change: List[str]) -> Tuple[object, ...]:
+        sign, start, _, *texts = change
+        values = tuple(int(text) if number else text for number, text in zip(is_int, texts))
+        # `-` is what was before, though its character is behind `+`.
+        return (*values[:-1], start, sign == "+", values[-1]) if is_aggregate else (*values, start)
+
+    return key
+
+
 def changes(before: List[Held], after: List[Held]) -> Iterator[List[str]]:
     """The periods in which the one has more records of some values than the other."""
     steps: DefaultDict[Tuple[str, ...], Counts[str]] = defaultdict(Counter)
@@ -59,7 +77,7 @@ def changes(before: List[Held], after: List[Held]) -> Iterator[List[str]]:
         for start, end, values in rows:
             steps[values][start] += sign
             steps[values][end] -= sign
-    for values, step in sorted(steps.items()):
+    for values, step in steps.items():
         # The texts of points are in the order of time.
         points = sorted(point for point in step if step[point])
         more = 0

@@ -101,8 +101,11 @@ def show(text: str) -> None:
     sys.stdout.flush()
 
 
-def do_list(options: Namespace) -> None:
-    show(export.listing(read(options, shows_refusals=True).answers))
+def do_list(options: Namespace) -> int:
+    """Tells all answers, refusals too. The status is 1 where there is one, as that of dipq is."""
+    found = read(options, shows_refusals=True).answers
+    show(export.listing(found))
+    return 1 if any(answer.refusal for answer in found) and not options.go_on else 0
 
 
 def do_csv(options: Namespace) -> None:
@@ -241,21 +244,31 @@ def words_of_only(parser: ArgumentParser) -> None:
 
 
 class Tool(NamedTuple):
-    """A subcommand: what it does, what it is told beside the script, and whether it takes answers that are there."""
+    """A subcommand: what it does, what it is told beside the script, and whether it takes answers that are there.
+
+    More is told by its own help alone.
+    """
 
     do: Callable[[Namespace], Optional[int]]
     about: str
     words: Callable[[ArgumentParser], None] = lambda _: None
     has_answers: bool = True
+    more: str = ""
 
 
+OF_LIST = "A refusal's name stands in the place of an answer. The status is then 1, as dipq's, and with --go-on 0."
+OF_CHANGED = """The first of the two is what was before: `-` is what it has alone, `+` what the second has alone. Records
+are by their values, columns from the left and numbers by size, and then by start; those of aggregates by group and
+then by start, `-` first."""
 TOOLS: Dict[str, Tool] = {
-    "list": Tool(do_list, "tells of each answer its number, its line and its command"),
+    "list": Tool(do_list, "tells of each answer its number, its line and its command", more=OF_LIST),
     "csv": Tool(do_csv, "prints an answer (the last) as CSV with a header, or writes files", words_of_csv),
     "sqlite": Tool(do_sqlite, "makes a table of each answer in an SQLite database", words_of_sqlite),
     "json": Tool(do_json, "prints answers as JSON", with_picks),
     "picture": Tool(do_picture, "draws a division, rows, an aggregate or versions, as text or SVG", words_of_picture),
-    "changed": Tool(do_changed, "tells what really changed between two answers (the last two)", with_picks),
+    "changed": Tool(
+        do_changed, "tells what really changed between two answers (the last two)", with_picks, more=OF_CHANGED,
+    ),
     "overlaps": Tool(do_overlaps, "finds the rows that a key of the columns would forbid", words_of_overlaps),
     "refusals": Tool(do_refusals, "tells each refusal, its field and its reason; of keys, the rows"),
     "only": Tool(do_only, "prints the command that deletes or updates the row of an id, and no other", words_of_only),
@@ -264,7 +277,8 @@ TOOLS: Dict[str, Tool] = {
 
 
 def parser_of(name: str, tool: Tool) -> ArgumentParser:
-    parser = ArgumentParser(prog=f"{NAME} {name}", description=f"{tool.about[0].upper()}{tool.about[1:]}.")
+    about = f"{tool.about[0].upper()}{tool.about[1:]}. {tool.more}".strip()
+    parser = ArgumentParser(prog=f"{NAME} {name}", description=about)
     parser.add_argument("script", metavar="SCRIPT", help="a file, or - for standard input")
     tool.words(parser)
     parser.add_argument(
@@ -283,8 +297,8 @@ def parser_of(name: str, tool: Tool) -> ArgumentParser:
 def usage() -> str:
     return ABOUT + "".join(f"  {name:10}{tool.about}\n" for name, tool in TOOLS.items()) + (
         f"\n{NAME} COMMAND --help tells the words of each. The status is 2 where the words are wrong, and 1 where"
-        "\nsomething isn't understood, or a command was refused: of `list` it isn't, and with --go-on only of"
-        "\n`refusals`, or where an --ask was.\n"
+        "\nsomething isn't understood, or a command was refused; with --go-on that is 1 only of `refusals`, or where"
+        "\nan --ask was refused, which `list` tells in its place.\n"
     )
 
 

@@ -139,7 +139,9 @@ def listed(answer: Answer) -> List[str]:
     if answer.refusal:
         told, count = answer.refusal.name, ""
     elif answer.table.names == ["commit"]:
-        told, count = f"commit {answer.table.records[0][0]}", ""
+        # A block makes no commit: it tells which one its queries read.
+        is_block = command.word == "together"
+        told, count = f"{'together' if is_block else 'commit'} {answer.table.records[0][0]}", ""
     elif command.word == "check":
         told = " ".join(field for field in answer.table.records[0] if field is not None)
     return [str(answer.number), str(command.line), str(command.record.number), told, count, command.text]

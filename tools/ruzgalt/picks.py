@@ -1,10 +1,11 @@
 """Chooses answers by their number, by their line, or from the last one back, and gives them names."""
 import re
 from dataclasses import dataclass
-from typing import List, Sequence
+from typing import Dict, List, Sequence
 
 from ruzgalt.answers import Answer
 from ruzgalt.errors import Misfit
+from ruzgalt.records import short
 
 HELP = (
     "an answer: its NUMBER in `tools/answers list`, @LINE of its command in the script, `last`, or `last-N` for the "
@@ -32,12 +33,19 @@ def pick(answers: Sequence[Answer], words: Sequence[str]) -> List[Pick]:
         if answer.refusal:
             raise Misfit(f"{which}: {answer.place}: {answer.command.text} was refused: {answer.refusal.name}")
         picks.append(Pick(name or name_of(answer), answer))
-    # SQLite, and some file systems, take small letters and capitals for one.
-    names = [one.name.casefold() for one in picks]
-    twice = [one.name for one in picks if names.count(one.name.casefold()) > 1]
-    if twice:
-        raise Misfit(f"two answers have the name {' and '.join(dict.fromkeys(twice))}")
+    refuse_twins(picks)
     return picks
+
+
+def refuse_twins(picks: Sequence[Pick]) -> None:
+    """Two answers of one name would be one table, and SQLite and some file systems take capitals for small letters."""
+    before: Dict[str, Pick] = {}
+    for one in picks:
+        twin = before.setdefault(one.name.casefold(), one)
+        if twin is not one:
+            both = [f"{pick.answer.place}, {short(pick.answer.command.text)}, as {pick.name}" for pick in (twin, one)]
+            remedy = f"give each its own, as {one.answer.number}={one.name}_{one.answer.number}"
+            raise Misfit(f"two answers have one name, capitals or not: {' and '.join(both)}; {remedy}")
 
 
 def is_pick(word: str) -> bool:

@@ -4,11 +4,11 @@ from dataclasses import dataclass, replace
 from typing import Callable, Dict, Iterable, List, Optional, Sequence, Tuple, Union
 
 from ruzgalt import store
-from ruzgalt.answers import Answer
+from ruzgalt.answers import FORMS, Answer
 from ruzgalt.errors import Misfit
 from ruzgalt.forms import printed, read_point, seconds
-from ruzgalt.records import short
-from ruzgalt.tables import Kind, Table, group_of
+from ruzgalt.records import short, visible
+from ruzgalt.tables import PERIOD, Kind, Table, group_of, ints, unique
 from ruzgalt.timeline import Span, span_of
 
 
@@ -63,7 +63,7 @@ class Steps:
 
 Picture = Union[Bars, Steps]
 # Stands in place of a picture without anything in it.
-NOTHING = "nothing to draw: no record holds in what is shown"
+NOTHING = "nothing to draw: no record that is asked for holds in what is shown"
 Record = Dict[str, str]
 
 
@@ -101,15 +101,15 @@ def refuse_unused(answer: Answer, wish: Wish) -> None:
 def division(answers: Sequence[Answer], answer: Answer, wish: Wish) -> Bars:
     """A lane for each part, and the instant. The rows' periods are those that the script's changes have left."""
     versions = {str(version.row_id): version.row for version in store.rows_of(answers, answer)}
-    names = answer.tables[answer.command.front[1]].names
+    table = Table(unique([*ints("row_id"), *PERIOD, *answer.tables[answer.command.front[1]].columns]))
+    refuse_values(table, wish)
     if {record[1] for record in answer.table.texts()} != set(versions):
         raise Misfit(f"{answer.place}: {short(answer.command.text)}: the ids aren't those of the table's rows")
     parts, records, instant = [], [], "-"
     for part, row_id, instant in answer.table.texts():
         row = versions[row_id]
-        values = dict(zip(names, row.values))
         parts.append(int(part))
-        records.append({"row_id": row_id, "valid_from": row.start, "valid_to": row.end, **values})
+        records.append(dict(zip(table.names, [row_id, row.start, row.end, *row.values])))
     kept = [place for place, record in enumerate(records) if is_wanted(record, wish)]
     told = [parts[place] for place in kept]
     shown = [records[place] for place in kept]
@@ -216,16 +216,30 @@ def steps(answer: Answer, wish: Wish) -> Steps:
 
 def wanted(table: Table, wish: Wish) -> List[Record]:
     """The records as fields by their names, those that the wish asks for."""
-    for name, _ in wish.where:
-        table.place(name)
+    refuse_values(table, wish)
     records = (dict(zip(table.names, record)) for record in table.texts())
     return [record for record in records if is_wanted(record, wish)]
 
 
+def refuse_values(table: Table, wish: Wish) -> None:
+    """A value that no record of its column can have would be taken for one that none has."""
+    for name, value in wish.where:
+        place = table.place(name)
+        kind = table.columns[place].kind
+        has_form = FORMS.get(kind)
+        # The end of a version that is open is empty.
+        if has_form and not has_form(value) and (value or name != "sys_to"):
+            raise Misfit(f"--where {name}={visible(value)}: {NO_VALUE[kind]}")
+
+
+# What is told of a value that is none of its column's kind.
+NO_VALUE = {
+    Kind.INT: "no whole number in digits alone, as 480050 for cents, or -8",
+    Kind.POINT: "no point as it is printed, as 2024-01-05 or 2024-01-05T08:30:00; that of a midnight is its date",
+}
+
+
 def is_wanted(record: Record, wish: Wish) -> bool:
-    for name, _ in wish.where:
-        if name not in record:
-            raise Misfit(f"there is no column {name}, but {', '.join(record)}")
     start, end = printed(wish.start or ""), printed(wish.end or "")
     is_shown = start < record["valid_to"] and (not end or record["valid_from"] < end)
     return is_shown and all(record[name] == value for name, value in wish.where)

@@ -48,7 +48,7 @@ def named(field: Field) -> str:
 def bad_name(field: Field, _: Answer) -> str:
     if field.text in forms.RESERVED:
         *most, last = forms.RESERVED
-        return f"is a word of the language: {', '.join(most)} and {last} are no names"
+        return f"is a word of the language: {', '.join(most)} and {last} are no names; {field.text}_ is one"
     return REASONS["BadName"]
 
 
@@ -82,7 +82,12 @@ def no_table(_: Field, answer: Answer) -> str:
     return f"is no table that is there: {', '.join(answer.tables) or 'there is none'}"
 
 
-def no_column(field: Field, _: Answer) -> str:
+def no_column(field: Field, answer: Answer) -> str:
+    if field.role is Role.KEY:
+        columns = ", ".join(field.table.names) or "there is none"
+        place = answer.command.record.fields.index("key", 2) + 1
+        told = f"is no column before `key`, field {place} ({columns}): names of columns stand behind it"
+        return f"{told}, and a column itself needs another name, as key_"
     return f"is no column of {field.table.name}, but {', '.join(field.table.names) or 'it has none'}"
 
 
@@ -107,7 +112,10 @@ def kind_of(field: Field) -> Optional[Kind]:
 
 
 def future(_: Field, answer: Answer) -> str:
-    return f"is a commit that isn't there yet: the newest is {answer.commits}"
+    if answer.command.in_together:
+        behind = "ask behind the block's end for a later one, as that of its load"
+        return f"is a later commit than the block reads, which `together` answers: {answer.commits}; {behind}"
+    return f"is a commit that isn't there yet: the newest is {answer.commits}; `log` lists them"
 
 
 MORE: Dict[str, Callable[[Field, Answer], str]] = {

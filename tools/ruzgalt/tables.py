@@ -122,7 +122,9 @@ def aggregate_header(front: Sequence[str], table: Schema) -> List[Column]:
     """The group's column under its own name, the period, and the value under that of what it is."""
     named = front[2] if front[2] == "count" else "_".join(front[2:4])
     group = [table.columns[table.place(front[-1])]] if group_of(front) else []
-    return unique([*group, *PERIOD, *ints(named)])
+    # The period keeps its names, by which it is found, whatever the group's is.
+    start, end, *others = unique([*PERIOD, *group, *ints(named)])
+    return [*others[:-1], start, end, others[-1]]
 
 
 def group_of(front: Sequence[str]) -> Optional[str]:

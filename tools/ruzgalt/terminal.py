@@ -1,7 +1,8 @@
 """Draws pictures as text: `[==)` is a period from its first cell on and before the one behind it.
 
 A period that goes on past the edge has `<` or `>` there. One that is shorter than a cell is `|`, several of them in one
-cell are `*`. Of steps, `#` is a value that reaches the line, `.` one that reaches none, and `-` a line at zero.
+cell are `*`. Of steps, `#` is a value that reaches the line, `.` one that reaches none, or `'` where it is below zero,
+and `-` a line at zero.
 """
 import unicodedata
 from typing import List, Optional, Sequence
@@ -129,7 +130,9 @@ def step_cell(value: Optional[int], level: int, levels: Sequence[int], base: int
     if level in reached:
         return "#"
     is_lowest = level == (base if base in levels else levels[0])
-    return "." if is_lowest and value is not None and not reached else "-" if level == 0 else " "
+    if is_lowest and value is not None and not reached:
+        return "'" if value < base else "."
+    return "-" if level == 0 else " "
 
 
 def columns_of(picture: Steps, cells: int) -> List[Optional[int]]:
