@@ -114,7 +114,8 @@ class Reading:
 
     def take(self, command: Command, wanted: str) -> Record:
         if self.place == len(self.output):
-            raise Misfit(f"{command.place}: {short(command.text)}: the answers end before {wanted}")
+            more = "; --answers is to have those to each --ask too" if command.record.is_asked else ""
+            raise Misfit(f"{command.place}: {short(command.text)}: the answers end before {wanted}{more}")
         self.place += 1
         return self.output[self.place - 1]
 

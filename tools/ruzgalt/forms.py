@@ -28,6 +28,7 @@ def print_point(point: datetime) -> str:
     return text[:10] if text.endswith("T00:00:00") else text
 
 
+@lru_cache(1 << 16)
 def printed(text: str) -> str:
     """The text of a point as dipq prints it."""
     point = read_point(text)

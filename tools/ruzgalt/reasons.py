@@ -11,11 +11,11 @@ from ruzgalt.tables import Kind
 REASONS = {
     "BadName": "is no name: 1 to 32 of a to z, 0 to 9 and _, the first a letter",
     "BadPoint": "is no point, as 2024-01-05 or 2024-01-05T08:30:00",
-    "BadNumber": "is no whole number in digits alone, as 5000 or -8",
+    "BadNumber": "is no whole number in digits alone, as 5000 or -8, or 500050 for cents",
     "BadPeriod": "isn't before the field behind it",
     "TooMany": "a table has at most 16 columns, and a script 64 tables",
     "TwiceNamed": "stood before",
-    "TableExists": "is a table that is there",
+    "TableExists": "is a table that is there: one `table` record makes it, and a load adds rows",
     "Future": "is a commit that isn't there yet",
     "NoTable": "is no table that is there",
     "NoColumn": "is no column of the table",
@@ -37,12 +37,15 @@ FORMS = {
 
 def of_field(name: str, field: Field, answer: Answer) -> Optional[str]:
     """What is wrong with the field of a command that was refused by that name."""
-    return MORE[name](field, answer) if name in MORE else REASONS.get(name)
+    about = MORE[name](field, answer) if name in MORE else REASONS.get(name)
+    has_space = about is not None and name.startswith("Bad") and field.text != field.text.strip()
+    return f"{about}; a space belongs to its field, so none stands beside a comma" if has_space else about
 
 
 def named(field: Field) -> str:
     column = f" ({field.column.name})" if field.column else ""
-    return f"field {field.place + 1}{column}, {visible(to_record([field.text]))}"
+    text = visible(to_record([field.text]))
+    return f"field {field.place + 1}{column}, {text if text == text.strip() else repr(text)}"
 
 
 def bad_name(field: Field, _: Answer) -> str:
@@ -59,14 +62,17 @@ def bad_point(field: Field, _: Answer) -> str:
     return "is no time of a day: the last is 23:59:59" if day else "is no day that exists"
 
 
-def bad_number(field: Field, _: Answer) -> str:
+def bad_number(field: Field, answer: Answer) -> str:
     low, high = (-(1 << 63), (1 << 63) - 1) if field.role is Role.VALUE else (0, (1 << 63) - 1)
     digits = field.text[1:] if field.text.startswith("-") else field.text
     if digits.isascii() and digits.isdigit():
         if digits.startswith("0") and field.text != "0":
             return "has a zero in front, or a sign before it: numbers are written without"
         return f"is no number from {low} to {high}"
-    return REASONS["BadNumber"] if field.role is Role.VALUE else "is no whole number from 0 on"
+    if field.role is Role.VALUE:
+        return REASONS["BadNumber"]
+    is_commit = field.role is Role.SUFFIX or answer.command.word in ("between", "fromto")
+    return "is no number of a commit, as `ok,2` and `log` tell it" if is_commit else "is no whole number from 0 on"
 
 
 def bad_period(_: Field, answer: Answer) -> str:

@@ -29,29 +29,46 @@ def reason(answer: Answer) -> str:
 def key_overlap(answer: Answer) -> str:
     schema = answer.tables[answer.command.record.fields[1]]
     key = ", ".join(schema.names[place] for place in schema.key)
-    return f"two rows that are equal in the key ({key}) would hold at one point"
+    about = f"two rows that are equal in the key ({key}) would hold at one point"
+    return f"{about}: end the one before the other starts, or change it by an update"
 
 
 def wrong_width(answer: Answer) -> str:
     record = answer.refusal.record
     wanted = ",".join(["row", "FROM", "TO", *answer.tables[answer.command.record.fields[1]].names])
-    return f"{visible(record.text)} has {len(record.fields)} fields, and not {wanted}"
+    count = f"{len(record.fields)} fields, and not the {wanted.count(',') + 1} of {wanted}"
+    return f"{visible(record.text)} has {count}; a text with a comma stands in quotes"
 
 
 def bad_command(answer: Answer) -> str:
     record, command = answer.refusal.record, answer.command
     if record is not command.record:
         wanted = "row" if command.word == "load" else "part"
-        end = "; its end is the one word end" if is_like_end(record) else ""
-        end = "; is its end missing before it?" if record.word in reasons.FORMS else end
-        return f"a {command.word} has {wanted} records alone, and not {visible(record.text)}{end}"
+        remedy = "; its end is the one word end" if is_like_end(record) else f"; each begins with the word {wanted}"
+        remedy = "; is its end missing before it?" if record.word in reasons.FORMS else remedy
+        return f"a {command.word} has {wanted} records alone, and not {visible(record.text)}{remedy}"
     if command.word == "end":
         return "an end without a block"
     if command.word == "table" and wrong_kinds(record):
         place = wrong_kinds(record)[0]
         return f"field {place + 1}, {visible(to_record([record.fields[place]]))}, is no KIND, int or text"
     form = reasons.FORMS.get(command.word)
-    return f"the form is {form}" if form else f"field 1, {visible(to_record([command.word]))}, is no command"
+    return f"the form is {form}" if form else f"field 1, {visible(to_record([command.word]))}, {no_word(command.word)}"
+
+
+def no_word(word: str) -> str:
+    """Why a word is none of a command, and what is likely meant."""
+    plain = word.strip(" \ufeff").lower()
+    if word.startswith("\ufeff"):
+        return "begins with a byte order mark, which only a script's own beginning may have: `tail -c +4` leaves it out"
+    if plain in reasons.FORMS:
+        return f"is no command, but {plain} is"
+    if "\0" in word:
+        return "isn't UTF-8; `iconv -f UTF-16 -t UTF-8` makes it of a file from Windows"
+    mark = next((one for one in ";\t" if one in word), None)
+    if mark and word.partition(mark)[0] in reasons.FORMS:
+        return "is no command: commas part the fields"
+    return "is no command; of a CSV file with a header tools/csv-to-load makes a load"
 
 
 def wrong_kinds(table: Record) -> List[int]:
@@ -65,6 +82,11 @@ def unended(answer: Answer) -> str:
     about = "the block has no end, so the rest of the script was skipped"
     if like:
         return f"{about}; {like.place}, {visible(to_record(like.fields))}, isn't the one word end"
+    broken = next((record for record in answer.command.block if any("\n" in field for field in record.fields)), None)
+    if broken:
+        return f"{about}; is a second quote missing in {broken.place}? A field there goes on to other lines"
+    if answer.command.word == "load" and len(answer.command.record.fields) > 2:
+        return f"{about}; the form is load,T and then rows, since no file is read"
     has_inner = answer.command.word == "together" and any(record.word in BLOCKS for record in answer.command.block)
     return f"{about}; a load or a check in it takes an end for itself" if has_inner else about
 
