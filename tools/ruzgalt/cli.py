@@ -258,8 +258,8 @@ class Tool(NamedTuple):
 
 OF_LIST = "A refusal's name stands in the place of an answer. The status is then 1, as dipq's, and with --go-on 0."
 OF_CHANGED = """The first of the two is what was before: `-` is what it has alone, `+` what the second has alone.
-Records are by their values, columns from the left and numbers by size, and then by start; those of aggregates by group and
-then by start, `-` first."""
+Records are by their values, columns from the left and numbers by size, and then by start; those of aggregates by
+group and then by start, `-` first."""
 TOOLS: Dict[str, Tool] = {
     "list": Tool(do_list, "tells of each answer its number, its line and its command", more=OF_LIST),
     "csv": Tool(do_csv, "prints an answer (the last) as CSV with a header, or writes files", words_of_csv),
