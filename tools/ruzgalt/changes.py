@@ -23,7 +23,8 @@ def between(before: Answer, after: Answer) -> Table:
     names = [[column.name for column in columns] for columns, _ in kept]
     places = f"{before.place} and {after.place}"
     if names[0] != names[1]:
-        raise Misfit(f"{places}: {','.join(names[0])} can't be compared with {','.join(names[1])}")
+        told = f"{','.join(names[0])} can't be compared with {','.join(names[1])}"
+        raise Misfit(f"{places}: {told}: ask one question of two commits, or of two tables of the same columns")
     if point_of(before) != point_of(after):
         asked = f"{short(before.command.text)} and {short(after.command.text)}"
         raise Misfit(f"{places}: {asked}: an `at` tells of its point alone: ask both for that, or both by `rows`")

@@ -10,8 +10,8 @@ from pathlib import Path
 from typing import Callable, Dict, List, NamedTuple, Optional, Sequence, Tuple
 
 from ruzgalt import (
-    answers, changes, export, fitting, overlaps, picks, pictures, program, questions, records, refusals, single, svg,
-    terminal,
+    answers, changes, export, fitting, overlaps, picks, pictures, program, questions, records, refusals, single, store,
+    svg, terminal,
 )
 from ruzgalt.answers import Answer
 from ruzgalt.errors import Misfit
@@ -105,7 +105,14 @@ def do_list(options: Namespace) -> int:
     """Tells all answers, refusals too. The status is 1 where there is one, as that of dipq is."""
     found = read(options, shows_refusals=True).answers
     show(export.listing(found))
+    warn_of_idle(found)
     return 1 if any(answer.refusal for answer in found) and not options.go_on else 0
+
+
+def warn_of_idle(found: Sequence[Answer]) -> None:
+    for answer in store.idle(found):
+        told = "no row of that time has what its `where` tells, so nothing was changed"
+        warn(f"{answer.place}: {records.short(answer.command.text)}: {told}")
 
 
 def do_csv(options: Namespace) -> None:
@@ -130,10 +137,21 @@ def do_sqlite(options: Namespace) -> None:
     for column in export.to_sqlite(found, database, options.replace):
         warn(f"{column} has sums past SQLite's integers, so it is a text there, and isn't in the order of numbers")
     for query in options.query:
-        show(export.ask(database, query))
+        for text in export.odd_points(query):
+            warn(f"--query: {text} is compared as a text: points are as '2024-01-31' in the tables")
+        show(asked(database, query, found))
     if not options.query:
         show(export.told_tables(found))
     database.close()
+
+
+def asked(database: sqlite3.Connection, query: str, made: Sequence[picks.Pick]) -> str:
+    """The answer to the query; where SQLite refuses it, the tables that were made and their columns are told."""
+    try:
+        return export.ask(database, query)
+    except sqlite3.OperationalError as error:
+        tables = "; ".join(f"{pick.name}({', '.join(pick.answer.table.names)})" for pick in made)
+        raise Misfit(f"--query: {error}; made were {records.short(tables)}") from None
 
 
 def do_changed(options: Namespace) -> None:
@@ -170,6 +188,7 @@ def do_refusals(options: Namespace) -> int:
         show(refusals.told(answer) + "\n")
         if answer.refusal.name == "KeyOverlap":
             show("".join(f"  {line}\n" for line in overlaps.explained(found, answer)))
+    warn_of_idle(found)
     return 1 if refused else 0
 
 

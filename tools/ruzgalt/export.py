@@ -105,6 +105,22 @@ def with_names(query: str) -> str:
     return QUOTED.sub(lambda found: in_backquotes(found[0]) if found[0].startswith('"') else found[0], query)
 
 
+# Days as they aren't written in the tables, and a point without quotes, which is a subtraction.
+ODD_DAY = re.compile(r"'(?:\d{1,2}[./]\d{1,2}[./]\d{4}|\d{4}-\d{1,2}-\d|\d{4}-\d-\d{1,2})'", re.ASCII)
+BARE_POINT = re.compile(r"\b\d{4}-\d\d-\d\d\b", re.ASCII)
+
+
+def odd_points(query: str) -> List[str]:
+    """What stands for a day in the query, and is in the order of time with none of the tables' points.
+
+    Raises Misfit where a point has no quotes.
+    """
+    bare = BARE_POINT.search(QUOTED.sub("''", query))
+    if bare:
+        raise Misfit(f"--query: {bare[0]} is a subtraction: a point stands in single quotes, as '{bare[0]}'")
+    return ODD_DAY.findall(query)
+
+
 def in_backquotes(name: str) -> str:
     return "`" + name[1:-1].replace('""', '"').replace("`", "``") + "`"
 

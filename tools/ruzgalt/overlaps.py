@@ -42,7 +42,7 @@ def in_answer(answer: Answer, key: Sequence[str]) -> Table:
     if answer.command.word == "at":
         raise Misfit(f"{answer.place}: {answer.command.text}: an `at` tells of its point alone: ask by `rows`")
     if answer.command.word != "rows":
-        raise Misfit(f"{answer.place}: {answer.command.text}: no list of rows")
+        raise Misfit(f"{answer.place}: {answer.command.text}: no list of rows: ask by `rows`")
     table, schema = answer.table, answer.tables[answer.command.front[1]]
     places = [3 + schema.place(name) for name in key]
     by_key: Dict[Tuple[str, ...], List[Tuple[str, str, str]]] = defaultdict(list)

@@ -48,7 +48,9 @@ def named(field: Field) -> str:
     return f"field {field.place + 1}{column}, {text if text == text.strip() else repr(text)}"
 
 
-def bad_name(field: Field, _: Answer) -> str:
+def bad_name(field: Field, answer: Answer) -> str:
+    if field.text == "asof" and answer.command.word in ("update", "delete"):
+        return "is of queries alone: a change acts on the rows of the newest commit"
     if field.text in forms.RESERVED:
         *most, last = forms.RESERVED
         return f"is a word of the language: {', '.join(most)} and {last} are no names; {field.text}_ is one"

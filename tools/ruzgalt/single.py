@@ -14,7 +14,7 @@ def command_for(answers: Sequence[Answer], table: str, row_id: int, set_to: Sequ
         raise Misfit(f"{table}: no table that is there")
     there = store.behind(answers).open[table].by_id
     if row_id not in there:
-        raise Misfit(f"{table} has no row {row_id} that is there at the script's end")
+        raise Misfit(f"{table} has no row {row_id} at the script's end; `csv` with --ask rows,{table} lists them")
     row = there[row_id].row
     for other in there.values():
         meets = other.row.start < row.end and row.start < other.row.end

@@ -155,6 +155,16 @@ def behind(answers: Iterable[Answer]) -> Store:
     return store
 
 
+def idle(answers: Sequence[Answer]) -> List[Answer]:
+    """The updates and deletes whose `where` no row had, so that nothing was changed."""
+    told = [one for one in answers if not one.refusal and one.command.word in ("update", "delete")]
+    asked = [one for one in told if fields.where_places(one.command.record.fields)]
+    if not asked:
+        return []
+    closing = {version.closed for versions in behind(answers).versions.values() for version in versions}
+    return [one for one in asked if one.commits not in closing]
+
+
 def rows_of(answers: Sequence[Answer], answer: Answer) -> List[Version]:
     """The rows that a query of one table reads: those of its commit."""
     texts = answer.command.front
