@@ -68,7 +68,7 @@ def bytes_of(name: str) -> bytes:
 def chosen(found: Found, words: Sequence[str]) -> List[picks.Pick]:
     """The answers that were picked, or else all that were asked, or else all of the script."""
     told = picked(found, words)
-    refuse_unfit(found, [pick.answer for pick in told])
+    look_at(found, [pick.answer for pick in told])
     return told
 
 
@@ -76,10 +76,14 @@ def picked(found: Found, words: Sequence[str]) -> List[picks.Pick]:
     return picks.pick(found.answers if words or not found.asked else found.asked, words)
 
 
-def refuse_unfit(found: Found, told: Sequence[Answer]) -> None:
-    """What the program has just answered is of this script; what is read may be of another."""
+def look_at(found: Found, told: Sequence[Answer]) -> None:
+    """Refuses answers that aren't to this script, unless the program has just been asked, and tells empty pasts."""
     if not found.is_own:
         fitting.refuse_unfit(found.answers, told)
+    for answer in told:
+        for name, commit in store.later_tables(found.answers, answer):
+            past = f"{name} was made by commit {commit}, so commit {answer.commit} shows no row of it"
+            warn(f"{answer.place}: {records.short(answer.command.text)}: {past}")
 
 
 def last(found: Found, words: Sequence[str], count: int) -> List[Answer]:
@@ -90,7 +94,7 @@ def last(found: Found, words: Sequence[str], count: int) -> List[Answer]:
     if len(told) != count and (words or found.asked):
         raise Misfit(f"{len(told)} answers, and not {count}: `csv --folder`, `sqlite` and `json` take several")
     taken = [pick.answer for pick in told[-count:]]
-    refuse_unfit(found, taken)
+    look_at(found, taken)
     return taken
 
 

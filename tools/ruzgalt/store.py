@@ -155,6 +155,16 @@ def behind(answers: Iterable[Answer]) -> Store:
     return store
 
 
+def later_tables(answers: Sequence[Answer], answer: Answer) -> List[Tuple[str, int]]:
+    """The tables of a query that were made behind the commit that its suffix tells, each with its commit."""
+    if answer.command.as_of is None:
+        return []
+    tables = [one for one in answers if one.command.word == "table" and one.commits > answer.commit and not one.refusal]
+    made = {one.command.record.fields[1]: one.commits for one in tables}
+    names = answer.command.front[1:3 if answer.command.word in ("join", "anti") else 2]
+    return [(name, made[name]) for name in dict.fromkeys(names) if name in made]
+
+
 def idle(answers: Sequence[Answer]) -> List[Answer]:
     """The updates and deletes whose `where` no row had, so that nothing was changed."""
     told = [one for one in answers if not one.refusal and one.command.word in ("update", "delete")]
