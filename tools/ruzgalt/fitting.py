@@ -1,20 +1,20 @@
 """Whether answers that are read from elsewhere can be those of this very script: its changes are done again.
 
-Of lists of rows, of versions and of commits all is compared. A division has the rows that are there; a record of a join
-or an anti-join has rows that are there, their values, and a time at which they hold; an aggregate comes to as much over
-all its time as the rows do. What the division's parts are, whether a record of a join or an anti-join is missing, and
-what a verdict is, isn't judged: that is the work of dipq.
+What each answer's rows give is found by other ways than those of dipq, and compared: all of lists, anti-joins and
+aggregates, of joins each record and their number, and of a division which rows it has. Its parts, and verdicts, aren't.
 """
+from bisect import bisect_left, bisect_right
 from collections import defaultdict
+from heapq import heappop, heappush
 from itertools import zip_longest
-from typing import Callable, Dict, Iterator, List, Optional, Sequence, Tuple
+from typing import Callable, Dict, Iterable, Iterator, List, Optional, Sequence, Tuple, Union
 
 from ruzgalt.answers import CHANGES, Answer
 from ruzgalt.errors import Misfit
-from ruzgalt.forms import printed, seconds
+from ruzgalt.forms import printed
 from ruzgalt.records import short, to_record
-from ruzgalt.store import Store, Version, behind
-from ruzgalt.tables import group_of
+from ruzgalt.store import Row, Store, Version, behind
+from ruzgalt.tables import Kind, group_of
 
 Texts = List[str]
 REMEDY = "these are answers to another script or question: without --answers this script is answered anew"
@@ -36,10 +36,8 @@ def fault(found: Sequence[Answer], store: Store, answer: Answer) -> Optional[str
     word = answer.command.word
     if word == "log":
         return first_difference(answer.table.texts(), logged(found, store, answer))
-    if word in ("rows", "at"):
-        return first_difference(answer.table.texts(), listed(store, answer))
-    if word in ("between", "fromto"):
-        return first_difference(answer.table.texts(), versions(store, answer))
+    if word in LISTED:
+        return first_difference(answer.table.texts(), LISTED[word](store, answer))
     return OTHERS[word](store, answer) if word in OTHERS else None
 
 
@@ -107,58 +105,128 @@ def of_division(store: Store, answer: Answer) -> Optional[str]:
     return None if other is None else f"row {other} is in it or is shown by commit {answer.commit}, but not both"
 
 
+# The rows of a table by the values of some columns.
+Keyed = Dict[Tuple[str, ...], List[Version]]
+# A row's period, and its number.
+Numbered = Tuple[str, str, int]
+
+
+def sides_of(store: Store, answer: Answer) -> Tuple[Keyed, Keyed]:
+    """The rows of both tables of a join by the values that are to be equal."""
+    front, found = answer.command.front, []
+    for name, columns in zip(front[1:3], (front[4::2], front[5::2])):
+        places = [answer.tables[name].place(column) for column in columns]
+        keyed: Keyed = defaultdict(list)
+        for version in store.rows(name, answer.commit):
+            keyed[tuple(version.row.values[place] for place in places)].append(version)
+        found.append(keyed)
+    return found[0], found[1]
+
+
 def of_join(store: Store, answer: Answer) -> Optional[str]:
-    left, right = (by_id(store, table, answer) for table in answer.command.front[1:3])
+    left, right = sides_of(store, answer)
+    ones, others = keys_by_id(left), keys_by_id(right)
     for start, end, one, other, *values in answer.table.texts():
-        if one not in left or other not in right:
-            return f"rows {one} and {other} aren't both shown by commit {answer.commit}"
-        rows = left[one].row, right[other].row
-        shared = max(row.start for row in rows), min(row.end for row in rows)
-        if (start, end) != shared or tuple(values) != rows[0].values + rows[1].values:
+        if one not in ones or other not in others or ones[one][0] != others[other][0]:
+            return f"rows {one} and {other} don't match, or aren't shown by commit {answer.commit}"
+        both = ones[one][1], others[other][1]
+        shared = max(row.start for row in both), min(row.end for row in both)
+        if not start < end or (start, end) != shared or tuple(values) != both[0].values + both[1].values:
             return f"rows {one} and {other} have other values, or share another time"
-    return None
+    told = {(record[2], record[3]) for record in answer.table.texts()}
+    wanted = sum(shared_times(left[key], right[key]) for key in left if key in right)
+    return None if len(told) == wanted else f"it has {len(told)} pairs of rows, and the changes before it give {wanted}"
 
 
-def of_anti(store: Store, answer: Answer) -> Optional[str]:
-    left = by_id(store, answer.command.front[1], answer)
-    for row_id, start, end, *values in answer.table.texts():
-        if row_id not in left:
-            return f"row {row_id} isn't shown by commit {answer.commit}"
-        row = left[row_id].row
-        if not row.start <= start < end <= row.end or tuple(values) != row.values:
-            return f"row {row_id} has other values, or doesn't hold from {start} to {end}"
-    return None
+def keys_by_id(keyed: Keyed) -> Dict[str, Tuple[Tuple[str, ...], Row]]:
+    return {str(one.row_id): (key, one.row) for key, versions in keyed.items() for one in versions}
 
 
-def of_aggregate(store: Store, answer: Answer) -> Optional[str]:
-    """A count and a sum come to the same over all time, and a least and a greatest number are there in both."""
+def shared_times(left: List[Version], right: List[Version]) -> int:
+    """How many pairs of them share a point: of those that start before one's end, all that don't end by its start."""
+    starts, ends = sorted(one.row.start for one in right), sorted(one.row.end for one in right)
+    return sum(bisect_left(starts, one.row.end) - bisect_right(ends, one.row.start) for one in left)
+
+
+def uncovered(store: Store, answer: Answer) -> Iterator[Texts]:
+    """The times of each left row at which no right one holds that matches."""
+    left, right = sides_of(store, answer)
+    key_of = {version.row_id: key for key, versions in left.items() for version in versions}
+    covered = {key: joined((one.row.start, one.row.end) for one in versions) for key, versions in right.items()}
+    for version in store.rows(answer.command.front[1], answer.commit):
+        row_id, start, last, *values = texts_of(version)
+        for gap in gaps(start, last, covered.get(key_of[version.row_id], [])):
+            yield [row_id, *gap, *values]
+
+
+def gaps(start: str, last: str, covered: List[Tuple[str, str]]) -> Iterator[Tuple[str, str]]:
+    """What is left of a period without those that are covered, which are by start and apart from each other."""
+    # The one before may reach into the period.
+    for place in range(max(bisect_right(covered, (start, "")) - 1, 0), len(covered)):
+        begun, ended = covered[place]
+        if begun >= last:
+            break
+        if start < begun:
+            yield start, begun
+        start = max(start, ended)
+    if start < last:
+        yield start, last
+
+
+def joined(periods: Iterable[Tuple[str, str]]) -> List[Tuple[str, str]]:
+    """The periods by start, those that overlap or touch as one."""
+    found: List[Tuple[str, str]] = []
+    for start, end in sorted(periods):
+        if found and start <= found[-1][1]:
+            found[-1] = found[-1][0], max(end, found[-1][1])
+        else:
+            found.append((start, end))
+    return found
+
+
+def aggregated(store: Store, answer: Answer) -> Iterator[Texts]:
+    """The number of each group for each time in which it stays the same."""
     front, table = answer.command.front, answer.tables[answer.command.front[1]]
     group, function = group_of(front), front[2]
-    rows = [
-        (row.values[table.place(group)] if group else "", row.start, row.end,
-         1 if function == "count" else int(row.values[table.place(front[3])]))
-        for row in (version.row for version in store.rows(front[1], answer.commit))
-    ]
-    told = [
-        (record[0] if group else "", record[-3], record[-2], int(record[-1])) for record in answer.table.texts()
-    ]
-    given, wanted = over_all(told, function), over_all(rows, function)
-    if given == wanted:
-        return None
-    other = next(name for name in sorted({*given, *wanted}) if given.get(name) != wanted.get(name))
-    of_group = f" of {group} {other}" if group else ""
-    return f"its numbers{of_group} come to something else, over all their time, than those of the rows"
+    rows: Dict[Union[int, str], List[Numbered]] = defaultdict(list)
+    for row in (version.row for version in store.rows(front[1], answer.commit)):
+        number = 1 if function == "count" else int(row.values[table.place(front[3])])
+        of_group = row.values[table.place(group)] if group else ""
+        is_int = bool(group) and table.columns[table.place(group)].kind is Kind.INT
+        rows[int(of_group) if is_int else of_group].append((row.start, row.end, number))
+    for name in sorted(rows):
+        for start, end, number in over_time(rows[name], function):
+            yield [*([str(name)] if group else []), start, end, str(number)]
 
 
-def over_all(records: Sequence[Tuple[str, str, str, int]], function: str) -> Dict[str, int]:
-    """Of each group the least or greatest number, or the sum of all numbers by the seconds for which they stand."""
-    found: Dict[str, List[int]] = defaultdict(list)
-    for group, start, end, number in records:
-        found[group].append(number if function in ("min", "max") else number * (seconds(end) - seconds(start)))
-    return {group: COMBINED.get(function, sum)(numbers) for group, numbers in found.items()}
+def over_time(rows: Sequence[Numbered], function: str) -> List[Numbered]:
+    """What the rows come to, for periods as long as can be."""
+    starting: Dict[str, List[Numbered]] = defaultdict(list)
+    for row in rows:
+        starting[row[0]].append(row)
+    points = sorted({point for row in rows for point in row[:2]})
+    sign = -1 if function == "max" else 1
+    # The rows by their numbers, and by their ends; those that have ended are left out when they are met.
+    by_number: List[Tuple[int, str]] = []
+    by_end: List[Tuple[str, int]] = []
+    total, found = 0, []
+    for point, after in zip(points, points[1:]):
+        for _, end, number in starting[point]:
+            heappush(by_number, (sign * number, end))
+            heappush(by_end, (end, number))
+            total += number
+        while by_end and by_end[0][0] <= point:
+            total -= heappop(by_end)[1]
+        while by_number and by_number[0][1] <= point:
+            heappop(by_number)
+        if by_end:
+            value = sign * by_number[0][0] if function in ("min", "max") else total
+            goes_on = bool(found) and found[-1][1:] == (point, value)
+            found[-1 if goes_on else len(found):] = [(found[-1][0] if goes_on else point, after, value)]
+    return found
 
 
-COMBINED: Dict[str, Callable[[Sequence[int]], int]] = {"min": min, "max": max}
-OTHERS: Dict[str, Callable[[Store, Answer], Optional[str]]] = {
-    "dip": of_division, "join": of_join, "anti": of_anti, "agg": of_aggregate,
+OTHERS: Dict[str, Callable[[Store, Answer], Optional[str]]] = {"dip": of_division, "join": of_join}
+LISTED: Dict[str, Callable[[Store, Answer], Iterator[Texts]]] = {
+    "rows": listed, "at": listed, "between": versions, "fromto": versions, "anti": uncovered, "agg": aggregated,
 }
