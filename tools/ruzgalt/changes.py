@@ -21,13 +21,12 @@ def between(before: Answer, after: Answer) -> Table:
     """`-` with the time in which values held before and don't now, and `+` the other way round."""
     kept = compared(before), compared(after)
     names = [[column.name for column in columns] for columns, _ in kept]
-    places = f"{before.place} and {after.place}"
+    both = f"{before.place} and {after.place}: {short(before.command.text)} and {short(after.command.text)}"
     if names[0] != names[1]:
         told = f"{','.join(names[0])} can't be compared with {','.join(names[1])}"
-        raise Misfit(f"{places}: {told}: ask one question of two commits, or of two tables of the same columns")
+        raise Misfit(f"{both}: {told}: ask one question of two commits, or of two tables of the same columns")
     if point_of(before) != point_of(after):
-        asked = f"{short(before.command.text)} and {short(after.command.text)}"
-        raise Misfit(f"{places}: {asked}: an `at` tells of its point alone: ask both for that, or both by `rows`")
+        raise Misfit(f"{both}: an `at` tells of its point alone: ask both for that, or both by `rows`")
     columns = unique([Column("change", Kind.TEXT), *PERIOD, *kept[0][0]])
     found = list(changes(kept[0][1], kept[1][1]))
     return Table(columns, sorted(found, key=order(kept[0][0], before.command.word == "agg")))
