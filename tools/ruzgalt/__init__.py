@@ -13,7 +13,7 @@ Python 3.9 and its library are all that is needed. A module stands on those abov
     fields, reasons     what each field is to be, and the words for what is wrong with it
     refusals            why a record was refused
     store, overlaps     the changes done again, and rows of one key that hold at one point
-    fitting             whether answers can be those of a script, by its changes done again
+    again, fitting      queries done again, and whether answers can be those of a script
     changes, single     what really changed; a change of one row alone
     export              CSV, SQLite and JSON
     timeline, pictures  the axis of a picture, and what is drawn of an answer
