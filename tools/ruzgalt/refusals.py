@@ -61,6 +61,8 @@ def no_word(word: str) -> str:
     plain = word.strip(" \ufeff").lower()
     if word.startswith("\ufeff"):
         return "begins with a byte order mark, which only a script's own beginning may have: `tail -c +4` leaves it out"
+    if word == "csv-to-load failed":
+        return "stands in place of a load: tools/csv-to-load has told why on standard error"
     if plain in reasons.FORMS:
         return f"is no command, but {plain} is"
     if "\0" in word:
