@@ -87,7 +87,8 @@ def bad_period(_: Field, answer: Answer) -> str:
 
 
 def no_table(_: Field, answer: Answer) -> str:
-    return f"is no table that is there: {', '.join(answer.tables) or 'there is none'}"
+    there = ", ".join(answer.tables)
+    return f"is no table that is there: {there}" if there else "is no table: a `table` record is to make it before"
 
 
 def no_column(field: Field, answer: Answer) -> str:
