@@ -162,17 +162,22 @@ pub(crate) fn answer_of(outcome: Result<Answer, Failure>) -> Result<Answer, NoMe
 }
 
 /// Prints an answer; tells how many records of it tell of a refusal.
-fn print_answer(printer: &mut AnswerWriter, answer: &Answer) -> Result<u64, NoMemory>
+fn print_answer<T: Threads + Sync>(
+    crew: &Crew<'_, T, OpenGate>,
+    printer: &mut AnswerWriter,
+    answer: &Answer,
+) -> Result<u64, NoMemory>
     requires { printer.old.fields ≡ [] }
     ensures printed { IfOk result (PrintsAnswer answer.now printer.old printer.new) }
     ensures few { IfOk result (λ errors. errors ≤ 1) }
 {
-    printer.print(answer)?;
+    printer.print(crew, answer)?;
     Ok(answer.refusals())
 }
 
 /// Prints the answer, where there is one; tells how many records of it tell of a refusal.
-pub(crate) fn print_given(
+pub(crate) fn print_given<T: Threads + Sync>(
+    crew: &Crew<'_, T, OpenGate>,
     printer: &mut AnswerWriter,
     given: Result<Answer, NoMemory>,
 ) -> Result<u64, NoMemory>
@@ -183,7 +188,7 @@ pub(crate) fn print_given(
     ensures few { IfOk result (λ errors. errors ≤ 1) }
 {
     match given {
-        Ok(answer) => print_answer(printer, &answer),
+        Ok(answer) => print_answer(crew, printer, &answer),
         Err(error) => Err(error),
     }
 }
@@ -205,7 +210,7 @@ pub(crate) fn answer_query<T: Threads + Sync>(
     ensures few { IfOk result (λ errors. errors ≤ 1) }
 {
     let answer = answer_of(query(context, number, command));
-    print_given(printer, answer)
+    print_given(context.crew, printer, answer)
 }
 
 /// Does a command, whose first record has this number, and prints its answer; tells how many records of it tell of a
@@ -228,5 +233,5 @@ pub(crate) fn answer_command<T: Threads + Wait + Sync>(
     ensures left { left_in ledger.old ≤ left_in ledger.new + 2 }
 {
     let answer = answer_of(perform(crew, ledger, number, command));
-    print_given(printer, answer)
+    print_given(crew, printer, answer)
 }

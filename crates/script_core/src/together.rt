@@ -213,7 +213,8 @@ fn cut_at<'a>(block: Section<'a>, place: usize) -> BlockCut<'a>
 
 /// Prints the answer to a block's load, where there is one, and adds the answers to the queries behind it; tells how
 /// many records of the load's answer tell of a refusal.
-fn print_load(
+fn print_load<T: Threads + Sync>(
+    crew: &Crew<'_, T, OpenGate>,
     printer: &mut AnswerWriter,
     load: Result<Answer, NoMemory>,
     later: AnswerWriter,
@@ -223,14 +224,15 @@ fn print_load(
     ensures printed { IfOk result (PrintsBefore load printer.old later printer.new) }
     ensures few { IfOk result (λ errors. errors ≤ 1) }
 {
-    let errors = print_given(printer, load)?;
+    let errors = print_given(crew, printer, load)?;
     printer.append(later)?;
     Ok(errors)
 }
 
 /// Prints what comes behind the answers to the queries before a block's load, if all of it is there, and tells what is
 /// told of the whole block.
-fn print_behind(
+fn print_behind<T: Threads + Sync>(
+    crew: &Crew<'_, T, OpenGate>,
     printer: &mut AnswerWriter,
     queries: Result<(Outcome, Outcome), NoMemory>,
     load: Result<Answer, NoMemory>,
@@ -242,7 +244,7 @@ fn print_behind(
     ensures { IfOk result (PrintsBehind queries load printer.old later printer.new) }
 {
     let (before, behind) = queries?;
-    let errors = print_load(printer, load, later)?;
+    let errors = print_load(crew, printer, load, later)?;
     Ok(Outcome {
         commands: before.commands + behind.commands + 1,
         errors: before.errors + behind.errors + errors,
@@ -272,7 +274,7 @@ fn answer_beside_load<T: Threads + Wait + Sync>(
 {
     let mut later = AnswerWriter::new(context.crew.alloc);
     let (queries, load) = answer_both(context, ledger, block, printer, &mut later);
-    print_behind(printer, queries, load, later)
+    print_behind(context.crew, printer, queries, load, later)
 }
 
 /// Answers the commands of a block, each query from what all commits showed at the block's beginning.

@@ -15,7 +15,7 @@ use Rattle.script_core.proofs.Blocks.{block-printed, first-asks, printed-fields,
 use Rattle.script_core.proofs.together.answer_beside_load.Goals as goal
 
 pub print_behind-requires-clause-queries : goal.print_behind-requires-clause-queries
-print_behind-requires-clause-queries g c =
+print_behind-requires-clause-queries g c = λ κs outlives.
     let block = c.args.block.now in
     let newest = history c.args.context.now.newest.now in
     sections-joined newest block.front.first block.back.first
@@ -25,7 +25,7 @@ print_behind-requires-clause-queries g c =
     c.answer_both-queries.ensures.front c.answer_both-queries.ensures.back
 
 pub print_behind-requires-clause-here : goal.print_behind-requires-clause-here
-print_behind-requires-clause-here g c =
+print_behind-requires-clause-here g c = λ κs outlives.
     let cut = c.requires.whole.1 in
     IfOk-weaker c.answer_both-queries.result.0 _ _
     (λ told section. printed-fields (history c.args.context.now.newest.now) (placed_in true cut.front)
@@ -33,7 +33,7 @@ print_behind-requires-clause-here g c =
     c.answer_both-queries.ensures.front
 
 pub print_behind-requires-clause-there : goal.print_behind-requires-clause-there
-print_behind-requires-clause-there g c =
+print_behind-requires-clause-there g c = λ κs outlives.
     let cut = c.requires.whole.1 in
     IfOk-weaker c.answer_both-queries.result.0 _ _
     (λ told section. printed-fields (history c.args.context.now.newest.now) (placed_in true cut.back)

@@ -2,7 +2,7 @@ use Rattle.std.proofs.Common.{refl}
 use Rattle.script_core.proofs.together.print_behind.Goals as goal
 
 pub returns : goal.returns
-returns c = record {
+returns g c = record {
   queried = (c.in_ok-before.before, c.in_ok-before.behind);
   queries_are = c.in_ok-before.was;
   errors = c.in_ok-errors.errors;
