@@ -1,6 +1,7 @@
 pub mod Changing
 pub mod Answering
 pub mod Loading
+pub mod RowLemmas
 pub mod Ranges
 pub mod AnswerUniqueness
 pub mod AnswerExistence

@@ -1,7 +1,8 @@
 //! The rows of a load.
-ghost use Rattle.std.specs.Prelude.{◌≡◌, ◌+◌, ◌<◌, ◌^◌, IfOk, OnOk, Ok, MatchResult, drop, length, map};
+ghost use Rattle.std.specs.Prelude.{◌≡◌, ◌+◌, ◌<◌, ◌^◌, ◌++◌, ◌∷◌, [], IfOk, OnOk, Ok, MatchResult, drop, length, map};
 ghost use Rattle.std.specs.List.{enumerate_from};
 ghost use Rattle.share_core.specs.Pieces.{piece};
+ghost use Rattle.row_core.specs.declared.draft.Draft.{Draft as AnyDraft};
 ghost use Rattle.script_core.specs.Failure.{IsFailureOf, IsRecordFailure};
 ghost use Rattle.command_core.specs.Lines.{fields_in, lines_in};
 ghost use Rattle.script_core.specs.Effects.{loaded_row, loaded_rows};
@@ -10,7 +11,7 @@ ghost use Rattle.script_core.specs.Loads.{all_drafts, drafts_of, drafts_told};
 use crate::failure::{Failure, failure_at, refused};
 use command_core::{Fault, Line, Lines, Refusal, begins};
 use period_core::NoMemory;
-use row_core::{Draft, Drafts, Schema};
+use row_core::{Draft, Drafts, RowReader, Schema};
 use share_core::{Range, Shares, shared_out};
 use std::alloc::{AllocError, Global};
 use std::thread::Threads;
@@ -29,26 +30,27 @@ fn take_fields<'a>(fields: &mut Vec<&'a [u8]>, line: Line<'a>) -> Result<(), All
     Ok(())
 }
 
-/// The row that a record of a load gives, whose number is this one. The record's fields are kept in `fields`, whose
-/// room serves one record after another.
-fn loaded_row<'a>(
-    alloc: Global,
-    schema: &Schema,
+/// The rows so far, and that of one more record of a load, whose number is this one. The record's
+/// fields are kept in `fields`, whose room serves one record after another.
+fn read_next<'a, 's>(
+    reader: RowReader<'s>,
     fields: &mut Vec<&'a [u8]>,
     line: Line<'a>,
     number: u64,
-) -> Result<Draft, Failure>
+) -> Result<RowReader<'s>, Failure>
     ensures { MatchResult result
-        (λ row. loaded_row schema.now (fields_in line.entry) ≡ Ok row)
-        (IsRecordFailure number (loaded_row schema.now (fields_in line.entry))) }
+        (λ more. (row : AnyDraft) × (loaded_row reader.entry.columns (fields_in line.entry) ≡ Ok row)
+        × (more ≡ record reader.entry { rows = reader.entry.rows ++ row ∷ [] }))
+        (IsRecordFailure number (loaded_row reader.entry.columns (fields_in line.entry))) }
 {
     if !begins(line, b"row") {
         return Err(refused(number, Refusal::BadCommand));
     }
     take_fields(fields, line)?;
-    schema
-        .read_row(alloc, fields)
-        .map_err(|why| failure_at(number, why))
+    match reader.read(fields) {
+        Ok(more) => Ok(more),
+        Err(why) => Err(failure_at(number, why)),
+    }
 }
 
 /// The rows of some records of a load, the first of them of this number.
@@ -63,14 +65,13 @@ fn rows_of_records(
         (λ rows. loaded_rows schema.now number (lines_in lines.entry) ≡ Ok rows.items)
         (IsFailureOf (loaded_rows schema.now number (lines_in lines.entry))) }
 {
-    let mut rows = Vec::new(alloc);
+    let mut reader = RowReader::new(alloc, schema);
     let mut fields = Vec::new(alloc);
     for place in 0..lines.len() {
         let line = lines.get(place);
-        let row = loaded_row(alloc, schema, &mut fields, line, number + place as u64)?;
-        rows.push(row)?;
+        reader = read_next(reader, &mut fields, line, number + place as u64)?;
     }
-    Ok(rows)
+    Ok(reader.into_rows()?)
 }
 
 /// The rows of a load's records at some places, or the fault of the first of them that has one; the load's first record

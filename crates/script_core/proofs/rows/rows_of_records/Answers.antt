@@ -1,24 +1,33 @@
-use Rattle.std.proofs.Common.{◌∙◌}
+use Rattle.std.proofs.Common.{◌≡◌, ◌∙◌, ap, sym}
 use Rattle.std.proofs.lemmas.Result.{err_from_is_err_and}
+use Rattle.row_core.specs.Blocks.{RowsRead}
 use Rattle.command_core.specs.Lines.{fields_in, lines_in}
 use Rattle.script_core.specs.Effects.{loaded_row, loaded_rows}
 use Rattle.script_core.proofs.Loading.{behind-failed, behind-more}
 use Rattle.script_core.proofs.rows.rows_of_records.Goals as goal
 
-pub returns-in_err-row : goal.returns-in_err-row
-returns-in_err-row c =
+pub returns-in_err-reader : goal.returns-in_err-reader
+returns-in_err-reader c =
     let columns = c.args.schema.now in
     let lines = lines_in c.args.lines in
+    let (same, sofar) = c.loop-place.invariant in
     let p = err_from_is_err_and c.from_residual.result c.from_residual.ensures.1 in
     rw (p.1, p.2)
     (behind-failed (loaded_row columns) c.args.number c.loop-place.place lines
-    (fields_in c.get-line.result) c.loop-place.rows.items
-    (loaded_rows columns c.args.number lines) c.in_err-row.field-0.0 c.get-line.ensures c.loop-place.invariant
-    c.in_err-row.ensures)
+    (fields_in c.get-line.result) c.loop-place.reader.rows
+    (loaded_rows columns c.args.number lines) c.in_err-reader.field-0.0 c.get-line.ensures sofar
+    (rw (sym same) c.in_err-reader.ensures))
 
 pub loop-place-preserved : goal.loop-place-preserved
 loop-place-preserved c =
-    rw c.in_ok-push.ensures.items
-    (c.loop-place.invariant
-    ∙ behind-more (loaded_row c.args.schema.now) c.args.number c.loop-place.place (lines_in c.args.lines)
-    (fields_in c.get-line.result) c.loop-place.rows.items c.in_ok-row.row c.get-line.ensures c.in_ok-row.ensures)
+    let columns = c.args.schema.now in
+    let lines = lines_in c.args.lines in
+    let (same, sofar) = c.loop-place.invariant in
+    let (row, read, more) = c.in_ok-reader.ensures in (
+      ap (λ (r : RowsRead). r.columns) more ∙ same,
+      rw (ap (λ (r : RowsRead). r.rows) more)
+          (sofar
+          ∙ behind-more (loaded_row columns) c.args.number c.loop-place.place lines
+          (fields_in c.get-line.result) c.loop-place.reader.rows row c.get-line.ensures
+          (ap (λ l. loaded_row l (fields_in c.get-line.result)) (sym same) ∙ read)),
+    )

@@ -7,5 +7,6 @@ use Rattle.script_core.proofs.rows.rows_of_records.Given as goal
 
 abbrev pub invariant-loop-place : goal.invariant-loop-place
 invariant-loop-place l =
-    loaded_rows l.schema l.number (lines_in l.lines) ≡ behind l.rows.items
-    (loaded_rows l.schema (l.number + l.place) (drop l.place (lines_in l.lines)))
+    (l.reader.columns ≡ l.schema)
+    × (loaded_rows l.schema l.number (lines_in l.lines) ≡ behind l.reader.rows
+    (loaded_rows l.schema (l.number + l.place) (drop l.place (lines_in l.lines))))

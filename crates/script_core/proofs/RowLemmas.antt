@@ -1,0 +1,59 @@
+-- One more row of a load, read behind others.
+use Rattle.std.proofs.Common.{◌≡◌, ◌∙◌, ℕ, List, [], ◌∷◌, ◌++◌, Result, Ok, Err, true, ap, drop, refl, sym}
+use Rattle.std.specs.Prelude.{codes}
+use Rattle.row_core.specs.Blocks.{RowsRead}
+use Rattle.row_core.specs.Reading.{row_of}
+use Rattle.row_core.specs.Refusals.{IsAnswer, map_err, map_ok}
+use Rattle.row_core.specs.declared.draft.Draft.{Draft}
+use Rattle.row_core.specs.declared.failure.Failure as row
+use Rattle.row_core.specs.declared.failure.Failure.TheVariants.{NoMemory, Refused}
+use Rattle.row_core.specs.declared.reading.RowRefused.{RowRefused}
+use Rattle.command_core.specs.Records.{Record}
+use Rattle.command_core.specs.Words.{begins}
+use Rattle.command_core.specs.declared.refusal.Refusal.{Refusal}
+use Rattle.script_core.specs.Effects.{loaded_row}
+use Rattle.script_core.specs.Failure.{IsRecordFailure, failure_at}
+use Rattle.script_core.specs.Refusal.{row_refusal}
+
+-- those that were read, and one more
+abbrev with_row : RowsRead → Draft → RowsRead
+with_row before row = record before { rows = before.rows ++ row ∷ [] }
+
+-- a record of a load that begins with its word is what its other fields give
+row_told : (before : RowsRead) (line fields : Record) (read : Result Draft RowRefused)
+    → begins (codes "row") line ≡ true → fields ≡ drop 1 line → row_of before.columns fields ≡ read
+    → loaded_row before.columns line ≡ map_err row_refusal read
+row_told before line fields read word behind is =
+    rw word (ap (λ l. map_err row_refusal (row_of before.columns l)) (sym behind) ∙ ap (map_err row_refusal) is)
+
+-- one more was read
+pub read-more : (before more : RowsRead) (line fields : Record) → begins (codes "row") line ≡ true
+    → fields ≡ drop 1 line → map_ok (with_row before) (row_of before.columns fields) ≡ Ok more
+    → (row : Draft) × (loaded_row before.columns line ≡ Ok row) × (more ≡ with_row before row)
+read-more before more line fields word behind = found (row_of before.columns fields) refl
+  where
+    found : (read : Result Draft RowRefused) → row_of before.columns fields ≡ read
+        → map_ok (with_row before) read ≡ Ok more
+        → (row : Draft) × (loaded_row before.columns line ≡ Ok row) × (more ≡ with_row before row)
+    found (Ok row) is same = (row, row_told before line fields (Ok row) word behind is, cc)
+    found (Err why) is same = absurd (cc)
+
+-- it is refused, or memory is
+pub read-failed : (number : ℕ) (before : RowsRead) (line fields : Record) (why : row.Failure RowRefused)
+    → begins (codes "row") line ≡ true → fields ≡ drop 1 line
+    → IsAnswer {T = RowsRead} (map_ok (with_row before) (row_of before.columns fields)) (Err why)
+    → IsRecordFailure number (loaded_row before.columns line) (failure_at number row_refusal why)
+read-failed number before line fields NoMemory word behind given = tt
+read-failed number before line fields (Refused refusal) word behind given =
+    found (row_of before.columns fields) refl given
+  where
+    found : (read : Result Draft RowRefused) → row_of before.columns fields ≡ read
+        → map_ok (with_row before) read ≡ Err refusal
+        → IsRecordFailure number (loaded_row before.columns line) (failure_at number row_refusal (Refused refusal))
+    found (Ok row) is same = absurd (cc)
+    found (Err other) is same =
+        let one : other ≡ refusal = cc in (
+          row_refusal refusal,
+          row_told before line fields (Err other) word behind is ∙ ap (λ e. Err (row_refusal e)) one,
+          refl,
+        )
