@@ -1,5 +1,5 @@
 -- One more row of a load, read behind others.
-use Rattle.std.proofs.Common.{◌≡◌, ◌∙◌, ℕ, List, [], ◌∷◌, ◌++◌, Result, Ok, Err, true, ap, drop, refl, sym}
+use Rattle.std.proofs.Common.{◌≡◌, ◌∙◌, ℕ, [], ◌∷◌, ◌++◌, Result, Ok, Err, true, ap, drop, refl, sym}
 use Rattle.std.specs.Prelude.{codes}
 use Rattle.row_core.specs.Blocks.{RowsRead}
 use Rattle.row_core.specs.Reading.{row_of}
@@ -10,7 +10,6 @@ use Rattle.row_core.specs.declared.failure.Failure.TheVariants.{NoMemory, Refuse
 use Rattle.row_core.specs.declared.reading.RowRefused.{RowRefused}
 use Rattle.command_core.specs.Records.{Record}
 use Rattle.command_core.specs.Words.{begins}
-use Rattle.command_core.specs.declared.refusal.Refusal.{Refusal}
 use Rattle.script_core.specs.Effects.{loaded_row}
 use Rattle.script_core.specs.Failure.{IsRecordFailure, failure_at}
 use Rattle.script_core.specs.Refusal.{row_refusal}

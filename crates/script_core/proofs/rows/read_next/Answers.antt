@@ -1,4 +1,4 @@
-use Rattle.std.proofs.Common.{Bor, ◌≡◌, ◌∙◌, List, ℕ, ap, drop, map, sym}
+use Rattle.std.proofs.Common.{Bor, ◌∙◌, List, ℕ, ap, map, sym}
 use Rattle.command_core.specs.Lines.{fields_in}
 use Rattle.script_core.proofs.RowLemmas.{read-failed, read-more}
 use Rattle.script_core.proofs.rows.read_next.Goals as goal
