@@ -132,6 +132,11 @@ pub(crate) fn loaded_rows<T: Threads + Sync>(
 {
     let Crew { rt, alloc, .. } = *crew;
     let shares = Shares::of(alloc, lines.len(), crew.workers, &|place: usize| place)?;
+    if shares.len() == 1 {
+        // Most loads are of a row or a few, which no list of ranges is made for.
+        let rows = rows_of_records(alloc, schema, lines, number)?;
+        return Ok(Drafts::from(rows));
+    }
     let ranges = shared_out(
         rt,
         alloc,
