@@ -2,7 +2,6 @@
 
 ghost use Rattle.std.specs.Prelude.{◌≡◌, ◌≤◌, IfOk, None, length, map};
 ghost use Rattle.dip_core.specs.Item.{item_limit};
-ghost use Rattle.list_core.specs.Chunks.{all_in};
 ghost use Rattle.share_core.specs.Pieces.{piece};
 ghost use Rattle.agg_core.specs.Agg.{AreAggRows};
 ghost use Rattle.agg_core.specs.Entries.{amount_at, value_at_place};
@@ -12,6 +11,7 @@ use crate::func::Asked;
 use crate::groups::amount_item;
 use crate::rows::{AggRows, AggShare};
 use dip_core::Item;
+use list_core::in_one_list;
 use period_core::NoMemory;
 use round_core::plateaus_of;
 use row_core::Row;
@@ -28,21 +28,6 @@ fn items_of_piece(alloc: Global, rows: &[Row], amount: Option<u32>) -> Result<Ve
     let mut items = Vec::with_capacity(alloc, rows.len())?;
     for row in rows {
         items.push(amount_item(row, amount, 0))?;
-    }
-    Ok(items)
-}
-
-/// The items of some lists in one of them, behind one another.
-fn in_one_list(alloc: Global, lists: Vec<Vec<Item>>) -> Result<Vec<Item>, NoMemory>
-    ensures { IfOk result (λ items. items.items ≡ all_in lists.items) }
-{
-    let mut items = Vec::new(alloc);
-    for mut list in lists {
-        if items.is_empty() {
-            items = list;
-        } else {
-            items.append(&mut list)?;
-        }
     }
     Ok(items)
 }

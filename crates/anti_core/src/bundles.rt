@@ -10,10 +10,10 @@ ghost use Rattle.work_core.specs.Limits.{worker_limit};
 ghost use Rattle.anti_core.specs.ItemAnti.{AreItemsRows};
 
 use crate::item_rows::rows_of_items;
-use crate::lists::in_one_list;
 use crate::rows::AntiRow;
 use dip_core::Item;
 use grid_core::{class_shares, items_from, items_in, last_class, parted_behind};
+use list_core::in_one_list;
 use period_core::NoMemory;
 use share_core::{Range, shared_out};
 use std::thread::Threads;

@@ -13,13 +13,13 @@ ghost use Rattle.work_core.specs.Limits.{worker_limit};
 ghost use Rattle.anti_core.specs.ItemAnti.{AreItemsRows, row_of_gap};
 ghost use Rattle.anti_core.specs.PairGaps.{AreGapsFrom};
 
-use crate::lists::in_one_list;
 use crate::pairs::GapPairs;
 use crate::part_gaps::{add_rows_of_pair, gaps_of_part};
 use crate::rows::{AntiRow, add_rows};
 use crate::supply::Supply;
 use dip_core::{Division, Item};
 use grid_core::divided;
+use list_core::in_one_list;
 use period_core::NoMemory;
 use share_core::{Range, Shares, piece, shared_out};
 use std::thread::Threads;

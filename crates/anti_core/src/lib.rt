@@ -10,7 +10,6 @@ mod class_rows;
 mod classed_rows;
 mod item_rows;
 mod laws;
-mod lists;
 mod ordering;
 mod pairs;
 mod part_gaps;

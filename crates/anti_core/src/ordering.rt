@@ -8,8 +8,8 @@ ghost use Rattle.share_core.specs.Ranges.{has};
 ghost use Rattle.anti_core.specs.Anti.{AntiRowBefore};
 ghost use Rattle.anti_core.specs.Ordering.{IsRowOf};
 
-use crate::lists::in_one_list;
 use crate::rows::{AntiRow, AntiRows};
+use list_core::in_one_list;
 use period_core::NoMemory;
 use row_core::Row;
 use share_core::{Range, Shares, shared_out};

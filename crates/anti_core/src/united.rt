@@ -7,8 +7,8 @@ ghost use Rattle.share_core.specs.Pieces.{piece};
 ghost use Rattle.anti_core.specs.United.{RunsInto, IsMerged, IsPlain, IsUnion, StandByClass};
 
 use crate::classed_rows::ClassedRows;
-use crate::lists::in_one_list;
 use dip_core::Item;
+use list_core::in_one_list;
 use match_core::items_in_range;
 use period_core::{NoMemory, Period};
 use row_core::Row;

@@ -61,7 +61,8 @@ impl FlatFields {
     pub(crate) fn append(&mut self, row: &ByteRecord) -> Result<(), NoMemory>
         requires whole { IsRecord row.now }
         requires few { size_of self.old + size_of (fields_of row.now) < 2 ^ 32 }
-        ensures { OnOk result (self.new ≡ self.old ++ fields_of row.now) }
+        ensures ok { OnOk result (self.new ≡ self.old ++ fields_of row.now) }
+        ensures err { OnErr result (self.new ≡ self.old) }
     {
         let count = self.ends.len();
         let start = self.bytes.len();

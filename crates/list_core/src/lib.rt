@@ -4,12 +4,14 @@
 //! that is wanted, in order.
 
 mod chunked;
+mod chunks;
 mod copy;
 mod cut;
 mod list;
 mod room;
 
 pub use chunked::ChunkedList;
+pub use chunks::in_one_list;
 pub use copy::{DeepCopy, copy_each};
 pub use cut::start_at;
 pub use list::List;

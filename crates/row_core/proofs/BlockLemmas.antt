@@ -1,6 +1,6 @@
 -- Rows whose values lie side by side, one more behind the others.
 use Rattle.std.proofs.Common.{arith, ◌≡◌, ℕ, List, [], ◌∷◌, ◌++◌, Ok, length, take, drop, refl, sym, ap, take_all}
-use Rattle.std.proofs.lemmas.List.{take-append-le, drop-append-le, length-append}
+use Rattle.std.proofs.lemmas.List.{take-append-le, drop-append-le, drop_all, length-append}
 use Rattle.period_core.specs.declared.period.Period.{Period}
 use Rattle.row_core.specs.Blocks.{AreBeside, RowsRead, rows_beside}
 use Rattle.row_core.specs.Reading.{row_of}
@@ -12,16 +12,12 @@ use Rattle.row_core.specs.declared.value.Value.{Value}
 draft_of : Period → List Value → Draft
 draft_of period values = record { period = period; values = values }
 
-drop_all : (values : List Value) → drop (length values) values ≡ []
-drop_all [] = refl
-drop_all (v ∷ vs) = drop_all vs
-
 -- one more row's values
 pub AreBeside-push : (width : ℕ) (periods : List Period) (values : List Value) (period : Period) (more : List Value)
     → length more ≡ width → AreBeside width periods values
     → AreBeside width (periods ++ period ∷ []) (values ++ more)
 AreBeside-push width [] values period more len none = rw none
-    (omega (arith, len), rw (sym len) (drop_all more))
+    (omega (arith, len), drop_all width more (omega (arith, len)))
 AreBeside-push width (p ∷ ps) values period more len (room, rest) =
     let all = length-append values more in (
       omega (arith, room, all),

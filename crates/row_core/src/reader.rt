@@ -1,4 +1,4 @@
-//! Rows that are read one after another, with the values of some hundred side by side.
+//! Rows that are read one after another, with the values of many side by side.
 
 ghost use Rattle.std.specs.Prelude.{◌≡◌, ◌<◌, ◌^◌, ◌++◌, ◌∷◌, [], length, map, IfOk, OnOk};
 ghost use Rattle.row_core.specs.Blocks.{AreBeside, rows_beside};

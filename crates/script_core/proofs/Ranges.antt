@@ -19,8 +19,8 @@ use Rattle.command_core.specs.Records.{Record}
 use Rattle.command_core.specs.Refusal.{fault}
 use Rattle.command_core.specs.declared.refusal.Fault.{Fault}
 use Rattle.command_core.specs.declared.refusal.Refusal.{Refusal}
-use Rattle.script_core.specs.Effects.{told_by}
-use Rattle.script_core.specs.Loads.{all_drafts, drafts_of, told_of}
+use Rattle.script_core.specs.Effects.{told_by, told_each}
+use Rattle.script_core.specs.Loads.{all_drafts, drafts_of}
 use Rattle.script_core.proofs.Loading.{behind}
 
 -- the numbered items from a place on
@@ -68,13 +68,13 @@ piece-part places from to xs end start =
 pub told-part : {T : Type 0} (read : Record → Result T Refusal) (places : Range ℕ) (number from to n : ℕ)
     (lines part : List Record) → n ≡ length lines → to ≡ min (unwrap_or places.before n) n
     → from ≡ min (unwrap_or places.from 0) to → part ≡ take (to - from) (drop from lines)
-    → told_of read (piece places (enumerate_from number lines)) ≡ told_by read (number + from) part
+    → told_each read (piece places (enumerate_from number lines)) ≡ told_by read (number + from) part
 told-part read places number from to n lines part size end start is =
     let numbered = enumerate_from number lines in
     let count : n ≡ length numbered = size ∙ sym (length-enumerate_from number lines) in
     let within : to ≡ min (unwrap_or places.before (length numbered)) (length numbered) =
     end ∙ ap (λ k. min (unwrap_or places.before k) k) count in
-    ap (told_of read)
+    ap (told_each read)
     (piece-part places from to numbered within start
     ∙ ap (take (to - from)) (drop-enumerate_from from number lines)
     ∙ take-enumerate_from (to - from) (number + from) (drop from lines)
@@ -138,19 +138,19 @@ pub ranges-all : (read : Record → Result Draft Refusal) (numbered : List (ℕ 
     (post : Range ℕ → ℕ → Result (Result (Vec Draft Global) Fault) AllocError → Type 0)
     (cuts : List (Cut ℕ)) (ranges : List (Result (Vec Draft Global) Fault))
     → ((places : Range ℕ) (n : ℕ) (own : Result (Vec Draft Global) Fault) → post places n (Ok own)
-    → told_of read (piece places numbered) ≡ drafts_of own)
-    → GivesFrom nat_cmp (Gives post) None cuts ranges → all_drafts ranges ≡ told_of read numbered
+    → told_each read (piece places numbered) ≡ drafts_of own)
+    → GivesFrom nat_cmp (Gives post) None cuts ranges → all_drafts ranges ≡ told_each read numbered
 ranges-all read numbered post cuts ranges told given =
     all_come nat_cmp (Gives post)
     (λ (places : Range ℕ) (all : List (Result (Vec Draft Global) Fault)).
-    all_drafts all ≡ told_of read (piece places numbered))
+    all_drafts all ≡ told_each read (piece places numbered))
     (λ places own gave. all_drafts-one own ∙ sym (told places gave.0 own gave.1))
     (λ from at own more begun one others.
     let near = piece (range from (Some at)) numbered in
     let far = piece (range (Some at) None) numbered in
     all_drafts-range own more
     ∙ ap (λ r. then_rest r (all_drafts more)) (sym (told (range from (Some at)) one.0 own one.1))
-    ∙ ap (then_rest (told_of read near)) others
+    ∙ ap (then_rest (told_each read near)) others
     ∙ sym (read_each-append (λ line. map_err (fault line.0) (read line.1)) near far)
-    ∙ ap (told_of read) (sym (piece_cut from at numbered begun)))
+    ∙ ap (told_each read) (sym (piece_cut from at numbered begun)))
     None cuts ranges given

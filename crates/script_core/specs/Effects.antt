@@ -51,9 +51,13 @@ make_in number h name columns = change_in number h (change.Make name columns)
 abbrev pub columns_told : ℕ → History → List ℕ → Result (List Column) Fault
 columns_told number h name = ok_or (schema_in h name) (fault number NoTable)
 
--- what records give, each read alone, the first of them of this number, or the first fault
+-- what numbered records give, each read alone, or the first fault
+abbrev pub told_each : {T : Type 0} → (Record → Result T Refusal) → List (ℕ × Record) → Result (List T) Fault
+told_each read lines = read_each (λ line. map_err (fault line.0) (read line.1)) lines
+
+-- what records give, the first of them of this number
 abbrev pub told_by : {T : Type 0} → (Record → Result T Refusal) → ℕ → List Record → Result (List T) Fault
-told_by read number lines = read_each (λ line. map_err (fault line.0) (read line.1)) (enumerate_from number lines)
+told_by read number lines = told_each read (enumerate_from number lines)
 
 -- the row that a record of a load gives
 abbrev pub loaded_row : List Column → Record → Result Draft Refusal

@@ -2,22 +2,16 @@
 use Rattle.std.specs.Prelude.{ℕ, List, Result}
 use Rattle.std.specs.Global.{Vec}
 use Rattle.list_core.specs.Chunks.{all_in}
-use Rattle.row_core.specs.Refusals.{map_err, map_ok, read_each}
+use Rattle.row_core.specs.Refusals.{map_ok, read_each}
 use Rattle.row_core.specs.declared.draft.Draft.{Draft}
 use Rattle.row_core.specs.declared.schema.Column.{Column}
 use Rattle.command_core.specs.Records.{Record}
-use Rattle.command_core.specs.Refusal.{fault}
 use Rattle.command_core.specs.declared.refusal.Fault.{Fault}
-use Rattle.command_core.specs.declared.refusal.Refusal.{Refusal}
-use Rattle.script_core.specs.Effects.{loaded_row}
-
--- what numbered records give, each read alone, or the first fault
-abbrev pub told_of : {T : Type 0} → (Record → Result T Refusal) → List (ℕ × Record) → Result (List T) Fault
-told_of read numbered = read_each (λ line. map_err (fault line.0) (read line.1)) numbered
+use Rattle.script_core.specs.Effects.{loaded_row, told_each}
 
 -- the rows of numbered records of a load, or the first fault
 abbrev pub drafts_told : List Column → List (ℕ × Record) → Result (List Draft) Fault
-drafts_told columns numbered = told_of (loaded_row columns) numbered
+drafts_told columns numbered = told_each (loaded_row columns) numbered
 
 -- the rows of a range, or its fault
 abbrev pub drafts_of : Result (Vec Draft) Fault → Result (List Draft) Fault

@@ -50,7 +50,7 @@ loop-fields-preserved c =
     (λ (s : Bor (List ℕ)). Some s.now) c.loop-fields.reader c.read_byte_record.new.self row default_config
     st.StartRecord
     (strip_bom c.args.script.now) inv.left (cut 0 ends before) inv.config inv.source inv.reached read in
-    let added = c.in_ok-append-in-Ok-true.ensures in
+    let added = c.in_ok-append-in-Ok-true.ensures.ok in
     let size : c.len.result ≡ length before + length row =
     c.len.ensures ∙ (ap length added ∙ length-append before row) in
     let pushed = c.in_ok-push-in-Ok-true.ensures.items in
@@ -88,7 +88,7 @@ overflow_cast-len c =
       arith,
       few.1,
       c.len.ensures,
-      ap length c.in_ok-append-in-Ok-true.ensures,
+      ap length c.in_ok-append-in-Ok-true.ensures.ok,
       length-append c.loop-fields.fields row,
     )
 

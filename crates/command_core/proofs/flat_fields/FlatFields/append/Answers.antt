@@ -31,8 +31,8 @@ invariant_of-self-in_default c =
     c.in_ok-end.end c.requires.whole c.self.invariant start c.in_ok-end.ensures.last c.as_slice.ensures
     c.in_ok-end.ensures.ok c.in_default.ensures.items).0
 
-pub returns : goal.returns
-returns c =
+pub returns-clause-ok : goal.returns-clause-ok
+returns-clause-ok c =
     let bytes = c.self.inside.bytes in
     let start : c.len-start.result ≡ length bytes.items = omega (arith, c.len-start.ensures, bytes.ok) in
     (appended c.args.row.now c.self.inside.ends.items bytes.items _ _ c.as_slice.result.now c.len-start.result

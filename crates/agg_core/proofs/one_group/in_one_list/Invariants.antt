@@ -1,7 +1,0 @@
-use Rattle.std.proofs.Common.{◌≡◌}
-use Rattle.list_core.specs.Chunks.{all_in}
-use Rattle.agg_core.proofs.one_group.in_one_list.Given as goal
-
--- those of the lists so far are there
-abbrev pub invariant-loop-list : goal.invariant-loop-list
-invariant-loop-list l = l.items.items ≡ all_in l.yielded
