@@ -38,7 +38,7 @@ pub(crate) fn items_of_sides<R: Threads + Sync, G>(
 {
     let (rt, alloc, workers) = (crew.rt, crew.alloc, crew.workers);
     if workers < 2 || left.rows.len().min(right.rows.len()) < ROWS_FOR_THREAD {
-        let lefts = left_items(alloc, left.rows, left.classes, range)?;
+        let lefts = left_items(rt, alloc, left.rows, left.classes, range)?;
         let united = united_rows(rt, alloc, right, range, workers)?;
         return Ok((lefts, united));
     }
@@ -54,20 +54,21 @@ pub(crate) fn items_of_sides<R: Threads + Sync, G>(
                 IsUnion (items_in_range range rows.entry.now classes.entry.now) united.items) }
         { united_rows(rt, alloc, &ClassedRows { rows, classes }, range, others) },
         || -> Result<Vec<Item>, NoMemory>
-            requires { length left_rows.now ≤ length left_classes.now }
+            requires { IsSync R.row × (length left_rows.now ≤ length left_classes.now) }
             ensures { IfOk result (λ items.
                 IsPermutation (items_in_range range left_rows.entry.now left_classes.entry.now)
                 items.items
                 × ClassesRise items.items) }
-        { left_items(alloc, left_rows, left_classes, range) },
+        { left_items(rt, alloc, left_rows, left_classes, range) },
     );
     let united = united?;
     let lefts = lefts?;
     Ok((lefts, united))
 }
 
-/// The left items, by class.
-fn left_items(
+/// The left items, by class: one worker puts them so.
+fn left_items<R: Threads + Sync>(
+    rt: &R,
     alloc: Global,
     rows: &[Row],
     classes: &[u64],
@@ -79,6 +80,6 @@ fn left_items(
     ensures sorted { IfOk result (λ items. ClassesRise items.items) }
 {
     let mut items = items_in_range(alloc, rows, classes, range)?;
-    order_by_class(&mut items);
+    order_by_class(rt, &mut items, 1);
     Ok(items)
 }

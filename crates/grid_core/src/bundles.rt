@@ -11,6 +11,7 @@ ghost use Rattle.grid_core.specs.Bundles.{AreFromClass, ArePartedAt, ClassesRise
 use dip_core::{Division, Item, create_dip};
 use period_core::NoMemory;
 use share_core::{Range, Shares};
+use sort_core::sort_unstable_by_key;
 use std::alloc::Global;
 use std::thread::Threads;
 use work_core::Crew;
@@ -19,12 +20,12 @@ use work_core::Crew;
 /// to answer, and of more many pairs of parts would share no class.
 const BUNDLE_ITEMS: usize = 16;
 
-/// Puts the items by class.
-pub fn order_by_class(items: &mut Vec<Item>)
+/// Puts the items by class, on threads where they are many and there are several workers.
+pub fn order_by_class<R: Threads + Sync>(rt: &R, items: &mut Vec<Item>, workers: u32)
     ensures permutation { IsPermutation items.old.items items.new.items }
     ensures sorted { ClassesRise items.new.items }
 {
-    items.sort_unstable_by_key(|item| item.class);
+    sort_unstable_by_key(rt, items, |item| item.class, workers);
 }
 
 /// The last class of the bundle that begins with that item of either side: a bundle of several classes has no more of

@@ -66,8 +66,8 @@ pub(crate) fn join_items<R: Threads + Sync, G: Gate>(
         → IsLeast (map unclassed right.items) m → IsWithin k m (length left.items)
         (length right.items) answer.turns) }
 {
-    order_by_class(&mut left);
-    order_by_class(&mut right);
+    order_by_class(crew.rt, &mut left, crew.workers);
+    order_by_class(crew.rt, &mut right, crew.workers);
     let (mut rows, turns) = rows_by_class(crew, &left, &right)?;
     sort_unstable(crew.rt, &mut rows, crew.workers);
     Ok(JoinAnswer {

@@ -27,6 +27,25 @@ pub fn sort_unstable<R: Threads + Sync, T: Ord + Send>(rt: &R, items: &mut Vec<T
     }
 }
 
+/// Sorts the items by the keys that `key` gives, on as many threads as `sort_unstable` does. Items of equal keys may
+/// change places.
+pub fn sort_unstable_by_key<
+    R: Threads + Sync,
+    T: Send,
+    K: Ord + Drop + Send,
+    F: FnMut(&T) -> K + Copy + Send + Sync,
+>(rt: &R, items: &mut Vec<T>, key: F, workers: u32)
+    requires { F.IsAlwaysCallable key }
+    ensures permutation { IsPermutation items.old.items items.new.items }
+    ensures sorted { IsSortedByKeyClosure F.FnMut K.cmp key items.new.items }
+{
+    if one_is_enough(items.len(), workers) {
+        items.sort_unstable_by_key(key);
+    } else {
+        par_sort_unstable_by_key(rt, items, key);
+    }
+}
+
 /// Sorts the items by the keys that `key` gives, on as many threads as `sort_unstable` does. Items of equal keys stay in
 /// their order.
 ///
