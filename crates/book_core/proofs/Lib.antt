@@ -10,6 +10,7 @@ pub mod Past
 pub mod Portions
 pub mod Reading
 pub mod Refusals
+pub mod Restored
 pub mod RiseLemmas
 pub mod Shown
 pub mod Sound

@@ -13,9 +13,9 @@ use Rattle.book_core.specs.Limits.{commit_limit, table_limit}
 use Rattle.version_core.specs.declared.change.Change.TheVariants.{Make, Load}
 use Rattle.book_core.specs.State.{State, Table, table_of, first_refusal, tests_of}
 use Rattle.book_core.specs.History.{History, state_after}
-use Rattle.book_core.specs.StoredTables.{StoredTable, table_at, kept_tables_from}
+use Rattle.book_core.specs.StoredTables.{AreKept, StoredTable, table_at}
 use Rattle.book_core.specs.declared.refusal.BookRefused.TheVariants.{TableExists, TooMany, Full, WrongKind}
-use Rattle.book_core.proofs.Shown.{newest-kept}
+use Rattle.book_core.proofs.Applying.{newest_of}
 
 pub none_from : {X : Type 0} (P : Type 0) (o : Option X) → IfNone o P → is_some o ≡ false → P
 none_from P None h e = h
@@ -73,7 +73,6 @@ make_taken n s name schema h k f =
     ∙ ap (λ b. first_of ((b, Full) ∷ [])) (lt-leb commit_limit n f))
 
 -- a book keeps as many tables as the newest state has
-pub length-state : (h : History) (ts : List StoredTable) → ts ≡ kept_tables_from 0 [] h
-    → length (state_after h) ≡ length ts
-length-state h ts e =
-    ap length (sym (newest-kept h)) ∙ length-map (kept_tables_from 0 [] h) (table_at (length h)) ∙ ap length (sym e)
+pub length-state : (h now : History) (ts : List StoredTable) → AreKept h ts → h ≡ now
+    → length (state_after now) ≡ length ts
+length-state h now ts kept v = ap length (newest_of h now ts kept v) ∙ length-map ts (table_at (length now))

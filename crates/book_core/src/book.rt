@@ -16,7 +16,7 @@ ghost use Rattle.book_core.specs.StoredTables.{IsTableOf};
 ghost use Rattle.book_core.specs.Versions.{AreBetween, AreFromTo, log_of};
 
 use crate::apply::{COMMIT_LIMIT, change_tables, refusal_in};
-use crate::commit::Commit;
+use crate::commit::{Commit, without_rows};
 use crate::log::{Entry, Log, entry_of};
 use crate::refusal::{BookRefused, NoTable, RowsRefused, VersionsRefused, overlap_failure};
 use crate::table::{Table, find_table};
@@ -34,6 +34,7 @@ const TABLE_LIMIT: usize = 64;
 #[derive(Debug, Drop)]
 pub struct Book {
     alloc: Global,
+    /// The changes. Of a load its table alone: its rows are those of the versions that it made.
     history: Vec<Commit>,
     tables: Vec<Table>,
     log: Vec<Entry>,
@@ -41,13 +42,15 @@ pub struct Book {
 
 impl Model for Book {
     ghost use Rattle.book_core.specs.History.{History};
+    ghost use Rattle.book_core.specs.StoredHistory.{restored_from};
     ghost use Rattle.book_core.specs.StoredTables.{IsBook};
 
     ghost Value = { History };
 
-    ghost view = { λ b. b.history.items };
+    ghost view = { λ b. restored_from 0 b.tables.items b.history.items };
 
-    ghost invariant = { λ b. IsBook b.history.items b.tables.items b.log.items };
+    ghost invariant = { λ b.
+        IsBook (restored_from 0 b.tables.items b.history.items) b.tables.items b.log.items };
 }
 
 impl Book {
@@ -110,14 +113,15 @@ impl Book {
         if let Some(refused) = self.refusal(&change) {
             return Err(Failure::Refused(refused));
         }
+        let commits = self.commits();
         self.history.reserve(1)?;
         self.log.reserve(1)?;
-        let commits = self.history.len() as u64;
         let counts = match change_tables(self.alloc, &mut self.tables, commits, &change) {
             Ok(counts) => counts,
             Err(why) => return Err(overlap_failure(why)),
         };
         let entry = entry_of(commits, by, &change, counts);
+        let change = without_rows(self.alloc, change);
         match self.log.push(entry) {
             Ok(()) => match self.history.push(Commit { by, change }) {
                 Ok(()) => Ok(commits + 1),
@@ -131,7 +135,7 @@ impl Book {
     pub fn refusal(&self, change: &Change) -> Option<BookRefused>
         ensures { result ≡ first_refusal (length self.now) (state_after self.now) change.now }
     {
-        let commits = self.history.len();
+        let commits = self.commits() as usize;
         match change {
             Change::Make { table, .. } => {
                 if self.table(*table).is_some() {

@@ -1,7 +1,11 @@
 //! Commits: changes that were accepted.
 
+ghost use Rattle.std.specs.Prelude.{◌≡◌, ℕ, List};
+ghost use Rattle.book_core.specs.StoredHistory.{restored};
+ghost use Rattle.book_core.specs.StoredTables.{StoredTable};
+
 use list_core::DeepCopy;
-use row_core::NoMemory;
+use row_core::{Drafts, NoMemory};
 use std::alloc::Global;
 use version_core::Change;
 
@@ -18,5 +22,19 @@ impl DeepCopy for Commit {
             by: self.by,
             change: self.change.copy(alloc)?,
         })
+    }
+}
+
+/// What a book keeps of a change: a load without its rows, which stand in its tables.
+pub(crate) fn without_rows(alloc: Global, change: Change) -> Change
+    ensures { (n : ℕ) (tables : List StoredTable)
+        → restored n tables result ≡ restored n tables change }
+{
+    match change {
+        Change::Load { table, .. } => Change::Load {
+            table,
+            rows: Drafts::new(alloc),
+        },
+        other => other,
     }
 }

@@ -1,4 +1,4 @@
-use Rattle.std.proofs.Common.{◌≡◌, sym, ◌∙◌, ap, length, arith, None}
+use Rattle.std.proofs.Common.{◌≡◌, sym, ◌∙◌, length, arith, None}
 use Rattle.book_core.specs.History.{state_after}
 use Rattle.book_core.specs.State.{table_of}
 use Rattle.book_core.proofs.Refusals.{none_from, make_many, make_full, make_taken, length-state}
@@ -8,8 +8,8 @@ pub returns-then-len-ge-TABLE_LIMIT : goal.returns-then-len-ge-TABLE_LIMIT
 returns-then-len-ge-TABLE_LIMIT c =
     let absent : table_of (state_after c.args.self.now) c.in-Make.table ≡ None =
     none_from _ c.table.result c.table.ensures.absent (sym c.is_some.ensures ∙ c.if-is_some.false) in
-    let tables = ap (λ h. length (state_after h)) (sym c.self.view_is)
-    ∙ length-state c.self.inside.history.items c.self.inside.tables.items c.self.invariant.kept.tables in
+    let tables : length (state_after c.args.self.now) ≡ length c.self.inside.tables.items =
+    length-state _ _ _ c.self.invariant.kept c.self.view_is in
     let counted = c.self.inside.tables.ok.0 in
     rw c.in-Make.is
     (make_many (length c.args.self.now) (state_after c.args.self.now) c.in-Make.table c.in-Make.schema absent
@@ -19,22 +19,20 @@ pub returns-then-commits-ge-COMMIT_LIMIT : goal.returns-then-commits-ge-COMMIT_L
 returns-then-commits-ge-COMMIT_LIMIT c =
     let absent : table_of (state_after c.args.self.now) c.in-Make.table ≡ None =
     none_from _ c.table.result c.table.ensures.absent (sym c.is_some.ensures ∙ c.if-is_some.false) in
-    let tables = ap (λ h. length (state_after h)) (sym c.self.view_is)
-    ∙ length-state c.self.inside.history.items c.self.inside.tables.items c.self.invariant.kept.tables in
+    let tables : length (state_after c.args.self.now) ≡ length c.self.inside.tables.items =
+    length-state _ _ _ c.self.invariant.kept c.self.view_is in
     let counted = c.self.inside.tables.ok.0 in
-    let commits = c.self.inside.history.ok.0 ∙ ap length c.self.view_is in
     rw c.in-Make.is
     (make_full (length c.args.self.now) (state_after c.args.self.now) c.in-Make.table c.in-Make.schema absent
-    (omega (arith, tables, counted)) (omega (arith, commits)))
+    (omega (arith, tables, counted)) (omega (arith, c.commits-commits.ensures.count)))
 
 pub returns-else-commits-ge-COMMIT_LIMIT : goal.returns-else-commits-ge-COMMIT_LIMIT
 returns-else-commits-ge-COMMIT_LIMIT c =
     let absent : table_of (state_after c.args.self.now) c.in-Make.table ≡ None =
     none_from _ c.table.result c.table.ensures.absent (sym c.is_some.ensures ∙ c.if-is_some.false) in
-    let tables = ap (λ h. length (state_after h)) (sym c.self.view_is)
-    ∙ length-state c.self.inside.history.items c.self.inside.tables.items c.self.invariant.kept.tables in
+    let tables : length (state_after c.args.self.now) ≡ length c.self.inside.tables.items =
+    length-state _ _ _ c.self.invariant.kept c.self.view_is in
     let counted = c.self.inside.tables.ok.0 in
-    let commits = c.self.inside.history.ok.0 ∙ ap length c.self.view_is in
     rw c.in-Make.is
     (make_taken (length c.args.self.now) (state_after c.args.self.now) c.in-Make.table c.in-Make.schema absent
-    (omega (arith, tables, counted)) (omega (arith, commits)))
+    (omega (arith, tables, counted)) (omega (arith, c.commits-commits.ensures.count)))
