@@ -1,12 +1,15 @@
 //! Tests a change of a table, and makes it.
 
-ghost use Rattle.std.specs.Prelude.{◌≡◌, ◌≢◌, ◌+◌, ◌≤◌, ◌<◌, [], ◌∷◌, ◌++◌, ◌||◌, true, false, length, flat_map, IfSome, IfOk, IfErr, OnErr, OnOk, nat_le, nat_lt};
+ghost use Rattle.std.specs.Arc.{arc_value};
+ghost use Rattle.std.specs.Prelude.{◌≡◌, ◌≢◌, ◌+◌, ◌≤◌, ◌<◌, [], ◌∷◌, ◌++◌, ◌||◌, true, false, length, map, count_by, flat_map, IfSome, IfOk, IfErr, OnErr, OnOk, nat_le, nat_lt};
 ghost use Rattle.std.specs.List.{list_all, AllByRecursion};
 ghost use Rattle.row_core.specs.Refusals.{first_of};
-ghost use Rattle.row_core.specs.Schema.{fits};
+ghost use Rattle.row_core.specs.Schema.{fits, key_of};
 ghost use Rattle.row_core.specs.declared.failure.Failure.TheVariants.{NoMemory};
+ghost use Rattle.version_core.specs.Keys.{break_key, overlap_after};
 ghost use Rattle.version_core.specs.Limits.{version_limit};
-ghost use Rattle.version_core.specs.Rows.{parts_of_all};
+ghost use Rattle.version_core.specs.OpenVersions.{current, versions_after};
+ghost use Rattle.version_core.specs.Rows.{drafts_of, parts_of_all, removes, unnumbered};
 ghost use Rattle.version_core.specs.Shown.{shown};
 ghost use Rattle.book_core.specs.Limits.{commit_limit};
 ghost use Rattle.book_core.specs.State.{changed, tests_of, pair_tests, full_tests, table_named};
@@ -18,6 +21,7 @@ use crate::table::{Table, place_of};
 use list_core::DeepCopy;
 use row_core::{Draft, Failure, Name, NoMemory, Schema, Value};
 use std::alloc::Global;
+use std::sync::Arc;
 use version_core::{Change, KeyOverlap, VERSION_LIMIT, VersionCounts, Versions};
 
 /// The most commits of a book.
@@ -28,12 +32,13 @@ pub(crate) fn refusal_in(table: &Table, commits: usize, change: &Change) -> Opti
     requires { IsWellKept commits table.now }
     ensures { result ≡ first_of (tests_of commits change.now (table_at commits table.now)) }
 {
+    let versions = table.versions();
     match change {
         Change::Make { .. } => None,
         Change::Load { rows, .. } => {
             if !all_fit(&table.schema, rows.as_slice()) {
                 Some(BookRefused::WrongKind)
-            } else if is_full(commits, table.versions.len(), rows.len()) {
+            } else if is_full(commits, versions.len(), rows.len()) {
                 Some(BookRefused::Full)
             } else {
                 None
@@ -42,23 +47,11 @@ pub(crate) fn refusal_in(table: &Table, commits: usize, change: &Change) -> Opti
         Change::Update { sets, conds, .. } => {
             match pairs_refusal(&table.schema, sets.as_slice()) {
                 Some(refused) => Some(refused),
-                None => portion_refusal(
-                    &table.schema,
-                    &table.versions,
-                    commits,
-                    change,
-                    conds.as_slice(),
-                ),
+                None => portion_refusal(&table.schema, versions, commits, change, conds.as_slice()),
             }
         }
         Change::Delete { conds, .. } => {
-            portion_refusal(
-                &table.schema,
-                &table.versions,
-                commits,
-                change,
-                conds.as_slice(),
-            )
+            portion_refusal(&table.schema, versions, commits, change, conds.as_slice())
         }
     }
 }
@@ -164,10 +157,11 @@ fn add_table(
     ensures err { OnErr result (tables.new.items ≡ tables.old.items) }
 {
     let schema = schema.copy(alloc)?;
+    let versions = Arc::new(alloc, Versions::new(alloc))?;
     tables.push(Table {
         name,
         schema,
-        versions: Versions::new(alloc),
+        versions,
     })?;
     Ok(VersionCounts {
         added: 0,
@@ -207,7 +201,46 @@ fn change_table(
         });
     };
     let table = &mut tables[at];
-    table
-        .versions
-        .apply(alloc, &table.schema, commits + 1, change)
+    change_versions(
+        alloc,
+        &mut table.versions,
+        &table.schema,
+        commits + 1,
+        change,
+    )
+}
+
+/// Changes the versions of a table by that commit. Where others share them, a copy is changed, and
+/// takes their place here.
+fn change_versions(
+    alloc: Global,
+    shared: &mut Arc<Versions>,
+    schema: &Schema,
+    commit: u64,
+    change: &Change,
+) -> Result<VersionCounts, Failure<KeyOverlap>>
+    requires room { length (arc_value shared.old)
+        + length (drafts_of change.now schema.now (current (arc_value shared.old))) ≤ version_limit }
+    requires unbroken { break_key (key_of schema.now)
+        (map unnumbered (current (arc_value shared.old))) ≡ false }
+    ensures ok { OnOk result (arc_value shared.new
+        ≡ versions_after commit change.now schema.now (arc_value shared.old)) }
+    ensures counts { IfOk result (λ counts.
+        (counts.added ≡ length (drafts_of change.now schema.now (current (arc_value shared.old))))
+        × (counts.closed
+        ≡ count_by (removes change.now schema.now) (current (arc_value shared.old)))) }
+    ensures apart { OnOk result (overlap_after change.now schema.now (arc_value shared.old) ≡ false) }
+    ensures overlap { IfErr result (λ failure. failure ≢ NoMemory
+        → overlap_after change.now schema.now (arc_value shared.old) ≡ true) }
+    ensures err { OnErr result (arc_value shared.new ≡ arc_value shared.old) }
+{
+    match Arc::get_mut(shared) {
+        Some(versions) => versions.apply(alloc, schema, commit, change),
+        None => {
+            let mut versions = shared.copy(alloc)?;
+            let counts = versions.apply(alloc, schema, commit, change)?;
+            *shared = Arc::new(alloc, versions)?;
+            Ok(counts)
+        }
+    }
 }

@@ -197,7 +197,7 @@ impl Book {
             (λ columns. All (λ row. IsTrue (fits columns row.values)) rows)) }
     {
         match self.table_at(n, name) {
-            Ok(table) => Ok(rows_shown(self.alloc, table.versions.as_slice(), n)?),
+            Ok(table) => Ok(rows_shown(self.alloc, table.versions().as_slice(), n)?),
             Err(refused) => Err(Failure::Refused(refused)),
         }
     }
@@ -223,7 +223,7 @@ impl Book {
             (λ columns. All (λ row. IsTrue (fits columns row.values)) rows)) }
     {
         match self.table_at(n, name) {
-            Ok(table) => Ok(table.versions.rows_holding(self.alloc, n, point)?),
+            Ok(table) => Ok(table.versions().rows_holding(self.alloc, n, point)?),
             Err(refused) => Err(Failure::Refused(refused)),
         }
     }
@@ -275,7 +275,7 @@ impl Book {
         }
         match self.table(name) {
             None => Err(Failure::Refused(VersionsRefused::NoTable)),
-            Some(table) => Ok(versions_seen(self.alloc, table.versions.as_slice(), at, m, n)?),
+            Some(table) => Ok(versions_seen(self.alloc, table.versions().as_slice(), at, m, n)?),
         }
     }
 
@@ -307,7 +307,13 @@ impl Book {
         }
         match self.table(name) {
             None => Err(Failure::Refused(VersionsRefused::NoTable)),
-            Some(table) => Ok(versions_seen(self.alloc, table.versions.as_slice(), at, m, n - 1)?),
+            Some(table) => Ok(versions_seen(
+                self.alloc,
+                table.versions().as_slice(),
+                at,
+                m,
+                n - 1,
+            )?),
         }
     }
 

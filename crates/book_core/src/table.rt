@@ -8,22 +8,33 @@ use list_core::DeepCopy;
 use row_core::{Name, NoMemory, Schema};
 use std::alloc::Global;
 use std::marker::Model;
+use std::sync::Arc;
 use version_core::Versions;
 
-/// A table with all versions of its rows.
+/// A table with all versions of its rows, which copies share until one of them is changed.
 #[derive(Debug, Drop)]
 pub(crate) struct Table {
     pub name: Name,
     pub schema: Schema,
-    pub versions: Versions,
+    pub versions: Arc<Versions>,
 }
 
 impl Model for Table {
+    ghost use Rattle.std.specs.Arc.{arc_value};
     ghost use Rattle.book_core.specs.StoredTables.{StoredTable};
 
     ghost Value = { StoredTable };
 
-    ghost view = { λ t. record { name = t.name; schema = t.schema; versions = t.versions } };
+    ghost view = { λ t. record { name = t.name; schema = t.schema; versions = arc_value t.versions } };
+}
+
+impl Table {
+    /// All versions of its rows.
+    pub fn versions(&self) -> &Versions
+        ensures { result.now ≡ self.now.versions }
+    {
+        &self.versions
+    }
 }
 
 /// The table of that name.
@@ -52,7 +63,7 @@ impl DeepCopy for Table {
         Ok(Table {
             name: self.name,
             schema: self.schema.copy(alloc)?,
-            versions: self.versions.copy(alloc)?,
+            versions: Arc::try_clone(&self.versions)?,
         })
     }
 }

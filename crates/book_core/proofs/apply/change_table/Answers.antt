@@ -1,4 +1,5 @@
 use Rattle.std.proofs.Common.{◌≡◌, ◌≤◌, ◌+◌, ◌∙◌, ap, sym, subst, length, None, Some, List}
+use Rattle.std.specs.Arc.{arc_value}
 use Rattle.std.specs.Prelude.{position, count_by, bytes_eq}
 use Rattle.std.proofs.lemmas.Result.{IfErr-weaker, IfOk-weaker, on_ok_weaker}
 use Rattle.version_core.specs.Limits.{version_limit}
@@ -50,14 +51,14 @@ module _ (c : goal.After-tables-1) where
   found = find-place c.args.name c.args.tables.now.items c.in-Some.at c.index_mut-table.result.now at
       c.index_mut-table.ensures.value
 
-  overlap : overlap_after c.args.change.now c.table.inside.schema c.table.inside.versions ≡ overlap_in c.args.commits
+  overlap : overlap_after c.args.change.now c.table.inside.schema (arc_value c.table.inside.versions) ≡ overlap_in c.args.commits
       c.args.change.now (kept_table c.args.name c.args.tables.now.items)
   overlap =
       ap (λ (t : StoredTable). overlap_after c.args.change.now t.schema t.versions) c.table.view_is
       ∙ overlap-in c.args.commits c.args.change.now c.index_mut-table.result.now _ well unbroken found
 
-pub apply-requires-clause-room : goal.apply-requires-clause-room
-apply-requires-clause-room c =
+pub change_versions-requires-clause-room : goal.change_versions-requires-clause-room
+change_versions-requires-clause-room c =
     let change = c.args.change.now in
     let at = sym (c.place_of.ensures ∙ ap (position (λ t. bytes_eq t.name c.args.name)) c.deref.ensures.value)
     ∙ c.in-Some.is in
@@ -72,8 +73,8 @@ apply-requires-clause-room c =
     λ t. length t.versions + length (drafts_of change t.schema (current t.versions)) ≤ version_limit in
     subst P (sym c.table.view_is) (room-current c.args.commits change t well room)
 
-pub apply-requires-clause-unbroken : goal.apply-requires-clause-unbroken
-apply-requires-clause-unbroken c =
+pub change_versions-requires-clause-unbroken : goal.change_versions-requires-clause-unbroken
+change_versions-requires-clause-unbroken c =
     let at = sym (c.place_of.ensures ∙ ap (position (λ t. bytes_eq t.name c.args.name)) c.deref.ensures.value)
     ∙ c.in-Some.is in
     subst IsUnbroken (sym c.table.view_is)
@@ -86,36 +87,36 @@ with_versions t versions = record t { versions = versions }
 pub returns-clause-ok : goal.returns-clause-ok
 returns-clause-ok c =
     let change = c.args.change.now in
-    on_ok_weaker c.apply.result
+    on_ok_weaker c.change_versions.result
     (λ e. at_kept-place c.args.name
     (kept_table_after c.args.commits change) c.args.tables.now.items c.in-Some.at c.index_mut-table.result.now _
     (at c) c.index_mut-table.ensures.value
     (ap (λ vs. with_versions
-    (record { name = c.table.inside.name; schema = c.table.inside.schema; versions = c.table.inside.versions }) vs)
+    (record { name = c.table.inside.name; schema = c.table.inside.schema; versions = arc_value c.table.inside.versions }) vs)
     e
     ∙ ap (λ t. with_versions t (versions_after (c.args.commits + 1) change t.schema t.versions)) c.table.view_is
     ∙ versions_after-kept c.args.commits change c.index_mut-table.result.now (well c)))
-    c.apply.ensures.ok
+    c.change_versions.ensures.ok
 
 pub returns-clause-added : goal.returns-clause-added
 returns-clause-added c =
-    IfOk-weaker c.apply.result _ _
+    IfOk-weaker c.change_versions.result _ _
     (λ counts e. e.0
     ∙ ap (λ (t : StoredTable). length (drafts_of c.args.change.now t.schema (current t.versions))) c.table.view_is
     ∙ added-current c.args.commits c.args.change.now c.index_mut-table.result.now _ (well c) (found c))
-    c.apply.ensures.counts
+    c.change_versions.ensures.counts
 
 pub returns-clause-closed : goal.returns-clause-closed
 returns-clause-closed c =
-    IfOk-weaker c.apply.result _ _
+    IfOk-weaker c.change_versions.result _ _
     (λ counts e. e.1
     ∙ ap (λ (t : StoredTable). count_by (removes c.args.change.now t.schema) (current t.versions)) c.table.view_is
     ∙ taken-current c.args.commits c.args.change.now c.index_mut-table.result.now _ (well c) (found c))
-    c.apply.ensures.counts
+    c.change_versions.ensures.counts
 
 pub returns-clause-apart : goal.returns-clause-apart
-returns-clause-apart c = on_ok_weaker c.apply.result (λ none. sym (overlap c) ∙ none) c.apply.ensures.apart
+returns-clause-apart c = on_ok_weaker c.change_versions.result (λ none. sym (overlap c) ∙ none) c.change_versions.ensures.apart
 
 pub returns-clause-overlap : goal.returns-clause-overlap
 returns-clause-overlap c =
-    IfErr-weaker c.apply.result _ _ (λ failure some is. sym (overlap c) ∙ some is) c.apply.ensures.overlap
+    IfErr-weaker c.change_versions.result _ _ (λ failure some is. sym (overlap c) ∙ some is) c.change_versions.ensures.overlap

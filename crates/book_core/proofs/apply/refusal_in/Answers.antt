@@ -7,7 +7,7 @@ use Rattle.version_core.specs.Limits.{version_limit}
 use Rattle.book_core.specs.Limits.{commit_limit}
 use Rattle.version_core.specs.Shown.{shown}
 use Rattle.version_core.specs.Rows.{parts_of_all}
-use Rattle.book_core.specs.StoredTables.{StoredTable, table_at}
+use Rattle.book_core.specs.StoredTables.{table_at}
 use Rattle.book_core.specs.State.{pair_tests, full_tests}
 use Rattle.book_core.proofs.Refusals.{load_wrong, load_full, load_taken}
 use Rattle.book_core.proofs.Portions.{update_refused, update_then}
@@ -22,7 +22,7 @@ returns-then-not-all_fit c =
 
 pub returns-then-is_full : goal.returns-then-is_full
 returns-then-is_full c =
-    let versions = ap (λ (t : StoredTable). length t.versions) c.table.view_is in
+    let versions = ap length c.versions-versions.ensures in
     let many : length c.args.table.now.versions + length c.in-Load.rows ≡ c.len.result +
     c.len-else-not-all_fit.result = omega (arith, versions) in
     rw c.in-Load.is (load_full c.args.commits c.in-Load.table c.in-Load.rows (table_at c.args.commits c.args.table.now)
@@ -33,7 +33,7 @@ returns-then-is_full c =
 
 pub returns-else-is_full : goal.returns-else-is_full
 returns-else-is_full c =
-    let versions = ap (λ (t : StoredTable). length t.versions) c.table.view_is in
+    let versions = ap length c.versions-versions.ensures in
     let many : length c.args.table.now.versions + length c.in-Load.rows ≡ c.len.result +
     c.len-else-not-all_fit.result = omega (arith, versions) in
     rw c.in-Load.is (load_taken c.args.commits c.in-Load.table c.in-Load.rows (table_at c.args.commits c.args.table.now)
@@ -65,13 +65,17 @@ returns-in-None c =
     (c.portion_refusal.ensures
     ∙ ap (λ l. first_of
     (flat_map (pair_tests c.table.inside.schema) l ++ full_tests c.args.commits
-    (length c.table.inside.versions + length
+    (length c.versions-versions.result.now + length
     (parts_of_all c.args.change.now c.table.inside.schema
-    (shown c.args.commits c.table.inside.versions))))) c.as_slice-in-None.ensures
+    (shown c.args.commits c.versions-versions.result.now))))) c.as_slice-in-None.ensures
+    ∙ ap (λ vs. first_of
+    (flat_map (pair_tests c.table.inside.schema) c.in-Update.conds ++ full_tests c.args.commits
+    (length vs + length
+    (parts_of_all c.args.change.now c.table.inside.schema (shown c.args.commits vs))))) c.versions-versions.ensures
     ∙ ap (λ t. first_of
     (flat_map (pair_tests t.schema) c.in-Update.conds ++ full_tests c.args.commits
-    (length t.versions + length
-    (parts_of_all c.args.change.now t.schema (shown c.args.commits t.versions))))) c.table.view_is
+    (length c.args.table.now.versions + length
+    (parts_of_all c.args.change.now t.schema (shown c.args.commits c.args.table.now.versions))))) c.table.view_is
     ∙ ap (λ d. first_of
     (flat_map (pair_tests c.args.table.now.schema) c.in-Update.conds ++ full_tests c.args.commits
     (length c.args.table.now.versions + length
@@ -82,13 +86,17 @@ returns-in-Delete c = rw c.in-Delete.is (
     c.portion_refusal-in-Delete.ensures
     ∙ ap (λ l. first_of
     (flat_map (pair_tests c.table.inside.schema) l ++ full_tests c.args.commits
-    (length c.table.inside.versions + length
+    (length c.versions-versions.result.now + length
     (parts_of_all c.args.change.now c.table.inside.schema
-    (shown c.args.commits c.table.inside.versions))))) c.as_slice-in-Delete.ensures
+    (shown c.args.commits c.versions-versions.result.now))))) c.as_slice-in-Delete.ensures
+    ∙ ap (λ vs. first_of
+    (flat_map (pair_tests c.table.inside.schema) c.in-Delete.conds ++ full_tests c.args.commits
+    (length vs + length
+    (parts_of_all c.args.change.now c.table.inside.schema (shown c.args.commits vs))))) c.versions-versions.ensures
     ∙ ap (λ t. first_of
     (flat_map (pair_tests t.schema) c.in-Delete.conds ++ full_tests c.args.commits
-    (length t.versions + length
-    (parts_of_all c.args.change.now t.schema (shown c.args.commits t.versions))))) c.table.view_is
+    (length c.args.table.now.versions + length
+    (parts_of_all c.args.change.now t.schema (shown c.args.commits c.args.table.now.versions))))) c.table.view_is
     ∙ ap (λ d. first_of
     (flat_map (pair_tests c.args.table.now.schema) c.in-Delete.conds ++ full_tests c.args.commits
     (length c.args.table.now.versions + length

@@ -12,7 +12,7 @@ returns-in_ok-rows_holding-in-Ok-clause-few c =
     c.in-Ok.ensures.found
     (c.in_ok-rows_holding-in-Ok.ensures
     ∙ ap (λ versions. filter (λ (row : Row). holds_at c.args.point row.period) (shown c.args.n versions))
-    (ap (λ t. t.versions) c.table.view_is))
+    c.versions.ensures)
 
 pub returns-in_ok-rows_holding-in-Ok-clause-rise : goal.returns-in_ok-rows_holding-in-Ok-clause-rise
 returns-in_ok-rows_holding-in-Ok-clause-rise c =
@@ -20,7 +20,7 @@ returns-in_ok-rows_holding-in-Ok-clause-rise c =
     c.in-Ok.ensures.found
     (c.in_ok-rows_holding-in-Ok.ensures
     ∙ ap (λ versions. filter (λ (row : Row). holds_at c.args.point row.period) (shown c.args.n versions))
-    (ap (λ t. t.versions) c.table.view_is))
+    c.versions.ensures)
 
 pub returns-in_ok-rows_holding-in-Ok-clause-fit : goal.returns-in_ok-rows_holding-in-Ok-clause-fit
 returns-in_ok-rows_holding-in-Ok-clause-fit c =
@@ -28,4 +28,4 @@ returns-in_ok-rows_holding-in-Ok-clause-fit c =
     c.in-Ok.ensures.found
     (c.in_ok-rows_holding-in-Ok.ensures
     ∙ ap (λ versions. filter (λ (row : Row). holds_at c.args.point row.period) (shown c.args.n versions))
-    (ap (λ t. t.versions) c.table.view_is))
+    c.versions.ensures)
