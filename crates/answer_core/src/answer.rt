@@ -6,11 +6,10 @@ ghost use Rattle.answer_core.specs.PrintedRecords.{IsPrintedAs, errors_in};
 use crate::joined::Joined;
 use crate::unmatched::Unmatched;
 use agg_core::AggRows;
-use book_core::{Log, VersionList};
+use book_core::{Log, SharedRows, VersionList};
 use cert_core::Verdict;
 use command_core::Fault;
 use dip_core::Division;
-use row_core::RowList;
 
 /// What a command is answered.
 #[derive(Drop)]
@@ -20,7 +19,7 @@ pub enum Answer {
     /// The change that it asked for was made, by the commit of this number.
     Committed(u64),
     /// Rows, by rising id.
-    Rows(RowList),
+    Rows(SharedRows),
     /// Versions of rows, by rising id.
     Versions(VersionList),
     /// A division of so many rows.

@@ -3,17 +3,17 @@ ghost use Rattle.std.specs.Prelude.{◌≡◌, IfOk};
 ghost use Rattle.row_core.specs.Rows.{RowsRise};
 
 use crate::row_values::RowValues;
+use book_core::SharedRows;
 use join_core::{JoinRow, JoinRows};
 use period_core::NoMemory;
-use row_core::RowList;
 use std::alloc::Global;
 use std::marker::Model;
 
 /// The rows of two tables, by rising id, and which of them were joined.
 #[derive(Drop)]
 pub struct Joined {
-    left: RowList,
-    right: RowList,
+    left: SharedRows,
+    right: SharedRows,
     rows: JoinRows,
 }
 
@@ -30,7 +30,7 @@ impl Model for Joined {
 
 impl Joined {
     /// The rows of two tables, and which of them were joined.
-    pub fn new(left: RowList, right: RowList, rows: JoinRows) -> Joined
+    pub fn new(left: SharedRows, right: SharedRows, rows: JoinRows) -> Joined
         requires { RowsRise left × RowsRise right }
         ensures { result ≡ record { left = left; right = right; rows = rows } }
     {
@@ -48,13 +48,13 @@ impl Joined {
     pub(crate) fn left_values(&self, alloc: Global) -> Result<RowValues<'_>, NoMemory>
         ensures { IfOk result (λ values. values ≡ self.now.left) }
     {
-        RowValues::new(alloc, &self.left)
+        RowValues::new(alloc, self.left.list())
     }
 
     /// Those of the right table's.
     pub(crate) fn right_values(&self, alloc: Global) -> Result<RowValues<'_>, NoMemory>
         ensures { IfOk result (λ values. values ≡ self.now.right) }
     {
-        RowValues::new(alloc, &self.right)
+        RowValues::new(alloc, self.right.list())
     }
 }

@@ -7,10 +7,10 @@ ghost use Rattle.command_core.specs.Records.{Record};
 use crate::answer::Answer;
 use crate::ranges::RecordList;
 use crate::writer::AnswerWriter;
-use book_core::{Version, VersionList};
+use book_core::{SharedRows, Version, VersionList};
 use command_core::Fault;
 use period_core::NoMemory;
-use row_core::{Row, RowList, Value};
+use row_core::{Row, Value};
 use share_core::{Range, piece};
 use std::thread::Threads;
 use work_core::Crew;
@@ -150,7 +150,7 @@ impl AnswerWriter {
     fn row_list<R: Threads + Sync, G>(
         &mut self,
         crew: &Crew<'_, R, G>,
-        rows: &RowList,
+        rows: &SharedRows,
     ) -> Result<(), NoMemory>
         requires { self.old.fields ≡ [] }
         ensures { OnOk result (Adds self.old self.new (row_records rows.now)) }

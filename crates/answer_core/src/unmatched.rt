@@ -4,15 +4,15 @@ ghost use Rattle.row_core.specs.Rows.{RowsRise};
 
 use crate::row_values::RowValues;
 use anti_core::AntiRows;
+use book_core::SharedRows;
 use period_core::NoMemory;
-use row_core::RowList;
 use std::alloc::Global;
 use std::marker::Model;
 
 /// The left table's rows, by rising id, and when each held with no right row that matched it.
 #[derive(Drop)]
 pub struct Unmatched {
-    left: RowList,
+    left: SharedRows,
     rows: AntiRows,
 }
 
@@ -29,7 +29,7 @@ impl Model for Unmatched {
 
 impl Unmatched {
     /// The left table's rows, and when each held with no right row that matched it.
-    pub fn new(left: RowList, rows: AntiRows) -> Unmatched
+    pub fn new(left: SharedRows, rows: AntiRows) -> Unmatched
         requires { RowsRise left }
         ensures { result ≡ record { left = left; rows = rows } }
     {
@@ -47,6 +47,6 @@ impl Unmatched {
     pub(crate) fn left_values(&self, alloc: Global) -> Result<RowValues<'_>, NoMemory>
         ensures { IfOk result (λ values. values ≡ self.now.left) }
     {
-        RowValues::new(alloc, &self.left)
+        RowValues::new(alloc, self.left.list())
     }
 }

@@ -157,7 +157,7 @@ fn add_table(
     ensures err { OnErr result (tables.new.items ≡ tables.old.items) }
 {
     let schema = schema.copy(alloc)?;
-    let versions = Arc::new(alloc, Versions::new(alloc))?;
+    let versions = Arc::new(alloc, Versions::new(alloc)?)?;
     tables.push(Table {
         name,
         schema,
@@ -201,13 +201,8 @@ fn change_table(
         });
     };
     let table = &mut tables[at];
-    change_versions(
-        alloc,
-        &mut table.versions,
-        &table.schema,
-        commits + 1,
-        change,
-    )
+    let commit = (commits + 1) as u32;
+    change_versions(alloc, &mut table.versions, &table.schema, commit, change)
 }
 
 /// Changes the versions of a table by that commit. Where others share them, a copy is changed, and
@@ -216,7 +211,7 @@ fn change_versions(
     alloc: Global,
     shared: &mut Arc<Versions>,
     schema: &Schema,
-    commit: u64,
+    commit: u32,
     change: &Change,
 ) -> Result<VersionCounts, Failure<KeyOverlap>>
     requires room { length (arc_value shared.old)

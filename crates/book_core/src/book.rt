@@ -22,10 +22,10 @@ use crate::refusal::{BookRefused, NoTable, RowsRefused, VersionsRefused, overlap
 use crate::table::{Table, find_table};
 use list_core::copy_each;
 use period_core::Point;
-use row_core::{Failure, Name, NoMemory, RowList, Schema};
+use row_core::{Failure, Name, NoMemory, Schema};
 use std::alloc::Global;
 use std::marker::Model;
-use version_core::{Change, VersionList, rows_shown, versions_seen};
+use version_core::{Change, SharedRows, VersionList};
 
 /// The most tables of a book.
 const TABLE_LIMIT: usize = 64;
@@ -182,12 +182,13 @@ impl Book {
         }
     }
 
-    /// The rows of a table that commit n shows, by rising id.
+    /// The rows of a table that commit n shows, by rising id. Where it shows all that the table has
+    /// ever had, they are shared, not copied.
     ///
     /// # Errors
     ///
     /// `Future` where there are fewer than n commits; `NoTable`; `NoMemory`, in this order.
-    pub fn rows_at(&self, n: u64, name: Name) -> Result<RowList, Failure<RowsRefused>>
+    pub fn rows_at(&self, n: u64, name: Name) -> Result<SharedRows, Failure<RowsRefused>>
         ensures given { IsAnswer (rows_given self.now n name) result }
 
         // They are at most 1,000,000, and each fits the table's columns.
@@ -197,7 +198,7 @@ impl Book {
             (λ columns. All (λ row. IsTrue (fits columns row.values)) rows)) }
     {
         match self.table_at(n, name) {
-            Ok(table) => Ok(rows_shown(self.alloc, table.versions().as_slice(), n)?),
+            Ok(table) => Ok(table.versions().rows_shown(self.alloc, n)?),
             Err(refused) => Err(Failure::Refused(refused)),
         }
     }
@@ -212,7 +213,7 @@ impl Book {
         n: u64,
         name: Name,
         point: Point,
-    ) -> Result<RowList, Failure<RowsRefused>>
+    ) -> Result<SharedRows, Failure<RowsRefused>>
         // Of the rows that `rows_at` gives, those that hold.
         ensures given { IsAnswer
             (map_ok (filter (λ (row : Row). holds_at point row.period)) (rows_given self.now n name)) result }
@@ -275,7 +276,7 @@ impl Book {
         }
         match self.table(name) {
             None => Err(Failure::Refused(VersionsRefused::NoTable)),
-            Some(table) => Ok(versions_seen(self.alloc, table.versions().as_slice(), at, m, n)?),
+            Some(table) => Ok(table.versions().versions_seen(self.alloc, at, m, n)?),
         }
     }
 
@@ -307,13 +308,7 @@ impl Book {
         }
         match self.table(name) {
             None => Err(Failure::Refused(VersionsRefused::NoTable)),
-            Some(table) => Ok(versions_seen(
-                self.alloc,
-                table.versions().as_slice(),
-                at,
-                m,
-                n - 1,
-            )?),
+            Some(table) => Ok(table.versions().versions_seen(self.alloc, at, m, n - 1)?),
         }
     }
 

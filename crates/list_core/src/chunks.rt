@@ -1,21 +1,31 @@
 //! Lists one behind another, as several threads made them.
 
-ghost use Rattle.std.specs.Prelude.{◌≡◌, IfOk};
+ghost use Rattle.std.specs.Prelude.{◌≡◌, ◌++◌, IfOk, OnErr, OnOk};
 ghost use Rattle.list_core.specs.Chunks.{all_in};
 
 use std::alloc::{AllocError, Global};
+
+/// Adds items at the end. The first ones of a list stay where they are. Where memory is refused the
+/// list is as before.
+pub(crate) fn append<T: Drop>(items: &mut Vec<T>, mut more: Vec<T>) -> Result<(), AllocError>
+    ensures ok { OnOk result (items.new.items ≡ items.old.items ++ more.items) }
+    ensures err { OnErr result (items.new.items ≡ items.old.items) }
+{
+    if items.is_empty() {
+        *items = more;
+    } else {
+        items.append(&mut more)?;
+    }
+    Ok(())
+}
 
 /// The items of all lists in one of them, one list behind another.
 pub fn in_one_list<T: Drop>(alloc: Global, lists: Vec<Vec<T>>) -> Result<Vec<T>, AllocError>
     ensures { IfOk result (λ items. items.items ≡ all_in lists.items) }
 {
     let mut items = Vec::new(alloc);
-    for mut list in lists {
-        if items.is_empty() {
-            items = list;
-        } else {
-            items.append(&mut list)?;
-        }
+    for list in lists {
+        append(&mut items, list)?;
     }
     Ok(items)
 }

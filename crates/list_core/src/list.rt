@@ -3,6 +3,7 @@
 ghost use Rattle.std.specs.Prelude.{◌≡◌, ◌++◌, ◌==◌, [], ◌∷◌, length, IfOk, OnOk, OnErr, slice_get};
 ghost use Rattle.std.specs.Option.{option_copied};
 
+use crate::chunks::append;
 use crate::copy::{DeepCopy, copy_each};
 use std::alloc::{AllocError, Global};
 use std::marker::Model;
@@ -78,6 +79,15 @@ impl<T: Drop> List<T> {
     {
         self.items.push(item)?;
         Ok(())
+    }
+
+    /// Adds items at the end, as they stand; the first ones stay where they are. Where memory is
+    /// refused the list is as before.
+    pub fn append(&mut self, more: Vec<T>) -> Result<(), AllocError>
+        ensures ok { OnOk result (self.new ≡ self.old ++ more.items) }
+        ensures err { OnErr result (self.new ≡ self.old) }
+    {
+        append(&mut self.items, more)
     }
 }
 

@@ -23,6 +23,7 @@ use crate::pairs::name_pairs;
 use agg_core::agg;
 use answer_core::{Answer, Joined, Unmatched};
 use anti_core::anti;
+use book_core::SharedRows;
 use cert_core::{Certificate, Claim, check_division};
 use command_core::{Aggregate, Func, Lines, Refusal, TwoTables};
 use join_core::join;
@@ -35,7 +36,7 @@ use store_core::Snapshot;
 use work_core::{Crew, OpenGate};
 
 /// What a snapshot shows of a table: its columns and its rows.
-type Shown<'a> = (&'a Schema, RowList);
+type Shown<'a> = (&'a Schema, SharedRows);
 
 /// A table's columns, and its rows that a snapshot shows, which the command of this number asks for.
 fn shown_table(snapshot: &Snapshot, number: u64, table: Name) -> Result<Shown<'_>, Failure>
@@ -55,9 +56,9 @@ fn shown_table(snapshot: &Snapshot, number: u64, table: Name) -> Result<Shown<'_
 #[derive(Drop)]
 struct BothTables<'a> {
     left_columns: &'a Schema,
-    left: RowList,
+    left: SharedRows,
     right_columns: &'a Schema,
-    right: RowList,
+    right: SharedRows,
 }
 
 /// Both tables that the command of this number compares, where both are there.
@@ -137,7 +138,7 @@ pub(crate) fn divide<T: Threads + Sync>(
     let (schema, rows) = shown_table(snapshot, number, table)?;
     let side = Side {
         schema,
-        rows: &rows,
+        rows: rows.list(),
     };
     let crew = crew_for(crew, rows.len());
     Ok(Answer::Division {
@@ -166,11 +167,11 @@ pub(crate) fn join_tables<T: Threads + Sync>(
     } = both_tables(snapshot, number, tables.left, tables.right)?;
     let left_side = Side {
         schema: left_columns,
-        rows: &left,
+        rows: left.list(),
     };
     let right_side = Side {
         schema: right_columns,
-        rows: &right,
+        rows: right.list(),
     };
     let Crew {
         rt,
@@ -205,11 +206,11 @@ pub(crate) fn anti_tables<T: Threads + Sync>(
     } = both_tables(snapshot, number, tables.left, tables.right)?;
     let left_side = Side {
         schema: left_columns,
-        rows: &left,
+        rows: left.list(),
     };
     let right_side = Side {
         schema: right_columns,
-        rows: &right,
+        rows: right.list(),
     };
     let Crew {
         rt,
@@ -238,7 +239,7 @@ pub(crate) fn agg_table<T: Threads + Sync>(
     let (schema, rows) = shown_table(snapshot, number, aggregate.table)?;
     let side = Side {
         schema,
-        rows: &rows,
+        rows: rows.list(),
     };
     let Crew {
         rt,
@@ -297,7 +298,7 @@ pub(crate) fn check(
 {
     let (_, rows) = shown_table(snapshot, number, table)?;
     let claim = read_claim(alloc, body, number + 1)?;
-    Ok(verdict_on(alloc, &rows, &claim, &certificate)?)
+    Ok(verdict_on(alloc, rows.list(), &claim, &certificate)?)
 }
 
 /// The versions of a table that some commit from the first to the last shows.

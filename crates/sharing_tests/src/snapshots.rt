@@ -72,7 +72,7 @@ fn join_itself<R: Threads + Sync>(
     let (schema, rows) = (snapshot.schema(table).ok()?, snapshot.rows(table).ok()?);
     let side = Side {
         schema,
-        rows: &rows,
+        rows: rows.list(),
     };
     join(rt, alloc, side, side, &[], 2, gate).ok()
 }
@@ -146,7 +146,7 @@ fn rows_of_day(alloc: Global, snapshot: &Snapshot) -> Option<RowList> {
     let (schema, rows) = (snapshot.schema(table).ok()?, snapshot.rows(table).ok()?);
     let side = Side {
         schema,
-        rows: &rows,
+        rows: rows.list(),
     };
     at(alloc, side, point).ok()
 }

@@ -13,9 +13,9 @@ ghost use Rattle.book_core.specs.Versions.{AreBetween, AreFromTo};
 ghost use Rattle.store_core.specs.Histories.{IsLegal-prop};
 
 use crate::refusal::{Future, RangeRefused};
-use book_core::{Book, NoTable, RowsRefused, VersionList, VersionsRefused};
+use book_core::{Book, NoTable, RowsRefused, SharedRows, VersionList, VersionsRefused};
 use period_core::Point;
-use row_core::{Failure, Name, RowList, Schema};
+use row_core::{Failure, Name, Schema};
 use std::sync::Arc;
 
 /// What the first commits of a history show. It shares the book, and stays as it is, whatever is committed later.
@@ -94,7 +94,7 @@ impl Snapshot {
     /// # Errors
     ///
     /// `NoTable`; `NoMemory`, in this order.
-    pub fn rows(&self, name: Name) -> Result<RowList, Failure<NoTable>>
+    pub fn rows(&self, name: Name) -> Result<SharedRows, Failure<NoTable>>
         ensures given { IsAnswer (rows_of_snapshot (history self.now) (number_shown self.now) name) result }
 
         // They are at most 1,000,000, and each fits the table's columns.
@@ -116,7 +116,7 @@ impl Snapshot {
     /// # Errors
     ///
     /// `NoTable`; `NoMemory`, in this order.
-    pub fn rows_holding(&self, name: Name, point: Point) -> Result<RowList, Failure<NoTable>>
+    pub fn rows_holding(&self, name: Name, point: Point) -> Result<SharedRows, Failure<NoTable>>
         // Of the rows that `rows` gives, those that hold.
         ensures given { IsAnswer (map_ok (filter (λ (row : Row). holds_at point row.period))
             (rows_of_snapshot (history self.now) (number_shown self.now) name)) result }

@@ -1,6 +1,6 @@
 -- Lists of places stay true as versions are closed and added.
-use Rattle.std.proofs.Common.{◌≡◌, ℕ, ◌+◌, ◌<◌, ◌≤◌, List, [], ◌∷◌, ◌++◌, Bool, true, false, ◌&&◌, not, cond, Option, Some, None, length, map, take, drop, ◌*◌, zero, suc, refl, ap, sym, ◌∙◌, arith, length-append}
-use Rattle.std.specs.Prelude.{slice_get, filter, unwrap_or, option_map, is_none, fold, All}
+use Rattle.std.proofs.Common.{◌≡◌, ℕ, ◌+◌, ◌<◌, ◌≤◌, List, [], ◌∷◌, ◌++◌, Bool, true, false, ◌&&◌, not, cond, Option, Some, None, length, map, take, ◌*◌, zero, suc, refl, ap, sym, ◌∙◌, arith, length-append}
+use Rattle.std.specs.Prelude.{slice_get, filter, unwrap_or, option_map, is_none, All}
 use Rattle.std.specs.List.{AllByRecursion, range_with_len}
 use Rattle.std.proofs.lemmas.List.{append-nil, length-map, take_at}
 use Rattle.std.proofs.lemmas.List.Elements.{filter-append, filter_agree, All-append, All-filter, All-from_recursion, All-weaker, recursion_from_All}
@@ -11,14 +11,13 @@ use Rattle.list_core.proofs.PlaceLemmas.{slice_get-before, slice_get-seam}
 use Rattle.row_core.specs.declared.row.Row.{Row}
 use Rattle.row_core.specs.declared.schema.Column.{Column}
 use Rattle.version_core.specs.Finding.{AreCandidates, ListsOpen, any_row, passes}
-use Rattle.version_core.specs.OpenVersions.{closed, closed_at, current, is_open, is_taken, places_from, versions_after}
+use Rattle.version_core.specs.OpenVersions.{closed, current, is_open, is_taken, places_from, versions_after}
 use Rattle.version_core.specs.Made.{made}
 use Rattle.version_core.specs.Rows.{drafts_of, numbered, parts_of_all, removes}
 use Rattle.version_core.specs.Limits.{version_limit}
 use Rattle.version_core.specs.declared.change.Change.{Change}
 use Rattle.version_core.specs.declared.version.Version.{Version}
-use Rattle.version_core.proofs.OpenLemmas.{bounded, filter-behind, filter-places_from, fresh-count, length-open, parts-few, places_from-append, versions_after-by}
-use Rattle.version_core.proofs.ListLemmas.{written_back}
+use Rattle.version_core.proofs.OpenLemmas.{bounded, filter-behind, filter-places_from, length-fresh, length-open, parts-few, places_from-append}
 
 -- filters of filters
 
@@ -274,18 +273,6 @@ parts-listed c schema vs places h =
     (h.exact ∙ places_from-agree (λ v. is_open v && true) is_open (λ v. and-true (is_open v)) 0 vs) in
     omega (arith, same, length-open 0 vs, parts-few c schema (current vs), length-filter-le (passes vs is_open) places)
 
--- the versions after it, as they are written
-pub versions_after-written : (n len : ℕ) (c : Change) (schema : List Column) (vs fresh grown lent new : List Version)
-    (taken passed : List ℕ) → len ≡ length grown → lent ≡ grown → passed ≡ taken → length new ≡ length lent
-    → taken ≡ places_from (is_taken c schema) 0 vs
-    → fresh ≡ made n (numbered (length vs) (drafts_of c schema (current vs))) → grown ≡ vs ++ fresh
-    → new ≡ fold (closed_at n) lent passed
-    → take len (new ++ drop (length new) grown) ≡ versions_after n c schema vs
-versions_after-written n len c schema vs fresh grown lent new taken passed counted lent_is passed_is same t f g e =
-    written_back len new grown counted (same ∙ ap length lent_is)
-    ∙ versions_after-by n c schema vs fresh grown new taken t f g
-    (e ∙ ap (λ l. fold (closed_at n) l passed) lent_is ∙ ap (fold (closed_at n) grown) passed_is)
-
 -- they are as many as there is room for
 pub versions_after-few : (n : ℕ) (c : Change) (schema : List Column) (vs now : List Version)
     → now ≡ versions_after n c schema vs
@@ -299,7 +286,7 @@ versions_after-few n c schema vs now e room =
       length-append closing fresh,
       length-map vs
           (closed n (removes c schema)),
-      fresh-count n c schema vs fresh refl,
+      length-fresh n (length vs) (drafts_of c schema (current vs)),
       room,
     )
 

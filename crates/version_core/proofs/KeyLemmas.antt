@@ -16,7 +16,7 @@ use Rattle.key_core.proofs.Added.{pairs-filtered}
 use Rattle.key_core.proofs.Pairs.{have_pair-map}
 use Rattle.version_core.specs.Keys.{collides_left, is_left, rows_left, break_key}
 use Rattle.version_core.specs.Finding.{ListsOpen, any_row, passes}
-use Rattle.version_core.specs.Made.{made, draft_of}
+use Rattle.version_core.specs.Made.{draft_of}
 use Rattle.version_core.specs.OpenVersions.{current, is_open}
 use Rattle.version_core.specs.Rows.{numbered, removes, unnumbered}
 use Rattle.version_core.specs.declared.change.Change.{Change}
@@ -24,9 +24,9 @@ use Rattle.version_core.specs.declared.version.Version.{Version}
 use Rattle.version_core.proofs.FindingLemmas.{filter-listed, places_from-agree}
 use Rattle.version_core.proofs.OpenLemmas.{filter-more, picked, picked-places_from}
 
-pub drafts-made : (n used : ℕ) (ds : List Draft) → map draft_of (made n (numbered used ds)) ≡ ds
-drafts-made n used [] = refl
-drafts-made n used (d ∷ ds) = ap (λ l. d ∷ l) (drafts-made n (used + 1) ds)
+pub drafts-numbered : (used : ℕ) (ds : List Draft) → map unnumbered (numbered used ds) ≡ ds
+drafts-numbered used [] = refl
+drafts-numbered used (d ∷ ds) = ap (λ l. d ∷ l) (drafts-numbered (used + 1) ds)
 
 -- the rows that are left, found among the versions
 left-current : (c : Change) (schema : List Column) (vs : List Version)

@@ -7,4 +7,5 @@ pub mod MakingLemmas
 pub mod OpenLemmas
 pub mod Seen
 pub mod SoughtLemmas
+pub mod StoredLemmas
 pub mod Unbroken

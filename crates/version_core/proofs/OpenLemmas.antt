@@ -1,5 +1,5 @@
 -- The places of open versions, and what a change does at them.
-use Rattle.std.proofs.Common.{◌≡◌, ℕ, ◌+◌, ◌*◌, ◌<◌, ◌≤◌, List, [], ◌∷◌, ◌++◌, Bool, true, false, ◌&&◌, cond, Option, Some, None, length, map, take, get_or, set, zero, suc, add-one, refl, ap, sym, ◌∙◌, arith, append_assoc, length-append}
+use Rattle.std.proofs.Common.{◌≡◌, ℕ, ◌+◌, ◌*◌, ◌<◌, ◌≤◌, List, [], ◌∷◌, ◌++◌, Bool, true, false, ◌&&◌, cond, Option, Some, None, length, map, take, get_or, zero, suc, add-one, refl, ap, sym, ◌∙◌, arith, append_assoc, length-append}
 use Rattle.std.specs.Prelude.{slice_get, slice_set, filter, fold, count_by, unwrap_or, option_map, is_some, flat_map, All}
 use Rattle.std.specs.List.{filter_map, cons_option, AllByRecursion, range_with_len}
 use Rattle.std.proofs.lemmas.List.{append-nil, length-map, take_more, length_push}
@@ -147,22 +147,11 @@ closed-taken : (n : ℕ) (c : Change) (schema : List Column) (vs us : List Versi
 closed-taken n c schema vs us = closed-behind n (is_taken c schema) [] vs us
 
 -- one place more
-pub closed-more : (n : ℕ) (vs ws new : List Version) (places : List ℕ) (i : ℕ) (u : Version) → i < length places
-    → get_or places i 0 < length ws → ws ≡ fold (closed_at n) vs (take i places)
-    → new ≡ set ws (get_or places i 0)
-    (record {
-      row = (get_or ws (get_or places i 0) u).row;
-      sysfrom =
-          (get_or ws (get_or places i 0) u).sysfrom;
-      systo = Some n;
-    }) → new ≡ fold (closed_at n) vs (take (i + 1) places)
-closed-more n vs ws new places i u h inside e written =
+pub closed-more : (n : ℕ) (vs ws new : List Version) (places : List ℕ) (i : ℕ) → i < length places
+    → ws ≡ fold (closed_at n) vs (take i places) → new ≡ closed_at n ws (get_or places i 0)
+    → new ≡ fold (closed_at n) vs (take (i + 1) places)
+closed-more n vs ws new places i h e written =
     written
-    ∙ ap (λ o. unwrap_or
-    (option_map
-    (λ (v : Version). set ws (get_or places i 0)
-    (record { row = v.row; sysfrom = v.sysfrom; systo = Some n })) o) ws)
-    (sym (slice_get-get_or ws (get_or places i 0) u inside))
     ∙ ap (λ l. closed_at n l (get_or places i 0)) e
     ∙ sym (fold-append (closed_at n) vs (take i places) (get_or places i 0 ∷ []))
     ∙ ap (fold (closed_at n) vs) (sym (take_more places i 0 h))
@@ -379,25 +368,25 @@ place-no vs p places i v old new h inside e test was now =
     ∙ append-nil (filter (passes vs p) (take i places)))
 
 -- what is made for the places that are taken
-abbrev pub made_so_far : ℕ → ℕ → Change → List Column → List Version → List ℕ → Making
-made_so_far before commit c schema vs taken =
-    record { before = before; commit = commit; drafts = parts_at c schema vs taken }
+abbrev pub made_so_far : ℕ → Change → List Column → List Version → List ℕ → Making
+made_so_far before c schema vs taken =
+    record { before = before; drafts = parts_at c schema vs taken }
 
-pub made-push : (before commit : ℕ) (c : Change) (schema : List Column) (vs : List Version) (taken more : List ℕ)
+pub made-push : (before : ℕ) (c : Change) (schema : List Column) (vs : List Version) (taken more : List ℕ)
     (place : ℕ) (v : Version) (old new : Making) → place < length vs → v ≡ get_or vs place v
-    → old ≡ made_so_far before commit c schema vs taken → AddsDrafts old new (parts_of c schema v.row)
-    → more ≡ taken ++ place ∷ [] → new ≡ made_so_far before commit c schema vs more
-made-push before commit c schema vs taken more place v old new inside e was now grown =
+    → old ≡ made_so_far before c schema vs taken → AddsDrafts old new (parts_of c schema v.row)
+    → more ≡ taken ++ place ∷ [] → new ≡ made_so_far before c schema vs more
+made-push before c schema vs taken more place v old new inside e was now grown =
     now ∙ ap (λ (m : Making). record m { drafts = m.drafts ++ parts_of c schema v.row }) was
-    ∙ ap (λ ds. record { before = before; commit = commit; drafts = ds })
+    ∙ ap (λ ds. record { before = before; drafts = ds })
     (sym (ap (parts_at c schema vs) grown ∙ parts_at-push c schema vs taken place v inside e))
 
-pub made-all : (before commit : ℕ) (c : Change) (schema : List Column) (vs : List Version) (taken : List ℕ)
+pub made-all : (before : ℕ) (c : Change) (schema : List Column) (vs : List Version) (taken : List ℕ)
     (new : Making) → taken ≡ places_from (is_taken c schema) 0 vs
-    → new ≡ made_so_far before commit c schema vs taken
-    → made_of new ≡ made commit (numbered before (parts_of_all c schema (current vs)))
-made-all before commit c schema vs taken new e same =
-    ap made_of same ∙ ap (λ ds. made commit (numbered before ds)) (parts_at-taken c schema vs taken e)
+    → new ≡ made_so_far before c schema vs taken
+    → made_of new ≡ numbered before (parts_of_all c schema (current vs))
+made-all before c schema vs taken new e same =
+    ap made_of same ∙ ap (numbered before) (parts_at-taken c schema vs taken e)
 
 -- the versions that a change leaves
 
@@ -410,10 +399,10 @@ versions_after-by n c schema vs fresh grown new taken t f g e =
     ∙ closed-taken n c schema vs fresh
     ∙ ap (λ l. map (closed n (removes c schema)) vs ++ l) f
 
-length-fresh : (n before : ℕ) (ds : List Draft) → length (made n (numbered before ds)) ≡ length ds
+pub length-fresh : (n before : ℕ) (ds : List Draft) → length (made n (numbered before ds)) ≡ length ds
 length-fresh n before ds = length-map (numbered before ds) _ ∙ length-numbered before ds
 
-pub fresh-count : (n : ℕ) (c : Change) (schema : List Column) (vs fresh : List Version)
-    → fresh ≡ made n (numbered (length vs) (drafts_of c schema (current vs)))
-    → length fresh ≡ length (drafts_of c schema (current vs))
-fresh-count n c schema vs fresh f = ap length f ∙ length-fresh n (length vs) (drafts_of c schema (current vs))
+pub fresh-count : (c : Change) (schema : List Column) (vs : List Version) (rows : List Row)
+    → rows ≡ numbered (length vs) (drafts_of c schema (current vs))
+    → length rows ≡ length (drafts_of c schema (current vs))
+fresh-count c schema vs rows f = ap length f ∙ length-numbered (length vs) (drafts_of c schema (current vs))

@@ -7,3 +7,5 @@ pub mod OpenVersions
 pub mod Plans
 pub mod Rows
 pub mod Shown
+pub mod Stored
+pub mod StoredRef

@@ -13,16 +13,15 @@ made n rows = map (λ row. record { row = row; sysfrom = n; systo = None }) rows
 abbrev pub draft_of : Version → Draft
 draft_of v = record { period = v.row.period; values = v.row.values }
 
--- versions that a commit makes, behind `before` others
+-- rows that a change makes, behind `before` others
 pub record Making : Type 0 where
   pub before : ℕ
-  pub commit : ℕ
   pub drafts : List Draft
 
--- the versions that are made of drafts
-abbrev pub made_of : Making → List Version
-made_of m = made m.commit (numbered m.before m.drafts)
+-- the rows that are made of drafts
+abbrev pub made_of : Making → List Row
+made_of m = numbered m.before m.drafts
 
--- the new versions with more of them
+-- the new rows with more of them
 abbrev pub AddsDrafts : Making → Making → List Draft → Type 0
 AddsDrafts old new drafts = new ≡ record old { drafts = old.drafts ++ drafts }

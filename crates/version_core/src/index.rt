@@ -7,12 +7,13 @@ ghost use Rattle.row_core.specs.declared.schema.Column.{Column};
 ghost use Rattle.version_core.specs.Finding.{AreCandidates, AreFound, IsIndex, IsLookupOf, bucket_in, bucket_of, bucket_of_bytes, falls_into};
 ghost use Rattle.version_core.specs.Limits.{bucket_count, version_limit};
 ghost use Rattle.version_core.specs.Rows.{conds_of, is_equal_at};
+ghost use Rattle.version_core.specs.StoredRef.{version_at};
 ghost use Rattle.version_core.specs.declared.change.Change.{Change};
 ghost use Rattle.version_core.specs.declared.version.Version.{Version};
 
 use crate::change::Change;
 use crate::places::Places;
-use crate::version::Version;
+use crate::stored::{StoredVersions, VersionRef};
 use row_core::{Name, NoMemory, Schema, Value};
 use std::alloc::Global;
 
@@ -39,7 +40,11 @@ pub(crate) struct Lookup {
 
 impl Index {
     /// The index of versions by that column.
-    pub(crate) fn of(alloc: Global, versions: &[Version], column: u32) -> Result<Index, NoMemory>
+    pub(crate) fn of(
+        alloc: Global,
+        versions: &StoredVersions,
+        column: u32,
+    ) -> Result<Index, NoMemory>
         requires { length versions.now ≤ version_limit }
         ensures { IfOk result (IsIndex versions.now) }
     {
@@ -52,7 +57,7 @@ impl Index {
     }
 
     /// Adds the versions from that place on.
-    fn extend(&mut self, versions: &[Version], from: usize) -> Result<(), NoMemory>
+    fn extend(&mut self, versions: &StoredVersions, from: usize) -> Result<(), NoMemory>
         requires few { length versions.now ≤ version_limit }
         requires inside { from ≤ length versions.now }
         requires before { IsIndex (take from versions.now) self.old }
@@ -65,20 +70,20 @@ impl Index {
     }
 
     /// Adds the version at that place.
-    fn add(&mut self, versions: &[Version], place: usize) -> Result<(), NoMemory>
+    fn add(&mut self, versions: &StoredVersions, place: usize) -> Result<(), NoMemory>
         requires few { length versions.now ≤ version_limit }
         requires inside { place < length versions.now }
         requires before { IsIndex (take place versions.now) self.old }
         ensures { OnOk result (IsIndex (take (place + 1) versions.now) self.new) }
     {
-        if let Some(bucket) = bucket_in(self.column, &versions[place]) {
+        if let Some(bucket) = bucket_in(self.column, &versions.at(place)) {
             self.buckets[bucket].push(place as u32)?;
         }
         Ok(())
     }
 
     /// Leaves the places of open versions in that bucket.
-    fn drop_closed(&mut self, versions: &[Version], bucket: usize)
+    fn drop_closed(&mut self, versions: &StoredVersions, bucket: usize)
         requires index { IsIndex versions.now self.old }
         requires few { bucket < bucket_count }
         ensures { IsIndex versions.now self.new }
@@ -87,7 +92,7 @@ impl Index {
     }
 
     /// Leaves the places of open versions in all buckets.
-    fn sweep(&mut self, versions: &[Version])
+    fn sweep(&mut self, versions: &StoredVersions)
         requires { IsIndex versions.now self.old }
         ensures { IsIndex versions.now self.new }
     {
@@ -110,11 +115,11 @@ fn empty_buckets(alloc: Global) -> Result<Vec<Places>, NoMemory>
 }
 
 /// The bucket of a version's value in the column, where it is open and has one.
-fn bucket_in(column: u32, version: &Version) -> Option<usize>
-    ensures bucket { result ≡ bucket_in column version.now }
+fn bucket_in(column: u32, version: &VersionRef<'_>) -> Option<usize>
+    ensures bucket { result ≡ bucket_in column (version_at version.now) }
     ensures few { IfSome result (λ bucket. bucket < bucket_count) }
 {
-    if version.systo.is_some() {
+    if version.span.to.is_some() {
         return None;
     }
     match version.row.values.get(column as usize) {
@@ -256,7 +261,7 @@ pub(crate) fn candidates<'a>(
 pub(crate) fn make_indexes(
     alloc: Global,
     indexes: &mut Vec<Index>,
-    versions: &[Version],
+    versions: &StoredVersions,
     schema: &Schema,
     change: &Change,
 )
@@ -275,7 +280,7 @@ pub(crate) fn make_indexes(
 }
 
 /// Makes the index of the column, unless it is there or memory is refused.
-fn make_index(alloc: Global, indexes: &mut Vec<Index>, versions: &[Version], column: u32)
+fn make_index(alloc: Global, indexes: &mut Vec<Index>, versions: &StoredVersions, column: u32)
     requires few { length versions.now ≤ version_limit }
     requires before { All (IsIndex versions.now) indexes.old.items }
     ensures { All (IsIndex versions.now) indexes.new.items }
@@ -289,7 +294,7 @@ fn make_index(alloc: Global, indexes: &mut Vec<Index>, versions: &[Version], col
 }
 
 /// Leaves the places of open versions where the lookup leads.
-pub(crate) fn drop_closed_at(indexes: &mut [Index], versions: &[Version], lookup: Lookup)
+pub(crate) fn drop_closed_at(indexes: &mut [Index], versions: &StoredVersions, lookup: Lookup)
     requires lookup { lookup.bucket < bucket_count }
     requires before { All (IsIndex versions.now) indexes.old }
     ensures { All (IsIndex versions.now) indexes.new }
@@ -300,7 +305,7 @@ pub(crate) fn drop_closed_at(indexes: &mut [Index], versions: &[Version], lookup
 }
 
 /// Leaves the places of open versions in all indexes.
-pub(crate) fn sweep_indexes(indexes: &mut Vec<Index>, versions: &[Version])
+pub(crate) fn sweep_indexes(indexes: &mut Vec<Index>, versions: &StoredVersions)
     requires { All (IsIndex versions.now) indexes.old.items }
     ensures { All (IsIndex versions.now) indexes.new.items }
 {
@@ -311,7 +316,7 @@ pub(crate) fn sweep_indexes(indexes: &mut Vec<Index>, versions: &[Version])
 
 /// Adds the versions from that place on to all indexes. Where memory is refused none is left, and
 /// changes make them anew.
-pub(crate) fn extend_indexes(indexes: &mut Vec<Index>, versions: &[Version], from: usize)
+pub(crate) fn extend_indexes(indexes: &mut Vec<Index>, versions: &StoredVersions, from: usize)
     requires few { length versions.now ≤ version_limit }
     requires inside { from ≤ length versions.now }
     requires before { All (IsIndex (take from versions.now)) indexes.old.items }

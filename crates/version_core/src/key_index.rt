@@ -5,17 +5,18 @@ ghost use Rattle.std.specs.List.{list_any};
 ghost use Rattle.key_core.specs.Keys.{collide, have_collision, same_key};
 ghost use Rattle.version_core.specs.KeyIndex.{IsKeyIndex, IsLastNear, entry_of, key_number, mixed, number_in, number_of, number_of_bytes};
 ghost use Rattle.version_core.specs.Keys.{rows_left};
-ghost use Rattle.version_core.specs.Made.{draft_of};
 ghost use Rattle.version_core.specs.OpenVersions.{current, is_open};
 ghost use Rattle.version_core.specs.Rows.{unnumbered};
+ghost use Rattle.version_core.specs.StoredRef.{version_at};
+ghost use Rattle.version_core.specs.declared.version.Version.{Version};
 
 use crate::change::Change;
 use crate::keys::collides_at;
 use crate::portion::columns_sought;
-use crate::version::Version;
+use crate::stored::{StoredVersions, VersionRef};
 use key_core::same_key;
 use period_core::Point;
-use row_core::{NoMemory, Schema, Value};
+use row_core::{NoMemory, Row, Schema, Value};
 use std::alloc::{AllocError, Global};
 use std::collections::BTreeSet;
 
@@ -41,7 +42,11 @@ pub(crate) struct KeyIndex {
 
 impl KeyIndex {
     /// The index of versions by the key of those columns.
-    pub(crate) fn of(alloc: Global, versions: &[Version], key: &[u32]) -> Result<KeyIndex, NoMemory>
+    pub(crate) fn of(
+        alloc: Global,
+        versions: &StoredVersions,
+        key: &[u32],
+    ) -> Result<KeyIndex, NoMemory>
         ensures { IfOk result (IsKeyIndex versions.now) }
     {
         let mut index = KeyIndex {
@@ -60,7 +65,7 @@ impl KeyIndex {
     }
 
     /// Adds the open ones of the versions from that place on.
-    pub(crate) fn extend(&mut self, versions: &[Version], from: usize) -> Result<(), NoMemory>
+    pub(crate) fn extend(&mut self, versions: &StoredVersions, from: usize) -> Result<(), NoMemory>
         requires inside { from ≤ length versions.now }
         requires before { IsKeyIndex (take from versions.now) self.old }
         ensures { OnOk result (IsKeyIndex versions.now self.new) }
@@ -72,14 +77,14 @@ impl KeyIndex {
     }
 
     /// Adds the version at that place, where it is open.
-    fn add(&mut self, versions: &[Version], place: usize) -> Result<(), NoMemory>
+    fn add(&mut self, versions: &StoredVersions, place: usize) -> Result<(), NoMemory>
         requires inside { place < length versions.now }
         requires before { IsKeyIndex (take place versions.now) self.old }
         ensures { OnOk result (IsKeyIndex (take (place + 1) versions.now) self.new) }
     {
-        let version = &versions[place];
-        if version.systo.is_none() {
-            let entry = entry_of(&self.columns, place, version);
+        let version = versions.at(place);
+        if version.span.to.is_none() {
+            let entry = entry_of(&self.columns, place, version.row);
             if let Err(_) = self.entries.insert(entry) {
                 return Err(AllocError);
             }
@@ -88,7 +93,7 @@ impl KeyIndex {
     }
 
     /// Takes out those of the versions at the places that are closed.
-    pub(crate) fn drop_closed(&mut self, versions: &[Version], places: &[u32])
+    pub(crate) fn drop_closed(&mut self, versions: &StoredVersions, places: &[u32])
         requires { IsKeyIndex versions.now self.old }
         ensures { IsKeyIndex versions.now self.new }
     {
@@ -98,13 +103,13 @@ impl KeyIndex {
     }
 
     /// Takes out the version at that place, where it is closed.
-    fn drop_closed_at(&mut self, versions: &[Version], place: usize)
+    fn drop_closed_at(&mut self, versions: &StoredVersions, place: usize)
         requires { IsKeyIndex versions.now self.old }
         ensures { IsKeyIndex versions.now self.new }
     {
         if let Some(version) = versions.get(place) {
-            if version.systo.is_some() {
-                let entry = entry_of(&self.columns, place, version);
+            if version.span.to.is_some() {
+                let entry = entry_of(&self.columns, place, version.row);
                 self.entries.remove(&entry);
             }
         }
@@ -116,13 +121,13 @@ impl KeyIndex {
         &self,
         schema: &Schema,
         change: &Change,
-        versions: &[Version],
-        new: &Version,
+        versions: &StoredVersions,
+        new: &Row,
     ) -> bool
         requires index { IsKeyIndex versions.now self.now }
         requires unbroken { have_collision self.now.columns.items
             (map unnumbered (current versions.now)) ≡ false }
-        ensures { result ≡ list_any (λ left. collide self.now.columns.items left (draft_of new.now))
+        ensures { result ≡ list_any (λ left. collide self.now.columns.items left (unnumbered new.now))
             (rows_left change.now schema.now (current versions.now)) }
     {
         let key = self.columns.as_slice();
@@ -142,25 +147,25 @@ impl KeyIndex {
     }
 }
 
-/// The entry of the version at that place.
-fn entry_of(key: &[u32], place: usize, version: &Version) -> Entry
-    ensures { result ≡ entry_of key.now place version.now }
+/// The entry of the version of a row at that place.
+fn entry_of(key: &[u32], place: usize, row: &Row) -> Entry
+    ensures { (v : Version) → v.row ≡ row.now → result ≡ entry_of key.now place v }
 {
     Entry {
-        number: key_number(key, version.row.values.as_slice()),
-        from: version.row.period.from,
+        number: key_number(key, row.values.as_slice()),
+        from: row.period.from,
         place,
     }
 }
 
 /// Where a search ends that is for rows of its key: they begin before its end.
-fn end_of(key: &[u32], version: &Version) -> Entry
-    ensures number { result.number ≡ key_number key.now version.now.row.values }
-    ensures from { result.from ≡ version.now.row.period.to }
+fn end_of(key: &[u32], row: &Row) -> Entry
+    ensures number { result.number ≡ key_number key.now row.now.values }
+    ensures from { result.from ≡ row.now.period.to }
 {
     Entry {
-        number: key_number(key, version.row.values.as_slice()),
-        from: version.row.period.to,
+        number: key_number(key, row.values.as_slice()),
+        from: row.period.to,
         place: 0,
     }
 }
@@ -169,40 +174,36 @@ fn end_of(key: &[u32], version: &Version) -> Entry
 /// before it are of other keys, or its own version is open, of the row's key, and begins no later.
 fn is_last_near(
     key: &[u32],
-    versions: &[Version],
+    versions: &StoredVersions,
     entry: &Entry,
     number: u64,
-    new: &Version,
+    new: &Row,
 ) -> bool
-    requires number { number ≡ key_number key.now new.now.row.values }
+    requires number { number ≡ key_number key.now new.now.values }
     requires unbroken { have_collision key.now (map unnumbered (current versions.now)) ≡ false }
-    ensures { result ≡ true → IsLastNear key.now (draft_of new.now) versions.now entry.now }
+    ensures { result ≡ true → IsLastNear key.now (unnumbered new.now) versions.now entry.now }
 {
     if entry.number != number {
         return entry.number < number;
     }
     match versions.get(entry.place) {
-        Some(version) => is_open_before(key, version, entry.from, new),
+        Some(version) => is_open_before(key, &version, entry.from, new),
         None => false,
     }
 }
 
 /// Whether the version is open, of the new row's key, and begins where the entry says, which is no
 /// later than the new row does.
-fn is_open_before(key: &[u32], version: &Version, from: Point, new: &Version) -> bool
-    ensures open { result ≡ true → is_open version.now ≡ true }
-    ensures begins { result ≡ true → version.now.row.period.from ≡ from }
-    ensures before { result ≡ true → from ≤ℤ new.now.row.period.from }
-    ensures key { result ≡ true → same_key key.now version.now.row.values new.now.row.values ≡ true }
+fn is_open_before(key: &[u32], version: &VersionRef<'_>, from: Point, new: &Row) -> bool
+    ensures open { result ≡ true → is_open (version_at version.now) ≡ true }
+    ensures begins { result ≡ true → version.now.row.now.period.from ≡ from }
+    ensures before { result ≡ true → from ≤ℤ new.now.period.from }
+    ensures key { result ≡ true → same_key key.now version.now.row.now.values new.now.values ≡ true }
 {
-    version.systo.is_none()
+    version.span.to.is_none()
         && version.row.period.from == from
-        && from <= new.row.period.from
-        && same_key(
-            key,
-            version.row.values.as_slice(),
-            new.row.values.as_slice(),
-        )
+        && from <= new.period.from
+        && same_key(key, version.row.values.as_slice(), new.values.as_slice())
 }
 
 /// A number of the values in the key's columns. Values of one key have one number.

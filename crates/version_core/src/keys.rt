@@ -7,16 +7,16 @@ ghost use Rattle.key_core.specs.Order.{tested_row};
 ghost use Rattle.row_core.specs.Schema.{key_of};
 ghost use Rattle.version_core.specs.Finding.{ListsOpen, any_row, AreSought, passes};
 ghost use Rattle.version_core.specs.Keys.{collides_left, is_column_of, is_left, overlap_after, rows_left, sets_key, break_key};
-ghost use Rattle.version_core.specs.Made.{draft_of};
 ghost use Rattle.version_core.specs.OpenVersions.{current};
 ghost use Rattle.version_core.specs.Rows.{conds_of, unnumbered};
+ghost use Rattle.version_core.specs.StoredRef.{version_at};
 ghost use Rattle.version_core.specs.declared.version.Version.{Version};
 
 use crate::change::Change;
 use crate::portion::{SOUGHT_LIMIT, columns_sought, is_removed};
-use crate::version::Version;
+use crate::stored::{StoredVersions, VersionRef};
 use key_core::{KeyedRow, collide, have_collision};
-use row_core::{Name, NoMemory, Schema, Value};
+use row_core::{Name, NoMemory, Row, Schema, Value};
 use std::alloc::{AllocError, Global};
 use thiserror::Error;
 
@@ -76,30 +76,26 @@ pub(crate) fn collide_among_all(
     schema: &Schema,
     change: &Change,
     key: &[u32],
-    versions: &[Version],
+    versions: &StoredVersions,
     open_at: &[u32],
-    new: &[Version],
+    new: &[Row],
 ) -> Result<bool, NoMemory>
     requires { ListsOpen versions.now any_row open_at.now }
     ensures { IfOk result (λ overlap. overlap ≡ have_collision key.now
-        (rows_left change.now schema.now (current versions.now) ++ map draft_of new.now)) }
+        (rows_left change.now schema.now (current versions.now) ++ map unnumbered new.now)) }
 {
     let mut rows = rows_left(alloc, schema, change, versions, open_at)?;
     push_rows(&mut rows, new)?;
     Ok(have_collision(key, &mut rows))
 }
 
-/// Whether two of the versions' rows collide.
-pub(crate) fn collide_among(
-    alloc: Global,
-    key: &[u32],
-    versions: &[Version],
-) -> Result<bool, NoMemory>
+/// Whether two of the rows collide.
+pub(crate) fn collide_among(alloc: Global, key: &[u32], new: &[Row]) -> Result<bool, NoMemory>
     ensures { IfOk result (λ overlap. overlap
-        ≡ have_collision key.now (map draft_of versions.now)) }
+        ≡ have_collision key.now (map unnumbered new.now)) }
 {
     let mut rows = Vec::new(alloc);
-    push_rows(&mut rows, versions)?;
+    push_rows(&mut rows, new)?;
     Ok(have_collision(key, &mut rows))
 }
 
@@ -108,7 +104,7 @@ fn rows_left<'a>(
     alloc: Global,
     schema: &Schema,
     change: &Change,
-    versions: &'a [Version],
+    versions: &'a StoredVersions,
     open_at: &[u32],
 ) -> Result<Vec<KeyedRow<'a>>, NoMemory>
     requires { ListsOpen versions.now any_row open_at.now }
@@ -118,9 +114,9 @@ fn rows_left<'a>(
     let mut rows = Vec::new(alloc);
     let columns = columns_sought(schema, change);
     for place in open_at {
-        let version = &versions[*place as usize];
-        if is_left(schema, change, &columns, version) {
-            if let Err(_) = rows.push(keyed(version)) {
+        let version = versions.at(*place as usize);
+        if is_left(schema, change, &columns, &version) {
+            if let Err(_) = rows.push(keyed(version.row)) {
                 return Err(AllocError);
             }
         }
@@ -133,31 +129,31 @@ fn is_left(
     schema: &Schema,
     change: &Change,
     columns: &[Option<u32>; SOUGHT_LIMIT],
-    version: &Version,
+    version: &VersionRef<'_>,
 ) -> bool
     requires { AreSought schema.now (conds_of change.now) columns.now }
-    ensures { result ≡ is_left change.now schema.now version.now }
+    ensures { result ≡ is_left change.now schema.now (version_at version.now) }
 {
-    version.systo.is_none() && !is_removed(schema, change, columns, &version.row)
+    version.span.to.is_none() && !is_removed(schema, change, columns, version.row)
 }
 
-/// The version's row, as its key is tested.
-fn keyed(version: &Version) -> KeyedRow<'_>
-    ensures { tested_row result ≡ draft_of version.now }
+/// The row, as its key is tested.
+fn keyed(row: &Row) -> KeyedRow<'_>
+    ensures { tested_row result ≡ unnumbered row.now }
 {
     KeyedRow {
-        values: version.row.values.as_slice(),
-        period: version.row.period,
+        values: row.values.as_slice(),
+        period: row.period,
     }
 }
 
-/// Adds the versions' rows.
-fn push_rows<'a>(rows: &mut Vec<KeyedRow<'a>>, versions: &'a [Version]) -> Result<(), NoMemory>
+/// Adds the rows.
+fn push_rows<'a>(rows: &mut Vec<KeyedRow<'a>>, new: &'a [Row]) -> Result<(), NoMemory>
     ensures { OnOk result (map tested_row rows.new.items
-        ≡ map tested_row rows.old.items ++ map draft_of versions.now) }
+        ≡ map tested_row rows.old.items ++ map unnumbered new.now) }
 {
-    for version in versions {
-        if let Err(_) = rows.push(keyed(version)) {
+    for row in new {
+        if let Err(_) = rows.push(keyed(row)) {
             return Err(AllocError);
         }
     }
@@ -171,16 +167,16 @@ pub(crate) fn collides_at(
     change: &Change,
     columns: &[Option<u32>; SOUGHT_LIMIT],
     key: &[u32],
-    versions: &[Version],
+    versions: &StoredVersions,
     place: usize,
-    new: &Version,
+    new: &Row,
 ) -> bool
     requires { AreSought schema.now (conds_of change.now) columns.now }
     ensures { result ≡ passes versions.now
-        (collides_left change.now schema.now key.now (draft_of new.now)) place }
+        (collides_left change.now schema.now key.now (unnumbered new.now)) place }
 {
     match versions.get(place) {
-        Some(version) => collides_left(schema, change, columns, key, version, new),
+        Some(version) => collides_left(schema, change, columns, key, &version, new),
         None => false,
     }
 }
@@ -191,11 +187,12 @@ fn collides_left(
     change: &Change,
     columns: &[Option<u32>; SOUGHT_LIMIT],
     key: &[u32],
-    version: &Version,
-    new: &Version,
+    version: &VersionRef<'_>,
+    new: &Row,
 ) -> bool
     requires { AreSought schema.now (conds_of change.now) columns.now }
-    ensures { result ≡ collides_left change.now schema.now key.now (draft_of new.now) version.now }
+    ensures { result ≡ collides_left change.now schema.now key.now (unnumbered new.now)
+        (version_at version.now) }
 {
-    is_left(schema, change, columns, version) && collide(key, &keyed(version), &keyed(new))
+    is_left(schema, change, columns, version) && collide(key, &keyed(version.row), &keyed(new))
 }

@@ -6,7 +6,7 @@ ghost use Rattle.version_core.specs.Finding.{passes};
 ghost use Rattle.version_core.specs.Limits.{version_limit};
 ghost use Rattle.version_core.specs.OpenVersions.{is_open};
 
-use crate::version::Version;
+use crate::stored::StoredVersions;
 use row_core::NoMemory;
 use std::alloc::Global;
 use std::marker::Model;
@@ -85,7 +85,7 @@ impl Places {
     }
 
     /// Leaves the places of open versions.
-    pub(crate) fn drop_closed(&mut self, versions: &[Version])
+    pub(crate) fn drop_closed(&mut self, versions: &StoredVersions)
         ensures { self.new ≡ filter (passes versions.now is_open) self.old }
     {
         drop_closed(&mut self.items, versions);
@@ -109,18 +109,18 @@ fn push_places(places: &mut Vec<u32>, first: usize, count: usize) -> Result<(), 
 }
 
 /// Leaves the places of open versions.
-fn drop_closed(places: &mut Vec<u32>, versions: &[Version])
+fn drop_closed(places: &mut Vec<u32>, versions: &StoredVersions)
     ensures { places.new.items ≡ filter (passes versions.now is_open) places.old.items }
 {
     places.retain(|place| is_open_at(versions, *place));
 }
 
 /// Whether an open version has that place.
-fn is_open_at(versions: &[Version], place: u32) -> bool
+fn is_open_at(versions: &StoredVersions, place: u32) -> bool
     ensures { result ≡ passes versions.now is_open place }
 {
     match versions.get(place as usize) {
-        Some(version) => version.systo.is_none(),
+        Some(version) => version.span.to.is_none(),
         None => false,
     }
 }

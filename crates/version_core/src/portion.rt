@@ -11,7 +11,7 @@ ghost use Rattle.version_core.specs.Made.{AddsDrafts};
 ghost use Rattle.version_core.specs.Rows.{conds_of, is_touched, is_equal_at, removes, part, parts_of, set_at};
 
 use crate::change::Change;
-use crate::making::NewVersions;
+use crate::making::NewRows;
 use list_core::{DeepCopy, copy_each};
 use period_core::Period;
 use row_core::{Name, NoMemory, Row, Schema, Text, Value, Values};
@@ -55,7 +55,7 @@ fn one_if(period: Option<Period>) -> usize
 /// Adds what comes in the place of a row that the change takes out.
 pub(crate) fn push_parts(
     alloc: Global,
-    new: &mut NewVersions,
+    new: &mut NewRows,
     schema: &Schema,
     change: &Change,
     row: &Row,
@@ -75,7 +75,7 @@ pub(crate) fn push_parts(
 /// Adds the parts of a row before, inside and after the portion, with the settings inside.
 fn push_changed(
     alloc: Global,
-    new: &mut NewVersions,
+    new: &mut NewRows,
     schema: &Schema,
     portion: &Period,
     sets: &[(Name, Value)],
@@ -98,7 +98,7 @@ fn push_changed(
 /// Adds the parts of a row before and after the portion.
 fn push_outside(
     alloc: Global,
-    new: &mut NewVersions,
+    new: &mut NewRows,
     portion: &Period,
     row: &Row,
 ) -> Result<(), NoMemory>
@@ -115,7 +115,7 @@ fn push_outside(
 /// Adds the period, if there is one, with a copy of the values.
 fn push_part(
     alloc: Global,
-    new: &mut NewVersions,
+    new: &mut NewRows,
     period: Option<Period>,
     values: &Values,
 ) -> Result<(), NoMemory>
@@ -128,11 +128,7 @@ fn push_part(
 }
 
 /// Adds the period, if there is one, with the values.
-fn push_values(
-    new: &mut NewVersions,
-    period: Option<Period>,
-    values: Values,
-) -> Result<(), NoMemory>
+fn push_values(new: &mut NewRows, period: Option<Period>, values: Values) -> Result<(), NoMemory>
     ensures { OnOk result (AddsDrafts new.old new.new (part period values)) }
 {
     match period {

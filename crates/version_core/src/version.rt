@@ -5,7 +5,10 @@ ghost use Rattle.std.specs.Option.{option_copied};
 ghost use Rattle.period_core.specs.Period.{holds_at};
 ghost use Rattle.row_core.specs.declared.row.Row.{Row};
 ghost use Rattle.version_core.specs.Shown.{shows, shown, versions_as_of, end_at, is_behind};
+ghost use Rattle.version_core.specs.StoredRef.{version_at};
 
+use crate::shared_rows::SharedRows;
+use crate::stored::{Span, StoredVersions, VersionRef};
 use list_core::{DeepCopy, List};
 use period_core::Point;
 use row_core::{NoMemory, Row, RowList};
@@ -20,35 +23,56 @@ pub struct Version {
     pub systo: Option<u64>,
 }
 
-impl DeepCopy for Version {
-    fn copy(&self, alloc: Global) -> Result<Version, NoMemory> {
-        Ok(Version {
-            row: self.row.copy(alloc)?,
-            sysfrom: self.sysfrom,
-            systo: self.systo,
-        })
+/// Whether commit n shows the version.
+fn is_shown(span: Span, n: u64) -> bool
+    ensures { result ≡ (nat_le span.from n && is_behind span.to n) }
+{
+    span.from as u64 <= n && span.to.is_none_or(|to| n < to as u64)
+}
+
+/// The rows that commit n shows: where it shows all versions they are shared, else copied.
+pub(crate) fn rows_shown(
+    alloc: Global,
+    versions: &StoredVersions,
+    n: u64,
+) -> Result<SharedRows, NoMemory>
+    ensures { IfOk result (λ rows. rows ≡ shown n versions.now) }
+{
+    let count = count_shown(versions, n);
+    if count == versions.len() {
+        versions.rows()
+    } else {
+        SharedRows::of(alloc, rows_copied(alloc, versions, n, count)?)
     }
 }
 
-/// Whether commit n shows the version.
-fn is_shown(version: &Version, n: u64) -> bool
-    ensures { result ≡ shows n version.now }
+/// How many versions commit n shows.
+fn count_shown(versions: &StoredVersions, n: u64) -> usize
+    ensures { result ≡ length (shown n versions.now) }
 {
-    version.sysfrom <= n && version.systo.is_none_or(|to| n < to)
+    let mut count = 0;
+    for place in 0..versions.len() {
+        if is_shown(versions.at(place).span, n) {
+            count += 1;
+        }
+    }
+    count
 }
 
-/// The rows that commit n shows.
-pub fn rows_shown(alloc: Global, versions: &[Version], n: u64) -> Result<RowList, NoMemory>
+/// Copies of the rows that commit n shows, which are so many: so no memory is asked for again as
+/// they grow.
+fn rows_copied(
+    alloc: Global,
+    versions: &StoredVersions,
+    n: u64,
+    count: usize,
+) -> Result<RowList, NoMemory>
     ensures { IfOk result (λ rows. rows ≡ shown n versions.now) }
 {
-    // They are counted first, so that no memory is asked for again as they grow.
-    let count = versions
-        .iter()
-        .filter(|version| is_shown(version, n))
-        .count();
     let mut rows = Vec::with_capacity(alloc, count)?;
-    for version in versions {
-        if is_shown(version, n) {
+    for place in 0..versions.len() {
+        let version = versions.at(place);
+        if is_shown(version.span, n) {
             rows.push(version.row.copy(alloc)?)?;
         }
     }
@@ -56,37 +80,38 @@ pub fn rows_shown(alloc: Global, versions: &[Version], n: u64) -> Result<RowList
 }
 
 /// Whether commit n shows the version, and its row holds at the point.
-fn is_shown_holding(version: &Version, n: u64, point: Point) -> bool
-    ensures { result ≡ (shows n version.now && holds_at point version.now.row.period) }
+fn is_shown_holding(version: &VersionRef<'_>, n: u64, point: Point) -> bool
+    ensures { result ≡ (shows n (version_at version.now) && holds_at point version.now.row.now.period) }
 {
-    version.row.period.holds(point) && is_shown(version, n)
+    version.row.period.holds(point) && is_shown(version.span, n)
 }
 
 /// The rows that commit n shows and that hold at the point. No other row is copied.
 pub(crate) fn rows_holding(
     alloc: Global,
-    versions: &[Version],
+    versions: &StoredVersions,
     n: u64,
     point: Point,
-) -> Result<RowList, NoMemory>
+) -> Result<SharedRows, NoMemory>
     ensures { IfOk result (λ rows. rows ≡ filter (λ row. holds_at point row.period) (shown n versions.now)) }
 {
     let mut rows = RowList::new(alloc);
-    for version in versions {
-        if is_shown_holding(version, n, point) {
+    for place in 0..versions.len() {
+        let version = versions.at(place);
+        if is_shown_holding(&version, n, point) {
             rows.push(version.row.copy(alloc)?)?;
         }
     }
-    Ok(rows)
+    SharedRows::of(alloc, rows)
 }
 
 /// Versions of one table, by rising id.
 pub type VersionList = List<Version>;
 
 /// The versions of the first `at` commits that begin up to `last` and are not over by `m`.
-pub fn versions_seen(
+pub(crate) fn versions_seen(
     alloc: Global,
-    versions: &[Version],
+    versions: &StoredVersions,
     at: u64,
     m: u64,
     last: u64,
@@ -94,12 +119,14 @@ pub fn versions_seen(
     ensures { IfOk result (λ list. list ≡ versions_as_of at m last versions.now) }
 {
     let mut seen = VersionList::new(alloc);
-    for version in versions {
-        let end = end_at(at, version.systo);
-        if is_seen(version.sysfrom, end, at, m, last) {
+    for place in 0..versions.len() {
+        let VersionRef { row, span } = versions.at(place);
+        let sysfrom = span.from as u64;
+        let end = end_at(at, span.to);
+        if is_seen(sysfrom, end, at, m, last) {
             seen.push(Version {
-                row: version.row.copy(alloc)?,
-                sysfrom: version.sysfrom,
+                row: row.copy(alloc)?,
+                sysfrom,
                 systo: end,
             })?;
         }
@@ -108,12 +135,18 @@ pub fn versions_seen(
 }
 
 /// The end as the first `at` commits know it: one past them is open.
-fn end_at(at: u64, systo: Option<u64>) -> Option<u64>
+fn end_at(at: u64, systo: Option<u32>) -> Option<u64>
     ensures { result ≡ end_at at systo }
 {
     match systo {
         None => None,
-        Some(to) => { if to <= at { Some(to) } else { None } }
+        Some(to) => {
+            if to as u64 <= at {
+                Some(to as u64)
+            } else {
+                None
+            }
+        }
     }
 }
 

@@ -6,17 +6,18 @@ ghost use Rattle.key_core.specs.Keys.{collide, have_collision};
 ghost use Rattle.period_core.specs.Period.{holds_at};
 ghost use Rattle.row_core.specs.Schema.{key_of};
 ghost use Rattle.row_core.specs.declared.failure.Failure.TheVariants.{NoMemory};
-ghost use Rattle.row_core.specs.declared.row.Row.{Row};
+ghost use Rattle.row_core.specs.declared.row.Row.{Row as AnyRow};
 ghost use Rattle.row_core.specs.declared.schema.Column.{Column};
 ghost use Rattle.version_core.specs.Finding.{AreCandidates, IsIndex, IsLookupOf, AreSought};
 ghost use Rattle.version_core.specs.KeyIndex.{IsKeyIndex};
 ghost use Rattle.version_core.specs.Keys.{overlap_after, rows_left, break_key};
 ghost use Rattle.version_core.specs.Limits.{bucket_count, version_limit};
-ghost use Rattle.version_core.specs.Made.{made, draft_of};
+ghost use Rattle.version_core.specs.Made.{made};
 ghost use Rattle.version_core.specs.OpenVersions.{closed_at, current, is_taken, places_from, versions_after};
 ghost use Rattle.version_core.specs.Plans.{IsPlanOf};
 ghost use Rattle.version_core.specs.Rows.{conds_of, drafts_of, numbered, parts_of_all, removes, unnumbered};
-ghost use Rattle.version_core.specs.Shown.{shown};
+ghost use Rattle.version_core.specs.Shown.{shown, versions_as_of};
+ghost use Rattle.version_core.specs.StoredRef.{version_at};
 ghost use Rattle.version_core.specs.declared.change.Change.{Change};
 
 use crate::change::Change;
@@ -26,13 +27,15 @@ use crate::index::{
 };
 use crate::key_index::KeyIndex;
 use crate::keys::{KeyOverlap, collide_among, collide_among_all, may_overlap};
-use crate::making::{NewVersions, versions_of};
+use crate::making::{NewRows, rows_of};
 use crate::places::Places;
 use crate::portion::{SOUGHT_LIMIT, columns_sought, count_of, is_removed, push_parts, reaches};
-use crate::version::{Version, rows_holding};
-use list_core::{DeepCopy, copy_each};
+use crate::shared_rows::SharedRows;
+use crate::stored::{StoredVersions, VersionRef};
+use crate::version::{VersionList, rows_holding, rows_shown, versions_seen};
+use list_core::DeepCopy;
 use period_core::Point;
-use row_core::{Failure, NoMemory, RowList, Schema};
+use row_core::{Failure, NoMemory, Row, Schema};
 use std::alloc::Global;
 use std::marker::Model;
 
@@ -49,7 +52,7 @@ pub struct VersionCounts {
 /// All versions of a table's rows: the one at place i has the id i + 1. Contracts see the list.
 #[derive(Debug, Drop)]
 pub struct Versions {
-    items: Vec<Version>,
+    items: StoredVersions,
     /// The places of the open ones, and of closed ones that a change has not come across.
     open_at: Places,
     /// How many were closed since those places were only of open ones.
@@ -67,16 +70,16 @@ impl Model for Versions {
 
     ghost Value = { List Version };
 
-    ghost view = { λ v. v.items.items };
+    ghost view = { λ v. v.items };
 
-    ghost invariant = { λ v. AreBeside v.items.items v.open_at v.indexes.items v.key_index };
+    ghost invariant = { λ v. AreBeside v.items v.open_at v.indexes.items v.key_index };
 }
 
 impl DeepCopy for Versions {
     /// Without the indexes, which the copy makes anew where it needs them.
     fn copy(&self, alloc: Global) -> Result<Versions, NoMemory> {
         Ok(Versions {
-            items: copy_each(alloc, &self.items)?,
+            items: self.items.copy(alloc)?,
             open_at: self.open_at.copy(alloc)?,
             closed: self.closed,
             indexes: Vec::new(alloc),
@@ -87,16 +90,16 @@ impl DeepCopy for Versions {
 
 impl Versions {
     /// The empty list.
-    pub fn new(alloc: Global) -> Self
-        ensures { result ≡ [] }
+    pub fn new(alloc: Global) -> Result<Self, NoMemory>
+        ensures { IfOk result (λ versions. versions ≡ []) }
     {
-        Versions {
-            items: Vec::new(alloc),
+        Ok(Versions {
+            items: StoredVersions::new(alloc)?,
             open_at: Places::new(alloc),
             closed: 0,
             indexes: Vec::new(alloc),
             key_index: None,
-        }
+        })
     }
 
     /// How many there are.
@@ -106,17 +109,30 @@ impl Versions {
         self.items.len()
     }
 
-    /// All versions, by rising id.
-    pub fn as_slice(&self) -> &[Version]
-        ensures { result.now ≡ self.now }
+    /// The rows that commit n shows, by rising id. Where it shows all they are not copied.
+    pub fn rows_shown(&self, alloc: Global, n: u64) -> Result<SharedRows, NoMemory>
+        ensures { IfOk result (λ rows. rows ≡ shown n self.now) }
     {
-        &self.items
+        rows_shown(alloc, &self.items, n)
+    }
+
+    /// The versions of the first `at` commits that begin up to `last` and are not over by `m`.
+    pub fn versions_seen(
+        &self,
+        alloc: Global,
+        at: u64,
+        m: u64,
+        last: u64,
+    ) -> Result<VersionList, NoMemory>
+        ensures { IfOk result (λ list. list ≡ versions_as_of at m last self.now) }
+    {
+        versions_seen(alloc, &self.items, at, m, last)
     }
 
     /// The rows that commit n shows and that hold at the point. No other row is copied.
-    pub fn rows_holding(&self, alloc: Global, n: u64, point: Point) -> Result<RowList, NoMemory>
+    pub fn rows_holding(&self, alloc: Global, n: u64, point: Point) -> Result<SharedRows, NoMemory>
         ensures { IfOk result (λ rows. rows
-            ≡ filter (λ (row : Row). holds_at point row.period) (shown n self.now)) }
+            ≡ filter (λ (row : AnyRow). holds_at point row.period) (shown n self.now)) }
     {
         rows_holding(alloc, &self.items, n, point)
     }
@@ -146,7 +162,7 @@ impl Versions {
         &mut self,
         alloc: Global,
         schema: &Schema,
-        commit: u64,
+        commit: u32,
         change: &Change,
     ) -> Result<VersionCounts, Failure<KeyOverlap>>
         requires room { length self.old
@@ -165,7 +181,7 @@ impl Versions {
         make_indexes(alloc, &mut self.indexes, &self.items, schema, change);
         let lookup = lookup_of(&self.indexes, schema, change);
         self.drop_closed(lookup);
-        let plan = self.plan(alloc, schema, commit, change, lookup)?;
+        let plan = self.plan(alloc, schema, change, lookup)?;
         self.prepare_key_index(alloc, schema, change, &key, &plan);
         self.carry_out(alloc, schema, &key, commit, change, plan)
     }
@@ -193,17 +209,16 @@ impl Versions {
         &self,
         alloc: Global,
         schema: &Schema,
-        commit: u64,
         change: &Change,
         lookup: Option<Lookup>,
     ) -> Result<Plan, NoMemory>
         requires few { length self.now ≤ version_limit }
         requires bucket { IfSome lookup (λ lookup. lookup.bucket < bucket_count) }
         requires lookup { IfSome lookup (IsLookupOf change.now schema.now) }
-        ensures { IfOk result (IsPlanOf commit change.now schema.now self.now) }
+        ensures { IfOk result (IsPlanOf change.now schema.now self.now) }
     {
         let places = candidates(self.open_at.as_slice(), &self.indexes, lookup);
-        plan_change(alloc, schema, &self.items, places, commit, change)
+        plan_change(alloc, schema, &self.items, places, change)
     }
 
     /// Makes the index of the key where it helps to test the plan, and drops it where that isn't small.
@@ -242,7 +257,7 @@ impl Versions {
         alloc: Global,
         schema: &Schema,
         key: &[u32],
-        commit: u64,
+        commit: u32,
         change: &Change,
         plan: Plan,
     ) -> Result<VersionCounts, Failure<KeyOverlap>>
@@ -250,7 +265,7 @@ impl Versions {
         requires room { length self.old
             + length (drafts_of change.now schema.now (current self.old)) ≤ version_limit }
         requires unbroken { break_key (key_of schema.now) (map unnumbered (current self.old)) ≡ false }
-        requires plan { IsPlanOf commit change.now schema.now self.old plan }
+        requires plan { IsPlanOf change.now schema.now self.old plan }
         ensures ok { OnOk result (self.new ≡ versions_after commit change.now schema.now self.old) }
         ensures counts { IfOk result (λ counts.
             (counts.added ≡ length (drafts_of change.now schema.now (current self.old)))
@@ -269,14 +284,13 @@ impl Versions {
             added: new.len() as u64,
             closed: taken.len() as u64,
         };
-        add_versions(&mut self.items, &mut self.open_at, new)?;
+        add_versions(alloc, &mut self.items, &mut self.open_at, new, commit)?;
         close_all(&mut self.items, &taken, commit);
         self.closed = self.closed.saturating_add(taken.len());
-        let versions = self.items.as_slice();
         keep_indexes(
             &mut self.indexes,
             &mut self.key_index,
-            versions,
+            &self.items,
             before,
             &taken,
         );
@@ -290,11 +304,11 @@ impl Versions {
         schema: &Schema,
         columns: &[u32],
         change: &Change,
-        new: &[Version],
+        new: &[Row],
     ) -> Result<bool, NoMemory>
         requires columns { columns.now ≡ key_of schema.now }
         requires unbroken { break_key (key_of schema.now) (map unnumbered (current self.now)) ≡ false }
-        requires new { map draft_of new.now ≡ drafts_of change.now schema.now (current self.now) }
+        requires new { map unnumbered new.now ≡ drafts_of change.now schema.now (current self.now) }
         ensures { IfOk result (λ overlap. overlap ≡ overlap_after change.now schema.now self.now) }
     {
         if may_overlap(schema, change, columns) {
@@ -312,11 +326,11 @@ impl Versions {
         schema: &Schema,
         columns: &[u32],
         change: &Change,
-        new: &[Version],
+        new: &[Row],
     ) -> Result<bool, NoMemory>
         requires unbroken { have_collision columns.now (map unnumbered (current self.now)) ≡ false }
         ensures { IfOk result (λ overlap. overlap ≡ have_collision columns.now
-            (rows_left change.now schema.now (current self.now) ++ map draft_of new.now)) }
+            (rows_left change.now schema.now (current self.now) ++ map unnumbered new.now)) }
     {
         match self.key_index_by(columns) {
             Some(index) => {
@@ -331,16 +345,16 @@ impl Versions {
     }
 
     /// Whether a new row collides with one that the change leaves.
-    fn any_meets(&self, schema: &Schema, change: &Change, index: &KeyIndex, new: &[Version]) -> bool
+    fn any_meets(&self, schema: &Schema, change: &Change, index: &KeyIndex, new: &[Row]) -> bool
         requires index { IsKeyIndex self.now index.now }
         requires unbroken { have_collision index.now.columns.items
             (map unnumbered (current self.now)) ≡ false }
         ensures { result ≡ list_any (λ other. list_any
             (λ left. collide index.now.columns.items left other)
-            (rows_left change.now schema.now (current self.now))) (map draft_of new.now) }
+            (rows_left change.now schema.now (current self.now))) (map unnumbered new.now) }
     {
-        for version in new {
-            if index.any_collides(schema, change, &self.items, version) {
+        for row in new {
+            if index.any_collides(schema, change, &self.items, row) {
                 return true;
             }
         }
@@ -348,11 +362,11 @@ impl Versions {
     }
 }
 
-/// What a change does to versions: those that it makes, and the places of the open
-/// ones that it takes out.
+/// What a change does to versions: the rows that it makes, and the places of the open ones that it
+/// takes out.
 #[derive(Drop)]
 struct Plan {
-    new: Vec<Version>,
+    new: Vec<Row>,
     taken: Vec<u32>,
 }
 
@@ -371,29 +385,28 @@ fn is_small(plan: &Plan, versions: usize) -> bool {
 fn plan_change(
     alloc: Global,
     schema: &Schema,
-    versions: &[Version],
+    versions: &StoredVersions,
     places: &[u32],
-    commit: u64,
     change: &Change,
 ) -> Result<Plan, NoMemory>
     requires few { length versions.now ≤ version_limit }
     requires places { AreCandidates change.now schema.now versions.now places.now }
-    ensures { IfOk result (IsPlanOf commit change.now schema.now versions.now) }
+    ensures { IfOk result (IsPlanOf change.now schema.now versions.now) }
 {
     match change {
         Change::Make { .. } => Ok(Plan::of(alloc, Vec::new(alloc))),
         Change::Load { rows, .. } => {
-            let new = versions_of(alloc, versions.len(), commit, rows.as_slice())?;
+            let new = rows_of(alloc, versions.len(), rows.as_slice())?;
             Ok(Plan::of(alloc, new))
         }
-        Change::Update { .. } => plan_portion(alloc, schema, versions, places, commit, change),
-        Change::Delete { .. } => plan_portion(alloc, schema, versions, places, commit, change),
+        Change::Update { .. } => plan_portion(alloc, schema, versions, places, change),
+        Change::Delete { .. } => plan_portion(alloc, schema, versions, places, change),
     }
 }
 
 impl Plan {
-    /// The plan that makes these versions and takes out none.
-    fn of(alloc: Global, new: Vec<Version>) -> Self
+    /// The plan that makes these rows and takes out none.
+    fn of(alloc: Global, new: Vec<Row>) -> Self
         ensures new { result.new ≡ new }
         ensures taken { result.taken.items ≡ [] }
     {
@@ -408,25 +421,24 @@ impl Plan {
 fn plan_portion(
     alloc: Global,
     schema: &Schema,
-    versions: &[Version],
+    versions: &StoredVersions,
     places: &[u32],
-    commit: u64,
     change: &Change,
 ) -> Result<Plan, NoMemory>
     requires few { length versions.now ≤ version_limit }
     requires places { AreCandidates change.now schema.now versions.now places.now }
-    ensures new { IfOk result (λ plan. plan.new.items ≡ made commit
-        (numbered (length versions.now) (parts_of_all change.now schema.now (current versions.now)))) }
+    ensures new { IfOk result (λ plan. plan.new.items
+        ≡ numbered (length versions.now) (parts_of_all change.now schema.now (current versions.now))) }
     ensures taken { IfOk result (λ plan. plan.taken.items
         ≡ places_from (is_taken change.now schema.now) 0 versions.now) }
 {
-    let mut new = NewVersions::new(alloc, versions.len(), commit);
+    let mut new = NewRows::new(alloc, versions.len());
     let mut taken = Vec::new(alloc);
     let columns = columns_sought(schema, change);
     for place in places {
-        let version = &versions[*place as usize];
-        if is_taken(schema, change, &columns, version) {
-            push_parts(alloc, &mut new, schema, change, &version.row)?;
+        let version = versions.at(*place as usize);
+        if is_taken(schema, change, &columns, &version) {
+            push_parts(alloc, &mut new, schema, change, version.row)?;
             taken.push(*place)?;
         }
     }
@@ -437,7 +449,7 @@ fn plan_portion(
 }
 
 /// How many rows come in the place of those that the change takes out.
-fn count_parts(schema: &Schema, versions: &[Version], places: &[u32], change: &Change) -> usize
+fn count_parts(schema: &Schema, versions: &StoredVersions, places: &[u32], change: &Change) -> usize
     requires few { length versions.now ≤ version_limit }
     requires places { AreCandidates change.now schema.now versions.now places.now }
     ensures { result ≡ length (parts_of_all change.now schema.now (current versions.now)) }
@@ -445,9 +457,9 @@ fn count_parts(schema: &Schema, versions: &[Version], places: &[u32], change: &C
     let mut count = 0;
     let columns = columns_sought(schema, change);
     for place in places {
-        let version = &versions[*place as usize];
-        if is_taken(schema, change, &columns, version) {
-            count += count_of(change, &version.row);
+        let version = versions.at(*place as usize);
+        if is_taken(schema, change, &columns, &version) {
+            count += count_of(change, version.row);
         }
     }
     count
@@ -460,14 +472,14 @@ fn is_taken(
     schema: &Schema,
     change: &Change,
     columns: &[Option<u32>; SOUGHT_LIMIT],
-    version: &Version,
+    version: &VersionRef<'_>,
 ) -> bool
     requires { AreSought schema.now (conds_of change.now) columns.now }
-    ensures { result ≡ is_taken change.now schema.now version.now }
+    ensures { result ≡ is_taken change.now schema.now (version_at version.now) }
 {
     reaches(change, &version.row.period)
-        && version.systo.is_none()
-        && is_removed(schema, change, columns, &version.row)
+        && version.span.to.is_none()
+        && is_removed(schema, change, columns, version.row)
 }
 
 /// Adds the versions from that place on to all indexes. Those at the places, which are closed, stay in
@@ -475,7 +487,7 @@ fn is_taken(
 fn keep_indexes(
     indexes: &mut Vec<Index>,
     key_index: &mut Option<KeyIndex>,
-    versions: &[Version],
+    versions: &StoredVersions,
     from: usize,
     taken: &[u32],
 )
@@ -494,7 +506,7 @@ fn keep_indexes(
 /// that are closed. Where memory is refused there is none.
 fn keep_key_index(
     key_index: &mut Option<KeyIndex>,
-    versions: &[Version],
+    versions: &StoredVersions,
     from: usize,
     taken: &[u32],
 )
@@ -511,47 +523,36 @@ fn keep_key_index(
     }
 }
 
-/// Adds versions and their places. On refusal there are none more.
+/// Adds the versions of rows that a commit makes, and their places. On refusal there are none more.
 fn add_versions(
-    versions: &mut Vec<Version>,
+    alloc: Global,
+    versions: &mut StoredVersions,
     places: &mut Places,
-    new: Vec<Version>,
+    new: Vec<Row>,
+    commit: u32,
 ) -> Result<(), NoMemory>
-    requires { length versions.old.items + length new.items ≤ version_limit }
-    ensures ok { OnOk result (versions.new.items ≡ versions.old.items ++ new.items) }
+    requires { length versions.old + length new.items ≤ version_limit }
+    ensures ok { OnOk result (versions.new ≡ versions.old ++ made commit new.items) }
     ensures places { OnOk result (places.new
-        ≡ places.old ++ range_with_len (length versions.old.items) (length new.items)) }
-    ensures err { OnErr result (versions.new.items ≡ versions.old.items) }
+        ≡ places.old ++ range_with_len (length versions.old) (length new.items)) }
+    ensures err { OnErr result (versions.new ≡ versions.old) }
     ensures err_places { OnErr result (places.new ≡ places.old) }
 {
     let open = places.len();
     places.push_range(versions.len(), new.len())?;
-    if let Err(error) = append(versions, new) {
+    if let Err(error) = versions.append(alloc, new, commit) {
         places.truncate(open);
         return Err(error);
     }
     Ok(())
 }
 
-/// Adds versions at the end. The first of a table stay where they were made.
-fn append(versions: &mut Vec<Version>, mut new: Vec<Version>) -> Result<(), NoMemory>
-    ensures ok { OnOk result (versions.new.items ≡ versions.old.items ++ new.items) }
-    ensures err { OnErr result (versions.new.items ≡ versions.old.items) }
-{
-    if versions.is_empty() {
-        *versions = new;
-    } else {
-        versions.append(&mut new)?;
-    }
-    Ok(())
-}
-
 /// Ends the versions at those places with the commit.
-fn close_all(versions: &mut [Version], places: &[u32], commit: u64)
+fn close_all(versions: &mut StoredVersions, places: &[u32], commit: u32)
     requires { All (λ place. place < length versions.old) places.now }
     ensures { versions.new ≡ fold (closed_at commit) versions.old places.now }
 {
     for place in places {
-        versions[*place as usize].systo = Some(commit);
+        versions.close(*place as usize, commit);
     }
 }

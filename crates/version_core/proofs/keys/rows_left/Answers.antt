@@ -4,31 +4,32 @@ use Rattle.std.proofs.lemmas.List.{take_all}
 use Rattle.key_core.specs.Order.{tested_row}
 use Rattle.version_core.specs.Finding.{passes}
 use Rattle.version_core.specs.Keys.{is_left}
+use Rattle.version_core.specs.StoredRef.{version_at}
 use Rattle.version_core.proofs.KeyLemmas.{drafts_at, left-listed, left-no, left-yes}
 use Rattle.version_core.proofs.keys.rows_left.Goals as goal
 use Rattle.version_core.proofs.keys.rows_left.Goals.{then-is_left+in_default, else-is_left}
 
-pub bounds-versions-place : goal.bounds-versions-place
-bounds-versions-place c = c.requires.inside c.loop-place.place-index 0 c.loop-place-test.true
+pub at-version-requires : goal.at-version-requires
+at-version-requires c = c.requires.inside c.loop-place.place-index 0 c.loop-place-test.true
 
 pub loop-place-preserved : goal.loop-place-preserved
 loop-place-preserved c =
     let vs = c.args.versions.now in
     let places = c.args.open_at.now in
     let i = c.loop-place.place-index in
-    let version = c.index-versions-place.result in
+    let version = (version_at c.at-version.result) in
     let left = is_left c.args.change.now c.args.schema.now in
     let inside : get_or places i 0 < length vs = c.requires.inside i 0 c.loop-place-test.true in
     elim c.if-is_left.branch [
       | then-is_left+in_default w ↦
           ap (λ rows. map tested_row rows.items) w.rows-is ∙ ap (map tested_row) w.in_default.ensures.items
           ∙ left-yes vs left places i version c.loop-place.rows.items w.keyed.result c.loop-place-test.true inside
-          c.index-versions-place.is
+          c.at-version.ensures
           (sym c.is_left.ensures ∙ w.if-is_left.true) w.keyed.ensures c.loop-place.invariant
       | else-is_left w ↦
           ap (λ rows. map tested_row rows.items) w.rows-is
           ∙ left-no vs left places i version c.loop-place.rows.items c.loop-place-test.true inside
-          c.index-versions-place.is (sym c.is_left.ensures ∙ w.if-is_left.false) c.loop-place.invariant
+          c.at-version.ensures (sym c.is_left.ensures ∙ w.if-is_left.false) c.loop-place.invariant
     ]
 
 pub returns : goal.returns

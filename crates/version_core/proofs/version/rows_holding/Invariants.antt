@@ -6,6 +6,6 @@ use Rattle.version_core.specs.Shown.{shown}
 use Rattle.version_core.proofs.version.rows_holding.Given as goal
 
 -- the rows so far that hold
-abbrev pub invariant-loop-version : goal.invariant-loop-version
-invariant-loop-version l =
-    l.rows ≡ filter (λ (row : Row). holds_at l.point row.period) (shown l.n (take l.version-index l.versions))
+abbrev pub invariant-loop-place : goal.invariant-loop-place
+invariant-loop-place l =
+    l.rows ≡ filter (λ (row : Row). holds_at l.point row.period) (shown l.n (take l.place l.versions))

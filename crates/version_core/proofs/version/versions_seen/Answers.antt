@@ -1,30 +1,28 @@
-use Rattle.std.proofs.Common.{sym, ◌∙◌, ap, ◌++◌, ◌∷◌, [], ◌&&◌, leb}
+use Rattle.std.proofs.Common.{◌<◌, length, arith, sym, ◌∙◌, ap, ◌++◌, ◌∷◌, [], ◌&&◌, leb}
 use Rattle.version_core.specs.Shown.{is_behind}
+use Rattle.version_core.specs.StoredRef.{version_at}
 use Rattle.version_core.proofs.Seen.{versions_as_of-more, versions_as_of-same}
 use Rattle.version_core.proofs.version.versions_seen.Goals as goal
 use Rattle.version_core.proofs.version.versions_seen.Goals.{then-is_seen+in_ok-copy+in_ok-push, else-is_seen}
 
-pub loop-version-preserved : goal.loop-version-preserved
-loop-version-preserved c =
-    let test = ap
-    (λ end. leb c.version-item.result.sysfrom c.args.at &&
-    (leb c.version-item.result.sysfrom c.args.last && is_behind end c.args.m)) (sym c.end_at-end.ensures)
-    ∙ sym c.is_seen.ensures in
+pub loop-place-preserved : goal.loop-place-preserved
+loop-place-preserved c =
+    let v = version_at c.at.result in
+    let inside : c.loop-place.place < length c.args.versions.now =
+    omega (arith, c.loop-place-test.true, c.len-place-end.ensures) in
+    let test = ap (λ end. leb v.sysfrom c.args.at && (leb v.sysfrom c.args.last && is_behind end c.args.m))
+    (sym c.end_at-end.ensures) ∙ sym c.is_seen.ensures in
     elim c.if-is_seen.branch [
       | then-is_seen+in_ok-copy+in_ok-push w ↦
           w.seen-is ∙ w.in_ok-push.ensures.ok
-          ∙ ap (λ row. c.loop-version.seen ++ record
-          { row = row; sysfrom = c.version-item.result.sysfrom; systo = c.end_at-end.result } ∷ [])
+          ∙ ap (λ row. c.loop-place.seen ++ record { row = row; sysfrom = v.sysfrom; systo = c.end_at-end.result } ∷ [])
           w.in_ok-copy.ensures
-          ∙ ap (λ end. c.loop-version.seen ++ record
-          { row = c.version-item.result.row; sysfrom = c.version-item.result.sysfrom; systo = end } ∷ [])
+          ∙ ap (λ end. c.loop-place.seen ++ record { row = v.row; sysfrom = v.sysfrom; systo = end } ∷ [])
           c.end_at-end.ensures
-          ∙ versions_as_of-more c.args.at c.args.m c.args.last c.loop-version.version-index c.args.versions.now
-          c.version-item.result c.loop-version.seen c.loop-version-test.true c.version-item.is
-          (test ∙ w.if-is_seen.true) c.loop-version.invariant
+          ∙ versions_as_of-more c.args.at c.args.m c.args.last c.loop-place.place c.args.versions.now v
+          c.loop-place.seen inside c.at.ensures (test ∙ w.if-is_seen.true) c.loop-place.invariant
       | else-is_seen w ↦
           w.seen-is
-          ∙ versions_as_of-same c.args.at c.args.m c.args.last c.loop-version.version-index c.args.versions.now
-          c.version-item.result c.loop-version.seen c.loop-version-test.true c.version-item.is
-          (test ∙ w.if-is_seen.false) c.loop-version.invariant
+          ∙ versions_as_of-same c.args.at c.args.m c.args.last c.loop-place.place c.args.versions.now v
+          c.loop-place.seen inside c.at.ensures (test ∙ w.if-is_seen.false) c.loop-place.invariant
     ]

@@ -1,8 +1,11 @@
-use Rattle.std.proofs.Common.{◌≡◌, take}
+use Rattle.std.proofs.Common.{◌≡◌, length, take}
 use Rattle.std.specs.Prelude.{fold}
 use Rattle.version_core.specs.OpenVersions.{closed_at}
 use Rattle.version_core.proofs.versions.close_all.Given as goal
 
 -- those at the first places are closed
 abbrev pub invariant-loop-place : goal.invariant-loop-place
-invariant-loop-place l = l.versions ≡ fold (closed_at l.commit) l.fn.versions (take l.place-index l.places)
+invariant-loop-place l = record {
+  closed : l.versions ≡ fold (closed_at l.commit) l.fn.versions (take l.place-index l.places);
+  same : length l.versions ≡ length l.fn.versions;
+}

@@ -4,22 +4,20 @@ use Rattle.std.proofs.lemmas.List.{take_all}
 use Rattle.version_core.specs.Finding.{passes}
 use Rattle.version_core.specs.OpenVersions.{is_taken}
 use Rattle.version_core.specs.Rows.{parts_of}
+use Rattle.version_core.specs.StoredRef.{version_at}
 use Rattle.version_core.proofs.OpenLemmas.{parts_at, parts_at-push, parts_at-taken, place-no, place-yes}
 use Rattle.version_core.proofs.versions.count_parts.Goals as goal
 use Rattle.version_core.proofs.versions.count_parts.Goals.{then-is_taken, else-is_taken}
 
-pub bounds-versions-place : goal.bounds-versions-place
-bounds-versions-place c = c.requires.places.inside c.loop-place.place-index 0 c.loop-place-test.true
-
-pub offset_bounds-versions-place : goal.offset_bounds-versions-place
-offset_bounds-versions-place c = let inside = bounds-versions-place c in omega (arith, inside, c.requires.few)
+pub at-version-requires : goal.at-version-requires
+at-version-requires c = c.requires.places.inside c.loop-place.place-index 0 c.loop-place-test.true
 
 pub loop-place-preserved : goal.loop-place-preserved
 loop-place-preserved c =
     let vs = c.args.versions.now in
     let places = c.args.places.now in
     let i = c.loop-place.place-index in
-    let version = c.index-versions-place.result in
+    let version = (version_at c.at-version.result) in
     let taken = is_taken c.args.change.now c.args.schema.now in
     let so_far = filter (passes vs taken) (take i places) in
     let inside : get_or places i 0 < length vs = c.requires.places.inside i 0 c.loop-place-test.true in
@@ -29,12 +27,12 @@ loop-place-preserved c =
       | then-is_taken w ↦
           let test = sym c.is_taken.ensures ∙ w.if-is_taken.true in
           let more = place-yes vs taken places i version so_far
-          (so_far ++ get_or places i 0 ∷ []) c.loop-place-test.true inside c.index-versions-place.is test refl refl
+          (so_far ++ get_or places i 0 ∷ []) c.loop-place-test.true inside c.at-version.ensures test refl refl
           in
           let grown = ap length
           (ap (parts_at c.args.change.now c.args.schema.now vs) (sym more)
           ∙ parts_at-push c.args.change.now c.args.schema.now vs so_far
-          (get_or places i 0) version inside c.index-versions-place.is) in
+          (get_or places i 0) version inside c.at-version.ensures) in
           let parts = w.count_of-count.ensures.parts c.args.schema.now in
           let three = w.count_of-count.ensures.few in
           let sum = w.count-is in
@@ -54,7 +52,7 @@ loop-place-preserved c =
       | else-is_taken w ↦
           let test = sym c.is_taken.ensures ∙ w.if-is_taken.false in
           let same = place-no vs taken places i version so_far so_far c.loop-place-test.true inside
-          c.index-versions-place.is test refl refl in
+          c.at-version.ensures test refl refl in
           let kept = w.count-is in
           record {
             counted = kept ∙ counted ∙ ap (λ l. length (parts_at c.args.change.now c.args.schema.now vs l)) same;

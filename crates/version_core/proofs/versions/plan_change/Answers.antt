@@ -1,5 +1,4 @@
 use Rattle.std.proofs.Common.{◌∙◌, ap, length, sym}
-use Rattle.version_core.specs.Made.{made}
 use Rattle.version_core.specs.Rows.{numbered}
 use Rattle.version_core.proofs.OpenLemmas.{none-taken}
 use Rattle.version_core.proofs.versions.plan_change.Goals as goal
@@ -15,6 +14,7 @@ pub returns-in_ok-new-in-Load : goal.returns-in_ok-new-in-Load
 returns-in_ok-new-in-Load c =
     rw c.in-Load.is (record {
       new = ap (λ v. v.items) c.of-in-Load.ensures.new ∙ c.in_ok-new-in-Load.ensures
-          ∙ ap (λ ds. made c.args.commit (numbered (length c.args.versions.now) ds)) c.as_slice.ensures;
+          ∙ ap (λ n. numbered n c.as_slice.result.now) c.len.ensures
+          ∙ ap (numbered (length c.args.versions.now)) c.as_slice.ensures;
       taken = c.of-in-Load.ensures.taken ∙ sym (none-taken 0 c.args.versions.now);
     })

@@ -3,22 +3,20 @@ use Rattle.std.specs.Prelude.{filter}
 use Rattle.std.proofs.lemmas.List.{take_all}
 use Rattle.version_core.specs.Finding.{passes}
 use Rattle.version_core.specs.OpenVersions.{is_taken, places_from}
+use Rattle.version_core.specs.StoredRef.{version_at}
 use Rattle.version_core.proofs.OpenLemmas.{made-all, made-push, made_so_far, place-no, place-yes}
 use Rattle.version_core.proofs.versions.plan_portion.Goals as goal
 use Rattle.version_core.proofs.versions.plan_portion.Goals.{then-is_taken+in_ok-push_parts+in_ok-push, else-is_taken}
 
-pub bounds-versions-place : goal.bounds-versions-place
-bounds-versions-place c = c.requires.places.inside c.loop-place.place-index 0 c.loop-place-test.true
-
-pub offset_bounds-versions-place : goal.offset_bounds-versions-place
-offset_bounds-versions-place c = let inside = bounds-versions-place c in omega (arith, inside, c.requires.few)
+pub at-version-requires : goal.at-version-requires
+at-version-requires c = c.requires.places.inside c.loop-place.place-index 0 c.loop-place-test.true
 
 pub loop-place-preserved : goal.loop-place-preserved
 loop-place-preserved c =
     let vs = c.args.versions.now in
     let places = c.args.places.now in
     let i = c.loop-place.place-index in
-    let version = c.index-versions-place.result in
+    let version = (version_at c.at-version.result) in
     let taken = is_taken c.args.change.now c.args.schema.now in
     let inside : get_or places i 0 < length vs = c.requires.places.inside i 0 c.loop-place-test.true in
     elim c.if-is_taken.branch [
@@ -27,21 +25,21 @@ loop-place-preserved c =
           let grown = ap (λ v. v.items) w.taken-is ∙ w.in_ok-push.ensures.items in
           record {
             made = made-push
-                (length vs) c.args.commit c.args.change.now c.args.schema.now vs c.loop-place.taken.items
+                (length vs) c.args.change.now c.args.schema.now vs c.loop-place.taken.items
                 c.if-is_taken.taken.items
-                (get_or places i 0) version c.loop-place.new c.if-is_taken.new inside c.index-versions-place.is
+                (get_or places i 0) version c.loop-place.new c.if-is_taken.new inside c.at-version.ensures
                 c.loop-place.invariant.made (w.new-is ∙ w.in_ok-push_parts.ensures) grown;
             taken = place-yes vs taken places i version c.loop-place.taken.items c.if-is_taken.taken.items
-                c.loop-place-test.true inside c.index-versions-place.is test c.loop-place.invariant.taken grown;
+                c.loop-place-test.true inside c.at-version.ensures test c.loop-place.invariant.taken grown;
           }
       | else-is_taken w ↦
           let test = sym c.is_taken.ensures ∙ w.if-is_taken.false in
           let same = ap (λ v. v.items) w.taken-is in
           record {
             made = w.new-is ∙ c.loop-place.invariant.made
-                ∙ ap (made_so_far (length vs) c.args.commit c.args.change.now c.args.schema.now vs) (sym same);
+                ∙ ap (made_so_far (length vs) c.args.change.now c.args.schema.now vs) (sym same);
             taken = place-no vs taken places i version c.loop-place.taken.items c.if-is_taken.taken.items
-                c.loop-place-test.true inside c.index-versions-place.is test c.loop-place.invariant.taken same;
+                c.loop-place-test.true inside c.at-version.ensures test c.loop-place.invariant.taken same;
           }
     ]
 
@@ -58,7 +56,7 @@ pub returns-clause-new : goal.returns-clause-new
 returns-clause-new c =
     c.into_items.ensures
     ∙ made-all
-    (length c.args.versions.now) c.args.commit c.args.change.now c.args.schema.now c.args.versions.now
+    (length c.args.versions.now) c.args.change.now c.args.schema.now c.args.versions.now
     c.loop-place.taken.items c.loop-place.new (whole c) c.loop-place.invariant.made
 
 pub returns-clause-taken : goal.returns-clause-taken

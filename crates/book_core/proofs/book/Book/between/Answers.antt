@@ -13,7 +13,7 @@ returns-in_ok-versions_seen-in-Some-clause-versions c =
     (λ v p. p)
     (c.in_ok-versions_seen-in-Some.ensures
     ∙ ap (versions_as_of c.args.at c.args.m c.args.n)
-    (c.as_slice.ensures ∙ c.versions.ensures))
+    c.versions.ensures)
 
 pub returns-in_ok-versions_seen-in-Some-clause-at_once : goal.returns-in_ok-versions_seen-in-Some-clause-at_once
 returns-in_ok-versions_seen-in-Some-clause-at_once c = λ e b.
@@ -22,4 +22,4 @@ returns-in_ok-versions_seen-in-Some-clause-at_once c = λ e b.
     c.in_ok-versions_seen-in-Some.field-0 c.in-Some.ensures.found within e b
     (c.in_ok-versions_seen-in-Some.ensures
     ∙ ap (versions_as_of c.args.at c.args.m c.args.n)
-    (c.as_slice.ensures ∙ c.versions.ensures))
+    c.versions.ensures)

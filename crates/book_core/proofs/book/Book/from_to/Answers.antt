@@ -14,4 +14,4 @@ returns-in_ok-versions_seen-in-Some-clause-versions c =
     (λ v p. let x = p.0 in (omega (arith, x, some), p.1)) (λ v p. let x = p.0 in (omega (arith, x, some), p.1))
     (c.in_ok-versions_seen-in-Some.ensures
     ∙ ap (versions_as_of c.args.at c.args.m (c.args.n - 1))
-    (c.as_slice.ensures ∙ c.versions.ensures))
+    c.versions.ensures)

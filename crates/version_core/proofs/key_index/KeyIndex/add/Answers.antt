@@ -1,18 +1,19 @@
 use Rattle.std.proofs.Common.{◌≡◌, ◌∙◌, ap, not, refl}
 use Rattle.version_core.specs.KeyIndex.{entry_of}
+use Rattle.version_core.specs.StoredRef.{version_at}
 use Rattle.version_core.proofs.KeyIndexLemmas.{key_index-added, key_index-skipped}
 use Rattle.version_core.proofs.key_index.KeyIndex.add.Goals as goal
 
 pub returns-in_default : goal.returns-in_default
 returns-in_default c =
-    let v = c.index-versions-place.result in
+    let v = version_at c.at-version.result in
     let entry : c.entry_of-entry.result ≡ entry_of c.args.self.now.columns.items c.args.place v =
-    c.entry_of-entry.ensures ∙ ap (λ key. entry_of key c.args.place v) c.deref.ensures.value in
+    c.entry_of-entry.ensures v refl ∙ ap (λ key. entry_of key c.args.place v) c.deref.ensures.value in
     key_index-added c.args.versions.now c.args.place v c.args.self.now
-    (record c.args.self.now { entries = c.insert.new.self }) c.requires.inside c.index-versions-place.is refl
+    (record c.args.self.now { entries = c.insert.new.self }) c.requires.inside c.at-version.ensures refl
     (rw entry at c.in_default.ensures.updates) c.requires.before
 
 pub returns-else-is_none : goal.returns-else-is_none
 returns-else-is_none c =
-    key_index-skipped c.args.versions.now c.args.place c.index-versions-place.result c.args.self.now
-    c.args.self.now c.requires.inside c.index-versions-place.is refl (ap not c.if-is_none.ensures) refl c.requires.before
+    key_index-skipped c.args.versions.now c.args.place (version_at c.at-version.result) c.args.self.now
+    c.args.self.now c.requires.inside c.at-version.ensures refl (ap not c.if-is_none.ensures) refl c.requires.before

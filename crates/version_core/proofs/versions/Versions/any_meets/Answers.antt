@@ -6,8 +6,8 @@ use Rattle.key_core.specs.Keys.{collide}
 use Rattle.key_core.proofs.Pairs.{list_any-map}
 use Rattle.version_core.specs.Keys.{rows_left}
 use Rattle.version_core.specs.OpenVersions.{current}
-use Rattle.version_core.specs.Made.{draft_of}
-use Rattle.version_core.specs.declared.version.Version.{Version}
+use Rattle.version_core.specs.Rows.{unnumbered}
+use Rattle.row_core.specs.declared.row.Row.{Row}
 use Rattle.version_core.proofs.versions.Versions.any_meets.Goals as goal
 
 pub returns-then-any_collides : goal.returns-then-any_collides
@@ -15,13 +15,13 @@ returns-then-any_collides c =
     let meets : Draft
     → Bool = λ other. list_any (λ left. collide c.args.index.now.columns.items left other)
     (rows_left c.args.change.now c.args.schema.now (current c.args.self.now)) in
-    let version = c.version-item.result in
-    let met : meets (draft_of version) ≡ c.any_collides.result =
+    let version = c.row-item.result in
+    let met : meets (unnumbered version) ≡ c.any_collides.result =
     sym (c.any_collides.ensures
-    ∙ ap (λ vs. list_any (λ left. collide c.args.index.now.columns.items left (draft_of version))
-    (rows_left c.args.change.now c.args.schema.now (current vs))) (c.deref.ensures.value ∙ c.self.view_is)) in
-    sym (list_any-map meets draft_of c.args.new.now
+    ∙ ap (λ vs. list_any (λ left. collide c.args.index.now.columns.items left (unnumbered version))
+    (rows_left c.args.change.now c.args.schema.now (current vs))) c.self.view_is) in
+    sym (list_any-map meets unnumbered c.args.new.now
     ∙ list_any_at
-    (λ (v : Version). meets
-    (draft_of v)) c.args.new.now c.loop-version.version-index version c.loop-version-test.true
-    (ap (λ v. meets (draft_of v)) (sym c.version-item.is) ∙ met ∙ c.if-any_collides.true))
+    (λ (v : Row). meets
+    (unnumbered v)) c.args.new.now c.loop-row.row-index version c.loop-row-test.true
+    (ap (λ v. meets (unnumbered v)) (sym c.row-item.is) ∙ met ∙ c.if-any_collides.true))

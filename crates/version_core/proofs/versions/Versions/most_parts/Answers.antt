@@ -6,6 +6,6 @@ use Rattle.version_core.proofs.versions.Versions.most_parts.Goals as goal
 
 pub returns : goal.returns
 returns c = λ change columns.
-    let most = parts-listed change columns c.self.inside.items.items c.self.inside.open_at c.self.invariant.found.all in
+    let most = parts-listed change columns c.self.inside.items c.self.inside.open_at c.self.invariant.found.all in
     let rows = ap (λ l. length (parts_of_all change columns (current l))) c.self.view_is in
     omega (arith, most, rows, c.len.ensures)

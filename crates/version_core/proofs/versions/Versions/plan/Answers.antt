@@ -3,8 +3,6 @@ use Rattle.version_core.proofs.versions.Versions.plan.Goals as goal
 
 pub plan_change-requires-clause-places : goal.plan_change-requires-clause-places
 plan_change-requires-clause-places c =
-    let found : AreFound c.self.inside.items.items c.as_slice.result.now c.deref.result.now =
+    let found : AreFound c.self.inside.items c.as_slice.result.now c.deref.result.now =
     rw (c.as_slice.ensures, c.deref.ensures.value) c.self.invariant.found in
-    rw c.deref-2.ensures.value
-    (c.candidates-places.ensures c.self.inside.items.items c.args.change.now c.args.schema.now found
-    c.requires.lookup)
+    c.candidates-places.ensures c.self.inside.items c.args.change.now c.args.schema.now found c.requires.lookup

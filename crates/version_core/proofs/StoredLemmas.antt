@@ -1,0 +1,131 @@
+-- Rows, and beside each the commits that show it.
+use Rattle.std.proofs.Common.{◌≡◌, ℕ, ◌<◌, ◌≤◌, List, [], ◌∷◌, ◌++◌, Bool, true, false, cond, Some, None, length, map, get_or, set, length-set, zero, suc, replicate, refl, ap, sym, ◌∙◌, arith}
+use Rattle.std.specs.Prelude.{option_map, slice_get, slice_set, unwrap_or}
+use Rattle.std.specs.List.{cons_option}
+use Rattle.row_core.specs.declared.row.Row.{Row}
+use Rattle.version_core.specs.Made.{made}
+use Rattle.version_core.specs.OpenVersions.{closed_at}
+use Rattle.version_core.specs.Shown.{shown, shows}
+use Rattle.version_core.specs.Stored.{version_of, versions_of}
+use Rattle.version_core.specs.declared.stored.Span.{Span}
+use Rattle.version_core.specs.declared.version.Version.{Version}
+
+-- as many versions as rows
+pub length-versions_of : (rows : List Row) (spans : List Span) → length rows ≡ length spans
+    → length (versions_of rows spans) ≡ length spans
+length-versions_of [] spans same = same
+length-versions_of (r ∷ rs) [] same = absurd (omega (arith, same))
+length-versions_of (r ∷ rs) (s ∷ ss) same = ap suc (length-versions_of rs ss (omega (arith, same)))
+
+-- a place of a list
+pub slice_get-inside : {X : Type 0} (xs : List X) (place : ℕ) (x : X) → slice_get xs place ≡ Some x
+    → place < length xs
+slice_get-inside [] place x e = absurd (cc)
+slice_get-inside (y ∷ ys) zero x e = omega arith
+slice_get-inside (y ∷ ys) (suc place) x e = let rest = slice_get-inside ys place x e in omega (arith, rest)
+
+pub slice_get-versions_of : (rows : List Row) (spans : List Span) (place : ℕ) (row : Row) (span : Span)
+    → length rows ≡ length spans → slice_get rows place ≡ Some row → span ≡ get_or spans place span
+    → Some (version_of row span) ≡ slice_get (versions_of rows spans) place
+slice_get-versions_of [] spans place row span same r s = absurd (cc)
+slice_get-versions_of (r ∷ rs) [] place row span same e f = absurd (omega (arith, same))
+slice_get-versions_of (r ∷ rs) (s ∷ ss) zero row span same e f =
+    let one : row ≡ r = cc in
+    ap (λ x. Some (version_of x span)) one ∙ ap (λ x. Some (version_of r x)) f
+slice_get-versions_of (r ∷ rs) (s ∷ ss) (suc place) row span same e f =
+    slice_get-versions_of rs ss place row span (omega (arith, same)) e f
+
+pub slice_get-past : (rows : List Row) (spans : List Span) (place : ℕ) → length rows ≡ length spans
+    → slice_get rows place ≡ None → slice_get (versions_of rows spans) place ≡ None
+slice_get-past [] [] place same e = refl
+slice_get-past [] (s ∷ ss) place same e = absurd (omega (arith, same))
+slice_get-past (r ∷ rs) [] place same e = absurd (omega (arith, same))
+slice_get-past (r ∷ rs) (s ∷ ss) zero same e = absurd (cc)
+slice_get-past (r ∷ rs) (s ∷ ss) (suc place) same e = slice_get-past rs ss place (omega (arith, same)) e
+
+-- their rows
+pub rows-versions_of : (rows : List Row) (spans : List Span) → length rows ≡ length spans
+    → rows ≡ map (λ (v : Version). v.row) (versions_of rows spans)
+rows-versions_of [] spans same = refl
+rows-versions_of (r ∷ rs) [] same = absurd (omega (arith, same))
+rows-versions_of (r ∷ rs) (s ∷ ss) same = ap (λ l. r ∷ l) (rows-versions_of rs ss (omega (arith, same)))
+
+versions_of-append : (rows more : List Row) (spans others : List Span) → length rows ≡ length spans
+    → versions_of (rows ++ more) (spans ++ others) ≡ versions_of rows spans ++ versions_of more others
+versions_of-append [] more [] others same = refl
+versions_of-append [] more (s ∷ ss) others same = absurd (omega (arith, same))
+versions_of-append (r ∷ rs) more [] others same = absurd (omega (arith, same))
+versions_of-append (r ∷ rs) more (s ∷ ss) others same =
+    ap (λ l. version_of r s ∷ l) (versions_of-append rs more ss others (omega (arith, same)))
+
+versions_of-made : (n : ℕ) (rows : List Row)
+    → versions_of rows (replicate (length rows) (record { from = n; to = None })) ≡ made n rows
+versions_of-made n [] = refl
+versions_of-made n (r ∷ rs) =
+    ap (λ l. version_of r (record { from = n; to = None }) ∷ l) (versions_of-made n rs)
+
+-- more of them, which a commit makes
+pub versions_of-grown : (n : ℕ) (rows more all : List Row) (spans now : List Span) (count : ℕ)
+    → length rows ≡ length spans → all ≡ rows ++ more → count ≡ length more
+    → now ≡ spans ++ replicate count (record { from = n; to = None })
+    → versions_of all now ≡ versions_of rows spans ++ made n more
+versions_of-grown n rows more all spans now count same a k grown =
+    ap (λ l. versions_of l now) a ∙ ap (versions_of (rows ++ more)) grown
+    ∙ ap (λ c. versions_of (rows ++ more) (spans ++ replicate c (record { from = n; to = None }))) k
+    ∙ versions_of-append rows more spans (replicate (length more) (record { from = n; to = None })) same
+    ∙ ap (λ l. versions_of rows spans ++ l) (versions_of-made n more)
+
+closed_at-behind : (n : ℕ) (v : Version) (vs : List Version) (place : ℕ)
+    → closed_at n (v ∷ vs) (suc place) ≡ v ∷ closed_at n vs place
+closed_at-behind n v vs place =
+    elim (slice_get vs place) as
+    (λ o. unwrap_or
+    (option_map (λ (w : Version). slice_set (v ∷ vs) (suc place) (record w { systo = Some n })) o) (v ∷ vs)
+    ≡ v ∷ unwrap_or (option_map (λ (w : Version). slice_set vs place (record w { systo = Some n })) o) vs) [
+      | None ↦ refl
+      | Some w ↦ refl
+    ]
+
+-- one of them that a commit ends
+pub closed_at-versions_of : (n : ℕ) (rows : List Row) (spans : List Span) (place : ℕ) (span : Span)
+    → length rows ≡ length spans → place < length spans → span ≡ get_or spans place span
+    → versions_of rows (set spans place (record { from = span.from; to = Some n }))
+    ≡ closed_at n (versions_of rows spans) place
+closed_at-versions_of n [] spans place span same inside e = absurd (omega (arith, same, inside))
+closed_at-versions_of n (r ∷ rs) [] place span same inside e = absurd (omega (arith, same))
+closed_at-versions_of n (r ∷ rs) (s ∷ ss) zero span same inside e =
+    ap (λ (x : Span). version_of r (record { from = x.from; to = Some n }) ∷ versions_of rs ss) e
+closed_at-versions_of n (r ∷ rs) (s ∷ ss) (suc place) span same inside e =
+    ap (λ l. version_of r s ∷ l)
+    (closed_at-versions_of n rs ss place span (omega (arith, same)) (omega (arith, inside)) e)
+    ∙ sym (closed_at-behind n (version_of r s) (versions_of rs ss) place)
+
+pub length-closed : (n : ℕ) (rows : List Row) (spans : List Span) (place from : ℕ) → length rows ≡ length spans
+    → length (versions_of rows (set spans place (record { from = from; to = Some n })))
+    ≡ length (versions_of rows spans)
+length-closed n rows spans place from same =
+    let span : Span = record { from = from; to = Some n } in
+    length-versions_of rows (set spans place span) (same ∙ sym (length-set spans place span))
+    ∙ length-set spans place span ∙ sym (length-versions_of rows spans same)
+
+length-shown : (n : ℕ) (vs : List Version) → length (shown n vs) ≤ length vs
+length-shown n [] = omega arith
+length-shown n (v ∷ vs) =
+    let rest = length-shown n vs in
+    elim (shows n v) as
+    (λ b. length (cons_option (cond b (Some v.row) None) (shown n vs)) ≤ suc (length vs)) [
+      | true ↦ omega (arith, rest)
+      | false ↦ omega (arith, rest)
+    ]
+
+-- where as many are shown as there are, all are
+pub shown-all : (n : ℕ) (vs : List Version) → length (shown n vs) ≡ length vs
+    → map (λ (v : Version). v.row) vs ≡ shown n vs
+shown-all n [] = λ same. refl
+shown-all n (v ∷ vs) = by_test (length-shown n vs) (shown-all n vs) (shows n v) where
+  by_test : length (shown n vs) ≤ length vs
+      → (length (shown n vs) ≡ length vs → map (λ (v : Version). v.row) vs ≡ shown n vs) → (b : Bool)
+      → length (cons_option (cond b (Some v.row) None) (shown n vs)) ≡ suc (length vs)
+      → v.row ∷ map (λ (v : Version). v.row) vs ≡ cons_option (cond b (Some v.row) None) (shown n vs)
+  by_test few rest true same = ap (λ l. v.row ∷ l) (rest (omega (arith, same)))
+  by_test few rest false same = absurd (omega (arith, few, same))

@@ -1,0 +1,22 @@
+use Rattle.std.proofs.Common.{◌∙◌, ap, arith, length}
+use Rattle.version_core.specs.OpenVersions.{closed_at}
+use Rattle.version_core.proofs.StoredLemmas.{closed_at-versions_of, length-closed, length-versions_of}
+use Rattle.version_core.proofs.stored.StoredVersions.close.Goals as goal
+
+pub index_mut-requires : goal.index_mut-requires
+index_mut-requires c =
+    let same = length-versions_of c.self.inside.rows c.self.inside.spans.items c.self.invariant in
+    omega (arith, c.requires, c.self.inside.spans.ok.0, same, ap length c.self.view_is)
+
+pub returns-clause-closed : goal.returns-clause-closed
+returns-clause-closed c =
+    let same = length-versions_of c.self.inside.rows c.self.inside.spans.items c.self.invariant in
+    closed_at-versions_of c.args.commit c.self.inside.rows c.self.inside.spans.items c.args.place
+    c.index_mut.result.now c.self.invariant (omega (arith, c.requires, same, ap length c.self.view_is))
+    c.index_mut.ensures.value
+    ∙ ap (λ vs. closed_at c.args.commit vs c.args.place) c.self.view_is
+
+pub returns-clause-len : goal.returns-clause-len
+returns-clause-len c =
+    length-closed c.args.commit c.self.inside.rows c.self.inside.spans.items c.args.place
+    c.index_mut.result.now.from c.self.invariant ∙ ap length c.self.view_is

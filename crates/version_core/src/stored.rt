@@ -1,0 +1,154 @@
+//! The versions of a table as they are kept: their rows, and beside each the commits that show it.
+
+ghost use Rattle.std.specs.Prelude.{◌≡◌, ◌<◌, ◌++◌, [], length, get_or, map, option_map, replicate, slice_get, IfOk, OnErr, OnOk, None};
+ghost use Rattle.version_core.specs.Made.{made};
+ghost use Rattle.version_core.specs.OpenVersions.{closed_at};
+ghost use Rattle.version_core.specs.StoredRef.{version_at};
+
+use crate::shared_rows::SharedRows;
+use row_core::{NoMemory, Row, RowList};
+use std::alloc::Global;
+use std::marker::Model;
+
+/// The commits that show a version: those from `from` on, and before `to` where it is told. There
+/// are so few that 32 bits hold one.
+#[derive(Clone, Copy, Debug)]
+pub(crate) struct Span {
+    pub from: u32,
+    pub to: Option<u32>,
+}
+
+/// A version where it is kept.
+#[derive(Clone, Copy, Debug)]
+pub(crate) struct VersionRef<'a> {
+    pub row: &'a Row,
+    pub span: Span,
+}
+
+/// The versions of a table, whose rows a list of all of them shares. Contracts see the list of
+/// versions.
+#[derive(Debug, Drop)]
+pub(crate) struct StoredVersions {
+    rows: SharedRows,
+    spans: Vec<Span>,
+}
+
+impl Model for StoredVersions {
+    ghost use Rattle.std.specs.Prelude.{◌≡◌, List, length};
+    ghost use Rattle.version_core.specs.Stored.{versions_of};
+    ghost use Rattle.version_core.specs.declared.version.Version.{Version};
+
+    ghost Value = { List Version };
+
+    ghost view = { λ s. versions_of s.rows s.spans.items };
+
+    ghost invariant = { λ s. length s.rows ≡ length s.spans.items };
+}
+
+impl StoredVersions {
+    /// No versions.
+    pub(crate) fn new(alloc: Global) -> Result<Self, NoMemory>
+        ensures { IfOk result (λ versions. versions ≡ []) }
+    {
+        Ok(StoredVersions {
+            rows: SharedRows::of(alloc, RowList::new(alloc))?,
+            spans: Vec::new(alloc),
+        })
+    }
+
+    /// The same versions, whose rows are not copied.
+    pub(crate) fn copy(&self, alloc: Global) -> Result<StoredVersions, NoMemory>
+        ensures { IfOk result (λ versions. versions ≡ self.now) }
+    {
+        Ok(StoredVersions {
+            rows: self.rows.share()?,
+            spans: Vec::from_slice(alloc, &self.spans)?,
+        })
+    }
+
+    /// How many there are.
+    pub(crate) fn len(&self) -> usize
+        ensures { result ≡ length self.now }
+    {
+        self.spans.len()
+    }
+
+    /// The version at that place.
+    pub(crate) fn at(&self, place: usize) -> VersionRef<'_>
+        requires { place < length self.now }
+        ensures { version_at result ≡ get_or self.now place (version_at result) }
+    {
+        match self.get(place) {
+            Some(version) => version,
+            None => unreachable!(),
+        }
+    }
+
+    /// The version at that place; none past the last.
+    pub(crate) fn get(&self, place: usize) -> Option<VersionRef<'_>>
+        ensures { option_map version_at result ≡ slice_get self.now place }
+    {
+        match self.rows.list().get(place) {
+            Some(row) => Some(VersionRef {
+                row,
+                span: self.spans[place],
+            }),
+            None => None,
+        }
+    }
+
+    /// All rows, which are not copied.
+    pub(crate) fn rows(&self) -> Result<SharedRows, NoMemory>
+        ensures { IfOk result (λ rows. rows ≡ map (λ v. v.row) self.now) }
+    {
+        self.rows.share()
+    }
+
+    /// Adds the versions of rows that a commit makes. On refusal there are none more.
+    pub(crate) fn append(
+        &mut self,
+        alloc: Global,
+        rows: Vec<Row>,
+        commit: u32,
+    ) -> Result<(), NoMemory>
+        ensures ok { OnOk result (self.new ≡ self.old ++ made commit rows.items) }
+        ensures err { OnErr result (self.new ≡ self.old) }
+    {
+        let before = self.spans.len();
+        push_spans(&mut self.spans, rows.len(), commit)?;
+        if let Err(error) = self.rows.append(alloc, rows) {
+            self.spans.truncate(before);
+            return Err(error);
+        }
+        Ok(())
+    }
+
+    /// Ends the version at that place with the commit.
+    pub(crate) fn close(&mut self, place: usize, commit: u32)
+        requires { place < length self.old }
+        ensures closed { self.new ≡ closed_at commit self.old place }
+        ensures len { length self.new ≡ length self.old }
+    {
+        self.spans[place].to = Some(commit);
+    }
+}
+
+/// Adds what stands beside so many rows that a commit makes. On refusal there is none more.
+fn push_spans(spans: &mut Vec<Span>, count: usize, commit: u32) -> Result<(), NoMemory>
+    ensures ok { OnOk result (spans.new.items
+        ≡ spans.old.items ++ replicate count (record { from = commit; to = None })) }
+    ensures err { OnErr result (spans.new.items ≡ spans.old.items) }
+{
+    let before = spans.len();
+    let span = Span {
+        from: commit,
+        to: None,
+    };
+    for _ in 0..count {
+        if let Err(error) = spans.push(span) {
+            spans.truncate(before);
+            return Err(error.into());
+        }
+    }
+    Ok(())
+}
