@@ -2,9 +2,9 @@
 
 ghost use Rattle.store_core.specs.Passes.{IsPassOf};
 
+use caller_core::{NoTable, Pass, Snapshot, Store, StoreError};
 use row_core::{Failure, Name};
 use std::sync::Wait;
-use store_core::{NoTable, Pass, Snapshot, Store, StoreError};
 
 // How many snapshots the auditor takes. It keeps the middle one.
 const LOOKS: u32 = 100;

@@ -4,11 +4,11 @@ ghost use Rattle.std.specs.Prelude.{◌≡◌, ◌+◌, ◌≤◌, length, IfOk,
 ghost use Rattle.store_core.specs.Passes.{IsNoteOf, IsPassOf, calls_left, mine, told_in};
 
 use book_core::{Change, ChangeKind, Entry};
+use caller_core::{Note, Pass, Store, StoreError};
 use period_core::{Period, Point};
 use row_core::{Draft, Drafts, Kind, Name, Schema, Value, Values};
 use std::alloc::Global;
 use std::sync::Wait;
-use store_core::{Note, Pass, Store, StoreError};
 
 // How many rows there are to load.
 const ROWS: u32 = 1_000;

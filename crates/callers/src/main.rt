@@ -12,12 +12,12 @@ mod loader;
 
 use auditor::{Watched, rows_shown, watch};
 use book_core::Change;
+use caller_core::{Note, Pass, Store, StoreError, StoreRefused};
 use loader::{COMMITS, is_in_order, load, one_row};
 use row_core::{Failure, Name};
 use std::alloc::Global;
 use std::sync::Wait;
 use std::thread::{Threads, join_mut};
-use store_core::{Note, Pass, Store, StoreError, StoreRefused};
 
 /// Lets the loader load on a thread of its own while the auditor watches here, or after it where no thread can be
 /// made. Answers the loader's note, and what the auditor saw.

@@ -9,7 +9,6 @@
 //!
 //! A `Post` takes a note to a thread that runs, and keeps that it is of the store.
 
-mod error;
 mod pass;
 mod post;
 mod refusal;
@@ -18,7 +17,6 @@ mod snapshot;
 mod store;
 
 pub use book_core::NoTable;
-pub use error::StoreError;
 pub use pass::{Note, Pass};
 pub use post::Post;
 pub use refusal::{BadCount, Future, PassSpent, RangeRefused, SnapshotRefused, StoreRefused};
