@@ -230,41 +230,28 @@ impl AnswerWriter {
             (self.new ≡ record self.old { text = self.old.text ++ other.text }) }
         ensures err { OnErr result (self.new ≡ nothing) }
     {
-        let own = mem::replace(self, AnswerWriter::new(self.alloc));
-        *self = own.followed_by(other)?;
-        Ok(())
+        let added = self.put_behind(other);
+        if added.is_err() {
+            self.restart();
+        }
+        added
     }
 
-    /// The records of this answer, and those of another behind them.
-    fn followed_by(self, other: AnswerWriter) -> Result<AnswerWriter, NoMemory>
-        ensures { IfOk result (λ both. both ≡ record self { text = self.text ++ other.text }) }
+    /// Adds the records of another answer behind those of this one.
+    fn put_behind(&mut self, other: AnswerWriter) -> Result<(), NoMemory>
+        ensures { OnOk result
+            (self.new ≡ record self.old { text = self.old.text ++ other.text }) }
     {
         let AnswerWriter {
-            alloc,
-            mut done,
-            writer,
-            row,
-            from_text,
-            to_text,
-            written,
-        } = self;
-        let AnswerWriter {
             done: mut more,
-            writer: last,
-            written: passed,
+            writer,
+            written,
             ..
         } = other;
-        push_text(&mut done, text_from(alloc, writer, written)?)?;
-        done.append(&mut more)?;
-        Ok(AnswerWriter {
-            alloc,
-            done,
-            writer: last,
-            row,
-            from_text,
-            to_text,
-            written: passed,
-        })
+        let whole = mem::replace(&mut self.writer, writer);
+        let passed = mem::replace(&mut self.written, written);
+        push_text(&mut self.done, text_from(self.alloc, whole, passed)?)?;
+        self.done.append(&mut more)
     }
 
     /// Writes the answer, and begins the next one.
