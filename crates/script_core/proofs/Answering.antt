@@ -1,14 +1,21 @@
 -- How queries are answered.
-use Rattle.std.proofs.Common.{◌≡◌, ℕ, Result, Ok, Err, refl, sym, subst}
+use Rattle.std.proofs.Common.{◌≡◌, ◌∙◌, ◌+◌, ℕ, List, None, Result, Ok, Err, ap, refl, sym, subst, true}
+use Rattle.agg_core.specs.Agg.{rows_on}
 use Rattle.book_core.specs.History.{History}
-use Rattle.command_core.specs.Meaning.{Meaning}
+use Rattle.cert_core.specs.declared.verdict.Certificate.{Certificate}
+use Rattle.command_core.specs.Fields.{both_ok}
+use Rattle.command_core.specs.Meaning.{Meaning, Agg, Anti, At, Check, Dip, Join, Rows}
+use Rattle.command_core.specs.Statement.{is_allowed}
 use Rattle.command_core.specs.declared.refusal.Fault.{Fault}
+use Rattle.match_core.specs.Items.{items_of}
 use Rattle.answer_core.specs.declared.answer.Answer.{Answer}
 use Rattle.answer_core.specs.declared.answer.Answer.TheVariants as answer
-use Rattle.script_core.specs.Answer.{AnswersQuery, IsAnswerTo}
-use Rattle.script_core.specs.Performing.{Gives, Performs}
+use Rattle.script_core.specs.Answer.{AnswersQuery, IsAggOf, IsAnswerTo, IsAntiOf, IsDipOf, IsJoinOf, IsVerdictOn}
+use Rattle.script_core.specs.Effects.{aggregated_told, claim_of, rows_told, sides_told}
+use Rattle.script_core.specs.Performing.{asof_in, Gives, Performs}
 use Rattle.script_core.specs.Failure.{Failure, IsFailureOf}
 use Rattle.row_core.specs.declared.failure.Failure.TheVariants.{Refused, NoMemory}
+use Rattle.script_core.proofs.Comparing.{aggregated-failed, both_ok-failed, sides-failed}
 
 -- a query is answered by what it asks of what it reads, or by its refusal
 query-answered : {S : Type 0} (number : ℕ) (meaning : Meaning) (before : History) (meant : Result S Fault)
@@ -32,3 +39,40 @@ query-failed number meaning before after meant Is failure outcome answers is sam
     subst (λ (h : History). Performs before number meaning outcome h) (sym same)
     (subst (λ (o : Result Answer Failure). Performs before number meaning o before) (sym is)
     (query-answered number meaning before meant Is (Err failure) answers failed))
+
+-- a query that fails before it reads, as all tables do of the commit that it tells, or else for want of memory, is refused
+-- as what it would read
+pub unread-fails : (number : ℕ) (meaning : Meaning) (h : History) (failure : Failure) (outcome : Result Answer Failure)
+    → is_allowed true meaning ≡ true → outcome ≡ Err failure
+    → ((table : List ℕ) → IsFailureOf (rows_told number h (asof_in meaning) table) failure)
+    → (asof_in meaning ≡ None → failure ≡ NoMemory) → Performs h number meaning outcome h
+unread-fails number (Rows table asof) h failure outcome allowed is fails newest =
+    query-failed number (Rows table asof) h h (rows_told number h asof table) (λ rows given. given ≡ answer.Rows rows)
+    failure outcome (λ given it. it) is refl (fails table)
+unread-fails number (At table point asof) h failure outcome allowed is fails newest =
+    query-failed number (At table point asof) h h (rows_told number h asof table)
+    (λ rows given. given ≡ answer.Rows (rows_on point rows)) failure outcome (λ given it. it) is refl (fails table)
+unread-fails number (Dip table asof) h failure outcome allowed is fails newest =
+    query-failed number (Dip table asof) h h (rows_told number h asof table) (λ rows. IsDipOf (items_of rows)) failure
+    outcome (λ given it. it) is refl (fails table)
+unread-fails number (Join tables asof) h failure outcome allowed is fails newest =
+    query-failed number (Join tables asof) h h (sides_told number h asof tables)
+    (λ sides. IsJoinOf sides.0 sides.1 tables.on) failure outcome (λ given it. it) is refl
+    (sides-failed number h asof tables failure (fails tables.left))
+unread-fails number (Anti tables asof) h failure outcome allowed is fails newest =
+    query-failed number (Anti tables asof) h h (sides_told number h asof tables)
+    (λ sides. IsAntiOf sides.0 sides.1 tables.on) failure outcome (λ given it. it) is refl
+    (sides-failed number h asof tables failure (fails tables.left))
+unread-fails number (Agg asked asof) h failure outcome allowed is fails newest =
+    query-failed number (Agg asked asof) h h (aggregated_told number h asof asked) (λ table. IsAggOf table asked)
+    failure outcome (λ given it. it) is refl (aggregated-failed number h asof asked failure (fails asked.table))
+unread-fails number (Check table parts instant asof body) h failure outcome allowed is fails newest =
+    let certificate : Certificate = record { parts = parts; instant = instant } in
+    let told = rows_told number h asof table in
+    let claimed = claim_of (number + 1) body in
+    query-failed number (Check table parts instant asof body) h h (both_ok told claimed)
+    (λ read. IsVerdictOn (items_of read.0) read.1 certificate) failure outcome (λ given it. it) is refl
+    (both_ok-failed told claimed failure (fails table))
+unread-fails number other h failure outcome allowed is fails newest =
+    subst (λ (o : Result Answer Failure). Performs h number other o h)
+    (sym (is ∙ ap Err (newest refl))) tt

@@ -1,12 +1,12 @@
 -- What performing a command gives: its answer, or why there is none.
-use Rattle.std.specs.Prelude.{ℕ, ◌≡◌, ◌≤◌, ◌<◌, ◌+◌, ◌^◌, ◌++◌, All, IfOk, IsTrue, List, [], drop, length, take, true, Option, Result, Ok, Err, ⊤}
+use Rattle.std.specs.Prelude.{ℕ, ◌≡◌, ◌≤◌, ◌<◌, ◌+◌, ◌^◌, ◌++◌, All, IfOk, IsTrue, List, [], drop, length, take, true, Option, None, Result, Ok, Err, ⊤}
 use Rattle.std.specs.Borrow.{Bor}
 use Rattle.answer_core.specs.PrintedRecords.{IsPrintedAs, errors_in}
 use Rattle.answer_core.specs.Unwritten.{Adds, Unwritten}
 use Rattle.answer_core.specs.declared.answer.Answer.{Answer}
 use Rattle.answer_core.specs.declared.answer.Answer.TheVariants as answer
 use Rattle.book_core.specs.History.{History}
-use Rattle.command_core.specs.Meaning.{Meaning, Load, Refuse}
+use Rattle.command_core.specs.Meaning.{Meaning, Agg, Anti, At, Check, Dip, Join, Load, Refuse, Rows}
 use Rattle.command_core.specs.Records.{Record}
 use Rattle.command_core.specs.declared.refusal.Fault.{Fault}
 use Rattle.command_core.specs.Statement.{AreMembers, Member, Placed, Statement, States, commands_in, placed_in}
@@ -41,6 +41,17 @@ abbrev pub FailsToCompare : ℕ → History → Option ℕ → List ℕ → List
 FailsToCompare number history asof left right failure =
     (on : List (List ℕ × List ℕ))
     → IsFailureOf (sides_told number history asof (record { left = left; right = right; on = on })) failure
+
+-- the commit that a query tells, if it tells one
+abbrev pub asof_in : Meaning → Option ℕ
+asof_in (Rows table asof) = asof
+asof_in (At table point asof) = asof
+asof_in (Dip table asof) = asof
+asof_in (Join tables asof) = asof
+asof_in (Anti tables asof) = asof
+asof_in (Agg aggregate asof) = asof
+asof_in (Check table parts instant asof body) = asof
+asof_in other = None
 
 -- the change is made as it is meant, and its commit's number answered; or nothing changes
 abbrev pub Changes : Result History Fault → History → History → Result Answer Failure → Type 0

@@ -1,5 +1,5 @@
 //! Commands, each done alone, and queries on a snapshot, in a block of commands or out of it.
-ghost use Rattle.std.specs.Prelude.{◌≡◌, ℕ, ◌+◌, ◌≤◌, ◌<◌, ◌^◌, List, [], length, true, Err, IfErr, IfOk, Ok};
+ghost use Rattle.std.specs.Prelude.{◌≡◌, ℕ, ◌+◌, ◌≤◌, ◌<◌, ◌^◌, List, [], length, true, Err, IfErr, IfOk, None, Ok};
 ghost use Rattle.row_core.specs.declared.failure.Failure.TheVariants.{NoMemory};
 ghost use Rattle.command_core.specs.Command.{meaning_of};
 ghost use Rattle.command_core.specs.Meaning.{behind_length};
@@ -10,7 +10,7 @@ ghost use Rattle.script_core.specs.Answer.{IsAnswerTo};
 ghost use Rattle.script_core.specs.Effects.{rows_told};
 ghost use Rattle.script_core.specs.Failure.{IsFailureOf};
 ghost use Rattle.script_core.specs.Ledgers.{ledger_history, left_in, ShowsAll};
-ghost use Rattle.script_core.specs.Performing.{IsAnswerOf, Performs, PrintsAnswer, PrintsOne};
+ghost use Rattle.script_core.specs.Performing.{asof_in, IsAnswerOf, Performs, PrintsAnswer, PrintsOne};
 
 use crate::changes::{delete, load, make, update};
 use crate::failure::{Failure, refused};
@@ -42,14 +42,31 @@ fn shown_asof(newest: &Snapshot, number: u64, asof: Option<u64>) -> Result<Snaps
     ensures shows { IfOk result (λ shown. (history shown ≡ history newest.now)
         × (number_shown shown ≡ asked (history newest.now) asof)) }
 
-    // It fails as each table's rows do.
+    // It fails as each table's rows do, and where no commit is told, for want of memory alone.
     ensures fails { IfErr result (λ failure.
         (table : List ℕ) → IsFailureOf (rows_told number (history newest.now) asof table) failure) }
+    ensures newest { IfErr result (λ failure. asof ≡ None → failure ≡ NoMemory) }
 {
     match newest.as_of(asof.unwrap_or(newest.number())) {
         Ok(shown) => Ok(shown),
         Err(row_core::Failure::Refused(Future)) => Err(refused(number, Refusal::Future)),
         Err(row_core::Failure::NoMemory) => Err(Failure::NoMemory),
+    }
+}
+
+/// The commit that a query tells.
+fn asof_in(query: &Command<'_>) -> Option<u64>
+    ensures { result ≡ asof_in (meaning_of query.now) }
+{
+    match query {
+        Command::Rows { asof, .. } => *asof,
+        Command::At { asof, .. } => *asof,
+        Command::Dip { asof, .. } => *asof,
+        Command::Join { asof, .. } => *asof,
+        Command::Anti { asof, .. } => *asof,
+        Command::Agg { asof, .. } => *asof,
+        Command::Check { asof, .. } => *asof,
+        _ => None,
     }
 }
 
@@ -64,45 +81,45 @@ pub(crate) fn query<T: Threads + Sync>(
     ensures { Performs (history context.now.newest.now) number (meaning_of command.entry) result
         (history context.now.newest.now) }
 {
+    let shown = shown_asof(context.newest, number, asof_in(&command))?;
+    query_shown(context, &shown, number, command)
+}
+
+/// Answers a query, whose first record has this number, from a snapshot of all commits, and one of those that it tells.
+fn query_shown<T: Threads + Sync>(
+    context: &QueryContext<'_, T>,
+    shown: &Snapshot,
+    number: u64,
+    command: Command<'_>,
+) -> Result<Answer, Failure>
+    requires query { is_allowed true (meaning_of command) ≡ true }
+    requires numbers { number + behind_length (meaning_of command) < 2 ^ 64 }
+    requires same { history shown.now ≡ history context.now.newest.now }
+    requires shows { number_shown shown.now
+        ≡ asked (history context.now.newest.now) (asof_in (meaning_of command)) }
+    ensures { Performs (history context.now.newest.now) number (meaning_of command.entry) result
+        (history context.now.newest.now) }
+{
     let QueryContext { crew, newest } = *context;
     match command {
         Command::Refused(fault) => Ok(Answer::Refused(fault)),
-        Command::Rows { table, asof } => {
-            let shown = shown_asof(newest, number, asof)?;
-            rows(&shown, number, table)
-        }
-        Command::At { table, point, asof } => {
-            let shown = shown_asof(newest, number, asof)?;
-            rows_on(&shown, number, table, point)
-        }
+        Command::Rows { table, .. } => rows(shown, number, table),
+        Command::At { table, point, .. } => rows_on(shown, number, table, point),
         Command::Between { table, first, last } => between(newest, number, table, first, last),
         Command::FromTo { table, first, end } => from_to(newest, number, table, first, end),
-        Command::Dip { table, asof } => {
-            let shown = shown_asof(newest, number, asof)?;
-            divide(crew, &shown, number, table)
-        }
-        Command::Join { tables, asof } => {
-            let shown = shown_asof(newest, number, asof)?;
-            join_tables(crew, &shown, number, tables)
-        }
-        Command::Anti { tables, asof } => {
-            let shown = shown_asof(newest, number, asof)?;
-            anti_tables(crew, &shown, number, tables)
-        }
-        Command::Agg { aggregate, asof } => {
-            let shown = shown_asof(newest, number, asof)?;
-            agg_table(crew, &shown, number, aggregate)
-        }
+        Command::Dip { table, .. } => divide(crew, shown, number, table),
+        Command::Join { tables, .. } => join_tables(crew, shown, number, tables),
+        Command::Anti { tables, .. } => anti_tables(crew, shown, number, tables),
+        Command::Agg { aggregate, .. } => agg_table(crew, shown, number, aggregate),
         Command::Check {
             table,
             parts,
             instant,
-            asof,
             body,
+            ..
         } => {
-            let shown = shown_asof(newest, number, asof)?;
             let certificate = Certificate { parts, instant };
-            check(crew.alloc, &shown, number, table, certificate, body)
+            check(crew.alloc, shown, number, table, certificate, body)
         }
         _ => unreachable!(),
     }
