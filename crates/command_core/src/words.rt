@@ -6,7 +6,7 @@ ghost use Rattle.command_core.specs.Words.{begins, is_end, opens_block, verb_of}
 use crate::line::Line;
 
 /// The word that a command of one record begins with.
-#[derive(Clone, Copy, Debug, PartialEq, Eq)]
+#[derive(Clone, Copy)]
 pub(crate) enum Verb {
     Table,
     Update,
