@@ -1,0 +1,110 @@
+"""Libraries that were proved before. They lie in out/ of their crates, and a later build goes on from them.
+
+A library is kept under a sum of all that its proof read: the toolchain, its files, its line of crates.txt, and each library
+below it as that was made. So none goes stale, and what is found under a sum was proved from the same.
+"""
+import contextlib
+import hashlib
+import importlib.machinery
+import importlib.util
+import os
+import shutil
+import sys
+from pathlib import Path
+from types import ModuleType
+from typing import Any, Dict, List
+
+from building.crates import Crate, Crates
+from building.toolchain import Toolchain
+
+
+def sum_of_files(folder: Path, files: List[Path]) -> str:
+    """A sum of the files' places in the folder, and of what they hold."""
+    found = hashlib.sha256()
+    for file in files:
+        held = hashlib.sha256(file.read_bytes()).hexdigest()
+        found.update(f"{held} {file.relative_to(folder)}\n".encode())
+    return found.hexdigest()
+
+
+class Kept:
+    """The libraries that builds of this repository keep, and where each lies that this build has."""
+
+    def __init__(self, top: Path, crates: Crates, toolchain: Toolchain) -> None:
+        self.top, self.crates, self.toolchain = top, crates, toolchain
+        self.at: Dict[str, Path] = {}
+        self.sums: Dict[str, str] = {}
+
+    def folder(self, crate: Crate) -> Path:
+        return self.top / "crates" / crate.name / "out" / "proved"
+
+    def key(self, crate: Crate) -> str:
+        """The sum that its library is kept under. Those below it are there."""
+        below = [self.sums[it.name] for it in self.crates.below(crate)]
+        parts = [self.toolchain.identity(), *crate.libraries, sum_of_files(crate.folder, crate.files()), *below]
+        return hashlib.sha256("\n".join(parts).encode()).hexdigest()
+
+    def note(self, crate: Crate, library: Path) -> None:
+        """Notes where the crate's library lies."""
+        self.at[crate.name] = library
+        files = sorted(file for file in library.rglob("*") if file.is_file())
+        self.sums[crate.name] = sum_of_files(library, files)
+
+    def find(self, crate: Crate) -> bool:
+        """Whether the crate's library is kept, and notes where."""
+        library = self.folder(crate) / self.key(crate) / f"{crate.name}.rlib"
+        if library.is_dir():
+            self.note(crate, library)
+        return library.is_dir()
+
+    def place(self, crate: Crate) -> Path:
+        """Where a library is to be made that `add` keeps."""
+        return self.folder(crate) / f"new-{os.getpid()}" / f"{crate.name}.rlib"
+
+    def add(self, crate: Crate) -> None:
+        """Keeps the library that was made in its place, and drops those of other sums."""
+        made, at = self.place(crate).parent, self.folder(crate) / self.key(crate)
+        with contextlib.suppress(OSError):
+            # Another build may have kept the same meanwhile.
+            made.rename(at)
+        for other in self.folder(crate).iterdir():
+            if other != at and not other.name.startswith("new-"):
+                shutil.rmtree(other, ignore_errors=True)
+        self.drop_unmade(crate)
+        self.note(crate, at / f"{crate.name}.rlib")
+
+    def drop_unmade(self, crate: Crate) -> None:
+        """Drops what a build that was broken off left in the crate's place."""
+        shutil.rmtree(self.place(crate).parent, ignore_errors=True)
+
+
+def module_of(program: Path) -> ModuleType:
+    """A program of Python as a module."""
+    loader = importlib.machinery.SourceFileLoader("rt_program", str(program))
+    spec = importlib.util.spec_from_loader("rt_program", loader)
+    assert spec is not None
+    module = importlib.util.module_from_spec(spec)
+    sys.modules["rt_program"] = module
+    loader.exec_module(module)
+    return module
+
+
+def give_of_gate(copy: Path, crates: Crates, toolchain: Toolchain) -> Dict[str, Path]:
+    """Puts into a copy of the repository the libraries that the toolchain's gate proved on this machine from the same files.
+
+    The gate keeps them by sums of its own, so its program is asked. A toolchain that is otherwise inside gives none, and all
+    is proved here. Nothing that is proved here goes to the gate.
+    """
+    given: Dict[str, Path] = {}
+    with contextlib.suppress(Exception):
+        rt: Any = module_of(toolchain.folder / "bin" / "rt")
+        rt.Crate.allowed, rt.Crate.cuts_libraries = rt.handles_of(str(copy)), True
+        listed = rt.crates_of(str(copy))
+        kept = rt.Kept(listed)
+        for crate in listed:
+            if not all(library.name in given for library in crate.below()):
+                continue
+            if not crate.is_program and kept.give(crate, False, kept.key(crate)):
+                kept.is_built(crate)
+                given[crate.name] = Path(crate.rlib)
+    return given

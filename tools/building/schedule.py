@@ -1,0 +1,90 @@
+"""Which crate is proved next, and by how many jobs.
+
+Crates are proved side by side, first those with most work behind them, since the longest chain decides when all is done. A job
+is a process of the compiler's. The crate that heads the longest chain has two of them; processors that no other crate waits for
+are shared out, up to four a crate, beyond which more gain little.
+"""
+import os
+from typing import Dict, List, Mapping, NamedTuple, Set
+
+from building.crates import Crate, Crates
+
+# Lines of code whose proof takes as long as a crate takes that has none.
+LINES_OF_EMPTY = 300
+# What a check takes at most, in bytes: for a crate without lines, for each of these lines, and for each further job a part of it.
+BYTES_OF_EMPTY, BYTES_OF_LINE, PART_OF_JOB = 1.2e9, 8e5, 0.6
+# The part of the free memory that checks may take together.
+PART_OF_MEMORY = 0.85
+MOST_JOBS = 4
+
+
+class Turn(NamedTuple):
+    """A crate, and the jobs that prove it."""
+
+    crate: Crate
+    jobs: int
+
+
+def free_memory() -> int:
+    """In bytes, as far as the system tells."""
+    with open("/proc/meminfo", encoding="ascii") as told:
+        return next(1024 * int(line.split()[1]) for line in told if line.startswith("MemAvailable"))
+
+
+class Schedule:
+    """What is left to prove, and what is being proved."""
+
+    def __init__(self, crates: Crates, processors: int = 0, memory: float = 0) -> None:
+        self.crates = crates
+        self.processors = processors or len(os.sched_getaffinity(0))
+        self.memory = memory or PART_OF_MEMORY * free_memory()
+        self.work = {crate.name: LINES_OF_EMPTY + crate.lines() for crate in crates}
+        self.chain = self.chains()
+        self.left: Set[str] = set(self.work)
+        self.jobs: Dict[str, int] = {}
+
+    def chains(self) -> Mapping[str, int]:
+        """Of each crate the work of the longest chain of crates that it heads, each of which stands on the one before."""
+        chain: Dict[str, int] = {}
+        for crate in reversed(list(self.crates)):
+            above = (it.name for it in self.crates if crate.name in it.libraries)
+            chain[crate.name] = self.work[crate.name] + max((chain[name] for name in above), default=0)
+        return chain
+
+    def bytes_of(self, name: str, jobs: int) -> float:
+        """The memory that a check may take."""
+        return (BYTES_OF_EMPTY + BYTES_OF_LINE * self.work[name]) * (1 + PART_OF_JOB * (jobs - 1))
+
+    def ready(self, done: Set[str]) -> List[str]:
+        """Those whose libraries are all there, first the one with most work behind it."""
+        found = (name for name in self.left if done.issuperset(it.name for it in self.crates.own(self.crates[name])))
+        return sorted(found, key=lambda name: -self.chain[name])
+
+    def jobs_for(self, name: str, others: int) -> int:
+        """The jobs for a crate beside others that are ready, or none where it has to wait."""
+        idle = self.processors - sum(self.jobs.values())
+        room = self.memory - sum(self.bytes_of(it, jobs) for it, jobs in self.jobs.items())
+        if idle <= 0 or self.jobs and self.bytes_of(name, 1) > room:
+            return 0
+        heads = self.chain[name] == max(self.chain[it] for it in self.left.union(self.jobs))
+        wanted = max(2 if heads and self.processors > 2 else 1, idle // (others + 1))
+        fitting = (jobs for jobs in range(min(MOST_JOBS, idle, wanted), 1, -1) if self.bytes_of(name, jobs) <= room)
+        return next(fitting, 1)
+
+    def next_turns(self, done: Set[str]) -> List[Turn]:
+        """What is to begin now."""
+        turns, ready = [], self.ready(done)
+        for at, name in enumerate(ready):
+            jobs = self.jobs_for(name, len(ready) - at - 1)
+            if jobs:
+                self.left.remove(name)
+                self.jobs[name] = jobs
+                turns.append(Turn(self.crates[name], jobs))
+        return turns
+
+    def end(self, name: str) -> None:
+        """Notes that the crate's check has ended."""
+        del self.jobs[name]
+
+    def is_over(self) -> bool:
+        return not self.left and not self.jobs
