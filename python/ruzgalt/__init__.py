@@ -20,3 +20,19 @@ Python 3.9 and its library are all that is needed. A module stands on those abov
     terminal, svg       how it is drawn
     program, cli        the program that answers; the words of tools/answers
 """
+from importlib import import_module
+from typing import Any
+
+FRAMES = ("join", "anti", "agg", "dip", "Store", "Refused", "Stopped")
+
+
+def __getattr__(name: str) -> Any:
+    """The calls of frames. They need pandas, which isn't imported before one is asked for."""
+    if name not in FRAMES:
+        raise AttributeError(f"module 'ruzgalt' has no attribute {name!r}")
+    try:
+        return getattr(import_module("ruzgalt.frames"), name)
+    except ModuleNotFoundError as missing:
+        if missing.name not in ("numpy", "pandas"):
+            raise
+        raise ImportError(f"ruzgalt.{name} needs {missing.name}: apt-get install python3-pandas") from None

@@ -1,0 +1,25 @@
+"""Frames of pandas and of Dask, joined, counted and divided by the time for which their rows hold; docs/FRAMES.md tells how.
+
+    join, anti, agg, dip    frames in, a frame out
+    Store                   tables with a past: changes, commits, questions
+    Refused                 what all of them raise of a value or a call: name, reason, column, label
+    Stopped                 the program ended without all answers
+
+A module stands on those above it:
+
+    arrays, errors          arrays of numpy; the exceptions
+    points, values          columns as seconds, numbers and texts, and back
+    sides, script           rows on their way; a script in pieces
+    program, output         a run; its answers as columns
+    ask, split              a question's run; rows past the limits in parts
+    options                 what may be told to a call
+    pairs, groups, division join and anti; agg; dip
+    spread, slices          the same of Dask: by value; by time
+    calls                   pandas or Dask
+    tables, store           a table of a store; the store
+"""
+from ruzgalt.frames.calls import agg, anti, dip, join
+from ruzgalt.frames.errors import Refused, Stopped
+from ruzgalt.frames.store import Store
+
+__all__ = ["join", "anti", "agg", "dip", "Store", "Refused", "Stopped"]

@@ -1,0 +1,27 @@
+"""The arrays of numpy that the modules of this folder hand to one another."""
+from __future__ import annotations
+
+from typing import Any, List, Sequence
+
+import numpy as np
+import numpy.typing as npt
+
+Ints = npt.NDArray[np.int64]
+Bytes = npt.NDArray[np.uint8]
+Marks = npt.NDArray[np.bool_]
+Hashes = npt.NDArray[np.uint64]
+# Of any dtype, objects too.
+Cells = npt.NDArray[Any]
+
+NO_INTS: Ints = np.empty(0, np.int64)
+
+
+def of_objects(cells: Sequence[Any]) -> Cells:
+    """An array of objects, whatever they are: numpy makes a matrix of tuples, and of datetimes what it likes."""
+    array = np.empty(len(cells), object)
+    array[:] = cells
+    return array
+
+
+def joined(parts: List[Cells]) -> Cells:
+    return parts[0] if len(parts) == 1 else np.concatenate(parts)

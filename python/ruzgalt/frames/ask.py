@@ -1,0 +1,95 @@
+"""What the program answers of rows: a run for each call."""
+from __future__ import annotations
+
+from typing import List, Optional, Sequence, Tuple
+
+from ruzgalt import records
+from ruzgalt.frames import program, script
+from ruzgalt.frames.arrays import NO_INTS, Cells
+from ruzgalt.frames.errors import Refused, Stopped
+from ruzgalt.frames.output import Output
+from ruzgalt.frames.script import Command
+from ruzgalt.frames.sides import Side
+
+# The columns of an answer: start, end, and what tells its rows apart.
+Found = Tuple[Cells, ...]
+
+REMEDIES = {
+    "BadName": "a name has 1 to 32 of a to z, 0 to 9 and _, the first a letter; .rename(columns=..) gives another",
+    "BadPeriod": "a start comes before its end, which is the first point behind",
+    "BadPoint": "a point is as 2024-01-05 or 2024-01-05T08:30:00, of the years 0001 to 9999",
+    "Full": "a table has at most 1,000,000 versions of rows, of all commits",
+    "Future": "log() lists the commits",
+    "TableExists": "load() adds rows to a table",
+    "TooMany": "a table has at most 16 columns, a store 64 tables",
+    "TwiceNamed": "each name once",
+}
+
+
+def answered(commands: Sequence[Command], workers: int) -> Output:
+    """The answers of a run; each command but the last one is a change, which is accepted. Raises Refused, Stopped."""
+    output = output_of(commands, workers)
+    found = first_refused(output, commands[:-1])
+    if found is not None:
+        raise refusal(commands[found[0]], found[1])
+    return output
+
+
+def output_of(commands: Sequence[Command], workers: int) -> Output:
+    return Output(program.answer((piece for command in commands for piece in command.pieces), workers))
+
+
+def first_refused(output: Output, changes: Sequence[Command]) -> Optional[Tuple[int, Sequence[str]]]:
+    """The place of the first change that isn't accepted, and its answer; else all their answers are read."""
+    for place, _ in enumerate(changes):
+        told = output.record()
+        if told[0] != "ok":
+            return place, told
+    return None
+
+
+def refusal(command: Command, told: Sequence[str]) -> Exception:
+    """Of an answer that is neither ok nor what was asked for."""
+    if told[0] != "error":
+        return Stopped(f"the program answered {records.to_record(told)} to {command.word}")
+    return Refused(told[2], REMEDIES.get(told[2], f"docs/LANGUAGE.md tells it of {command.word}"), label=command.label)
+
+
+def loads(sides: Sequence[Side]) -> List[Command]:
+    """Tables l and r of the rows, whose columns have the names c0, c1 and so on."""
+    made = []
+    for table, side in zip("lr", sides):
+        names = [f"c{place}" for place in range(len(side.columns))]
+        made += [script.make(table, names, side.columns), script.load(table, side)]
+    return made
+
+
+def pair(word: str, sides: Sequence[Side]) -> Command:
+    names = [f"c{place}" for place in range(len(sides[0].columns)) for _ in sides]
+    return script.command(word, "l", "r", *(["on", *names] if names else []))
+
+
+def join(sides: Sequence[Side], workers: int) -> Found:
+    """Start, end, place of the left row and of the right one."""
+    left, right = sides
+    if not len(left) or not len(right):
+        return (NO_INTS,) * 4
+    start, end, left_ids, right_ids = answered([*loads(sides), pair("join", sides)], workers).block("ppii")
+    return start, end, left.places[left_ids - 1], right.places[right_ids - 1]
+
+
+def anti(sides: Sequence[Side], workers: int) -> Side:
+    """What is left of the left rows."""
+    left, right = sides
+    if not len(left) or not len(right):
+        return left
+    ids, start, end = answered([*loads(sides), pair("anti", sides)], workers).block("ipp")
+    return left.take(ids - 1).during(start, end)
+
+
+def agg(side: Side, function: str, workers: int) -> Found:
+    """Start, end, group and value; of a side of a group's number, and but for `count` the numbers to come together."""
+    amount = ["c1"] if function != "count" else []
+    asked = script.command("agg", "l", function, *amount, "by", "c0")
+    group, start, end, value = answered([*loads([side]), asked], workers).block("ippi")
+    return start, end, group, value

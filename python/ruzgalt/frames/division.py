@@ -1,0 +1,50 @@
+"""dip of a frame of pandas."""
+from __future__ import annotations
+
+from typing import Any, Dict, Optional, Sequence
+
+import numpy as np
+import pandas as pd
+
+from ruzgalt import forms
+from ruzgalt.frames import ask, points, script, sides, split
+from ruzgalt.frames.arrays import Ints
+from ruzgalt.frames.errors import Refused
+from ruzgalt.frames.options import Options
+from ruzgalt.frames.output import Output
+
+OTHERWISE = "agg(frame, 'count') tells how many parts it has, the greatest count, and the instant, where that begins"
+
+
+def dip(frame: Any, options: Options) -> Any:
+    side = sides.side_of(frame, [], options.period, options.form, {})
+    if not split.fits([side]):
+        told = f"{len(side):,} rows, and a table has {split.ROWS:,}; a division isn't that of its parts"
+        raise Refused("Full", f"{told}: {OTHERWISE}")
+    commands = [script.make("l", [], []), script.load("l", side), script.command("dip", "l")]
+    output = ask.answered(commands, options.workers)
+    told = output.record()
+    if told[0] != "dip":
+        raise ask.refusal(commands[-1], told)
+    parts = np.zeros(len(side), np.int64)
+    for part in range(int(told[2])):
+        parts[ids_of(output) - 1] = part
+    series = pd.Series(parts, frame.index, name="part")
+    series.attrs = attributes(told)
+    return series
+
+
+def ids_of(output: Output) -> Ints:
+    """The rows of the next part."""
+    return np.array(output.record()[2:], np.int64)
+
+
+def attributes(told: Sequence[str]) -> Dict[str, Any]:
+    """How many parts there are, and the first point at which as many rows hold."""
+    return {"count": int(told[2]), "instant": instant_of(told[3])}
+
+
+def instant_of(text: str) -> Optional[Any]:
+    """A Period of a second; None of a dash."""
+    point = forms.read_point(text)
+    return None if point is None else points.period_of(round((point - points.EPOCH).total_seconds()))

@@ -1,0 +1,92 @@
+"""What may be told to join, anti, agg and dip beside their frames."""
+from __future__ import annotations
+
+from dataclasses import dataclass, field
+from typing import Any, Dict, List, Mapping, Optional, Sequence, Tuple, Union
+
+from ruzgalt.frames import points
+from ruzgalt.frames.errors import Refused
+from ruzgalt.frames.points import Form
+from ruzgalt.frames.sides import Period
+
+Names = Union[str, int, Sequence[Any], None]
+PERIOD: Period = ("from", "to")
+OF_ALL = ("period", "open_end", "last_day", "workers")
+OF_PAIRS = ("left_on", "right_on", "right_period", "decimals", "points_as", "parts")
+ALLOWED = {
+    "join": (*OF_ALL, *OF_PAIRS, "suffixes", "labels"),
+    "anti": (*OF_ALL, *OF_PAIRS),
+    "agg": (*OF_ALL, "by", "decimals", "points_as", "parts"),
+    "dip": OF_ALL,
+}
+
+
+@dataclass(frozen=True)
+class Options:
+    """Options of a call.
+
+    left_on, right_on  compared columns, in place of `on`, where the two frames have different names for them
+    by                 columns of agg whose equal values are a group
+    period             the columns with a row's start and its end, the first point behind it
+    right_period       the same of the right frame, where they are others
+    open_end           a missing end stands for 9999-12-31, and comes back as missing
+    last_day           an end is a row's last day, in the answer too
+    decimals           of a column of floats or Decimals, how many decimals are compared or added
+    suffixes           what is put behind the names that both frames have
+    labels             two more columns, left_label and right_label: the index labels of each pair
+    points_as          ns, us, ms, s, D, S, date or datetime: the answer's points, where they aren't to be as they came in
+    workers            threads of the program, 1 to 64
+    parts              of Dask: how many partitions the answer has, where they aren't to be those of the larger frame
+    """
+
+    left_on: Names = None
+    right_on: Names = None
+    by: Names = None
+    period: Period = PERIOD
+    right_period: Optional[Period] = None
+    open_end: bool = False
+    last_day: bool = False
+    decimals: Mapping[Any, int] = field(default_factory=dict)
+    suffixes: Tuple[str, str] = ("_left", "_right")
+    labels: bool = False
+    points_as: Optional[str] = None
+    workers: int = 4
+    parts: Optional[int] = None
+
+    @property
+    def form(self) -> Form:
+        return Form(self.open_end, self.last_day)
+
+    @property
+    def other_period(self) -> Period:
+        return self.right_period or self.period
+
+    def kind_of(self, *kinds: str) -> str:
+        """The kind of the answer's points, of frames of these."""
+        return self.points_as or points.joint_kind(*kinds)
+
+
+def options_of(call: str, told: Dict[str, Any]) -> Options:
+    """Raises TypeError, as of a function, where the call has no such option; Refused where the answer can't be so."""
+    for name in told:
+        if name not in ALLOWED[call]:
+            raise TypeError(f"{call} has no option {name}, but {', '.join(ALLOWED[call])}")
+    options = Options(**told)
+    if options.points_as not in (None, *points.KINDS):
+        raise Refused("BadCommand", f"points_as={options.points_as!r}: one of {', '.join(points.KINDS)}")
+    return options
+
+
+def names_of(names: Names) -> List[Any]:
+    """A name, or names, as a list."""
+    return [] if names is None else list(names) if isinstance(names, (list, tuple)) else [names]
+
+
+def compared(on: Names, options: Options) -> Tuple[List[Any], List[Any]]:
+    """The compared columns of the left frame and of the right one."""
+    left, right = (names_of(on if on is not None else other) for other in (options.left_on, options.right_on))
+    if on is not None and (options.left_on, options.right_on) != (None, None):
+        raise Refused("BadCommand", "on= is for columns of one name, left_on= and right_on= for others")
+    if len(left) != len(right):
+        raise Refused("BadCommand", "left_on and right_on are as many columns, each beside its own")
+    return left, right

@@ -1,0 +1,100 @@
+"""Runs the program over a script, through two files in memory."""
+from __future__ import annotations
+
+import mmap
+import os
+import shutil
+import signal
+import subprocess
+import tempfile
+from pathlib import Path
+from typing import Iterable, Iterator, List
+
+import numpy as np
+
+from ruzgalt.frames.arrays import Bytes
+from ruzgalt.frames.errors import Refused, Stopped
+from ruzgalt.frames.script import LIMIT
+
+# What a write to a file takes at once: less than 2 GiB.
+SLICE = 1 << 26
+# The folder that has python/: a clone, or what `make install` made.
+TOP = Path(__file__).resolve().parents[3]
+
+
+def program() -> str:
+    """The program that DIPQ names in the environment, or dipq beside the folder python/, or on the PATH."""
+    beside = TOP / "dipq"
+    return os.environ.get("DIPQ") or (str(beside) if beside.is_file() else "dipq")
+
+
+def refuse_unbuilt(command: str) -> None:
+    """A clone's ./dipq would build the program first, in silence and for half an hour."""
+    if command == str(TOP / "dipq") and (TOP / "crates").is_dir() and not (TOP / "crates/dipq/out/dipq").exists():
+        raise Stopped(f"{command}: the program isn't built yet; `{command} </dev/null` does it, in half an hour")
+
+
+def ending_with_us(words: List[str]) -> List[str]:
+    """A command that the system kills where the thread ends that started it, or this process.
+
+    The thread waits for the program, so it ends first only with the process. No function runs between fork and exec, which
+    isn't safe where there are other threads: setpriv asks the system, the shell then looks whether we are still there, and
+    each of them becomes the next program. Without setpriv (util-linux) a program outlives us until its answer is written.
+    """
+    if shutil.which("setpriv") is None:
+        return words
+    test = '[ "$PPID" = "$1" ] || exit 3; shift; exec "$@"'
+    return ["setpriv", "--pdeathsig", "KILL", "sh", "-c", test, "sh", str(os.getpid()), *words]
+
+
+def memory_file(name: str) -> int:
+    try:
+        return os.memfd_create(name)
+    except (AttributeError, OSError):
+        with tempfile.TemporaryFile() as file:
+            return os.dup(file.fileno())
+
+
+def answer(pieces: Iterable[bytes], workers: int) -> Bytes:
+    """The answers' bytes. Raises Refused (Full) of a script that is too long, Stopped where the program didn't end well."""
+    given, told = memory_file("script"), memory_file("answers")
+    try:
+        write(given, pieces)
+        run(given, told, workers)
+        count = os.fstat(told).st_size
+        return np.frombuffer(mmap.mmap(told, count), np.uint8) if count else np.empty(0, np.uint8)
+    finally:
+        os.close(given)
+        os.close(told)
+
+
+def write(file: int, pieces: Iterable[bytes]) -> None:
+    size = 0
+    for part in slices(pieces):
+        size += len(part)
+        if size > LIMIT:
+            raise Refused("Full", f"the script has more than {LIMIT:,} bytes: fewer rows, or fewer columns and shorter texts")
+        while len(part):
+            part = part[os.write(file, part):]
+    os.lseek(file, 0, os.SEEK_SET)
+
+
+def slices(pieces: Iterable[bytes]) -> Iterator[memoryview]:
+    for piece in pieces:
+        view = memoryview(piece)
+        yield from (view[place:place + SLICE] for place in range(0, len(view), SLICE))
+
+
+def run(given: int, told: int, workers: int) -> None:
+    command = program()
+    refuse_unbuilt(command)
+    if shutil.which(command) is None:
+        raise Stopped(f"{command}: no such program; `make install` puts dipq on the PATH, and the variable DIPQ names one")
+    words = ending_with_us([command, "--workers", str(workers)])
+    try:
+        ran = subprocess.run(words, stdin=given, stdout=told, stderr=subprocess.PIPE)
+    except OSError as error:
+        raise Stopped(f"{command}: {error.strerror}") from None
+    if ran.returncode not in (0, 1):
+        name = signal.Signals(-ran.returncode).name if ran.returncode < 0 else f"status {ran.returncode}"
+        raise Stopped(f"{command}: {name}: {ran.stderr.decode(errors='replace').strip()}")

@@ -1,0 +1,88 @@
+"""Rows of a frame on their way to the program: periods as seconds, and the columns that it is to see."""
+from __future__ import annotations
+
+from dataclasses import dataclass, field, replace
+from typing import Any, List, Mapping, Optional, Sequence, Tuple
+
+import numpy as np
+
+from ruzgalt.frames import points, values
+from ruzgalt.frames.arrays import NO_INTS, Ints, Marks
+from ruzgalt.frames.errors import Refused, label_at
+from ruzgalt.frames.points import Form
+from ruzgalt.frames.values import Values
+
+Period = Tuple[Any, Any]
+
+
+@dataclass(frozen=True)
+class Side:
+    """Rows: the seconds of their starts and of the first points behind them, their values, their places in the frame.
+
+    kind is that of the frame's points; labels is its index.
+    """
+
+    start: Ints
+    end: Ints
+    columns: List[Values] = field(default_factory=list)
+    kind: str = "S"
+    labels: Any = None
+    places: Ints = field(default_factory=lambda: NO_INTS)
+
+    def __len__(self) -> int:
+        return len(self.start)
+
+    def take(self, which: Ints) -> Side:
+        columns = [column.take(which) for column in self.columns]
+        return replace(self, start=self.start[which], end=self.end[which], columns=columns, places=self.places[which])
+
+    def during(self, start: Ints, end: Ints) -> Side:
+        return replace(self, start=start, end=end)
+
+    def clipped(self, low: Optional[int], high: Optional[int]) -> Side:
+        """The rows that hold from one second on and before another, cut there."""
+        start = self.start if low is None else np.maximum(self.start, low)
+        end = self.end if high is None else np.minimum(self.end, high)
+        return self.during(start, end).take(np.flatnonzero(start < end))
+
+    def blocks(self, size: int) -> List[Side]:
+        """The rows, so many at a time."""
+        return [self.take(np.arange(first, min(first + size, len(self)))) for first in range(0, len(self), size)]
+
+    @property
+    def width(self) -> int:
+        """At most so many bytes a row has in a script."""
+        has_time = (self.start % points.DAY).any() or (self.end % points.DAY).any()
+        return (44 if has_time else 26) + sum(1 + values.widest(column) for column in self.columns)
+
+
+def together(sides: Sequence[Side]) -> Side:
+    """The rows of sides that were taken from one."""
+    columns = [
+        replace(one, codes=np.concatenate([side.columns[place].codes for side in sides]))
+        for place, one in enumerate(sides[0].columns)
+    ]
+    start, end, places = (np.concatenate([getattr(side, name) for side in sides]) for name in ("start", "end", "places"))
+    return replace(sides[0], start=start, end=end, columns=columns, places=places)
+
+
+def side_of(frame: Any, names: Sequence[Any], period: Period, form: Form, decimals: Mapping[Any, int]) -> Side:
+    """The rows of a DataFrame with the columns of these names. Raises Refused."""
+    told = list(frame.columns)
+    for name in (*period, *names):
+        if told.count(name) != 1:
+            fault = "several columns have this name" if name in told else f"no such column; there are {told}"
+            raise Refused("NoColumn", fault, name)
+    start, first = points.seconds_of(frame[period[0]])
+    end, last = form.ends_of(frame[period[1]])
+    refuse_empty(start >= end, frame, period)
+    columns = [values.values_of(frame[name], decimals.get(name)) for name in names]
+    return Side(start, end, columns, points.joint_kind(first, last), frame.index, np.arange(len(start)))
+
+
+def refuse_empty(marked: Marks, frame: Any, period: Period) -> None:
+    if marked.any():
+        place = int(marked.argmax())
+        told = f"it starts at {frame[period[0]].iloc[place]} and ends at {frame[period[1]].iloc[place]}"
+        remedy = "an end is the first point behind a row, and last_day=True takes it for the last day"
+        raise Refused("BadPeriod", f"{told}: {remedy}", period[1], label_at(marked, frame.index))

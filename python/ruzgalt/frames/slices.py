@@ -1,0 +1,133 @@
+"""agg of all rows of a frame of Dask: time is cut into slices, in each of which rows are clipped and answered, and what goes
+on over a cut is closed up. Periods are seconds here, and numbers are int64."""
+from __future__ import annotations
+
+from dataclasses import dataclass, replace
+from typing import Any, List, Optional, Sequence, Tuple
+
+import dask
+import dask.dataframe as dd
+import numpy as np
+import pandas as pd
+from dask.dataframe.shuffle import rearrange_by_column
+
+from ruzgalt.frames import groups, pairs, points, split
+from ruzgalt.frames.arrays import NO_INTS, Ints
+from ruzgalt.frames.ask import Found
+from ruzgalt.frames.options import Options
+from ruzgalt.frames.sides import Side
+from ruzgalt.frames.spread import PART
+from ruzgalt.frames.values import Values
+
+# Starts of a partition that are looked at for where to cut.
+QUANTILES = np.linspace(0, 1, 101)
+
+
+@dataclass(frozen=True)
+class Question:
+    """What is asked, of which column, and how."""
+
+    function: str
+    column: Any
+    options: Options
+
+    def side_of(self, frame: Any) -> Side:
+        return groups.side_of(frame, self.function, self.column, self.options)
+
+    def agg(self, frame: Any) -> Any:
+        return groups.agg(frame, self.function, self.column, self.options)
+
+
+def agg(frame: Any, function: str, column: Any, options: Options) -> Any:
+    """Partitions in the order of time. The frame is read at once, for the cuts."""
+    asked = Question(function, column, options)
+    meta = asked.agg(frame._meta)
+    cuts, kind = cuts_of(frame, asked, options.parts or frame.npartitions)
+    names = ["start", "end", *(["amount"] if column is not None else []), PART]
+    slim = pd.DataFrame({name: NO_INTS for name in names})
+    sliced = frame.map_partitions(slices, asked, cuts, meta=slim)
+    spread = rearrange_by_column(sliced, PART, npartitions=len(cuts) + 1, shuffle="tasks")
+    found = [dask.delayed(answered)(part, asked) for part in spread.to_delayed()]
+    plan = dask.delayed(plan_of)([dask.delayed(edges_of)(one) for one in found])
+    empty = replace(asked.side_of(frame._meta), kind=kind)
+    made = [dask.delayed(fitted)(one, plan, place, (asked, empty)) for place, one in enumerate(found)]
+    return dd.from_delayed(made, meta=meta, verify_meta=False)
+
+
+def cuts_of(frame: Any, asked: Question, parts: int) -> Tuple[Ints, str]:
+    """Points that part the rows into slices of about as many starts, and the kind of the frame's points."""
+    told = dask.compute(*[dask.delayed(sample)(part, asked) for part in frame.to_delayed()])
+    kind, starts = points.joint_kind(*(one for _, one in told)), np.concatenate([starts for starts, _ in told])
+    if not len(starts) or parts < 2:
+        return NO_INTS, kind
+    return np.unique(np.quantile(starts, np.arange(1, parts) / parts).astype(np.int64)), kind
+
+
+def sample(frame: Any, asked: Question) -> Tuple[Any, str]:
+    side = asked.side_of(frame)
+    return np.quantile(side.start, QUANTILES) if len(side) else np.empty(0), side.kind
+
+
+def slices(frame: Any, asked: Question, cuts: Ints) -> Any:
+    """Each row once for each slice of time in which it holds, clipped there."""
+    side = asked.side_of(frame)
+    first, last = np.searchsorted(cuts, side.start, "right"), np.searchsorted(cuts, side.end, "left")
+    count = last - first + 1
+    rows = np.repeat(np.arange(len(side)), count)
+    part = np.arange(len(rows)) - np.repeat(np.cumsum(count) - count, count) + first[rows]
+    lows, highs = np.concatenate([[points.FIRST], cuts]), np.concatenate([cuts, [points.LAST]])
+    cells = {"start": np.maximum(side.start[rows], lows[part]), "end": np.minimum(side.end[rows], highs[part])}
+    if side.columns:
+        cells["amount"] = side.columns[0].codes[rows]
+    return pd.DataFrame({**cells, PART: part.astype(np.int64)})
+
+
+def answered(frame: Any, asked: Question) -> Found:
+    """Start, end and value within a slice."""
+    names = [name for name in ("amount",) if name in frame.columns]
+    columns = [Values(None, "int", np.zeros(len(frame), np.int64)), *(Values(name, "int", frame[name].to_numpy()) for name in names)]
+    side = Side(frame["start"].to_numpy(), frame["end"].to_numpy(), columns, places=np.arange(len(frame)))
+    start, end, _, value = split.agg(side, asked.function, asked.options.workers)
+    return start, end, value
+
+
+@dataclass(frozen=True)
+class Edges:
+    """Of a slice's rows: the first one's start, end and value, the last one's end and value, and whether they are one."""
+
+    start: int
+    first_end: int
+    first: int
+    end: int
+    last: int
+    is_one: bool
+
+
+def edges_of(found: Found) -> Optional[Edges]:
+    start, end, value = found
+    if not len(start):
+        return None
+    return Edges(int(start[0]), int(end[0]), int(value[0]), int(end[-1]), int(value[-1]), len(start) == 1)
+
+
+def plan_of(told: Sequence[Optional[Edges]]) -> List[Tuple[bool, int]]:
+    """Of each slice, whether its first row only goes on with the one before the cut, and where its last row ends then."""
+    goes_on = [False] * len(told)
+    ends = [here.end if here is not None else 0 for here in told]
+    for place in reversed(range(len(told) - 1)):
+        here, behind = told[place], told[place + 1]
+        if here is not None and behind is not None and (here.end, here.last) == (behind.start, behind.first):
+            goes_on[place + 1] = True
+            ends[place] = ends[place + 1] if behind.is_one else behind.first_end
+    return list(zip(goes_on, ends))
+
+
+def fitted(found: Found, plan: Sequence[Tuple[bool, int]], place: int, form: Tuple[Question, Side]) -> Any:
+    """A slice's rows as they are in the answer."""
+    asked, empty = form
+    goes_on, last = plan[place]
+    start, end, value = (column[int(goes_on):].copy() for column in found)
+    end[-1:] = last
+    columns = pairs.period_of(start, end, [empty], asked.options)
+    columns[groups.name_of(asked.function, asked.column)] = groups.restored(value, asked.function, empty.columns)
+    return pd.DataFrame(columns)

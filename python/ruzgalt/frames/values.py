@@ -1,0 +1,240 @@
+"""Columns of a frame as columns of the store: their kinds, and the bytes of their fields.
+
+    integers, also Int64 without NA          int
+    objects of str, string                   text
+    category                                 as its categories
+    floats, objects of Decimal               int, of smaller units, where decimals={COLUMN: DIGITS} tells how many
+    all else                                 refused
+"""
+from __future__ import annotations
+
+import decimal
+from dataclasses import dataclass, replace
+from typing import Any, Dict, List, Optional, Sequence, Tuple
+
+import numpy as np
+import pandas as pd
+
+from ruzgalt import forms, records
+from ruzgalt.frames.arrays import Bytes, Cells, Ints, of_objects
+from ruzgalt.frames.errors import Refused, refuse
+
+# Texts up to so many bytes are written by numpy, from a table of fixed width.
+NARROW = 64
+LEAST, GREATEST = -(2**63), 2**63 - 1
+
+
+@dataclass(frozen=True)
+class Values:
+    """A column: its numbers, or of texts the place of each in a list of those that differ.
+
+    dtype is what it came from; with digits, numbers count units of 10^-digits of it.
+    """
+
+    name: Any
+    kind: str
+    codes: Ints
+    texts: Sequence[str] = ()
+    dtype: Any = None
+    digits: Optional[int] = None
+
+    def take(self, places: Ints) -> Values:
+        return replace(self, codes=self.codes[places])
+
+    def restored(self, cells: Cells) -> Any:
+        """What the program told of this column, in the dtype that it came from, or a wider one where that lacks a value."""
+        if self.digits is not None:
+            return unscaled(cells, self.digits, self.dtype)
+        if isinstance(self.dtype, pd.CategoricalDtype):
+            return categories_of(cells, self.dtype)
+        return plain(cells, self.dtype)
+
+
+def plain(cells: Cells, dtype: Any) -> Any:
+    if pd.api.types.is_integer_dtype(dtype):
+        bounds = np.iinfo(getattr(dtype, "numpy_dtype", dtype))
+        if len(cells) and not bounds.min <= cells.min() <= cells.max() <= bounds.max:
+            return cells
+    return pd.array(cells, dtype=dtype) if pd.api.types.is_extension_array_dtype(dtype) else cells.astype(dtype)
+
+
+def categories_of(cells: Cells, dtype: Any) -> Any:
+    """Of these categories; with more behind them, and in no order, where others came in by changes."""
+    known = plain(np.asarray(dtype.categories), dtype.categories.dtype)
+    places: Dict[Any, int] = {one: place for place, one in enumerate(known)}
+    codes = np.array([places.setdefault(cell, len(places)) for cell in cells.tolist()], np.int64)
+    if len(places) == len(known):
+        return pd.Categorical.from_codes(codes, dtype=dtype)
+    try:
+        return pd.Categorical.from_codes(codes, pd.Index(list(places), dtype=dtype.categories.dtype))
+    except (ValueError, OverflowError):
+        # Of texts that differ behind a zero byte alone pandas takes one for the other.
+        return plain(cells, dtype.categories.dtype)
+
+
+def values_of(column: Any, digits: Optional[int] = None) -> Values:
+    """A Series as a column. Raises Refused (WrongKind, BadNumber, TooLong, BadUtf8) with column and label."""
+    dtype = column.dtype
+    if digits is not None:
+        return Values(column.name, "int", scaled(column, digits), (), dtype, digits)
+    if isinstance(dtype, pd.CategoricalDtype):
+        return of_categories(column)
+    if pd.api.types.is_integer_dtype(dtype):
+        return Values(column.name, "int", ints_of(column), (), dtype)
+    if dtype == object or isinstance(dtype, pd.StringDtype):
+        return texts_of(column)
+    remedy = {"f": "; decimals={%r: 2} takes those of two decimals for hundredths" % column.name, "b": "; .astype('int8')"}
+    told = remedy.get(getattr(dtype, "kind", ""), "; .astype(str) makes texts")
+    raise Refused("WrongKind", f"{dtype} has no kind of the store{told}", column.name)
+
+
+def of_categories(column: Any) -> Values:
+    missing = column.isna().to_numpy()
+    refuse(missing, column, "BadNumber", "no value, and the store has none; .dropna(subset=..) leaves such rows out")
+    codes = column.cat.codes.to_numpy().astype(np.int64)
+    # Categories that no row has don't matter, whatever they are.
+    used, codes = np.unique(codes, return_inverse=True)
+    inner = values_of(pd.Series(column.cat.categories.take(used), name=column.name))
+    return Values(column.name, inner.kind, inner.codes[codes], inner.texts, column.dtype)
+
+
+def ints_of(column: Any) -> Ints:
+    missing = column.isna().to_numpy()
+    refuse(missing, column, "BadNumber", "no number, and the store has none; .dropna(subset=..) leaves such rows out")
+    is_signed = getattr(column.dtype, "numpy_dtype", column.dtype).kind == "i"
+    numbers: Cells = column.to_numpy(dtype="i8" if is_signed else "u8")
+    if not is_signed:
+        refuse(numbers > np.uint64(GREATEST), column, "BadNumber", f"greater than {GREATEST}; .astype(str) makes texts")
+    return numbers.astype(np.int64)
+
+
+def texts_of(column: Any) -> Values:
+    """Each text that differs is looked at once."""
+    cells = np.asarray(column, object)
+    if pd.api.types.infer_dtype(cells, skipna=False) not in ("string", "empty"):
+        wrong = np.fromiter((not isinstance(cell, str) for cell in cells), bool, len(cells))
+        told = f"{cells[int(wrong.argmax())]!r} is no text; .fillna('') or .astype(str) makes texts, .astype('int64') numbers"
+        refuse(wrong, column, "WrongKind", told)
+    whole = "".join(cells)
+    if not whole.isascii() or max(map(len, cells), default=0) > forms.TEXT_LIMIT:
+        refuse_texts(cells, whole, column)
+    codes, found = codes_by_dict(cells) if "\0" in whole else pd.factorize(cells)
+    return Values(column.name, "text", codes, list(found), column.dtype)
+
+
+def codes_by_dict(cells: Cells) -> Tuple[Ints, List[str]]:
+    """As pandas.factorize, which ends texts at a zero byte, so that it takes "a\\0b" for "a"."""
+    numbers: Dict[str, int] = {}
+    codes = [numbers.setdefault(cell, len(numbers)) for cell in cells]
+    return np.array(codes, np.int64), list(numbers)
+
+
+def refuse_texts(cells: Cells, whole: str, column: Any) -> None:
+    """Not after pandas.factorize, which takes halves of surrogate pairs for other texts."""
+    if not forms.is_utf8(whole):
+        wrong = np.fromiter((not forms.is_utf8(cell) for cell in cells), bool, len(cells))
+        refuse(wrong, column, "BadUtf8", "half of a surrogate pair, which UTF-8 hasn't: read the source again as what it is")
+    wrong = np.fromiter((not forms.is_short(cell) for cell in cells), bool, len(cells))
+    refuse(wrong, column, "TooLong", "a text of more than 4,096 bytes: a shorter one, or several columns")
+
+
+def scaled(column: Any, digits: int) -> Ints:
+    """Whole numbers of 10^-digits. A float is taken where it is the nearest of its dtype to such a number."""
+    if column.dtype == object:
+        return scaled_decimals(column, digits)
+    dtype = getattr(column.dtype, "numpy_dtype", column.dtype)
+    if getattr(dtype, "kind", "") != "f":
+        raise Refused("WrongKind", f"{dtype}: decimals are of floats and of Decimals; leave them out", column.name)
+    cells = column.to_numpy(dtype=dtype, na_value=np.nan)
+    bits = np.finfo(dtype).nmant + 1
+    with np.errstate(invalid="ignore", over="ignore"):
+        whole = np.round(cells.astype("f8") * 10.0**digits)
+        told = f"no number of up to {bits} bits in such units; Decimals are exact, .dropna(subset=..) leaves missing ones out"
+        refuse(~(np.abs(whole) < 2.0**bits), column, "BadNumber", told)
+        told = f"not exactly a number of {digits} decimals; .round({digits}) makes it one"
+        refuse((whole / 10.0**digits).astype(dtype) != cells, column, "BadNumber", told)
+    return whole.astype(np.int64)
+
+
+def scaled_decimals(column: Any, digits: int) -> Ints:
+    numbers = [whole_of(cell, digits) for cell in column]
+    wrong = np.fromiter((number is None for number in numbers), bool, len(numbers))
+    if wrong.any():
+        cell = column.iloc[int(wrong.argmax())]
+        refuse(wrong, column, "BadNumber", f"{cell!r} is no Decimal of {digits} decimals; quantize() makes it one")
+    return np.array(numbers, np.int64)
+
+
+def whole_of(cell: Any, digits: int) -> Optional[int]:
+    """A Decimal in units of 10^-digits, where it is a whole number of them. No product, which would be rounded."""
+    if not isinstance(cell, decimal.Decimal) or not cell.is_finite() or abs(cell) >= 10**19:
+        return None
+    above, below = cell.as_integer_ratio()
+    whole, rest = divmod(above * 10**digits, below)
+    return whole if not rest and LEAST <= whole <= GREATEST else None
+
+
+def unscaled(cells: Cells, digits: int, dtype: Any) -> Any:
+    if dtype == object:
+        return of_objects([decimal.Decimal(f"{int(cell)}E-{digits}") for cell in cells])
+    bits = np.finfo(getattr(dtype, "numpy_dtype", dtype)).nmant + 1
+    if len(cells) and max(abs(int(cells.max())), abs(int(cells.min()))) >= 2**bits:
+        raise Refused("BadNumber", f"a number that {bits} bits don't hold: take Decimals in place of floats")
+    return pd.Series(cells.astype("f8") / 10.0**digits).astype(dtype).array
+
+
+def matrix_of(values: Values) -> Optional[Bytes]:
+    """The fields, a row of bytes each, zero bytes where one is shorter; None where texts are wide or have zero bytes."""
+    if values.kind == "int":
+        return digits_of(values.codes)
+    table = [records.to_field(text).encode() for text in values.texts] or [b""]
+    width = max(max(map(len, table)), 1)
+    if width > NARROW or any(b"\0" in text for text in table):
+        return None
+    return np.array(table, f"S{width}").view(np.uint8).reshape(len(table), width)[values.codes]
+
+
+def digits_of(numbers: Ints) -> Bytes:
+    is_negative = numbers < 0
+    left = np.where(is_negative, -numbers.astype("u8"), numbers.astype("u8"))
+    width = len(str(int(left.max()))) if len(left) else 1
+    matrix = np.zeros((len(left), width + 1), np.uint8)
+    for place in range(width, 0, -1):
+        rest = left // np.uint64(10)
+        digit = (left - rest * np.uint64(10)).astype(np.uint8) + np.uint8(48)
+        matrix[:, place] = np.where((left == 0) & (place < width), np.uint8(0), digit)
+        left = rest
+    matrix[is_negative, 0] = ord("-")
+    return matrix
+
+
+def fields_of(values: Values) -> List[str]:
+    """The fields as texts."""
+    if values.kind == "int":
+        return list(map(str, values.codes.tolist()))
+    table = [records.to_field(text) for text in values.texts]
+    return [table[code] for code in values.codes.tolist()]
+
+
+def widest(values: Values) -> int:
+    """At most so many bytes a field has."""
+    if values.kind == "int":
+        return max(len(str(values.codes.min(initial=0))), len(str(values.codes.max(initial=0))))
+    return max((len(records.to_field(text).encode()) for text in values.texts), default=0)
+
+
+def hashes(columns: Sequence[Values]) -> Any:
+    """A number for each row, equal for equal values whatever their dtypes are: of int64, and of the UTF-8 of texts.
+
+    pandas.util.hash_array tells a column's; columns are mixed by exclusive or and a product. The same on each machine.
+    """
+    mixed = np.full(len(columns[0].codes), 0x345678, np.uint64)
+    for column in columns:
+        mixed = (mixed ^ hash_of(column)) * np.uint64(1_000_003)
+    return mixed
+
+
+def hash_of(column: Values) -> Any:
+    if column.kind == "int":
+        return pd.util.hash_array(column.codes)
+    return pd.util.hash_array(of_objects([*column.texts, ""]), categorize=False)[column.codes]
