@@ -43,8 +43,8 @@ def anti(left: Any, right: Any, on: Names, options: Options) -> Any:
     start, end, places = split.anti(both, options.workers)
     made = left.take(places)
     kind = options.kind_of(*(side.kind for side in both))
-    made[options.period[0]] = points.series_of(start, kind, made.index).array
-    made[options.period[1]] = options.form.restored_ends(end, kind, made.index).array
+    made[options.period[0]] = points.series_of(start, kind, made.index)
+    made[options.period[1]] = options.form.restored_ends(end, kind, made.index)
     return made
 
 

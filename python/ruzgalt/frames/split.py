@@ -64,7 +64,7 @@ def by_value(sides: Sides) -> Iterator[List[Side]]:
 
 def over_time(sides: Sides, asked: Asked, otherwise: Asked) -> Found:
     """The answer of rows which may be too many for a run; `otherwise` answers where a cut by time parts too few of them."""
-    if fits(sides):
+    if fits(sides) or not all(map(len, sides)):
         return asked(sides)
     cut = middle_of(sides)
     before, behind = [side.clipped(None, cut) for side in sides], [side.clipped(cut, None) for side in sides]

@@ -102,6 +102,9 @@ def table_of(name: str, side: Side, key: Sequence[str], options: Options) -> Tab
         if not (isinstance(one.name, str) and forms.is_name(one.name)):
             raise Refused("BadName", f"no name of a column of a store: {REMEDIES['BadName']}", one.name)
     columns = {one.name: replace(one, codes=one.codes[:0], texts=()) for one in side.columns}
+    for column in key:
+        if column not in columns:
+            raise Refused("NoColumn", f"key= is of columns of the table: {', '.join(columns)}", column)
     return Table(name, columns, list(key), options, side.kind)
 
 

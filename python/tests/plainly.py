@@ -1,0 +1,168 @@
+"""The answers computed plainly, with numpy and Python's datetimes; nothing here is of the package.
+
+A frame's periods are counted in seconds from year 1 on, by Python's own calendar; each pair of rows is looked at.
+"""
+import datetime
+
+import numpy as np
+import pandas as pd
+
+OPEN = datetime.datetime(9999, 12, 31)
+BEGIN = datetime.datetime(1, 1, 1)
+
+
+def moment(point):
+    """A point of any kind as a datetime; what is missing as 9999-12-31."""
+    if point is None or point is pd.NaT:
+        return OPEN
+    if isinstance(point, pd.Period):
+        return datetime.datetime(point.year, point.month, point.day, point.hour, point.minute, point.second)
+    if isinstance(point, pd.Timestamp):
+        return point.to_pydatetime()
+    if isinstance(point, datetime.datetime):
+        return point
+    return datetime.datetime(point.year, point.month, point.day)
+
+
+def number(point, days=0):
+    told = moment(point)
+    return round((told - BEGIN).total_seconds()) + (86_400 * days if told != OPEN else 0)
+
+
+def numbers(column, days=0):
+    return np.array([number(point, days) for point in column], np.int64)
+
+
+def periods(frame, names, is_last_day=False):
+    return numbers(frame[names[0]]), numbers(frame[names[1]], int(is_last_day))
+
+
+def keys(frame, names):
+    """An array of tuples; with no names all are the same."""
+    rows = list(zip(*(frame[name].tolist() for name in names))) if names else [()] * len(frame)
+    array = np.empty(len(rows), object)
+    array[:] = rows
+    return array
+
+
+def equal(left, right):
+    """Which left row is equal to which right one, by Python's own comparison."""
+    told = {key: place for place, key in enumerate(dict.fromkeys([*left, *right]))}
+    codes = [np.array([told[key] for key in side], np.int64) for side in (left, right)]
+    return codes[0][:, None] == codes[1][None, :]
+
+
+def join(left, right, left_keys, right_keys):
+    """Start, end, place of the left row and of the right one; left and right are pairs of arrays of numbers."""
+    start = np.maximum(left[0][:, None], right[0][None, :])
+    end = np.minimum(left[1][:, None], right[1][None, :])
+    rows, others = np.nonzero((start < end) & equal(left_keys, right_keys))
+    found = zip(start[rows, others].tolist(), end[rows, others].tolist(), rows.tolist(), others.tolist())
+    return sorted(found)
+
+
+def anti(left, right, left_keys, right_keys):
+    """Place of the left row, start and end, by these."""
+    matched, found = equal(left_keys, right_keys), []
+    for place, (start, end) in enumerate(zip(*left)):
+        begins, ends = right[0][matched[place]], right[1][matched[place]]
+        cuts = np.unique(np.clip(np.concatenate([[start, end], begins, ends]), start, end))
+        is_free = ~((begins[:, None] <= cuts[:-1]) & (cuts[:-1] < ends[:, None])).any(axis=0)
+        found += [(place, *one[:2]) for one in steps(cuts, is_free, [True] * len(is_free))]
+    return found
+
+
+def steps(cuts, is_there, values):
+    """Start, end and value of each longest stretch of cuts of one value, where there is one."""
+    found = []
+    for start, end, there, value in zip(cuts[:-1].tolist(), cuts[1:].tolist(), is_there, values):
+        if there and found and found[-1][1] == start and found[-1][2] == value:
+            found[-1] = (found[-1][0], end, value)
+        elif there:
+            found.append((start, end, value))
+    return found
+
+
+def agg(times, groups, function, amounts):
+    """(*group, start, end, value), by group and start; texts by their bytes."""
+    found = []
+    for group in sorted(set(groups), key=order):
+        mine = np.array([one == group for one in groups], bool)
+        start, end = times[0][mine], times[1][mine]
+        cuts = np.unique(np.concatenate([start, end]))
+        holds = (start[:, None] <= cuts[:-1]) & (cuts[:-1] < end[:, None])
+        told = [amount for amount, own in zip(amounts, mine) if own]
+        values = [value_of([one for one, held in zip(told, column) if held], function) for column in holds.T]
+        found += [(*group, *one) for one in steps(cuts, holds.any(axis=0), values)]
+    return found
+
+
+def value_of(told, function):
+    return {"count": len, "sum": sum, "min": min, "max": max}[function](told) if told else None
+
+
+def order(group):
+    return tuple(one.encode() if isinstance(one, str) else one for one in group)
+
+
+def dip(times):
+    """The part of each row, how many there are, and the first second at which as many rows hold."""
+    ends, parts = [], {}
+    for place in np.lexsort((np.arange(len(times[0])), times[1], times[0])):
+        free = [(end, part) for part, end in enumerate(ends) if end <= times[0][place]]
+        part = min(free)[1] if free else len(ends)
+        ends[part:part + 1] = [times[1][place]]
+        parts[place] = part
+    counts = ((times[0][:, None] <= times[0]) & (times[0] < times[1][:, None])).sum(axis=0)
+    most = [second for second, count in zip(times[0].tolist(), counts) if count == len(ends)]
+    return [parts[place] for place in range(len(times[0]))], len(ends), min(most, default=None)
+
+
+class Store:
+    """One table with changes: its versions of rows as dicts, and the log."""
+
+    def __init__(self):
+        self.versions, self.commit, self.log = [], 0, []
+
+    def shown(self, commit):
+        return [one for one in self.versions if one["made"] <= commit and (one["closed"] is None or commit < one["closed"])]
+
+    def add(self, start, end, values):
+        row_id = len(self.versions) + 1
+        self.versions.append(dict(id=row_id, start=start, end=end, values=values, made=self.commit, closed=None))
+
+    def make(self):
+        self.commit += 1
+        self.log.append((self.commit, 1, "table", "t", 0, 0))
+
+    def load(self, rows):
+        self.commit += 1
+        for row in rows:
+            self.add(*row)
+        self.log.append((self.commit, 1, "load", "t", len(rows), 0))
+
+    def change(self, word, start, end, where, to=None):
+        """An update, or with no new values a delete."""
+        hit = [one for one in self.shown(self.commit) if one["start"] < end and start < one["end"]
+               and all(one["values"][name] == value for name, value in where.items())]
+        self.commit += 1
+        before = len(self.versions)
+        for one in hit:
+            self.replace(one, start, end, to)
+        self.log.append((self.commit, 1, word, "t", len(self.versions) - before, len(hit)))
+
+    def replace(self, one, start, end, to):
+        one["closed"] = self.commit
+        if one["start"] < start:
+            self.add(one["start"], start, dict(one["values"]))
+        if to is not None:
+            self.add(max(start, one["start"]), min(end, one["end"]), {**one["values"], **to})
+        if end < one["end"]:
+            self.add(end, one["end"], dict(one["values"]))
+
+    def has_overlap(self, key):
+        rows = self.shown(self.commit)
+        return any(
+            one["id"] < other["id"] and one["start"] < other["end"] and other["start"] < one["end"]
+            and all(one["values"][name] == other["values"][name] for name in key) for one in rows for other in rows
+        )

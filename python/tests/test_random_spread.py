@@ -1,0 +1,176 @@
+"""Random frames by Dask, of one to seven partitions, beside one run of the whole."""
+import os
+import unittest
+from random import Random
+
+import numpy as np
+import pandas as pd
+
+import plainly
+import random_frames
+import ruzgalt
+
+try:
+    import dask
+    import dask.dataframe as dd
+except ImportError:
+    raise unittest.SkipTest("Dask isn't here: apt-get install python3-dask python3-distributed") from None
+
+RUNS = int(os.environ.get("FRAMES_SPREADS", "12"))
+SEED = int(os.environ.get("FRAMES_SEED", "1"))
+SMALL = ("int8", "int64", "Int32", "int32")
+
+
+def frame(random, count, kind, is_open, compared):
+    start, end = random_frames.points(random, kind, count, is_open)
+    made = pd.DataFrame({"from": start, "to": end})
+    for name, own in compared.items():
+        made[name] = random_frames.compared_column(random, count, own)
+    made["float"] = np.random.default_rng(random.randrange(10**6)).random(count)
+    made["euros"] = np.array([random.randint(-3, 3) for _ in range(count)], "i8")
+    made.index = pd.Index([f"r{place}" for place in range(count)], dtype=object)
+    return made
+
+
+def other_dtypes(random, frame, compared, like):
+    """A frame whose compared columns have values of the other frame, in other dtypes of the same kind."""
+    made = frame.copy()
+    for name, kind in compared.items():
+        if kind == "text" and len(like) and len(made):
+            told = [random.choice(like[name].tolist()) for _ in range(len(made))]
+            has_zero = any("\0" in one for one in told)
+            made[name] = pd.Series(told, made.index, dtype=object).astype(random.choice(["object", "string", *([] if has_zero else ["category"])]))
+        elif kind == "int" and len(made) and -100 <= made[name].min() and made[name].max() <= 100:
+            made[name] = made[name].astype(random.choice(SMALL))
+    return made
+
+
+def spread(random, frame):
+    """A frame of Dask, whose partitions are of random sizes, empty ones too."""
+    cuts = sorted(random.randint(0, len(frame)) for _ in range(random.randint(1, 7) - 1))
+    pieces = [frame.iloc[first:last] for first, last in zip([0, *cuts], [*cuts, len(frame)])]
+    return dd.from_delayed([dask.delayed(piece) for piece in pieces], meta=frame.iloc[:0], verify_meta=False)
+
+
+def rows_of(frame, has_labels):
+    """The rows in some order that is the same for the same rows."""
+    cells = [[plainly.moment(one) if name in ("from", "to") else None if one is pd.NA else one for one in frame[name]] for name in frame.columns]
+    rows = list(zip(*cells))
+    return sorted([(label, *row) for label, row in zip(frame.index, rows)] if has_labels else rows, key=repr)
+
+
+class Case:
+    def __init__(self, seed):
+        self.random = random = Random(seed)
+        kind = random.choice(random_frames.POINTS)
+        self.is_open = random.random() < 0.4
+        compared = {f"k{place}": random.choice(["int", "text"]) for place in range(random.choice([1, 1, 2]))}
+        sizes = [random.choice([0, 1, 10, 60, 200]) for _ in range(2)]
+        self.left = frame(random, sizes[0], kind, self.is_open, compared)
+        self.right = other_dtypes(random, frame(random, sizes[1], kind, self.is_open, compared), compared, self.left)
+        self.names = list(compared)
+        self.parts = random.choice([None, *range(1, 8)])
+
+    def questions(self):
+        """A name, the answer of the whole, and that of Dask, not computed yet."""
+        function = self.random.choice(["count", "sum", "min", "max"])
+        amount = [] if function == "count" else ["euros"]
+        words, parts = {"open_end": self.is_open}, {"parts": self.parts}
+        left, right = spread(self.random, self.left), spread(self.random, self.right)
+        on = {"on": self.names, **words}
+        yield "join", ruzgalt.join(self.left, self.right, labels=True, **on), ruzgalt.join(left, right, labels=True, **on, **parts)
+        yield "anti", ruzgalt.anti(self.left, self.right, **on), ruzgalt.anti(left, right, **on, **parts)
+        by = {"by": self.names, **words}
+        yield "agg by", ruzgalt.agg(self.left, "sum", "euros", **by), ruzgalt.agg(left, "sum", "euros", **by, **parts)
+        yield "agg", ruzgalt.agg(self.left, function, *amount, **words), ruzgalt.agg(left, function, *amount, **words, **parts)
+
+
+class RandomSpread(unittest.TestCase):
+    def is_as_whole(self, name, whole, lazy, found):
+        self.assertEqual(list(whole.columns), list(lazy.columns))
+        self.assertEqual(rows_of(found, name == "anti"), rows_of(whole, name == "anti"), name)
+        if name == "agg":
+            self.assertEqual(repr(found.values.tolist()), repr(whole.values.tolist()))
+        if len(whole) and not any(isinstance(dtype, pd.CategoricalDtype) for dtype in whole.dtypes):
+            self.assertEqual(list(map(str, found.dtypes)), list(map(str, whole.dtypes)))
+            self.assertEqual(list(map(str, lazy.dtypes)), list(map(str, whole.dtypes)))
+
+    def test_partitions_answer_as_the_whole_does(self):
+        for seed in range(SEED, SEED + RUNS):
+            with self.subTest(seed=seed):
+                told = list(Case(seed).questions())
+                found = dask.compute(*(lazy for _, _, lazy in told), scheduler="sync")
+                for (name, whole, lazy), one in zip(told, found):
+                    self.is_as_whole(name, whole, lazy, one)
+
+
+def column(cells, dtype):
+    return pd.Series(cells, dtype=dtype)
+
+
+NUMBERS, TEXTS = list(range(-50, 50)), [f"t{place},é" for place in range(100)]
+ALIKE = [
+    ("int64 and int32", column(NUMBERS, "int64"), column(NUMBERS, "int32")),
+    ("int64 and Int32", column(NUMBERS, "int64"), column(NUMBERS, "Int32")),
+    ("int8 and int64", column(NUMBERS, "int8"), column(NUMBERS, "int64")),
+    ("object and string", column(TEXTS, object), column(TEXTS, "string")),
+    ("object and category", column(TEXTS, object), column(TEXTS, "category")),
+    ("string and category", column(TEXTS, "string"), column(TEXTS, "category")),
+    ("categories in another order", column(TEXTS, "category"), pd.Series(pd.Categorical(TEXTS, categories=TEXTS[::-1]))),
+    ("category of int64 and int64", column(NUMBERS, "category"), column(NUMBERS, "int64")),
+    ("category of int32 and int64", pd.Series(pd.Categorical.from_codes(range(100), pd.Index(np.array(NUMBERS, "i4")))), column(NUMBERS, "int64")),
+]
+
+
+def day_of(cells):
+    days = pd.to_datetime(["2024-01-01", "2024-01-02"])
+    return pd.DataFrame({"from": days[0], "to": days[1], "k": cells})
+
+
+class Spread(unittest.TestCase):
+    def test_equal_values_of_other_dtypes_land_together(self):
+        for what, one, other in ALIKE:
+            with self.subTest(what):
+                left, right = (dd.from_pandas(day_of(cells), npartitions=5) for cells in (one, other))
+                self.assertEqual(len(ruzgalt.join(left, right, on="k", parts=5).compute(scheduler="sync")), 100)
+
+    def test_one_frame_may_be_of_pandas(self):
+        one, other = day_of(column(NUMBERS, "int64")), dd.from_pandas(day_of(column(NUMBERS, "int64")), npartitions=3)
+        for left, right in ((one, other), (other, one)):
+            self.assertEqual(len(ruzgalt.join(left, right, on="k").compute(scheduler="sync")), 100)
+            self.assertEqual(len(ruzgalt.anti(left, right, on="k").compute(scheduler="sync")), 0)
+
+    def test_decimals_are_compared_as_whole_numbers(self):
+        one = day_of(column([0.1, 0.29], "float64"))
+        spread_one = dd.from_pandas(one, npartitions=2)
+        got = ruzgalt.join(spread_one, spread_one, on="k", decimals={"k": 2}).compute(scheduler="sync")
+        self.assertEqual(sorted(got["k"]), [0.1, 0.29])
+        self.assertEqual(len(ruzgalt.join(one, one, on="k", decimals={"k": 2})), 2)
+
+    def test_what_cannot_be_split_is_refused(self):
+        frame = dd.from_pandas(day_of(column(NUMBERS, "int64")), npartitions=3)
+        for asked in (lambda: ruzgalt.dip(frame), lambda: ruzgalt.join(frame, frame), lambda: ruzgalt.anti(frame, frame)):
+            with self.assertRaises(ruzgalt.Refused) as caught:
+                asked()
+            self.assertEqual(caught.exception.name, "BadCommand")
+
+    def test_a_refusal_in_a_partition_has_its_label(self):
+        cells = day_of(column(NUMBERS, "int64"))
+        cells.loc[70, "to"] = pd.Timestamp("2023-01-01")
+        frame = dd.from_pandas(cells, npartitions=4)
+        for asked in (lambda: ruzgalt.join(frame, frame, on="k"), lambda: ruzgalt.agg(frame, "count"), lambda: ruzgalt.agg(frame, "count", by="k")):
+            with self.assertRaises(ruzgalt.Refused) as caught:
+                asked().compute(scheduler="sync")
+            self.assertEqual((caught.exception.name, caught.exception.label), ("BadPeriod", 70))
+
+    def test_rows_over_many_slices_are_closed_up(self):
+        starts = pd.date_range("2024-01-01", periods=40)
+        cells = pd.DataFrame({"from": [pd.Timestamp("2023-01-01"), *starts], "to": [pd.Timestamp("2025-01-01"), *(starts + pd.Timedelta(days=1))]})
+        frame = dd.from_pandas(cells, npartitions=6)
+        got = ruzgalt.agg(frame, "count").compute(scheduler="sync").reset_index(drop=True)
+        pd.testing.assert_frame_equal(got, ruzgalt.agg(cells, "count"))
+        self.assertEqual(got["count"].tolist(), [1, 2, 1])
+
+
+if __name__ == "__main__":
+    unittest.main()

@@ -1,0 +1,253 @@
+"""Random stores of one table, with changes and questions, beside plainly.Store; and their scripts, read by tools' modules."""
+import copy
+import datetime
+import decimal
+import os
+import unittest
+from random import Random
+
+import numpy as np
+import pandas as pd
+
+import plainly
+import random_frames
+import ruzgalt
+from ruzgalt import records
+
+STORES = int(os.environ.get("FRAMES_STORES", "25"))
+SEED = int(os.environ.get("FRAMES_SEED", "1"))
+DECIMALS = {"price": 2, "exact": 3}
+
+
+class Case:
+    """A random store, changed at once in both ways."""
+
+    def __init__(self, seed):
+        self.random = random = Random(seed)
+        self.kind = random.choice(random_frames.POINTS)
+        self.is_last_day = self.kind in ("ns", "D", "date") and random.random() < 0.2
+        self.is_open = random.random() < 0.5
+        self.texts = random.sample(random_frames.TEXTS, 4)
+        self.dtypes = random.choice(["object", "string"]), random.choice(["int64", "int16", "Int64"])
+        self.key = ["person"] if random.random() < 0.5 else []
+        self.store, self.plain = ruzgalt.Store(), plainly.Store()
+        self.first = self.frame(random.choice([0, 1, 5]))
+        if not self.make():
+            self.first = self.first.iloc[:0]
+            self.make()
+        self.names = [name for name in self.first.columns if name not in random_frames.PERIOD]
+
+    def frame(self, count):
+        random = self.random
+        start, end = random_frames.points(random, self.kind, count, self.is_open, self.is_last_day)
+        made = pd.DataFrame({
+            "from": start, "to": end,
+            "person": pd.Series([random.choice(self.texts) for _ in range(count)], dtype=self.dtypes[0]),
+            "euros": pd.Series([random.randint(-2, 2) for _ in range(count)], dtype=self.dtypes[1]),
+            "price": pd.Series([random.choice([0.1, 12.34, -7.0, 0.29]) for _ in range(count)], dtype="float64"),
+            "exact": pd.Series([decimal.Decimal(random.choice(["0.1", "-2.500", "7"])) for _ in range(count)], dtype=object),
+        })
+        return made[random.sample(list(made.columns), 6)]
+
+    def rows_of(self, frame):
+        start, end = plainly.periods(frame, random_frames.PERIOD, self.is_last_day)
+        names = ("person", "euros", "price", "exact")
+        values = zip(*(frame[name].tolist() for name in names))
+        return [(one, other, dict(zip(names, row))) for one, other, row in zip(start.tolist(), end.tolist(), values)]
+
+    def make(self):
+        def plainly_made(plain):
+            plain.make()
+            if len(self.first):
+                plain.load(self.rows_of(self.first))
+        words = {"key": self.key, "open_end": self.is_open, "last_day": self.is_last_day, "decimals": DECIMALS}
+        return self.both(lambda: self.store.table("t", self.first, **words), plainly_made)
+
+    def both(self, change, plainly_changed):
+        """Does both changes; False where the key refuses both."""
+        trial = copy.deepcopy(self.plain)
+        plainly_changed(trial)
+        is_refused = bool(self.key) and trial.has_overlap(self.key)
+        try:
+            change()
+        except ruzgalt.Refused as refused:
+            if refused.name != "KeyOverlap" or not is_refused:
+                raise
+            return False
+        if is_refused:
+            raise AssertionError("a key is broken, and it wasn't refused")
+        self.plain = trial
+        return True
+
+    def moment(self):
+        """A point, often one of the rows'."""
+        random, shown = self.random, self.plain.versions
+        if shown and random.random() < 0.8:
+            told = plainly.BEGIN + datetime.timedelta(seconds=random.choice(shown)["start"])
+        else:
+            kind = "D" if self.is_last_day or self.kind in ("D", "date") else self.kind
+            told = plainly.moment(random_frames.points(random, kind, 1)[0].iloc[0])
+        return datetime.datetime(told.year, told.month, told.day) if self.kind in ("D", "date") else told
+
+    def portion(self):
+        start = self.moment()
+        end = self.random.choice([None, start + datetime.timedelta(days=self.random.randint(1, 30))])
+        return start, end
+
+    def change(self):
+        random = self.random
+        if random.random() < 0.25:
+            frame = self.frame(random.choice([1, 3]))
+            self.both(lambda: self.store.load("t", frame), lambda plain: plain.load(self.rows_of(frame)))
+            return
+        start, end = self.portion()
+        where = {} if random.random() < 0.3 else self.some_values()
+        to = {"euros": random.randint(-2, 2)} if random.random() < 0.7 else {
+            "person": random.choice(self.texts), "price": 0.29, "exact": decimal.Decimal("1.125")}
+        times = plainly.number(start), plainly.number(end)
+        told = [one if one is None or random.random() < 0.5 else one.isoformat() for one in (start, end)]
+        if random.random() < 0.7:
+            change, word = (lambda: self.store.update("t", *told, to, where)), "update"
+        else:
+            change, word, to = (lambda: self.store.delete("t", *told, where)), "delete", None
+        self.both(change, lambda plain: plain.change(word, *times, where, to))
+
+    def some_values(self):
+        random = self.random
+        told = {"person": random.choice(self.texts), "euros": random.randint(-2, 2), "price": random.choice([0.1, 12.34])}
+        return {name: value for name, value in told.items() if random.random() < 0.4}
+
+    def listed(self, frame, more=()):
+        days = int(self.is_last_day)
+        times = [plainly.numbers(frame["from"]).tolist(), plainly.numbers(frame["to"], days).tolist()]
+        commits = [[None if pd.isna(one) else int(one) for one in frame[name]] for name in more]
+        return list(zip(frame["row_id"].tolist(), *times, *commits, *(frame[name].tolist() for name in self.names)))
+
+    def wanted(self, versions, has_commits=False):
+        commits = (lambda one: (one["made"], one["closed"])) if has_commits else (lambda one: ())
+        return [
+            (one["id"], one["start"], one["end"], *commits(one), *(one["values"][name] for name in self.names))
+            for one in versions
+        ]
+
+
+class RandomStores(unittest.TestCase):
+    def lists(self, case):
+        store, plain, random = case.store, case.plain, case.random
+        rows = store.rows("t")
+        self.assertEqual(case.listed(rows), case.wanted(plain.shown(plain.commit)))
+        for name in case.names:
+            self.assertEqual(rows[name].dtype, case.first[name].dtype)
+        old, point = random.randint(0, plain.commit), case.moment()
+        self.assertEqual(case.listed(store.rows("t", as_of=old)), case.wanted(plain.shown(old)))
+        second = plainly.number(point)
+        held = [one for one in plain.shown(plain.commit) if one["start"] <= second < one["end"]]
+        self.assertEqual(case.listed(store.at("t", point)), case.wanted(held))
+        first = random.randint(0, plain.commit)
+        last = random.randint(first, plain.commit)
+        seen = [one for one in plain.versions if one["made"] <= last and (one["closed"] is None or one["closed"] > first)]
+        told = case.listed(store.between("t", first, last), more=("sys_from", "sys_to"))
+        self.assertEqual(told, case.wanted(seen, has_commits=True))
+        self.assertEqual(list(store.log().itertuples(index=False, name=None)), plain.log)
+        return rows
+
+    def asks(self, case, rows):
+        """The questions that frames have too, of the store and of its rows as a frame."""
+        store, frame, ids = case.store, rows.drop(columns="row_id"), rows["row_id"].tolist()
+        words = {"open_end": case.is_open, "last_day": case.is_last_day}
+        pairs = store.join("t", "t", [("person", "person"), ("euros", "euros")])
+        told = ruzgalt.join(frame, frame, on=["person", "euros"], labels=True, **words)
+        wanted = [(ids[left], ids[right]) for left, right in zip(told.left_label, told.right_label)]
+        self.assertEqual(list(zip(pairs.left_id, pairs.right_id)), wanted)
+        self.assertEqual(pairs["left_exact"].tolist(), told["exact_left"].tolist())
+        for name, other in (("valid_from", "from"), ("valid_to", "to")):
+            pd.testing.assert_series_equal(pairs[name], told[other], check_names=False)
+        sums, wanted = store.agg("t", "sum", "price", by="person"), ruzgalt.agg(frame, "sum", "price", by="person", decimals=DECIMALS, **words)
+        pd.testing.assert_frame_equal(sums, wanted)
+        self.assertEqual(len(store.anti("t", "t", [("person", "person")])), 0)
+
+    def divides(self, case, rows):
+        division = case.store.dip("t")
+        parts, count, _ = plainly.dip(plainly.periods(rows, random_frames.PERIOD, case.is_last_day))
+        self.assertEqual(dict(zip(division.row_id, division.part)), dict(zip(rows["row_id"].tolist(), parts)))
+        self.assertEqual(division.attrs["count"], count)
+        self.assertTrue(case.store.check("t", division))
+        if len(division):
+            verdict = case.store.check("t", division.iloc[1:])
+            self.assertFalse(verdict)
+            self.assertIn(verdict.reason, ("WrongCount", "Missing", "NotCrowded"))
+
+    def test_random_stores_are_as_they_are_plainly(self):
+        for seed in range(SEED, SEED + STORES):
+            with self.subTest(seed=seed):
+                case = Case(seed)
+                for _ in range(case.random.randint(0, 5)):
+                    case.change()
+                rows = self.lists(case)
+                self.asks(case, rows)
+                self.divides(case, rows)
+                # A script of changes alone, a record of which each accepted one begins.
+                words = [record.word for record in records.read(case.store.script())]
+                self.assertEqual([word for word in words if word in ("table", "load", "update", "delete")], [one[2] for one in case.plain.log])
+
+
+class Stores(unittest.TestCase):
+    def setUp(self):
+        days = pd.to_datetime
+        self.pay = pd.DataFrame({
+            "from": days(["2024-01-01", "2024-07-01"]), "to": days(["2024-07-01", "2025-01-01"]),
+            "person": ["Byron, Ada", "Byron, Ada"], "grade": np.array([1, 2], "i1"),
+            "desk": pd.Categorical(["a", "b"], ordered=True),
+        }, index=["x", "y"])
+        self.store = ruzgalt.Store()
+        self.store.table("pay", self.pay, key=["person"])
+
+    def test_update_rows_makes_an_update_of_each_row(self):
+        raises = pd.DataFrame({
+            "from": pd.to_datetime(["2024-02-01", "2024-03-01"]), "to": pd.to_datetime(["2024-04-01", "2024-05-01"]),
+            "person": "Byron, Ada", "grade": [7, 8],
+        })
+        self.store.update_rows("pay", raises)
+        rows = self.store.rows("pay").sort_values("from")
+        self.assertEqual(rows["grade"].tolist(), [1, 7, 8, 8, 1, 2])
+        self.assertEqual(self.store.log()["kind"].tolist(), ["table", "load", "update", "update"])
+
+    def test_update_rows_are_all_done_or_none_and_the_row_at_fault_is_told(self):
+        before = self.store.script()
+        pairs = pd.DataFrame({
+            "from": pd.to_datetime(["2024-02-01", "2024-03-01"]), "to": pd.to_datetime(["2024-04-01", "2024-12-01"]),
+            "desk": ["a", "b"], "person": ["Hill, Grace", "Byron, Ada"],
+        }, index=["first", "second"])
+        self.store.load("pay", self.pay.assign(person="Hill, Grace"))
+        with self.assertRaises(ruzgalt.Refused) as caught:
+            self.store.update_rows("pay", pairs.assign(person=["Hopper, Grace", "Hopper, Grace"]), where=["desk"])
+        self.assertEqual((caught.exception.name, caught.exception.label), ("KeyOverlap", "first"))
+        self.assertEqual(self.store.log()["kind"].tolist(), ["table", "load", "load"])
+        self.assertTrue(self.store.script().startswith(before))
+
+    def test_values_that_a_dtype_lacks_come_back_in_a_wider_one(self):
+        self.store.update("pay", "2024-08-01", None, {"grade": 300, "desk": "c"}, {"desk": "b"})
+        rows = self.store.rows("pay")
+        self.assertEqual((rows["grade"].dtype, rows["grade"].tolist()), (np.dtype("int64"), [1, 2, 300]))
+        self.assertEqual((list(rows["desk"]), list(rows["desk"].cat.categories)), (["a", "b", "c"], ["a", "b", "c"]))
+        self.assertFalse(rows["desk"].cat.ordered)
+
+    def test_days_come_back_as_times_once_a_change_has_one(self):
+        store = ruzgalt.Store()
+        store.table("t", self.pay.astype({"from": "period[D]", "to": "period[D]"}))
+        self.assertEqual(str(store.rows("t")["from"].dtype), "period[D]")
+        store.delete("t", "2024-02-01T08:00:00", "2024-02-01T12:00:00")
+        self.assertIn("2024-02-01 08:00:00", list(map(str, store.rows("t")["to"])))
+
+    def test_zero_bytes_in_categories_are_no_other_value(self):
+        self.store.update("pay", "2024-08-01", None, {"desk": "b\0c"}, {"desk": "b"})
+        self.assertEqual(self.store.rows("pay")["desk"].tolist(), ["a", "b", "b\0c"])
+
+    def test_a_batch_within_a_batch_is_refused(self):
+        with self.assertRaises(ruzgalt.Refused), self.store.batch(), self.store.batch():
+            pass
+        self.assertIsNone(self.store.pending)
+
+
+if __name__ == "__main__":
+    unittest.main()

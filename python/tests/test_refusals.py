@@ -1,0 +1,222 @@
+"""Each refusal of a frame, a change or a question: its name, column and label, and that it changes nothing."""
+import datetime
+import decimal
+import pickle
+import unittest
+from unittest import mock
+
+import numpy as np
+import pandas as pd
+
+import ruzgalt
+from ruzgalt.frames import split
+
+DAYS = pd.to_datetime
+UTC = datetime.timezone.utc
+Decimal = decimal.Decimal
+
+
+def frame(**cells):
+    """Two rows, x and y, of which these columns are others."""
+    told = {"from": DAYS(["2024-01-01", "2024-01-02"]), "to": DAYS(["2024-02-01", "2024-02-02"]), "k": ["a", "b"]}
+    return pd.DataFrame({**told, **cells}, index=["x", "y"])
+
+
+def objects(*cells):
+    return pd.Series(cells, ["x", "y"], dtype=object)
+
+
+def days(year):
+    return pd.Period(year=year, month=1, day=1, freq="D")
+
+
+def store(table, **words):
+    made = ruzgalt.Store()
+    made.table("t", table, **words)
+    return made
+
+
+POINTS = [
+    ("a missing end", {"to": DAYS(["2024-02-01", None])}, {}, "BadPoint", "to", "y"),
+    ("a missing start", {"from": DAYS([None, "2024-02-01"])}, {"open_end": True}, "BadPoint", "from", "x"),
+    ("half a second", {"to": DAYS(["2024-02-01", "2024-02-01T00:00:00.5"])}, {}, "BadPoint", "to", "y"),
+    ("before 1970", {"from": DAYS(["1969-12-31T23:59:59.999999999", "1969-01-01"])}, {}, "BadPoint", "from", "x"),
+    ("a time zone", {"to": DAYS(["2024-02-01", "2024-02-02"]).tz_localize("UTC")}, {}, "WrongKind", "to", None),
+    ("zones in objects", {"to": objects(datetime.datetime(2024, 2, 1), datetime.datetime(2024, 2, 1, tzinfo=UTC))}, {}, "BadPoint", "to", "y"),
+    ("a microsecond", {"to": objects(datetime.datetime(2024, 2, 1, 0, 0, 0, 1), datetime.datetime(2024, 2, 1))}, {}, "BadPoint", "to", "x"),
+    ("dates and datetimes", {"to": objects(datetime.datetime(2024, 2, 1), datetime.date(2024, 2, 1))}, {}, "WrongKind", "to", None),
+    ("texts", {"to": ["2024-02-01", "2024-02-02"]}, {}, "WrongKind", "to", None),
+    ("numbers", {"to": [1, 2]}, {}, "WrongKind", "to", None),
+    ("months", {"to": pd.PeriodIndex(["2024-02", "2024-03"], freq="M")}, {}, "WrongKind", "to", None),
+    ("the year 0", {"from": pd.PeriodIndex([days(-1), days(2024)])}, {}, "BadPoint", "from", "x"),
+    ("the year 10000", {"to": pd.PeriodIndex([days(2025), days(10000)])}, {}, "BadPoint", "to", "y"),
+    ("start at end", {"to": DAYS(["2024-02-01", "2024-01-02"])}, {}, "BadPeriod", "to", "y"),
+    ("a last day with a time", {"to": DAYS(["2024-02-01", "2024-02-01T08:00:00"])}, {"last_day": True}, "BadPoint", "to", "y"),
+    ("a last day before the start", {"to": DAYS(["2024-02-01", "2024-01-01"])}, {"last_day": True}, "BadPeriod", "to", "y"),
+    ("9999-12-31 as a last day", {"to": objects(datetime.date(2024, 2, 1), datetime.date(9999, 12, 31))}, {"last_day": True}, "BadPoint", "to", "y"),
+    ("9999-12-30 as a last day", {"to": objects(datetime.date(9999, 12, 30), None)}, {"last_day": True, "open_end": True}, "BadPoint", "to", "x"),
+]
+TWO = {"decimals": {"k": 2}}
+VALUES = [
+    ("floats", [1.0, 2.0], {}, "WrongKind", None),
+    ("bools", [True, False], {}, "WrongKind", None),
+    ("points", DAYS(["2024-01-01", "2024-01-01"]), {}, "WrongKind", None),
+    ("complex numbers", [1j, 2j], {}, "WrongKind", None),
+    ("NaN among texts", ["a", np.nan], {}, "WrongKind", "y"),
+    ("None among texts", [None, "a"], {}, "WrongKind", "x"),
+    ("a number among texts", ["a", 1], {}, "WrongKind", "y"),
+    ("bytes", [b"a", b"b"], {}, "WrongKind", "x"),
+    ("objects of numbers", objects(1, 2), {}, "WrongKind", "x"),
+    ("NA among strings", pd.array(["a", pd.NA], dtype="string"), {}, "WrongKind", "y"),
+    ("NA among numbers", pd.array([1, pd.NA], dtype="Int64"), {}, "BadNumber", "y"),
+    ("no category", pd.Categorical(["a", None]), {}, "BadNumber", "y"),
+    ("2^63", np.array([1, 2**63], "u8"), {}, "BadNumber", "y"),
+    ("4,097 bytes", ["a", "é" * 2048 + "a"], {}, "TooLong", "y"),
+    ("4,097 letters", ["a" * 4097, "a"], {}, "TooLong", "x"),
+    ("half a surrogate pair", ["a", "\ud800"], {}, "BadUtf8", "y"),
+    ("half a pair beside its code", ["'\\ud800'", "\ud800"], {}, "BadUtf8", "y"),
+    ("three decimals for two", [0.1, 0.125], TWO, "BadNumber", "y"),
+    ("NaN for decimals", [0.1, np.nan], TWO, "BadNumber", "y"),
+    ("an infinite number", [np.inf, 1], TWO, "BadNumber", "x"),
+    ("0.1 + 0.2", [0.1, 0.1 + 0.2], TWO, "BadNumber", "y"),
+    ("2^53", [1.0, 2.0**53], TWO, "BadNumber", "y"),
+    ("2^24 of 32 bits", np.array([1, 2**24], "f4"), TWO, "BadNumber", "y"),
+    ("whole numbers with decimals", [1, 2], TWO, "WrongKind", None),
+    ("a Decimal of three", objects(Decimal("1.001"), Decimal(1)), TWO, "BadNumber", "x"),
+    ("a Decimal past the context", objects(Decimal(1), Decimal("1." + "0" * 30 + "1")), TWO, "BadNumber", "y"),
+    ("a great Decimal", objects(Decimal(1), Decimal("92233720368547758.08")), TWO, "BadNumber", "y"),
+    ("a Decimal that is none", objects(Decimal(1), Decimal("NaN")), TWO, "BadNumber", "y"),
+]
+OK = frame()
+MANY = pd.DataFrame({"from": DAYS(["2024-01-01"] * 1_000_001), "to": DAYS(["2024-01-02"] * 1_000_001)})
+CALLS = [
+    ("no such column", lambda: ruzgalt.join(OK, OK, on="z"), "NoColumn", "z", None),
+    ("no such period", lambda: ruzgalt.dip(OK, period=("a", "b")), "NoColumn", "a", None),
+    ("a column twice", lambda: ruzgalt.dip(pd.concat([OK, OK], axis=1)), "NoColumn", "from", None),
+    ("another column twice", lambda: ruzgalt.join(pd.concat([OK, OK[["k"]]], axis=1), OK), "TwiceNamed", "k", None),
+    ("floats compared", lambda: ruzgalt.join(frame(k=[1.0, 2.0]), frame(k=[1.0, 2.0]), on="k"), "WrongKind", "k", None),
+    ("two kinds", lambda: ruzgalt.join(OK, frame(k=[1, 2]), on="k"), "WrongKind", "k", None),
+    ("the right frame's end", lambda: ruzgalt.join(OK, frame(to=DAYS(["2023-02-01", "2024-01-03"])), on="k"), "BadPeriod", "to", "x"),
+    ("left_on alone", lambda: ruzgalt.join(OK, OK, left_on="k"), "BadCommand", None, None),
+    ("on and left_on", lambda: ruzgalt.anti(OK, OK, on="k", left_on="k"), "BadCommand", None, None),
+    ("the sum of texts", lambda: ruzgalt.agg(OK, "sum", "k"), "WrongKind", "k", None),
+    ("avg", lambda: ruzgalt.agg(OK, "avg", "k"), "BadCommand", None, None),
+    ("a sum of nothing", lambda: ruzgalt.agg(OK, "sum"), "BadCommand", None, None),
+    ("a count by count", lambda: ruzgalt.agg(frame(count=[1, 2]), "count", by="count"), "TwiceNamed", "count", None),
+    ("points as weeks", lambda: ruzgalt.agg(OK, "count", points_as="W"), "BadCommand", None, None),
+    ("seconds as days", lambda: ruzgalt.agg(frame(to=DAYS(["2024-02-01T08:00:00"] * 2)), "count", points_as="D"), "BadPoint", None, None),
+    ("9999-12-31 as ns", lambda: ruzgalt.agg(frame(to=objects(*[datetime.date(9999, 12, 31)] * 2)), "count", points_as="ns"), "BadPoint", None, None),
+    ("a division of 1,000,001 rows", lambda: ruzgalt.dip(MANY), "Full", None, None),
+]
+
+
+class Refusals(unittest.TestCase):
+    def refuses(self, what, asked, *wanted):
+        """wanted: name, column and label."""
+        with self.subTest(what), self.assertRaises(ruzgalt.Refused) as caught:
+            asked()
+        if not hasattr(caught, "exception"):
+            return
+        told = caught.exception
+        self.assertEqual((told.name, told.column, told.label), wanted, f"{what}: {told}")
+        self.assertGreater(len(told.reason), 10, what)
+        self.assertNotIn("\n", str(told).replace("\\n", ""))
+        again = pickle.loads(pickle.dumps(told))
+        self.assertEqual((again.args, str(again)), (told.args, str(told)))
+
+    def test_points(self):
+        for what, cells, words, *wanted in POINTS:
+            self.refuses(what, lambda: ruzgalt.dip(frame(**cells), **words), *wanted)
+
+    def test_values(self):
+        for what, cells, words, name, label in VALUES:
+            self.refuses(what, lambda: store(frame(k=cells), **words), name, "k", label)
+
+    def test_calls(self):
+        for case in CALLS:
+            self.refuses(*case)
+
+    def test_an_option_of_another_call_is_a_type_error(self):
+        for asked in (lambda: ruzgalt.anti(OK, OK, labels=True), lambda: ruzgalt.dip(OK, by="k"), lambda: ruzgalt.join(OK, OK, onn="k")):
+            self.assertRaises(TypeError, asked)
+
+    def test_keys(self):
+        good = store(OK, key=["k"])
+        self.refuses("in one frame", lambda: store(frame(k=["a", "a"]), key=["k"]), "KeyOverlap", None, "y")
+        self.refuses("beside a row that is there", lambda: good.load("t", frame(k=["c", "b"])), "KeyOverlap", None, "y")
+        self.refuses("by an update", lambda: good.update("t", "2024-01-01", None, {"k": "a"}), "KeyOverlap", None, None)
+        self.refuses("of no column", lambda: store(OK, key=["z"]), "NoColumn", "z", None)
+
+    def test_names(self):
+        self.refuses("a column with a capital", lambda: store(frame(Name=["a", "b"])), "BadName", "Name", None)
+        self.refuses("a number", lambda: store(frame(**{"k": ["a", "b"]}).rename(columns={"k": 7})), "BadName", 7, None)
+        self.refuses("a table with a capital", lambda: ruzgalt.Store().table("T", OK), "BadName", None, None)
+        self.refuses("a word of the language", lambda: ruzgalt.Store().table("by", OK), "BadName", None, None)
+        many = frame(**{f"c{place}": [1, 2] for place in range(16)})
+        self.refuses("17 columns", lambda: store(many), "TooMany", None, None)
+
+    def test_changes(self):
+        good, numbers = store(OK, key=["k"]), store(frame(k=[1, 2]))
+        update = good.update
+        cases = [
+            ("a table that is there", lambda: good.table("t", OK), "TableExists", None, None),
+            ("no such table", lambda: good.rows("u"), "NoTable", None, None),
+            ("no such column", lambda: update("t", "2024-01-01", None, {"z": 1}), "NoColumn", "z", None),
+            ("a number for a text", lambda: update("t", "2024-01-01", None, {"k": 1}), "WrongKind", "k", None),
+            ("a text for a number", lambda: numbers.update("t", "2024-01-01", None, {"k": "a"}), "WrongKind", "k", None),
+            ("1.5 for a number", lambda: numbers.update("t", "2024-01-01", None, {"k": 1.5}), "WrongKind", "k", None),
+            ("True for a number", lambda: numbers.update("t", "2024-01-01", None, {"k": True}), "WrongKind", "k", None),
+            ("2^63 for a number", lambda: numbers.update("t", "2024-01-01", None, {"k": 2**63}), "BadNumber", "k", None),
+            ("an empty portion", lambda: update("t", "2024-01-01", "2024-01-01", {"k": "c"}), "BadPeriod", None, None),
+            ("no such month", lambda: update("t", "2024-13-01", None, {"k": "c"}), "BadPoint", None, None),
+            ("a load of another kind", lambda: good.load("t", frame(k=[1, 2])), "WrongKind", "k", None),
+            ("a load that lacks a column", lambda: good.load("t", OK[["from", "to"]]), "NoColumn", "k", None),
+            ("updates without a key", lambda: numbers.update_rows("t", OK), "BadCommand", None, None),
+            ("updates of another kind", lambda: good.update_rows("t", OK.assign(z=1)), "NoColumn", "z", None),
+            ("an update that breaks the key", lambda: good.update_rows("t", OK.assign(k="a"), where=[]), "BadCommand", None, "x"),
+        ]
+        before = good.script()
+        for case in cases:
+            self.refuses(*case)
+        self.assertEqual(good.script(), before)
+
+    def test_questions(self):
+        good = store(OK)
+        self.refuses("a commit to come", lambda: good.rows("t", as_of=99), "Future", None, None)
+        self.refuses("commits the other way round", lambda: good.between("t", 2, 1), "BadPeriod", None, None)
+        self.refuses("no point", lambda: good.at("t", "x"), "BadPoint", None, None)
+        self.refuses("no such table to join", lambda: good.join("t", "u"), "NoTable", None, None)
+
+    def test_a_batch_is_kept_whole_or_not_at_all(self):
+        good = store(OK, key=["k"])
+        before = good.script()
+        with self.assertRaises(ruzgalt.Refused) as caught:
+            with good.batch():
+                good.load("t", frame(k=["m", "n"]))
+                good.load("t", frame(k=["m", "o"]))
+        self.assertEqual((caught.exception.name, caught.exception.label), ("KeyOverlap", "x"))
+        self.assertEqual((good.script(), len(good.rows("t"))), (before, 2))
+        with good.batch():
+            good.load("t", frame(k=["m", "n"]))
+            good.update("t", "2024-01-05", None, {"k": "q"}, {"k": "n"})
+        self.assertEqual((len(good.rows("t")), good.log()["commit"].max()), (5, 4))
+
+    def test_a_row_far_back_is_told_by_its_label_where_rows_go_in_parts(self):
+        count = 40
+        cells = {"from": DAYS(["2024-01-01"] * count), "to": DAYS(["2024-01-02"] * count), "k": range(count)}
+        many = pd.DataFrame(cells, index=[f"r{place}" for place in range(count)])
+        many.loc["r33", "to"] = pd.Timestamp("2023-01-01")
+        same = many.assign(k=0)
+        with mock.patch.object(split, "ROWS", 3):
+            for asked in (lambda: ruzgalt.join(many, many, on="k"), lambda: ruzgalt.anti(same, same, on="k"), lambda: ruzgalt.agg(many, "count", by="k")):
+                self.refuses("r33", asked, "BadPeriod", "to", "r33")
+
+    def test_a_script_past_64_mib_is_refused(self):
+        count = 20_000
+        texts = ["x" * 3_500 + str(place) for place in range(count)]
+        wide = pd.DataFrame({"from": DAYS(["2024-01-01"] * count), "to": DAYS(["2024-01-02"] * count), "k": texts})
+        self.refuses("64 MiB", lambda: store(wide), "Full", None, None)
+
+
+if __name__ == "__main__":
+    unittest.main()
