@@ -1,4 +1,5 @@
-# Builds dipq, checks the repository, and puts the program and its manual page where a shell and `man` find them.
+# Builds dipq, checks the repository, and puts the program, its manual page, the tools and the Python package where a
+# shell, `man` and Python find them.
 #
 #     make                                 proves and builds the program, where that isn't done
 #     make check                           the gate
@@ -11,10 +12,14 @@ PREFIX = /usr/local
 BINDIR = $(PREFIX)/bin
 LIBEXECDIR = $(PREFIX)/libexec
 MANDIR = $(PREFIX)/share/man
+DATADIR = $(PREFIX)/share
 
 command = $(DESTDIR)$(BINDIR)/dipq
 folder = $(DESTDIR)$(LIBEXECDIR)/dipq
 page = $(DESTDIR)$(MANDIR)/man1/dipq.1
+# python/ and tools/ stand beside one another and a link to the command, as they do here.
+data = $(DESTDIR)$(DATADIR)/dipq
+tools = answers csv-to-load
 
 SHELL = bash
 .SHELLFLAGS = -eu -o pipefail -c
@@ -32,7 +37,18 @@ install: all
 	  { sed '/^# The first word/,$$d' tools/with-allocator; \
 	    echo 'exec "$$(dirname "$$(realpath "$$0")")/'"$$from_command"'" "$$@"'; } | install -D -m 755 /dev/stdin "$(command)"
 	tools/man-page | install -D -m 644 /dev/stdin "$(page)"
+	rm -rf "$(data)/python"
+	find python/ruzgalt -name "*.py" -exec install -D -m 644 "{}" "$(data)/{}" ";"
+	ln -sfn "$$(realpath -m --relative-to="$(DATADIR)/dipq" "$(BINDIR)/dipq")" "$(data)/dipq"
+	for tool in $(tools); do \
+	  install -D -m 755 "tools/$$tool" "$(data)/tools/$$tool"; \
+	  ln -sfn "$$(realpath -m --relative-to="$(BINDIR)" "$(DATADIR)/dipq/tools/$$tool")" "$(command)-$$tool"; \
+	done
 
 uninstall:
-	rm -f "$(command)" "$(folder)/dipq" "$(page)"
-	[ ! -d "$(folder)" ] || rmdir --ignore-fail-on-non-empty "$(folder)"
+	rm -f "$(command)" "$(folder)/dipq" "$(page)" "$(data)/dipq" $(patsubst %,"$(command)-%",$(tools))
+	rm -f $(patsubst %,"$(data)/tools/%",$(tools))
+	rm -rf "$(data)/python"
+	for folder in "$(folder)" "$(data)/tools" "$(data)"; do \
+	  [ ! -d "$$folder" ] || rmdir --ignore-fail-on-non-empty "$$folder"; \
+	done

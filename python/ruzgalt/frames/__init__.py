@@ -1,4 +1,4 @@
-"""Frames of pandas and of Dask, joined, counted and divided by the time for which their rows hold; docs/FRAMES.md tells how.
+"""Frames of pandas and of Dask, joined, counted and divided by the time for which their rows hold: docs/FRAMES.md.
 
     join, anti, agg, dip    frames in, a frame out
     Store                   tables with a past: changes, commits, questions

@@ -19,9 +19,9 @@ def join(left: Any, right: Any, on: Names = None, **options: Any) -> Any:
     """The pairs of a left and a right row that are equal in the columns `on`, for as long as both hold.
 
     A DataFrame: the period's two columns, named as the left frame's; the other columns of the left frame, then those of
-    the right one, the compared ones once. Of those that both have, suffixes= are put behind the names. Rows are by start,
-    end, place of the left and place of the right row. Without `on` each row may meet each. Options: frames.options.Options.
-    Raises Refused, Stopped. Of frames of Dask the answer is one, whose partitions are in no order.
+    the right one, the compared ones once. Of those that both have, suffixes= are put behind the names. Rows are by
+    start, end, place of the left and place of the right row. Without `on` each row may meet each. Options:
+    frames.options.Options. Raises Refused, Stopped. Of frames of Dask the answer is one, its partitions in no order.
     """
     told = options_of("join", options)
     if is_spread(left, right):
@@ -33,7 +33,7 @@ def join(left: Any, right: Any, on: Names = None, **options: Any) -> Any:
 def anti(left: Any, right: Any, on: Names = None, **options: Any) -> Any:
     """The left rows while no right row holds that is equal in the columns `on`: the left frame's columns and labels.
 
-    A row comes never, once or several times, each time as long as can be; rows are by the left rows' places, then start.
+    A row comes never, once or several times, each as long as can be; rows are by the left rows' places, then start.
     Options: frames.options.Options. Raises Refused, Stopped. Of frames of Dask as join.
     """
     told = options_of("anti", options)
@@ -44,17 +44,18 @@ def anti(left: Any, right: Any, on: Names = None, **options: Any) -> Any:
 
 
 def agg(frame: Any, function: str, column: Any = None, **options: Any) -> Any:
-    """count, sum, min or max of the rows that hold, for each period in which it stays the same, by groups of equal values.
+    """count, sum, min or max of the rows that hold, for each period in which it stays the same, by groups.
 
-    A DataFrame: the columns of `by`, the period's two, and the value, named count or FUNCTION_COLUMN. Rows are by group,
-    then start; where no row holds there is none. A sum past 64 bits makes its column one of Python's ints. Options:
-    frames.options.Options. Raises Refused, Stopped. Of a frame of Dask with `by` partitions are in no order; without they
-    are in the order of time, and the frame is read once as this is called, for where to cut time.
+    A DataFrame: the columns of `by`, the period's two, and the value, named count or FUNCTION_COLUMN. Rows are by
+    group, then start; where no row holds there is none. A sum past 64 bits makes its column one of Python's ints.
+    Options: frames.options.Options. Raises Refused, Stopped. Of a frame of Dask with `by` partitions are in no order;
+    without they are in the order of time, and the frame is read once as this is called, for where to cut time.
     """
     told = options_of("agg", options)
     if is_spread(frame):
         from ruzgalt.frames import slices, spread
-        return slices.agg(frame, function, column, told) if told.by is None else spread.agg(frame, function, column, told)
+        asked = slices.agg if told.by is None else spread.agg
+        return asked(frame, function, column, told)
     return groups.agg(frame, function, column, told)
 
 

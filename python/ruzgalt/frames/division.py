@@ -19,8 +19,8 @@ OTHERWISE = "agg(frame, 'count') tells how many parts it has, the greatest count
 def dip(frame: Any, options: Options) -> Any:
     side = sides.side_of(frame, [], options.period, options.form, {})
     if not split.fits([side]):
-        told = f"{len(side):,} rows, and a table has {split.ROWS:,}; a division isn't that of its parts"
-        raise Refused("Full", f"{told}: {OTHERWISE}")
+        limit = f"{len(side):,} rows, and a table has {split.ROWS:,}; a division isn't that of its parts"
+        raise Refused("Full", f"{limit}: {OTHERWISE}")
     commands = [script.make("l", [], []), script.load("l", side), script.command("dip", "l")]
     output = ask.answered(commands, options.workers)
     told = output.record()

@@ -52,7 +52,7 @@ def name_of(function: str, column: Any) -> str:
 
 
 def restored(value: Any, function: str, amounts: Sequence[Values]) -> Any:
-    """A least or greatest value is of the column's dtype, and so is a sum of decimals; other sums are int64 or longer."""
+    """A least or greatest value is of the column's dtype, so is a sum of decimals; other sums are int64 or longer."""
     is_of_column = amounts and (function != "sum" or amounts[0].digits is not None)
     return amounts[0].restored(value) if is_of_column else value
 

@@ -37,5 +37,5 @@ def refusal(table: Table, side: Side, one: Row, other: Row) -> Refused:
     at_fault, beside = (other, one) if isinstance(other[3], int) else (one, other)
     label = side.labels[at_fault[3]]
     named = f"the row {side.labels[beside[3]]!r}" if isinstance(beside[3], int) else f"the store's row of {beside[3]}"
-    told = f"equal in the key ({', '.join(table.key)}) to {named}, and both hold at {points.texts_of(other[1:2])[0]}"
+    told = f"equal in the key ({', '.join(table.key)}) to {named}, and both hold at {points.text_of(other[1])}"
     return Refused("KeyOverlap", f"{told}: end one before the other starts, or update() it", label=label)

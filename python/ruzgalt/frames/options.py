@@ -34,7 +34,7 @@ class Options:
     decimals           of a column of floats or Decimals, how many decimals are compared or added
     suffixes           what is put behind the names that both frames have
     labels             two more columns, left_label and right_label: the index labels of each pair
-    points_as          ns, us, ms, s, D, S, date or datetime: the answer's points, where they aren't to be as they came in
+    points_as          ns, us, ms, s, D, S, date or datetime: the answer's points, where not as they came in
     workers            threads of the program, 1 to 64
     parts              of Dask: how many partitions the answer has, where they aren't to be those of the larger frame
     """

@@ -16,7 +16,7 @@ CHUNK, RECORDS = 1 << 25, 500_000
 
 
 def outside(data: Bytes, was_inside: bool) -> Tuple[Marks, bool]:
-    """Which bytes stand outside of quotes: behind an even number of them. The program quotes each field that has one."""
+    """Which bytes stand outside of quotes, behind an even number of them; a field that has one is quoted."""
     quotes = data == QUOTE
     if not was_inside and not quotes.any():
         return np.ones(len(data), bool), False
@@ -58,7 +58,9 @@ class Output:
         self.place += count
         if list(self.record()) != ["end", str(count)]:
             raise Stopped("a list of the answers hasn't the end that it should have")
-        return [joined(list(column)) for column in zip(*parts)] if parts else [EMPTY[kind] for kind in kinds if kind in EMPTY]
+        if not parts:
+            return [EMPTY[kind] for kind in kinds if kind in EMPTY]
+        return [joined(list(column)) for column in zip(*parts)]
 
     def part(self, begin: int, many: int, kinds: str) -> List[Cells]:
         low, high = int(self.starts[begin]), int(self.ends[begin + many - 1]) + 1

@@ -1,7 +1,7 @@
 """join and anti of frames of pandas.
 
-The program sees periods and compared columns alone. All others are taken from the frames by the places that it answers, so
-no value of theirs passes through a text.
+The program sees periods and compared columns alone. All others are taken from the frames by the places that it answers,
+so no value of theirs passes through a text.
 """
 from __future__ import annotations
 
@@ -55,8 +55,8 @@ def sides_of(left: Any, right: Any, on: Names, options: Options) -> List[Side]:
     both = [sides.side_of(frame, own, period, options.form, options.decimals) for frame, own, period in frames]
     for one, other in zip(both[0].columns, both[1].columns):
         if (one.kind, one.digits) != (other.kind, other.digits):
-            told = f"it is {one.kind}, and {other.name!r} of the right frame is {other.kind}; .astype(..) makes them alike"
-            raise Refused("WrongKind", told, one.name)
+            told = f"it is {one.kind}, and {other.name!r} of the right frame {other.kind}, or of other decimals"
+            raise Refused("WrongKind", f"{told}; .astype(..) makes them alike", one.name)
     return both
 
 
@@ -74,5 +74,5 @@ def refuse_twice(names: List[Any]) -> None:
 
 def add(columns: Dict[Any, Any], name: Any, cells: Any) -> None:
     if name in columns:
-        raise Refused("TwiceNamed", "two columns of the answer would have this name: .rename(columns=..), or suffixes=", name)
+        raise Refused("TwiceNamed", "two columns of the answer have this name: .rename(columns=..), or suffixes=", name)
     columns[name] = cells

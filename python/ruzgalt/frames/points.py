@@ -51,9 +51,10 @@ class Form:
         if not self.has_last_days:
             return seconds, kind
         refuse(seconds % DAY != 0, column, "BadPoint", "a last day has no time; .dt.floor('D') drops it")
-        refuse(seconds == LAST_BUT_ONE, column, "BadPoint", "behind it is 9999-12-31, which stands for no end; leave it out")
+        told = "behind it is 9999-12-31, which stands for no end: an earlier day"
+        refuse(seconds == LAST_BUT_ONE, column, "BadPoint", told)
         if not self.is_open:
-            refuse(seconds == NO_END, column, "BadPoint", "no day is behind it; open_end=True takes it for no known end")
+            refuse(seconds == NO_END, column, "BadPoint", "no day is behind it; open_end=True takes it for no end")
         return np.where(seconds == NO_END, seconds, seconds + DAY), kind
 
     def restored_ends(self, seconds: Ints, kind: str, index: Any = None) -> Any:
@@ -77,8 +78,8 @@ def seconds_of(column: Any, is_open: bool = False) -> Tuple[Ints, str]:
     elif dtype == object:
         seconds, kind = of_dates(column)
     else:
-        remedy = "pandas.to_datetime makes datetime64 of texts, .dt.to_timestamp() of longer periods"
-        raise Refused("WrongKind", f"{dtype} is none of datetime64, period[D], period[S], date: {remedy}", column.name)
+        remedy = "pandas.to_datetime makes points of texts, .dt.to_timestamp() of longer periods"
+        raise Refused("WrongKind", f"{dtype} is none of datetime64, period[D], period[S], date; {remedy}", column.name)
     missing = seconds == NAT
     if not is_open:
         refuse(missing, column, "BadPoint", "no point; open_end=True takes a missing end for 9999-12-31")
@@ -115,9 +116,9 @@ def refuse_outside(marked: Marks, column: Any) -> None:
 
 def of_dates(column: Any) -> Tuple[Ints, str]:
     """Objects: dates or datetimes. Each that differs is looked at once."""
-    told = pd.api.types.infer_dtype(column, skipna=True)
-    if told not in ("date", "datetime", "empty"):
-        raise Refused("WrongKind", f"{told} is no date: pandas.to_datetime, or .astype('period[S]')", column.name)
+    inferred = pd.api.types.infer_dtype(column, skipna=True)
+    if inferred not in ("date", "datetime", "empty"):
+        raise Refused("WrongKind", f"{inferred} is no date: pandas.to_datetime, or .astype('period[S]')", column.name)
     codes, found = pd.factorize(np.asarray(column, object))
     kinds = {"datetime" if isinstance(one, datetime.datetime) else "date" for one in found}
     if len(kinds) > 1:
@@ -125,7 +126,8 @@ def of_dates(column: Any) -> Tuple[Ints, str]:
     for place, one in enumerate(found):
         if not is_second(one):
             label = label_at(codes == place, column.index)
-            raise Refused("BadPoint", f"{one} has a zone or a fraction of a second: .replace drops it", column.name, label)
+            told = f"{one} has a zone or a fraction of a second; .replace drops it"
+            raise Refused("BadPoint", told, column.name, label)
     table = np.array([second_of(one) for one in found] + [NAT], np.int64)
     return table[codes], "".join(kinds)
 
@@ -182,8 +184,9 @@ def datetimes_of(seconds: Ints, missing: Marks, kind: str) -> Cells:
 def objects_of(seconds: Ints, missing: Marks, kind: str) -> Cells:
     codes, found = pd.factorize(np.where(missing, NAT, seconds))
     times = [None if one == NAT else EPOCH + datetime.timedelta(seconds=int(one)) for one in found]
-    table = of_objects(times if kind == "datetime" else [one and one.date() for one in times])
-    return table[codes]
+    table = of_objects(times) if kind == "datetime" else of_objects([one and one.date() for one in times])
+    cells: Cells = table[codes]
+    return cells
 
 
 def period_of(seconds: int) -> Any:
@@ -195,7 +198,7 @@ def matrix_of(seconds: Ints) -> Bytes:
     """The points as a script has them, a row of bytes each; zero bytes stand where a text is shorter."""
     days = seconds // DAY
     codes, found = pd.factorize(days)
-    matrix = table_of(found.astype("M8[D]"), 10)[codes]
+    matrix: Bytes = table_of(found.astype("M8[D]"), 10)[codes]
     times = seconds - days * DAY
     if not times.any():
         return matrix
@@ -212,6 +215,10 @@ def table_of(points: Cells, width: int) -> Bytes:
 
 def texts_of(seconds: Ints) -> List[str]:
     return [bytes(row[row != 0]).decode() for row in matrix_of(np.asarray(seconds, np.int64))]
+
+
+def text_of(second: int) -> str:
+    return texts_of(np.array([second], np.int64))[0]
 
 
 def read(days: Bytes, times: Bytes) -> Ints:

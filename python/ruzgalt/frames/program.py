@@ -35,11 +35,12 @@ def refuse_unbuilt(command: str) -> None:
 
 
 def ending_with_us(words: List[str]) -> List[str]:
-    """A command that the system kills where the thread ends that started it, or this process.
+    """A command that the system kills where the thread that started it ends, or this process.
 
-    The thread waits for the program, so it ends first only with the process. No function runs between fork and exec, which
-    isn't safe where there are other threads: setpriv asks the system, the shell then looks whether we are still there, and
-    each of them becomes the next program. Without setpriv (util-linux) a program outlives us until its answer is written.
+    The thread waits for the program, so it ends first only with the process. No function runs between fork and exec,
+    which isn't safe where there are other threads: setpriv asks the system, the shell then looks whether we are still
+    there, and each of them becomes the next program. Without setpriv (util-linux) a program outlives us until its
+    answer is written.
     """
     if shutil.which("setpriv") is None:
         return words
@@ -56,7 +57,7 @@ def memory_file(name: str) -> int:
 
 
 def answer(pieces: Iterable[bytes], workers: int) -> Bytes:
-    """The answers' bytes. Raises Refused (Full) of a script that is too long, Stopped where the program didn't end well."""
+    """The answers' bytes. Raises Refused (Full) of a script that is too long, Stopped where a run doesn't end well."""
     given, told = memory_file("script"), memory_file("answers")
     try:
         write(given, pieces)
@@ -73,7 +74,7 @@ def write(file: int, pieces: Iterable[bytes]) -> None:
     for part in slices(pieces):
         size += len(part)
         if size > LIMIT:
-            raise Refused("Full", f"the script has more than {LIMIT:,} bytes: fewer rows, or fewer columns and shorter texts")
+            raise Refused("Full", f"the script has more than {LIMIT:,} bytes: fewer rows, fewer columns, shorter texts")
         while len(part):
             part = part[os.write(file, part):]
     os.lseek(file, 0, os.SEEK_SET)
@@ -89,7 +90,7 @@ def run(given: int, told: int, workers: int) -> None:
     command = program()
     refuse_unbuilt(command)
     if shutil.which(command) is None:
-        raise Stopped(f"{command}: no such program; `make install` puts dipq on the PATH, and the variable DIPQ names one")
+        raise Stopped(f"{command}: no such program; `make install` makes one, and the variable DIPQ names another")
     words = ending_with_us([command, "--workers", str(workers)])
     try:
         ran = subprocess.run(words, stdin=given, stdout=told, stderr=subprocess.PIPE)

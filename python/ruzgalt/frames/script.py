@@ -21,7 +21,7 @@ CHUNK = 200_000
 
 @dataclass(frozen=True)
 class Command:
-    """A command's fields, its bytes with those of its block, of a load its rows, of an update by a row that row's label."""
+    """A command's fields, its bytes with those of its block; of a load its rows, of an update of a row its label."""
 
     fields: Sequence[str]
     pieces: List[bytes]
@@ -78,7 +78,8 @@ def narrow_rows(fields: List[Bytes]) -> bytes:
         whole[:, behind] = ord(",")
         column = behind + 1
     whole[:, -1] = ord("\n")
-    return whole[whole != 0].tobytes()
+    written: bytes = whole[whole != 0].tobytes()
+    return written
 
 
 def wide_rows(side: Side, times: List[Bytes]) -> bytes:

@@ -62,8 +62,8 @@ def together(sides: Sequence[Side]) -> Side:
         replace(one, codes=np.concatenate([side.columns[place].codes for side in sides]))
         for place, one in enumerate(sides[0].columns)
     ]
-    start, end, places = (np.concatenate([getattr(side, name) for side in sides]) for name in ("start", "end", "places"))
-    return replace(sides[0], start=start, end=end, columns=columns, places=places)
+    times = {name: np.concatenate([getattr(side, name) for side in sides]) for name in ("start", "end", "places")}
+    return replace(sides[0], columns=columns, **times)
 
 
 def side_of(frame: Any, names: Sequence[Any], period: Period, form: Form, decimals: Mapping[Any, int]) -> Side:

@@ -1,5 +1,5 @@
-"""agg of all rows of a frame of Dask: time is cut into slices, in each of which rows are clipped and answered, and what goes
-on over a cut is closed up. Periods are seconds here, and numbers are int64."""
+"""agg of all rows of a frame of Dask: time is cut into slices, in each of which rows are clipped and answered, and what
+goes on over a cut is closed up. Periods are seconds here, and numbers are int64."""
 from __future__ import annotations
 
 from dataclasses import dataclass, replace
@@ -84,8 +84,9 @@ def slices(frame: Any, asked: Question, cuts: Ints) -> Any:
 
 def answered(frame: Any, asked: Question) -> Found:
     """Start, end and value within a slice."""
-    names = [name for name in ("amount",) if name in frame.columns]
-    columns = [Values(None, "int", np.zeros(len(frame), np.int64)), *(Values(name, "int", frame[name].to_numpy()) for name in names)]
+    groups_of = Values(None, "int", np.zeros(len(frame), np.int64))
+    amounts = [Values(None, "int", frame["amount"].to_numpy())] if "amount" in frame.columns else []
+    columns = [groups_of, *amounts]
     side = Side(frame["start"].to_numpy(), frame["end"].to_numpy(), columns, places=np.arange(len(frame)))
     start, end, _, value = split.agg(side, asked.function, asked.options.workers)
     return start, end, value
@@ -93,7 +94,7 @@ def answered(frame: Any, asked: Question) -> Found:
 
 @dataclass(frozen=True)
 class Edges:
-    """Of a slice's rows: the first one's start, end and value, the last one's end and value, and whether they are one."""
+    """Of a slice's rows: the first one's start, end and value, the last one's end and value, whether they are one."""
 
     start: int
     first_end: int
@@ -111,7 +112,7 @@ def edges_of(found: Found) -> Optional[Edges]:
 
 
 def plan_of(told: Sequence[Optional[Edges]]) -> List[Tuple[bool, int]]:
-    """Of each slice, whether its first row only goes on with the one before the cut, and where its last row ends then."""
+    """Of each slice, whether its first row only goes on with the one before the cut, and where its last row ends."""
     goes_on = [False] * len(told)
     ends = [here.end if here is not None else 0 for here in told]
     for place in reversed(range(len(told) - 1)):

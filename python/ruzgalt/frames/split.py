@@ -1,13 +1,13 @@
 """Rows past the limits in parts that the program takes, and the parts' answers put together.
 
-Rows of different values never meet, so whole values go into parts. A value that is too much for a run is cut by time: rows
-are clipped at the cut, each half is answered, and what goes on over the cut is closed up. Where too many rows hold at one
-time for that, rows go into blocks: of a join each block of left rows beside each of right ones; of an anti-join each block of
-right rows leaves less of the left ones; of an aggregate the blocks' answers are the rows of another one.
+Rows of different values never meet, so whole values go into parts. A value that is too much for a run is cut by time:
+rows are clipped at the cut, each half is answered, and what goes on over the cut is closed up. Where too many rows hold
+at one time for that, rows go into blocks: of a join each block of left rows beside each of right ones; of an anti-join
+each block of right rows leaves less of the left ones; of an aggregate the blocks' answers are the rows of another one.
 """
 from __future__ import annotations
 
-from typing import Callable, Iterator, List, Sequence, Tuple
+from typing import Any, Callable, Iterator, List, Sequence, Tuple
 
 import numpy as np
 import pandas as pd
@@ -63,7 +63,7 @@ def by_value(sides: Sides) -> Iterator[List[Side]]:
 
 
 def over_time(sides: Sides, asked: Asked, otherwise: Asked) -> Found:
-    """The answer of rows which may be too many for a run; `otherwise` answers where a cut by time parts too few of them."""
+    """The answer of rows which may be too many for a run; `otherwise` answers where a cut parts too few of them."""
     if fits(sides) or not all(map(len, sides)):
         return asked(sides)
     cut = middle_of(sides)
@@ -92,10 +92,14 @@ def closed_up(before: Found, behind: Found, cut: int) -> Found:
     return tuple(np.concatenate([one, other[is_left]]) for one, other in zip((before[0], end, *before[2:]), behind))
 
 
+def rows(columns: List[Cells]) -> Iterator[Tuple[Any, ...]]:
+    return zip(*(column.tolist() for column in columns))
+
+
 def matches(left: List[Cells], right: List[Cells]) -> Tuple[Ints, Ints]:
-    """The places of rows of equal numbers; none stands twice on a side. By Python's numbers, of which sums may be long."""
-    places = {row: place for place, row in enumerate(zip(*(column.tolist() for column in left)))}
-    found = [(places[row], place) for place, row in enumerate(zip(*(column.tolist() for column in right))) if row in places]
+    """The places of rows of equal numbers; none stands twice on a side. By Python's numbers: sums may be long."""
+    places = {row: place for place, row in enumerate(rows(left))}
+    found = [(places[row], place) for place, row in enumerate(rows(right)) if row in places]
     return np.array([one for one, _ in found], np.int64), np.array([other for _, other in found], np.int64)
 
 

@@ -1,7 +1,7 @@
-"""join, anti and agg of frames of Dask: rows are sent to partitions by their values, and each is answered as a frame of pandas.
+"""join, anti and agg of frames of Dask: rows go to partitions by their values, and each is answered as one of pandas.
 
-Which partition a value goes to is told by values.hashes, and not by Dask's own hash: by that, -1 of an int32 and -1 of an
-int64 go to different ones, and never meet.
+Which partition a value goes to is told by values.hashes, and not by Dask's own hash: by that, -1 of an int32 and -1 of
+an int64 go to different ones, and never meet.
 """
 from __future__ import annotations
 
@@ -25,12 +25,16 @@ def paired(asked: Pairs, left: Any, right: Any, on: Names, options: Options) -> 
     names = compared(on, options)
     if not names[0]:
         raise Refused("BadCommand", "of frames of Dask without compared columns each row may meet each: on= parts them")
-    left, right = (frame if isinstance(frame, dd.DataFrame) else dd.from_pandas(frame, 1, sort=False) for frame in (left, right))
+    left, right = map(as_spread, (left, right))
     parts = options.parts or max(left.npartitions, right.npartitions)
     meta = asked(left._meta, right._meta, on, options)
     sent = [by_value(frame, own, options.decimals, parts) for frame, own in zip((left, right), names)]
     words = {"meta": meta, "align_dataframes": False, "transform_divisions": False}
     return dd.map_partitions(asked, *sent, on, options, **words)
+
+
+def as_spread(frame: Any) -> Any:
+    return frame if isinstance(frame, dd.DataFrame) else dd.from_pandas(frame, 1, sort=False)
 
 
 def agg(frame: Any, function: str, column: Any, options: Options) -> Any:

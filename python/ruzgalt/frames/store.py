@@ -1,7 +1,7 @@
 """A store: tables with a past, from frames and in frames.
 
-The program keeps nothing, so what is kept is the script, and each question runs all of it: half a second for a million rows.
-A change is tried as it is told; within `with store.batch():` all are tried at its end, in one run.
+The program keeps nothing, so what is kept is the script, and each question runs all of it. A change is tried as it is
+told; within `with store.batch():` all are tried at its end, in one run.
 """
 from __future__ import annotations
 
@@ -41,7 +41,7 @@ class Verdict:
 
 @dataclass
 class Store:
-    """A store in memory. Every change and every question raises Refused or Stopped where it fails, and then changes nothing.
+    """A store in memory. Each change and question raises Refused or Stopped where it fails, and then changes nothing.
 
     workers     threads of the program, 1 to 64
     """
@@ -80,8 +80,9 @@ class Store:
         made = replace(table, kind=points.joint_kind(table.kind, side.kind))
         self.change([script.load(name, side)], {name: made})
 
-    def update(self, name: str, start: Any, end: Any, set: Mapping[str, Any], where: Optional[Mapping[str, Any]] = None) -> None:
-        """Gives rows other values from `start` on and before `end` (None: 9999-12-31), all rows or those that have `where`."""
+    def update(self, name: str, start: Any, end: Any, set: Mapping[str, Any],
+               where: Optional[Mapping[str, Any]] = None) -> None:
+        """Gives rows other values from `start` on and before `end` (None: 9999-12-31): all, or those of `where`."""
         table = self.known(name)
         fields = ["set", *table.pairs(set), *condition(table, where)]
         self.change_portion("update", table, (start, end), fields)
@@ -147,7 +148,7 @@ class Store:
         return self.listed(name, ["at", name, text_of(point), *suffix(as_of)])
 
     def between(self, name: str, first: int, last: int) -> Any:
-        """The versions of rows that a commit of these shows, with sys_from and sys_to; sys_to is NA where one is open."""
+        """The versions of rows that a commit of these shows, with sys_from and sys_to, NA where one is open."""
         return self.listed(name, ["between", name, str(first), str(last)], has_commits=True)
 
     def fromto(self, name: str, first: int, behind: int) -> Any:
@@ -155,8 +156,8 @@ class Store:
         return self.listed(name, ["fromto", name, str(first), str(behind)], has_commits=True)
 
     def join(self, left: str, right: str, on: On = (), as_of: Optional[int] = None) -> Any:
-        """valid_from, valid_to, left_id, right_id, then left_NAME and right_NAME, by these from the left; `on` has pairs
-        of a left and a right column."""
+        """valid_from, valid_to, left_id, right_id, left_NAME.., right_NAME.., by these from the left; `on` has pairs of
+        a left and a right column."""
         one, other = self.known(left), self.known(right)
         cells = self.block(["join", left, right, *on_of(on), *suffix(as_of)], "ppii" + one.readers + other.readers)
         kind = points.joint_kind(one.kind, other.kind)
@@ -178,7 +179,7 @@ class Store:
         table = self.known(name)
         amount = [table.column(column)] if column is not None else []
         group = [table.column(by)] if by is not None else []
-        asked = ["agg", name, function, *(one.name for one in amount), *(text for one in group for text in ("by", one.name))]
+        asked = ["agg", name, function, *(one.name for one in amount), *(["by", by] if by is not None else [])]
         cells = self.block([*asked, *suffix(as_of)], "".join(one.kind[0] for one in group) + "ppi")
         columns: Dict[Any, Any] = {one.name: one.restored(next(cells)) for one in group}
         columns.update(table.period_cells(cells))
@@ -186,7 +187,7 @@ class Store:
         return pd.DataFrame(columns)
 
     def dip(self, name: str, as_of: Optional[int] = None) -> Any:
-        """part and row_id, by part and start, of the fewest parts in which no two rows overlap; attrs as of ruzgalt.dip."""
+        """part and row_id, by part and start, of the fewest parts without an overlap; attrs as of ruzgalt.dip."""
         self.known(name)
         output = self.answer(script.command("dip", name, *suffix(as_of)))
         told = output.record()
@@ -198,7 +199,7 @@ class Store:
 
     def check(self, name: str, parts: Any, count: Optional[int] = None, instant: Any = None,
               as_of: Optional[int] = None) -> Verdict:
-        """Whether a frame of part and row_id divides the rows, no two that overlap in one part, and in as few as can be.
+        """Whether a frame of part and row_id divides the rows, no two that overlap in one part, in as few as can be.
 
         count and instant, where they aren't told, are those of the frame's attrs, as of dip().
         """
@@ -206,7 +207,7 @@ class Store:
         told = parts.attrs.get("count") if count is None else count
         point = parts.attrs.get("instant") if instant is None else instant
         if told is None:
-            raise Refused("BadCommand", "count= and instant= tell how many parts there are, and when as many rows hold")
+            raise Refused("BadCommand", "count= and instant= tell how many parts there are, when as many rows hold")
         lists = parts.groupby("part", sort=True)["row_id"].apply(list) if len(parts) else []
         fields = ["check", name, str(told), "-" if point is None else text_of(point), *suffix(as_of)]
         answer = self.answer(script.block(fields, [["part", *map(str, ids)] for ids in lists])).record()

@@ -109,7 +109,7 @@ def table_of(name: str, side: Side, key: Sequence[str], options: Options) -> Tab
 
 
 def text_of(point: Any) -> str:
-    """A point of a question or of a portion: a text as the store reads it, or what a column may have; None is 9999-12-31."""
+    """A point of a question or of a portion: a text as the store reads it, or a cell of points; None is 9999-12-31."""
     if isinstance(point, str):
         return point
     return points.texts_of(seconds_of(point))[0]

@@ -42,7 +42,7 @@ class Values:
         return replace(self, codes=self.codes[places])
 
     def restored(self, cells: Cells) -> Any:
-        """What the program told of this column, in the dtype that it came from, or a wider one where that lacks a value."""
+        """What the program told of this column, in the dtype that it came from, or a wider one that has all of it."""
         if self.digits is not None:
             return unscaled(cells, self.digits, self.dtype)
         if isinstance(self.dtype, pd.CategoricalDtype):
@@ -83,9 +83,10 @@ def values_of(column: Any, digits: Optional[int] = None) -> Values:
         return Values(column.name, "int", ints_of(column), (), dtype)
     if dtype == object or isinstance(dtype, pd.StringDtype):
         return texts_of(column)
-    remedy = {"f": "; decimals={%r: 2} takes those of two decimals for hundredths" % column.name, "b": "; .astype('int8')"}
-    told = remedy.get(getattr(dtype, "kind", ""), "; .astype(str) makes texts")
-    raise Refused("WrongKind", f"{dtype} has no kind of the store{told}", column.name)
+    hundredths = f"decimals={{{column.name!r}: 2}} takes those of two decimals for hundredths"
+    remedies = {"f": hundredths, "b": ".astype('int8') makes numbers"}
+    remedy = remedies.get(getattr(dtype, "kind", ""), ".astype(str) makes texts")
+    raise Refused("WrongKind", f"{dtype} has no kind of the store; {remedy}", column.name)
 
 
 def of_categories(column: Any) -> Values:
@@ -113,8 +114,8 @@ def texts_of(column: Any) -> Values:
     cells = np.asarray(column, object)
     if pd.api.types.infer_dtype(cells, skipna=False) not in ("string", "empty"):
         wrong = np.fromiter((not isinstance(cell, str) for cell in cells), bool, len(cells))
-        told = f"{cells[int(wrong.argmax())]!r} is no text; .fillna('') or .astype(str) makes texts, .astype('int64') numbers"
-        refuse(wrong, column, "WrongKind", told)
+        remedy = ".fillna('') or .astype(str) makes texts, .astype('int64') numbers"
+        refuse(wrong, column, "WrongKind", f"{cells[int(wrong.argmax())]!r} is no text; {remedy}")
     whole = "".join(cells)
     if not whole.isascii() or max(map(len, cells), default=0) > forms.TEXT_LIMIT:
         refuse_texts(cells, whole, column)
@@ -133,7 +134,8 @@ def refuse_texts(cells: Cells, whole: str, column: Any) -> None:
     """Not after pandas.factorize, which takes halves of surrogate pairs for other texts."""
     if not forms.is_utf8(whole):
         wrong = np.fromiter((not forms.is_utf8(cell) for cell in cells), bool, len(cells))
-        refuse(wrong, column, "BadUtf8", "half of a surrogate pair, which UTF-8 hasn't: read the source again as what it is")
+        told = "half of a surrogate pair, which UTF-8 hasn't: read the source again as what it is"
+        refuse(wrong, column, "BadUtf8", told)
     wrong = np.fromiter((not forms.is_short(cell) for cell in cells), bool, len(cells))
     refuse(wrong, column, "TooLong", "a text of more than 4,096 bytes: a shorter one, or several columns")
 
@@ -149,11 +151,12 @@ def scaled(column: Any, digits: int) -> Ints:
     bits = np.finfo(dtype).nmant + 1
     with np.errstate(invalid="ignore", over="ignore"):
         whole = np.round(cells.astype("f8") * 10.0**digits)
-        told = f"no number of up to {bits} bits in such units; Decimals are exact, .dropna(subset=..) leaves missing ones out"
-        refuse(~(np.abs(whole) < 2.0**bits), column, "BadNumber", told)
+        remedy = "Decimals are exact, .dropna(subset=..) leaves missing ones out"
+        refuse(~(np.abs(whole) < 2.0**bits), column, "BadNumber", f"not of {bits} bits in such units; {remedy}")
         told = f"not exactly a number of {digits} decimals; .round({digits}) makes it one"
         refuse((whole / 10.0**digits).astype(dtype) != cells, column, "BadNumber", told)
-    return whole.astype(np.int64)
+    numbers: Ints = whole.astype(np.int64)
+    return numbers
 
 
 def scaled_decimals(column: Any, digits: int) -> Ints:
@@ -184,7 +187,7 @@ def unscaled(cells: Cells, digits: int, dtype: Any) -> Any:
 
 
 def matrix_of(values: Values) -> Optional[Bytes]:
-    """The fields, a row of bytes each, zero bytes where one is shorter; None where texts are wide or have zero bytes."""
+    """The fields, a row of bytes each, zero bytes where one is shorter; None of texts that are wide or have any."""
     if values.kind == "int":
         return digits_of(values.codes)
     table = [records.to_field(text).encode() for text in values.texts] or [b""]

@@ -1,0 +1,131 @@
+"""The program's run: that it ends with its caller and not before, and what is said where it ends badly."""
+import os
+import signal
+import subprocess
+import sys
+import tempfile
+import threading
+import time
+import unittest
+from concurrent.futures import ThreadPoolExecutor
+from pathlib import Path
+from unittest import mock
+
+import pandas as pd
+
+import ruzgalt
+from processes import children, is_running, wait_for
+from ruzgalt.frames import program
+
+FRAME = pd.DataFrame({"from": pd.to_datetime(["2024-01-01"]), "to": pd.to_datetime(["2024-02-01"]), "k": [1]})
+# Asks from a thread of its own, while others come and go.
+CALLER = """
+import threading, time
+import pandas, ruzgalt
+frame = pandas.DataFrame({"from": pandas.to_datetime(["2024-01-01"]), "to": pandas.to_datetime(["2024-02-01"])})
+for _ in range(4):
+    threading.Thread(target=time.sleep, args=(0.01,)).start()
+threading.Thread(target=ruzgalt.dip, args=(frame,)).start()
+"""
+
+
+class Program(unittest.TestCase):
+    def setUp(self):
+        folder = tempfile.TemporaryDirectory(prefix="frames-")
+        self.addCleanup(folder.cleanup)
+        self.folder = Path(folder.name)
+
+    def command(self, text):
+        """A program of this text, which DIPQ names in the test."""
+        path = self.folder / "dipq"
+        path.write_text(f"#!/bin/sh\n{text}\n")
+        path.chmod(0o755)
+        patch = mock.patch.dict(os.environ, DIPQ=str(path))
+        patch.start()
+        self.addCleanup(patch.stop)
+        return path
+
+    def says(self, wanted):
+        with self.assertRaises(ruzgalt.Stopped) as caught:
+            ruzgalt.dip(FRAME)
+        self.assertIn(wanted, str(caught.exception))
+
+    def test_a_program_ends_where_its_caller_is_killed(self):
+        self.command("exec sleep 60")
+        caller = subprocess.Popen([sys.executable, "-c", CALLER])
+        self.assertTrue(wait_for(lambda: any(b"sleep" in name_of(pid) for pid in children(caller.pid)), 30))
+        [running] = children(caller.pid)
+        time.sleep(0.2)
+        self.assertTrue(is_running(running))
+        caller.send_signal(signal.SIGKILL)
+        caller.wait()
+        self.assertTrue(wait_for(lambda: not is_running(running), 5))
+
+    def test_a_program_does_not_start_whose_caller_is_gone(self):
+        words = program.ending_with_us([str(self.command("echo started"))])
+        told = [str(os.getpid() + 1) if word == str(os.getpid()) else word for word in words]
+        ran = subprocess.run(told, stdout=subprocess.PIPE)
+        self.assertEqual((ran.returncode, ran.stdout), (3, b""))
+
+    def test_threads_that_end_end_no_other_thread_s_program(self):
+        real = program.program()
+        self.command(f'sleep 0.2\nexec {real} "$@"')
+        found = []
+        threads = [threading.Thread(target=lambda: found.append(len(ruzgalt.join(FRAME, FRAME, on="k")))) for _ in range(12)]
+        for thread in threads:
+            thread.start()
+            time.sleep(0.03)
+        for thread in threads:
+            thread.join()
+        self.assertEqual(found, [1] * 12)
+
+    def test_threads_at_once_have_answers_of_their_own(self):
+        def asked(number):
+            return len(ruzgalt.join(pd.concat([FRAME] * number), FRAME, on="k"))
+        with ThreadPoolExecutor(8) as pool:
+            self.assertEqual(list(pool.map(asked, range(1, 40))), list(range(1, 40)))
+
+    def test_a_killed_program_is_told(self):
+        self.command("kill -9 $$")
+        self.says("SIGKILL")
+
+    def test_what_the_program_says_is_told(self):
+        self.command("echo 'dipq: out of memory' >&2; exit 3")
+        self.says("status 3: dipq: out of memory")
+
+    def test_answers_that_end_too_early_are_told(self):
+        self.command("echo ok,1; echo ok,2")
+        self.says("too early")
+
+    def test_a_program_that_is_not_there_is_told(self):
+        with mock.patch.dict(os.environ, DIPQ="/nowhere/dipq"):
+            self.says("/nowhere/dipq: no such program")
+
+    def test_a_clone_that_is_not_built_is_told(self):
+        (self.folder / "crates").mkdir()
+        path = self.command("exit 3")
+        with mock.patch.dict(os.environ), mock.patch.object(program, "TOP", self.folder):
+            del os.environ["DIPQ"]
+            self.assertEqual(program.program(), str(path))
+            self.says("isn't built yet")
+
+    def test_without_setpriv_the_program_runs_as_it_is(self):
+        with mock.patch.object(program.shutil, "which", lambda name: None if name == "setpriv" else name):
+            self.assertEqual(program.ending_with_us(["dipq"]), ["dipq"])
+            self.assertEqual(len(ruzgalt.join(FRAME, FRAME, on="k")), 1)
+
+    def test_nothing_is_printed(self):
+        lines = CALLER.replace("threading.Thread(target=ruzgalt.dip, args=(frame,)).start()", "ruzgalt.dip(frame)")
+        ran = subprocess.run([sys.executable, "-W", "error", "-c", lines], stdout=subprocess.PIPE, stderr=subprocess.PIPE)
+        self.assertEqual((ran.returncode, ran.stdout, ran.stderr), (0, b"", b""))
+
+
+def name_of(pid):
+    try:
+        return Path(f"/proc/{pid}/cmdline").read_bytes()
+    except OSError:
+        return b""
+
+
+if __name__ == "__main__":
+    unittest.main()

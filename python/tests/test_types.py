@@ -1,0 +1,24 @@
+"""Whether mypy finds the types of frames right, strictly; in the long form, since it reads all of numpy."""
+import importlib.util
+import os
+import subprocess
+import sys
+import tempfile
+import unittest
+from pathlib import Path
+
+TOP = Path(__file__).resolve().parents[2]
+
+
+class Types(unittest.TestCase):
+    @unittest.skipUnless(os.environ.get("FRAMES_TYPES"), "only in the long form")
+    @unittest.skipUnless(importlib.util.find_spec("mypy"), "mypy isn't here: apt-get install python3-mypy")
+    def test_types_are_right(self):
+        with tempfile.TemporaryDirectory() as cache:
+            words = [sys.executable, "-m", "mypy", "--config-file", "python/mypy.ini", "--cache-dir", cache, "-p", "ruzgalt.frames"]
+            ran = subprocess.run(words, cwd=TOP, env={**os.environ, "MYPYPATH": str(TOP / "python")}, stdout=subprocess.PIPE)
+        self.assertEqual(ran.returncode, 0, ran.stdout.decode())
+
+
+if __name__ == "__main__":
+    unittest.main()

@@ -1,0 +1,40 @@
+"""What the package does where pandas isn't: the modules of the tools work, and frames say what is to be installed."""
+import os
+import subprocess
+import sys
+import tempfile
+import unittest
+from pathlib import Path
+
+TOP = Path(__file__).resolve().parents[2]
+
+
+class WithoutPandas(unittest.TestCase):
+    def run_lines(self, lines):
+        """What Python prints of these lines, where importing pandas or numpy fails as if they weren't there."""
+        with tempfile.TemporaryDirectory() as folder:
+            for name in ("pandas", "numpy"):
+                text = f"raise ModuleNotFoundError(\"No module named '{name}'\", name='{name}')\n"
+                Path(folder, f"{name}.py").write_text(text)
+            path = os.pathsep.join([folder, str(TOP / "python")])
+            words = [sys.executable, "-c", lines]
+            ran = subprocess.run(words, env={**os.environ, "PYTHONPATH": path}, stdout=subprocess.PIPE, stderr=subprocess.PIPE)
+        return ran.stdout.decode(), ran.stderr.decode()
+
+    def test_modules_of_the_tools_are_imported(self):
+        self.assertEqual(self.run_lines("from ruzgalt import answers, cli, records; print('yes')"), ("yes\n", ""))
+
+    def test_frames_say_what_is_to_be_installed(self):
+        for name in ("join", "anti", "agg", "dip", "Store", "Refused", "Stopped"):
+            printed, said = self.run_lines(f"import ruzgalt; print('imported'); ruzgalt.{name}")
+            self.assertEqual(printed, "imported\n")
+            self.assertIn("ImportError: ruzgalt." + name + " needs", said)
+            self.assertIn("apt-get install python3-pandas", said)
+
+    def test_other_names_are_no_attributes(self):
+        _, said = self.run_lines("import ruzgalt; ruzgalt.nothing")
+        self.assertIn("AttributeError: module 'ruzgalt' has no attribute 'nothing'", said)
+
+
+if __name__ == "__main__":
+    unittest.main()
