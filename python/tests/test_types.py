@@ -11,7 +11,7 @@ TOP = Path(__file__).resolve().parents[2]
 
 
 class Types(unittest.TestCase):
-    @unittest.skipUnless(os.environ.get("FRAMES_TYPES"), "only in the long form")
+    @unittest.skipUnless(os.environ.get("FRAMES_LONG"), "only in the long form")
     @unittest.skipUnless(importlib.util.find_spec("mypy"), "mypy isn't here: apt-get install python3-mypy")
     def test_types_are_right(self):
         with tempfile.TemporaryDirectory() as cache:

@@ -1,0 +1,137 @@
+"""Points and values come back as they came in, at the edges of what their dtypes hold."""
+import datetime
+import decimal
+import unittest
+
+import numpy as np
+import pandas as pd
+
+import ruzgalt
+from ruzgalt.frames import points, values
+
+FIRST, LAST = datetime.datetime(1, 1, 1), datetime.datetime(9999, 12, 31, 23, 59, 59)
+
+
+def period(one, freq):
+    return pd.Period(year=one.year, month=one.month, day=one.day, hour=one.hour, minute=one.minute, second=one.second, freq=freq)
+
+
+def objects(*cells):
+    return pd.Series(cells, dtype=object)
+
+
+# A column for each kind, the edges of what it holds in it.
+EDGES = {
+    "ns": pd.Series(pd.to_datetime(["1677-09-21T00:12:44", "1969-12-31T23:59:59", "1970-01-01", "2262-04-11T23:47:16"])),
+    "D": pd.Series(pd.PeriodIndex([period(FIRST, "D"), period(LAST, "D")])),
+    "S": pd.Series(pd.PeriodIndex([period(FIRST, "S"), period(LAST, "S")])),
+    "date": objects(FIRST.date(), datetime.date(2024, 2, 29), LAST.date()),
+    "datetime": objects(FIRST, datetime.datetime(2024, 2, 29, 12), LAST),
+}
+SECONDS = np.array([points.FIRST, -86_401, -86_400, -1, 0, 86_399, 951_782_400, points.NO_END, points.LAST], np.int64)
+
+
+class Points(unittest.TestCase):
+    def test_each_kind_comes_back(self):
+        for kind, column in EDGES.items():
+            with self.subTest(kind):
+                seconds, told = points.seconds_of(column)
+                self.assertEqual(told, kind)
+                pd.testing.assert_series_equal(points.series_of(seconds, kind), column)
+
+    def test_missing_ends_come_back_as_missing(self):
+        form = points.Form(is_open=True)
+        for kind, column in EDGES.items():
+            with self.subTest(kind):
+                missing = column.copy()
+                missing.iloc[1] = None
+                seconds, told = form.ends_of(missing)
+                self.assertEqual((told, seconds[1]), (kind, points.NO_END))
+                got = form.restored_ends(seconds, kind)
+                self.assertTrue(pd.isna(got.iloc[1]))
+                self.assertEqual(got.dtype, column.dtype)
+
+    def test_other_units_of_datetime64(self):
+        for unit in ("us", "ms", "s"):
+            cells = np.array(["0001-01-01", "9999-12-31T23:59:59"], f"M8[{unit}]")
+            with self.subTest(unit):
+                numbers = np.array([points.FIRST, points.LAST], np.int64)
+                told = points.datetimes_of(numbers, np.zeros(2, bool), unit)
+                self.assertEqual((told.dtype, told.tolist()), (cells.dtype, cells.tolist()))
+
+    def test_texts_are_read_as_they_are_written(self):
+        texts = points.texts_of(SECONDS)
+        self.assertEqual(texts[0], "0001-01-01")
+        self.assertEqual(texts[-2:], ["9999-12-31", "9999-12-31T23:59:59"])
+        rows = [text.encode().ljust(19, b"\0") for text in texts]
+        matrix = np.frombuffer(b"".join(rows), np.uint8).reshape(len(rows), 19)
+        self.assertEqual(points.read(matrix[:, :10], matrix[:, 10:]).tolist(), SECONDS.tolist())
+
+    def test_kinds_of_two_frames(self):
+        cases = [("ns", "ns", "ns"), ("ns", "D", "S"), ("ns", "s", "s"), ("us", "ms", "ms"), ("date", "datetime", "datetime"),
+                 ("date", "", "date"), ("D", "S", "S"), ("date", "D", "S"), ("", "", "")]
+        for one, other, wanted in cases:
+            self.assertEqual((points.joint_kind(one, other), points.joint_kind(other, one)), (wanted, wanted))
+
+    def test_other_points_may_be_asked_for(self):
+        frame = pd.DataFrame({"from": objects(datetime.date(2024, 1, 1)), "to": objects(datetime.date(9999, 12, 31))})
+        got = ruzgalt.agg(frame, "count", points_as="S")
+        self.assertEqual(list(map(str, got["to"])), ["9999-12-31 00:00:00"])
+        self.assertEqual(ruzgalt.agg(frame, "count")["to"].tolist(), [datetime.date(9999, 12, 31)])
+
+    def test_last_days_come_back(self):
+        days = pd.to_datetime
+        frame = pd.DataFrame({"from": days(["2024-01-01", "2024-01-31"]), "to": days(["2024-01-31", "2024-02-29"])})
+        got = ruzgalt.agg(frame, "count", last_day=True)
+        self.assertEqual(got["to"].tolist(), days(["2024-01-30", "2024-01-31", "2024-02-29"]).tolist())
+        self.assertEqual(got["count"].tolist(), [1, 2, 1])
+
+
+class Values(unittest.TestCase):
+    def test_numbers_of_each_dtype_come_back(self):
+        for dtype in ("int8", "int64", "uint8", "uint64", "Int8", "Int64", "UInt16", "category"):
+            column = pd.Series([0, 1, 100], dtype=dtype)
+            with self.subTest(dtype):
+                told = values.values_of(column)
+                self.assertEqual((told.kind, told.codes.tolist()), ("int", [0, 1, 100]))
+                pd.testing.assert_series_equal(pd.Series(told.restored(told.codes)), column)
+
+    def test_digits_are_those_of_python(self):
+        numbers = np.array([0, 1, 9, 10, -1, -10, 2**63 - 1, -2**63, 10**18, -10**17], np.int64)
+        rows = values.digits_of(numbers)
+        self.assertEqual([bytes(row[row != 0]).decode() for row in rows], list(map(str, numbers.tolist())))
+
+    def test_decimals_are_exact(self):
+        cells = objects(decimal.Decimal("92233720368547758.07"), decimal.Decimal("-0.10"), decimal.Decimal("1E2"))
+        told = values.values_of(cells, 2)
+        self.assertEqual(told.codes.tolist(), [2**63 - 1, -10, 10_000])
+        with decimal.localcontext() as context:
+            context.prec = 3
+            self.assertEqual(list(told.restored(told.codes)), cells.tolist())
+
+    def test_floats_are_exactly_such_or_refused(self):
+        for dtype in ("float64", "float32", "Float64"):
+            column = pd.Series([0.1, -12.34, 0.29, 1e6], dtype=dtype)
+            with self.subTest(dtype):
+                if dtype == "float32":
+                    column = column.iloc[:3]
+                told = values.values_of(column, 2)
+                self.assertEqual(told.codes.tolist()[:3], [10, -1234, 29])
+                pd.testing.assert_series_equal(pd.Series(told.restored(told.codes)), column)
+
+    def test_hashes_are_the_same_on_each_machine(self):
+        numbers = values.Values("k", "int", np.array([-1, 0, 2**40], np.int64))
+        texts = values.Values("k", "text", np.array([0, 1, 2], np.int64), ["", "a\0b", "é"])
+        self.assertEqual(values.hashes([numbers]).tolist(), HASHES[0])
+        self.assertEqual(values.hashes([numbers, texts]).tolist(), HASHES[1])
+
+
+# Of the numbers alone, and of the numbers and texts.
+HASHES = (
+    [1334179124670777289, 3430018290024, 16439502010042732672],
+    [2652819786939546221, 4178123441092857458, 2584735395268284661],
+)
+
+
+if __name__ == "__main__":
+    unittest.main()

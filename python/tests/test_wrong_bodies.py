@@ -1,0 +1,84 @@
+"""Wrong bodies of functions, each of which the random tests are to notice; in the long form, since it runs many of these."""
+import os
+import unittest
+from unittest import mock
+
+import numpy as np
+import pandas as pd
+
+import test_random_frames
+import test_random_stores
+from ruzgalt.frames import output, points, split, values
+
+# So many seeds are tried until a wrong body is noticed.
+SEEDS = 400
+
+
+def unglued(before, behind, cut):
+    return tuple(np.concatenate([one, other]) for one, other in zip(before, behind))
+
+
+def unchained(sides, workers):
+    """Each block of right rows leaves of the left ones what it leaves."""
+    parts = [split.ask.anti([left, right], workers) for left in sides[0].blocks(3) for right in sides[1].blocks(3)]
+    told = split.found_of(split.together(parts) if parts else sides[0])
+    order = np.lexsort((told[0], told[2]))
+    return tuple(column[order] for column in told)
+
+
+def factorized(cells):
+    codes, found = pd.factorize(cells)
+    return codes, list(found)
+
+
+def quoted(data, start, stop):
+    return output.of_objects([data[low:high].tobytes().decode() for low, high in zip(start, stop)])
+
+
+def closed(data, start, stop):
+    return np.maximum(output.commits(data, start, stop), 0)
+
+
+def unclipped(side, low, high):
+    return side.take(np.flatnonzero((side.start < (high or points.LAST)) & (side.end > (low or points.FIRST))))
+
+
+FRAMES, STORES = test_random_frames.RandomFrames, test_random_stores.RandomStores
+# The words for it, what is replaced, by what, and the tests that are to notice.
+WRONG = [
+    ("halves of what goes on over a cut", split, "closed_up", unglued, FRAMES),
+    ("rows that aren't clipped at a cut", split.Side, "clipped", unclipped, FRAMES),
+    ("an anti-join by blocks each for itself", split, "anti", unchained, FRAMES),
+    ("texts that end at a zero byte", values, "codes_by_dict", factorized, FRAMES),
+    ("a missing end as a start", points, "NO_END", points.LAST, FRAMES),
+    ("points as the left frame's", points, "joint_kind", lambda *kinds: kinds[0], FRAMES),
+    ("last days as the days behind", points.Form, "ends_of", lambda form, column: points.seconds_of(column, form.is_open), FRAMES),
+    ("each row in a class of its own", split, "classes_of", lambda sides: [np.arange(len(side)) for side in sides], FRAMES),
+    ("quotes that stay", output, "READERS", {**output.READERS, "t": quoted}, STORES),
+    ("open versions as closed ones", output, "READERS", {**output.READERS, "c": closed}, STORES),
+]
+
+
+def is_noticed(tests):
+    """Whether a test fails of some seed."""
+    result = unittest.TestResult()
+    module = {FRAMES: test_random_frames, STORES: test_random_stores}[tests]
+    name = "PAIRS" if tests is FRAMES else "STORES"
+    for seed in range(1, SEEDS, 20):
+        with mock.patch.object(module, "SEED", seed), mock.patch.object(module, name, 20):
+            unittest.defaultTestLoader.loadTestsFromTestCase(tests).run(result)
+        if result.failures or result.errors:
+            return True
+    return False
+
+
+@unittest.skipUnless(os.environ.get("FRAMES_LONG"), "only in the long form")
+class WrongBodies(unittest.TestCase):
+    def test_each_is_noticed(self):
+        for what, owner, name, wrong, tests in WRONG:
+            with self.subTest(what), mock.patch.object(owner, name, wrong):
+                self.assertTrue(is_noticed(tests))
+
+
+if __name__ == "__main__":
+    unittest.main()
