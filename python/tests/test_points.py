@@ -121,7 +121,7 @@ class Values(unittest.TestCase):
 
     def test_hashes_are_the_same_on_each_machine(self):
         numbers = values.Values("k", "int", np.array([-1, 0, 2**40], np.int64))
-        texts = values.Values("k", "text", np.array([0, 1, 2], np.int64), ["", "a\0b", "é"])
+        texts = values.Values("k", "text", np.array([0, 1, 2], np.int64), values.Texts(["", "a\0b", "é"]))
         self.assertEqual(values.hashes([numbers]).tolist(), HASHES[0])
         self.assertEqual(values.hashes([numbers, texts]).tolist(), HASHES[1])
 

@@ -73,10 +73,11 @@ def group_codes(side: Side, count: int) -> Tuple[Values, Ints]:
 
 
 def ranks(column: Values) -> Ints:
-    """Numbers in the order of the values: numbers by value, texts by their bytes."""
+    """Numbers in the order of the values: numbers by value, texts by their bytes, which is that of their characters."""
     if column.kind == "int":
         return column.codes
-    table = sorted(range(len(column.texts)), key=lambda place: column.texts[place].encode())
+    cells = column.texts.cells
+    table = sorted(range(len(cells)), key=cells.__getitem__)
     rank = np.empty(len(table), np.int64)
     rank[table] = np.arange(len(table))
     return rank[column.codes]

@@ -26,7 +26,7 @@ def overlap(table: Table, side: Side, there: Sequence[Cells]) -> Optional[Refuse
 
 
 def cells_of(column: Values) -> Cells:
-    return column.codes if column.kind == "int" else of_objects(list(column.texts))[column.codes]
+    return column.codes if column.kind == "int" else of_objects(column.texts.cells)[column.codes]
 
 
 def rows_of(keys: List[Cells], times: Sequence[Cells], origins: List[Any]) -> List[Row]:

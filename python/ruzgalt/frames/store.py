@@ -278,4 +278,4 @@ def column_texts(column: Values) -> List[str]:
     """The fields as they are before they are quoted."""
     if column.kind == "int":
         return values.fields_of(column)
-    return [column.texts[code] for code in column.codes.tolist()]
+    return [column.texts.cells[code] for code in column.codes.tolist()]

@@ -15,7 +15,7 @@ from ruzgalt.frames.errors import Refused
 from ruzgalt.frames.options import Options
 from ruzgalt.frames.points import Form
 from ruzgalt.frames.sides import Period, Side
-from ruzgalt.frames.values import Values
+from ruzgalt.frames.values import Texts, Values
 
 
 @dataclass(frozen=True)
@@ -76,7 +76,7 @@ class Table:
         except (Refused, OverflowError) as error:
             raise Refused(getattr(error, "name", "BadNumber"), getattr(error, "reason", str(error)), name) from None
         self.refuse_kind(told)
-        return values.fields_of(told)[0] if told.kind == "int" else told.texts[0]
+        return values.fields_of(told)[0] if told.kind == "int" else told.texts.cells[0]
 
     def cells(self, cells: Iterator[Cells]) -> Dict[str, Any]:
         """The next columns of an answer as the table's columns."""
@@ -101,7 +101,7 @@ def table_of(name: str, side: Side, key: Sequence[str], options: Options) -> Tab
     for one in side.columns:
         if not (isinstance(one.name, str) and forms.is_name(one.name)):
             raise Refused("BadName", f"no name of a column of a store: {REMEDIES['BadName']}", one.name)
-    columns = {one.name: replace(one, codes=one.codes[:0], texts=()) for one in side.columns}
+    columns = {one.name: replace(one, codes=one.codes[:0], texts=Texts()) for one in side.columns}
     for column in key:
         if column not in columns:
             raise Refused("NoColumn", f"key= is of columns of the table: {', '.join(columns)}", column)

@@ -10,6 +10,7 @@ from __future__ import annotations
 
 import decimal
 from dataclasses import dataclass, replace
+from functools import cached_property
 from typing import Any, Dict, List, Optional, Sequence, Tuple
 
 import numpy as np
@@ -21,12 +22,48 @@ from ruzgalt.frames.errors import Refused, refuse
 
 # Texts up to so many bytes are written by numpy, from a table of fixed width.
 NARROW = 64
+# records.to_field quotes a text that has one of these.
+QUOTED = ',"\r\n'
 LEAST, GREATEST = -(2**63), 2**63 - 1
+
+
+@dataclass(frozen=True, eq=False)
+class Texts:
+    """The texts of a column that differ. What is made of them is made once, whatever parts its rows go in."""
+
+    cells: Sequence[str] = ()
+
+    @cached_property
+    def fields(self) -> List[bytes]:
+        """As they are in a script."""
+        whole = "".join(self.cells)
+        if any(mark in whole for mark in QUOTED):
+            return [records.to_field(text).encode() for text in self.cells]
+        return [text.encode() for text in self.cells]
+
+    @cached_property
+    def width(self) -> int:
+        """At most so many bytes a field has."""
+        return max(map(len, self.fields), default=0)
+
+    @cached_property
+    def matrix(self) -> Optional[Bytes]:
+        """The fields, a row of bytes each, zero bytes where one is shorter; None where they are wide or have any."""
+        fields = self.fields or [b""]
+        width = max(self.width, 1)
+        if width > NARROW or any(b"\0" in field for field in fields):
+            return None
+        return np.array(fields, f"S{width}").view(np.uint8).reshape(len(fields), width)
+
+    @cached_property
+    def hashes(self) -> Any:
+        """Of their UTF-8."""
+        return pd.util.hash_array(of_objects([*self.cells, ""]), categorize=False)
 
 
 @dataclass(frozen=True)
 class Values:
-    """A column: its numbers, or of texts the place of each in a list of those that differ.
+    """A column: its numbers, or of texts the place of each among those that differ.
 
     dtype is what it came from; with digits, numbers count units of 10^-digits of it.
     """
@@ -34,7 +71,7 @@ class Values:
     name: Any
     kind: str
     codes: Ints
-    texts: Sequence[str] = ()
+    texts: Texts = Texts()
     dtype: Any = None
     digits: Optional[int] = None
 
@@ -76,11 +113,11 @@ def values_of(column: Any, digits: Optional[int] = None) -> Values:
     """A Series as a column. Raises Refused (WrongKind, BadNumber, TooLong, BadUtf8) with column and label."""
     dtype = column.dtype
     if digits is not None:
-        return Values(column.name, "int", scaled(column, digits), (), dtype, digits)
+        return Values(column.name, "int", scaled(column, digits), Texts(), dtype, digits)
     if isinstance(dtype, pd.CategoricalDtype):
         return of_categories(column)
     if pd.api.types.is_integer_dtype(dtype):
-        return Values(column.name, "int", ints_of(column), (), dtype)
+        return Values(column.name, "int", ints_of(column), Texts(), dtype)
     if dtype == object or isinstance(dtype, pd.StringDtype):
         return texts_of(column)
     hundredths = f"decimals={{{column.name!r}: 2}} takes those of two decimals for hundredths"
@@ -120,7 +157,7 @@ def texts_of(column: Any) -> Values:
     if not whole.isascii() or max(map(len, cells), default=0) > forms.TEXT_LIMIT:
         refuse_texts(cells, whole, column)
     codes, found = codes_by_dict(cells) if "\0" in whole else pd.factorize(cells)
-    return Values(column.name, "text", codes, list(found), column.dtype)
+    return Values(column.name, "text", codes, Texts(list(found)), column.dtype)
 
 
 def codes_by_dict(cells: Cells) -> Tuple[Ints, List[str]]:
@@ -187,14 +224,10 @@ def unscaled(cells: Cells, digits: int, dtype: Any) -> Any:
 
 
 def matrix_of(values: Values) -> Optional[Bytes]:
-    """The fields, a row of bytes each, zero bytes where one is shorter; None of texts that are wide or have any."""
+    """The fields, a row of bytes each, as of Texts.matrix."""
     if values.kind == "int":
         return digits_of(values.codes)
-    table = [records.to_field(text).encode() for text in values.texts] or [b""]
-    width = max(max(map(len, table)), 1)
-    if width > NARROW or any(b"\0" in text for text in table):
-        return None
-    return np.array(table, f"S{width}").view(np.uint8).reshape(len(table), width)[values.codes]
+    return None if values.texts.matrix is None else values.texts.matrix[values.codes]
 
 
 def digits_of(numbers: Ints) -> Bytes:
@@ -215,7 +248,7 @@ def fields_of(values: Values) -> List[str]:
     """The fields as texts."""
     if values.kind == "int":
         return list(map(str, values.codes.tolist()))
-    table = [records.to_field(text) for text in values.texts]
+    table = [field.decode() for field in values.texts.fields]
     return [table[code] for code in values.codes.tolist()]
 
 
@@ -223,7 +256,7 @@ def widest(values: Values) -> int:
     """At most so many bytes a field has."""
     if values.kind == "int":
         return max(len(str(values.codes.min(initial=0))), len(str(values.codes.max(initial=0))))
-    return max((len(records.to_field(text).encode()) for text in values.texts), default=0)
+    return values.texts.width
 
 
 def hashes(columns: Sequence[Values]) -> Any:
@@ -240,4 +273,4 @@ def hashes(columns: Sequence[Values]) -> Any:
 def hash_of(column: Values) -> Any:
     if column.kind == "int":
         return pd.util.hash_array(column.codes)
-    return pd.util.hash_array(of_objects([*column.texts, ""]), categorize=False)[column.codes]
+    return column.texts.hashes[column.codes]
