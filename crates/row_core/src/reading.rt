@@ -15,8 +15,9 @@ use crate::value::{Value, ValueRefused, Values};
 use period_core::{BadPeriod, BadPoint, Period, Point};
 use std::alloc::Global;
 use std::convert::AsSlice;
+use std::error::Error;
+use std::fmt;
 use std::marker::Model;
-use thiserror::Error;
 
 /// The bytes of a record's field.
 #[derive(Debug, Drop)]
@@ -52,27 +53,38 @@ impl AsSlice<u8> for Field {
 }
 
 /// Why a record's fields are no row, in the order of the tests; the values are tested from the left.
-#[derive(Clone, Copy, Debug, PartialEq, Eq, Error)]
+#[derive(Clone, Copy, Debug, PartialEq, Eq)]
 pub enum RowRefused {
     /// There are not two fields more than columns.
-    #[error("not two fields more than columns")]
     WrongWidth,
     /// The first or the second field is no point.
-    #[error("the first or the second field is no point")]
     BadPoint,
     /// The first point is not before the second.
-    #[error("the first point is not before the second")]
     BadPeriod,
     /// The field of a number column is not what is printed of a number of 64 bits.
-    #[error("the field of a number column is not what is printed of a number of 64 bits")]
     BadNumber,
     /// The field of a text column has more than 4,096 bytes.
-    #[error("the field of a text column has more than 4,096 bytes")]
     TooLong,
     /// It is no UTF-8.
-    #[error("the field of a text column is not UTF-8")]
     BadUtf8,
 }
+
+impl fmt::Display for RowRefused {
+    fn fmt<W: fmt::Write>(&self, f: &mut fmt::Formatter<W>) -> fmt::Result {
+        f.write_str(match self {
+            RowRefused::WrongWidth => "not two fields more than columns",
+            RowRefused::BadPoint => "the first or the second field is no point",
+            RowRefused::BadPeriod => "the first point is not before the second",
+            RowRefused::BadNumber => {
+                "the field of a number column is not what is printed of a number of 64 bits"
+            }
+            RowRefused::TooLong => "the field of a text column has more than 4,096 bytes",
+            RowRefused::BadUtf8 => "the field of a text column is not UTF-8",
+        })
+    }
+}
+
+impl Error for RowRefused {}
 
 impl From<BadPoint> for RowRefused {
     ghost use Rattle.std.specs.Prelude.{◌≡◌};

@@ -15,6 +15,7 @@ use crate::failure::Failure;
 use list_core::DeepCopy;
 use std::alloc::Global;
 use std::cmp::Ordering;
+use std::fmt;
 use std::marker::Model;
 use std::sync::Arc;
 use thiserror::Error;
@@ -27,7 +28,7 @@ const SHORT_LIMIT: usize = 14;
 
 /// The bytes of a text: so many of some that lie here, or more of them in a block that copies
 /// share. Most texts of tables are short; they take no block, and none is read to compare them.
-#[derive(Debug, Drop)]
+#[derive(Drop)]
 pub(crate) enum Bytes {
     Short(u8, [u8; SHORT_LIMIT]),
     Long(Arc<String>),
@@ -71,7 +72,7 @@ impl Bytes {
 }
 
 /// A text of at most 4,096 bytes, ordered by its bytes. Contracts see its bytes.
-#[derive(Debug, Drop)]
+#[derive(Drop)]
 pub struct Text {
     bytes: Bytes,
 }
@@ -129,6 +130,13 @@ impl Text {
         ensures utf8 { IsUtf8 result.now }
     {
         self.bytes.as_slice()
+    }
+}
+
+/// The text as a string is shown.
+impl fmt::Debug for Text {
+    fn fmt<W: fmt::Write>(&self, f: &mut fmt::Formatter<W>) -> fmt::Result {
+        fmt::Debug::fmt(self.as_str(), f)
     }
 }
 

@@ -14,6 +14,7 @@ use crate::number::{BadNumber, read_number};
 use crate::text::{Text, TextRefused, checked_text};
 use list_core::{DeepCopy, copy_each};
 use std::alloc::Global;
+use std::fmt;
 use std::marker::Model;
 use std::sync::Arc;
 use thiserror::Error;
@@ -156,7 +157,7 @@ impl DeepCopy for Value {
 }
 
 /// Values of rows that were read together, as many for each row, row after row.
-#[derive(Debug, Drop)]
+#[derive(Drop)]
 pub(crate) struct Block {
     pub width: usize,
     pub values: Vec<Value>,
@@ -175,7 +176,7 @@ impl Block {
 /// Values, and how many own them. One or two values lie beside that count, in one block of memory;
 /// for none there is no block. Others are a row's in a block that other rows have values in too,
 /// and begin there at a place.
-#[derive(Debug, Drop)]
+#[derive(Drop)]
 pub(crate) enum Shared {
     Nothing,
     One(Arc<[Value; 1]>),
@@ -231,7 +232,7 @@ impl Shared {
 
 /// The values of a row, one for each column. Copies share them, so a row that is kept as a version and in
 /// its change, and is listed, has its values once.
-#[derive(Debug, Drop)]
+#[derive(Drop)]
 pub struct Values {
     alloc: Global,
     shared: Shared,
@@ -319,6 +320,13 @@ impl Values {
         items.push(value)?;
         *self = Values::of(self.alloc, items)?;
         Ok(())
+    }
+}
+
+/// The values as a list is shown.
+impl fmt::Debug for Values {
+    fn fmt<W: fmt::Write>(&self, f: &mut fmt::Formatter<W>) -> fmt::Result {
+        fmt::Debug::fmt(self.as_slice(), f)
     }
 }
 
