@@ -25,14 +25,14 @@ const FEW: usize = 256;
 
 /// The open versions by the value of a column: a bucket has the places of those whose value falls
 /// into it. Places of versions that were closed stay until the bucket is next used.
-#[derive(Debug, Drop)]
+#[derive(Drop)]
 pub(crate) struct Index {
     pub column: u32,
     pub buckets: Vec<Places>,
 }
 
 /// Where the rows are that a change takes out: in a bucket of a column's index.
-#[derive(Clone, Copy, Debug)]
+#[derive(Clone, Copy)]
 pub(crate) struct Lookup {
     pub column: u32,
     pub bucket: usize,

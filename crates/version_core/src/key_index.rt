@@ -24,7 +24,7 @@ use std::collections::BTreeSet;
 const FACTOR: u64 = 1_099_511_628_211;
 
 /// What the index has of a version: a number that rows of one key share, its start, and its place.
-#[derive(Clone, Copy, Debug, PartialEq, Eq, PartialOrd, Ord)]
+#[derive(Clone, Copy, PartialEq, Eq, PartialOrd, Ord)]
 pub(crate) struct Entry {
     pub number: u64,
     pub from: Point,
@@ -34,7 +34,7 @@ pub(crate) struct Entry {
 /// The open versions by the number of their key, those of one number by start. Rows of one key share
 /// no instant, so of those that begin before the end of a new row only the last can share one with it.
 /// Others are looked at only where a change takes them out, or two keys have one number.
-#[derive(Debug, Drop)]
+#[derive(Drop)]
 pub(crate) struct KeyIndex {
     pub columns: Vec<u32>,
     pub entries: BTreeSet<Entry>,

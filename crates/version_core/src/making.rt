@@ -13,7 +13,7 @@ use std::alloc::Global;
 use std::marker::Model;
 
 /// Rows that a change makes, to stand behind those that a table has. Contracts see their drafts.
-#[derive(Debug, Drop)]
+#[derive(Drop)]
 pub(crate) struct NewRows {
     before: usize,
     items: Vec<Row>,

@@ -13,7 +13,7 @@ use std::marker::Model;
 
 /// Places in a list of versions, rising. Contracts see the list. A table has so few versions that
 /// 32 bits hold a place.
-#[derive(Debug, Drop)]
+#[derive(Drop)]
 pub(crate) struct Places {
     items: Vec<u32>,
 }

@@ -12,14 +12,14 @@ use std::marker::Model;
 
 /// The commits that show a version: those from `from` on, and before `to` where it is told. There
 /// are so few that 32 bits hold one.
-#[derive(Clone, Copy, Debug)]
+#[derive(Clone, Copy)]
 pub(crate) struct Span {
     pub from: u32,
     pub to: Option<u32>,
 }
 
 /// A version where it is kept.
-#[derive(Clone, Copy, Debug)]
+#[derive(Clone, Copy)]
 pub(crate) struct VersionRef<'a> {
     pub row: &'a Row,
     pub span: Span,
@@ -27,7 +27,7 @@ pub(crate) struct VersionRef<'a> {
 
 /// The versions of a table, whose rows a list of all of them shares. Contracts see the list of
 /// versions.
-#[derive(Debug, Drop)]
+#[derive(Drop)]
 pub(crate) struct StoredVersions {
     rows: SharedRows,
     spans: Vec<Span>,

@@ -43,14 +43,14 @@ use std::marker::Model;
 pub const VERSION_LIMIT: usize = 1_000_000;
 
 /// How many versions a commit makes and closes.
-#[derive(Clone, Copy, Debug)]
+#[derive(Clone, Copy)]
 pub struct VersionCounts {
     pub added: u64,
     pub closed: u64,
 }
 
 /// All versions of a table's rows: the one at place i has the id i + 1. Contracts see the list.
-#[derive(Debug, Drop)]
+#[derive(Drop)]
 pub struct Versions {
     items: StoredVersions,
     /// The places of the open ones, and of closed ones that a change has not come across.
