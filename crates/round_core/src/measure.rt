@@ -1,7 +1,7 @@
 //! What is asked of a tally.
 
 /// What an aggregate asks of a tally.
-#[derive(Clone, Copy, Debug, PartialEq, Eq)]
+#[derive(Clone, Copy)]
 pub enum Measure {
     /// How many the items are.
     Count,

@@ -4,7 +4,7 @@ use list_core::ChunkedList;
 use period_core::Period;
 
 /// A class, and a maximal period at each instant of which it has an item and its items come to one value.
-#[derive(Clone, Copy, Debug, PartialEq, Eq)]
+#[derive(Clone, Copy)]
 pub struct Plateau {
     /// The class.
     pub class: u64,

@@ -1,15 +1,18 @@
 //! One round: of the lists of each class two neighbours go to the workers together, and one that is left is put aside.
 
-ghost use Rattle.std.specs.Prelude.{◌≡◌, ◌*◌, ◌++◌, [], length, IfOk, MatchOption};
+ghost use Rattle.std.specs.Prelude.{◌≡◌, ◌≤◌, ◌+◌, ◌*◌, ◌++◌, List, [], ◌∷◌, length, IfOk, MatchOption};
 ghost use Rattle.std.specs.Option.{option_to_list};
+ghost use Rattle.std.specs.Vec.Iter.{into_iter_items};
 ghost use Rattle.round_core.specs.ClassLists.{StartsOtherwise, HaveNoNeighbours};
 ghost use Rattle.round_core.specs.Rounds.{twos_in, sorted_lists, filled};
+ghost use Rattle.round_core.specs.declared.round.Slot.{Slot as AnySlot};
 
 use crate::class_steps::ClassSteps;
 use merge_core::Steps;
 use period_core::NoMemory;
 use std::alloc::Global;
 use std::collections::VecDeque;
+use std::vec::IntoIter;
 
 /// What comes in the place of one list or of two.
 #[derive(Drop)]
@@ -66,6 +69,25 @@ pub(crate) fn sort_out(alloc: Global, lists: VecDeque<ClassSteps>) -> Result<Rou
     Ok(Round { slots, twos })
 }
 
+/// The list that comes in a slot, which may be the next that was made.
+fn list_of(slot: Slot, made: &mut IntoIter<Steps>) -> ClassSteps
+    requires { twos_in (slot ∷ []) ≤ length (into_iter_items made.old) }
+    ensures list { (later : List AnySlot) → filled (slot ∷ later) (into_iter_items made.old)
+        ≡ result ∷ filled later (into_iter_items made.new) }
+    ensures count { length (into_iter_items made.old)
+        ≡ twos_in (slot ∷ []) + length (into_iter_items made.new) }
+{
+    match slot {
+        Slot::Aside(list) => list,
+        Slot::OfTwo(class) => {
+            let Some(steps) = made.next() else {
+                unreachable!()
+            };
+            ClassSteps { class, steps }
+        }
+    }
+}
+
 /// The lists that are put aside, and among them what each two come to.
 pub(crate) fn fill(
     alloc: Global,
@@ -79,15 +101,7 @@ pub(crate) fn fill(
     let mut made = made.into_iter();
     let mut lists = VecDeque::new(alloc);
     'slots: while let Some(slot) = slots.pop_front() {
-        match slot {
-            Slot::Aside(list) => lists.push_back(list)?,
-            Slot::OfTwo(class) => {
-                let Some(steps) = made.next() else {
-                    unreachable!()
-                };
-                lists.push_back(ClassSteps { class, steps })?;
-            }
-        }
+        lists.push_back(list_of(slot, &mut made))?;
     }
     Ok(lists)
 }
