@@ -4,7 +4,7 @@ use crate::Tally;
 use period_core::Period;
 
 /// A period at each instant of which the tally is this one.
-#[derive(Clone, Copy, Debug, PartialEq, Eq)]
+#[derive(Clone, Copy, PartialEq, Eq)]
 pub struct Step {
     /// When it is.
     pub period: Period,

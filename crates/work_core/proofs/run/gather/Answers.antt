@@ -117,3 +117,29 @@ returns-clause-all g c =
     (λ x below.
     let once = c.close.ensures x (omega (arith, was.past, below)) in
     was.each x below (omega (arith, once)))
+
+pub join-requires-clause-table : goal.join-requires-clause-table
+join-requires-clause-table g c = c.requires.table
+
+pub join-requires-clause-other : goal.join-requires-clause-other
+join-requires-clause-other g c =
+    (last_answer g.W.PairWork c.args.job.now c.args.seat.table_id c.args.answers.items c.pop.new.self.items
+    c.in-Some.last c.in-Some.ensures.items c.requires.answers).table_is
+    ∙ c.requires.table
+
+pub join-requires-clause-free : goal.join-requires-clause-free
+join-requires-clause-free g c =
+    (last_answer g.W.PairWork c.args.job.now c.args.seat.table_id c.args.answers.items c.pop.new.self.items
+    c.in-Some.last c.in-Some.ensures.items c.requires.answers).free
+
+pub join-requires-in-loop-answer-clause-table : goal.join-requires-in-loop-answer-clause-table
+join-requires-in-loop-answer-clause-table g c = c.loop-answer.invariant.table_is ∙ c.requires.table
+
+pub place_all-requires-clause-are : goal.place_all-requires-clause-are
+place_all-requires-clause-are g c κs within = c.loop-answer.invariant.are
+
+pub close-requires-clause-table : goal.close-requires-clause-table
+close-requires-clause-table g c = c.loop-answer.invariant.table_is ∙ c.requires.table
+
+pub returns-clause-are : goal.returns-clause-are
+returns-clause-are g c = c.loop-answer.invariant.are
