@@ -69,6 +69,7 @@ pub enum RowRefused {
     BadUtf8,
 }
 
+// By one call for all of them; a derive makes a call for each, and a proof twice as long.
 impl fmt::Display for RowRefused {
     fn fmt<W: fmt::Write>(&self, f: &mut fmt::Formatter<W>) -> fmt::Result {
         f.write_str(match self {
