@@ -4,7 +4,7 @@ use dip_core::Item;
 use period_core::Period;
 
 /// Two items of equal class, one of each side, and the period of the instants that both hold.
-#[derive(Clone, Copy, PartialEq, Eq)]
+#[derive(Clone, Copy, Debug, PartialEq, Eq)]
 pub struct Hit {
     /// The left side's item.
     pub left: Item,

@@ -1,7 +1,7 @@
 //! Tallies.
 
 /// What some items come to, of which there is one at least.
-#[derive(Clone, Copy, PartialEq, Eq)]
+#[derive(Clone, Copy, Debug, PartialEq, Eq)]
 pub struct Tally {
     /// How many they are.
     pub count: u64,
