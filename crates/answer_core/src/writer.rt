@@ -238,20 +238,17 @@ impl AnswerWriter {
     }
 
     /// Adds the records of another answer behind those of this one.
-    fn put_behind(&mut self, other: AnswerWriter) -> Result<(), NoMemory>
+    fn put_behind(&mut self, mut other: AnswerWriter) -> Result<(), NoMemory>
         ensures { OnOk result
             (self.new ≡ record self.old { text = self.old.text ++ other.text }) }
     {
-        let AnswerWriter {
-            done: mut more,
-            writer,
-            written,
-            ..
-        } = other;
-        let whole = mem::replace(&mut self.writer, writer);
-        let passed = mem::replace(&mut self.written, written);
-        push_text(&mut self.done, text_from(self.alloc, whole, passed)?)?;
-        self.done.append(&mut more)
+        mem::swap(&mut self.writer, &mut other.writer);
+        mem::swap(&mut self.written, &mut other.written);
+        push_text(
+            &mut self.done,
+            text_from(self.alloc, other.writer, other.written)?,
+        )?;
+        self.done.append(&mut other.done)
     }
 
     /// Writes the answer, and begins the next one.
