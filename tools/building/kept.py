@@ -7,6 +7,7 @@ import contextlib
 import hashlib
 import importlib.machinery
 import importlib.util
+import io
 import os
 import shutil
 import sys
@@ -96,7 +97,8 @@ def give_of_gate(copy: Path, crates: Crates, toolchain: Toolchain) -> Dict[str, 
     is proved here. Nothing that is proved here goes to the gate.
     """
     given: Dict[str, Path] = {}
-    with contextlib.suppress(Exception):
+    # It would end the program, with a word of its own, where a crate isn't as it should be: the compiler tells that too.
+    with contextlib.suppress(Exception, SystemExit), contextlib.redirect_stderr(io.StringIO()):
         rt: Any = module_of(toolchain.folder / "bin" / "rt")
         rt.Crate.allowed, rt.Crate.cuts_libraries = rt.handles_of(str(copy)), True
         listed = rt.crates_of(str(copy))

@@ -10,18 +10,13 @@ PAUSE = 5
 
 
 class Progress:
-    """On a terminal one line that is written anew, else a line for each crate that is proved."""
+    """On a terminal one line that is written anew, else a line each time that a crate's proof begins."""
 
     def __init__(self, program: str, crates: Crates) -> None:
         self.program, self.crates = program, crates
         self.proved: Set[str] = set()
         self.begun = self.shown = time.monotonic()
         self.on_terminal = sys.stderr.isatty()
-
-    def add(self, name: str) -> None:
-        self.proved.add(name)
-        if len(self.proved) < len(self.crates):
-            self.show()
 
     def tick(self) -> None:
         """Shows the minutes, where that is due."""
