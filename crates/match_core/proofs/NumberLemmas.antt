@@ -1,11 +1,12 @@
 -- The numbers of right cells, and the classes that both sides' ranks give.
-use Rattle.std.proofs.Common.{◌≡◌, ℕ, ◌+◌, ◌<◌, ◌≤◌, true, false, List, [], ◌∷◌, ◌++◌, length, take, get_or, sym, subst, ◌∙◌, inl, inr, arith, get_or-take}
-use Rattle.std.specs.Prelude.{All}
+use Rattle.std.proofs.Common.{◌≡◌, ℕ, ◌+◌, ◌<◌, ◌≤◌, true, false, List, [], ◌∷◌, ◌++◌, ap, length, take, get_or, sym, subst, ◌∙◌, inl, inr, arith, get_or-take}
+use Rattle.std.specs.Prelude.{All, IfSome, Option, slice_get}
 use Rattle.std.proofs.lemmas.Bool.{cases_eq, cases_lt}
 use Rattle.std.proofs.lemmas.List.{get_or_default, get_or_push, get_or_append_left, length_push, length-take-le, take_more}
 use Rattle.std.proofs.lemmas.List.Elements.{All-push}
 use Rattle.match_core.specs.declared.cells.Cell.{Cell}
-use Rattle.match_core.specs.Cells.{AreRising, IsNumberOf, is_before, same_cell}
+use Rattle.std.proofs.lemmas.Option.{slice_get-get_or}
+use Rattle.match_core.specs.Cells.{AreMatched, AreRising, IsNextTo, IsNumberOf, is_before, same_cell}
 use Rattle.match_core.proofs.CellOrder.{after-differs, after-from, before-differs, before-trans}
 
 -- the left cells up to a place come before a right one
@@ -65,6 +66,33 @@ pub record Numbering (lefts rights : List Cell) (right left : ℕ) (numbers : Li
   pub before : (k : ℕ) (d : Cell) → right ≤ k → k < length rights → AreBefore lefts left (get_or rights k d)
   pub count : length numbers ≡ right
   pub each : (k : ℕ) → k < right → IsNumberOf lefts rights k (get_or numbers k 0)
+
+-- before the first one none has
+pub none_numbered : (lefts rights : List Cell) (numbers : List ℕ) → numbers ≡ [] → Numbering lefts rights 0 0 numbers
+none_numbered lefts rights numbers none = record {
+  within = omega arith;
+  before = λ k d low lt i e less. absurd (omega arith);
+  count = ap length none;
+  each = λ k lt. absurd (omega arith);
+}
+
+-- behind the last one all have
+pub all_numbered : (lefts rights : List Cell) (right left : ℕ) (numbers : List ℕ) → right ≡ length rights
+    → Numbering lefts rights right left numbers → AreMatched lefts rights numbers
+all_numbered lefts rights right left numbers end was =
+    record { count = was.count ∙ end; each = λ k lt. was.each k (omega (arith, end, lt)) }
+
+-- the left cells up to the first that doesn't come before a right one, and that one
+pub next_to : (lefts rights : List Cell) (right left : ℕ) (none : Cell) → right < length rights
+    → AreBefore lefts left (get_or rights right none)
+    → IfSome (slice_get lefts left) (λ x. is_before x (get_or rights right none) ≡ false)
+    → IsNextTo lefts rights right left
+next_to lefts rights right left none inside all after = record {
+  before = λ d. subst (AreBefore lefts left) (get_or_default rights right none d inside) all;
+  next = λ d less. subst (λ x. is_before (get_or lefts left d) x ≡ false) (get_or_default rights right none d inside)
+      (subst (λ (o : Option Cell). IfSome o (λ x. is_before x (get_or rights right none) ≡ false))
+      (slice_get-get_or lefts left d less) after);
+}
 
 -- one more has one
 pub one_numbered : (lefts rights : List Cell) (right left next number : ℕ) (numbers new : List ℕ) (cell : Cell)

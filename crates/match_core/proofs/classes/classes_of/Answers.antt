@@ -1,8 +1,12 @@
-use Rattle.std.proofs.Common.{◌≡◌, ◌∙◌, ◌+◌, ◌++◌, List, ℕ, suc, [], ◌∷◌, ap, arith, get_or, length, length-append, subst, sym, take}
-use Rattle.std.specs.Prelude.{None}
+use Rattle.std.proofs.Common.{◌≡◌, ◌∙◌, ◌+◌, ◌++◌, List, ℕ, suc, [], ◌∷◌, Ok, Err, Some, ap, arith, get_or, length, length-append, replicate, subst, sym, take, take_all}
+use Rattle.std.specs.Prelude.{IfOk, None, Result}
+use Rattle.std.specs.Borrow.{Bor}
 use Rattle.std.proofs.lemmas.List.{take_more}
 use Rattle.row_core.specs.Refusals.{first_of}
 use Rattle.row_core.specs.Name.{NamePair}
+use Rattle.row_core.specs.declared.row.Row.{Row}
+use Rattle.row_core.specs.declared.schema.Column.{Column}
+use Rattle.match_core.specs.declared.classes.Classes.{Classes}
 use Rattle.row_core.proofs.RefusalLemmas.{each_allowed}
 use Rattle.match_core.specs.Cells.{Refines}
 use Rattle.match_core.specs.Classes.{AreClasses, values_under}
@@ -90,3 +94,68 @@ loop-pair-preserved g c =
       c.in_ok-classes-2.ensures.right,
       subst (λ (l : List NamePair). AreClasses left right lefts rights l (new.left.items ++ new.right.items)) front more,
     )
+
+-- a list that is lent has as many as it had
+counted : (xs : List ℕ) (n : ℕ) (lent x : Bor (List ℕ)) → lent.now ≡ xs → length xs ≡ n → Some lent ≡ Some x
+    → length x.now ≡ n
+counted xs n lent x is len e =
+    let same : lent ≡ x = cc in ap (λ (b : Bor (List ℕ)). length b.now) (sym same) ∙ ap length is ∙ len
+
+-- without names all are of one class
+all_alike : {E : Type 0} (r : Result Classes E) (left right : List Column) (lefts rights : List Row)
+    (on : List NamePair) (n m : ℕ) → n ≡ length lefts → m ≡ length rights → length on ≡ 0
+    → IfOk r (λ (new : Classes). new.left.items ≡ replicate n 0)
+    → IfOk r (λ (new : Classes). new.right.items ≡ replicate m 0)
+    → IfOk r (λ (new : Classes). AreClasses left right lefts rights on (new.left.items ++ new.right.items))
+all_alike (Ok new) left right lefts rights [] n m few many none is are =
+    rw (is, are, few, many) (no_columns left right lefts rights)
+all_alike (Ok new) left right lefts rights (pair ∷ on) n m few many none is are = absurd (omega arith)
+all_alike (Err e) left right lefts rights on n m few many none is are = tt
+
+pub returns-in_default-clause-tell : goal.returns-in_default-clause-tell
+returns-in_default-clause-tell g c =
+    all_alike c.one_class.result c.args.left.schema.now c.args.right.schema.now c.args.left.rows.now
+    c.args.right.rows.now c.args.on.now c.len.result c.len-in_default.result c.len.ensures c.len-in_default.ensures
+    c.in_default.ensures.cases c.one_class.ensures.left c.one_class.ensures.right
+
+pub split_by-requires-clause-left : goal.split_by-requires-clause-left
+split_by-requires-clause-left g c κs within x e = absurd (cc)
+
+pub split_by-requires-clause-right : goal.split_by-requires-clause-right
+split_by-requires-clause-right g c κs within x e = absurd (cc)
+
+pub split_by-requires-clause-allowed : goal.split_by-requires-clause-allowed
+split_by-requires-clause-allowed g c κs within =
+    let on = c.args.on.now in
+    let first = c.in-Some.first.now in
+    let whole = c.in-Some.ensures.cases.0 in
+    let tests = tests_of_names c.args.left.schema.now c.args.right.schema.now in
+    let len = ap length whole in
+    subst (λ (p : NamePair). first_of (tests p) ≡ None) (ap (λ (l : List NamePair). get_or l 0 first) whole)
+    (each_allowed tests on 0 first c.requires (omega (arith, len)))
+
+pub split_by-requires-in-loop-pair-clause-left : goal.split_by-requires-in-loop-pair-clause-left
+split_by-requires-in-loop-pair-clause-left g c κs within x e =
+    counted c.loop-pair.classes.left.items (length c.args.left.rows.now) c.as_slice.result x c.as_slice.ensures.value
+    c.loop-pair.invariant.0 e
+
+pub split_by-requires-in-loop-pair-clause-right : goal.split_by-requires-in-loop-pair-clause-right
+split_by-requires-in-loop-pair-clause-right g c κs within x e =
+    counted c.loop-pair.classes.right.items (length c.args.right.rows.now) c.as_slice-in-loop-pair.result x
+    c.as_slice-in-loop-pair.ensures.value c.loop-pair.invariant.1 e
+
+pub returns-clause-left : goal.returns-clause-left
+returns-clause-left g c = c.loop-pair.invariant.0
+
+pub returns-clause-right : goal.returns-clause-right
+returns-clause-right g c = c.loop-pair.invariant.1
+
+pub returns-clause-tell : goal.returns-clause-tell
+returns-clause-tell g c =
+    let on = c.args.on.now in
+    let len = ap length c.in-Some.ensures.cases.0 in
+    let past = c.loop-pair-test.false in
+    subst
+    (λ (l : List NamePair). AreClasses c.args.left.schema.now c.args.right.schema.now c.args.left.rows.now
+    c.args.right.rows.now l (c.loop-pair.classes.left.items ++ c.loop-pair.classes.right.items))
+    (take_all (c.loop-pair.pair-index + 1) on (omega (arith, len, past))) c.loop-pair.invariant.2
