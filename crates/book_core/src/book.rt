@@ -24,6 +24,7 @@ use list_core::copy_each;
 use period_core::Point;
 use row_core::{Failure, Name, NoMemory, Schema};
 use std::alloc::Global;
+use std::fmt;
 use std::marker::Model;
 use version_core::{Change, SharedRows, VersionList};
 
@@ -31,7 +32,7 @@ use version_core::{Change, SharedRows, VersionList};
 const TABLE_LIMIT: usize = 64;
 
 /// A book. Contracts see its history: the changes that it accepted, oldest first.
-#[derive(Debug, Drop)]
+#[derive(Drop)]
 pub struct Book {
     alloc: Global,
     /// The changes. Of a load its table alone: its rows are those of the versions that it made.
@@ -51,6 +52,13 @@ impl Model for Book {
 
     ghost invariant = { λ b.
         IsBook (restored_from 0 b.tables.items b.history.items) b.tables.items b.log.items };
+}
+
+/// A book is shown by its name alone.
+impl fmt::Debug for Book {
+    fn fmt<W: fmt::Write>(&self, f: &mut fmt::Formatter<W>) -> fmt::Result {
+        f.write_str("Book { .. }")
+    }
 }
 
 impl Book {

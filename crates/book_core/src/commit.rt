@@ -10,7 +10,7 @@ use std::alloc::Global;
 use version_core::Change;
 
 /// A change that was accepted, and by whom.
-#[derive(Debug, Drop)]
+#[derive(Drop)]
 pub struct Commit {
     pub by: u32,
     pub change: Change,

@@ -5,35 +5,49 @@ ghost use Rattle.row_core.specs.Refusals.{map_refused};
 ghost use Rattle.book_core.specs.State.{overlap_refusal};
 
 use row_core::Failure;
+use std::{error, fmt};
 use thiserror::Error;
 use version_core::KeyOverlap;
 
 /// Why a change is not made, in the order of the tests; of pairs, each is tested for both of its names
 /// before the next one.
-#[derive(Clone, Copy, Debug, PartialEq, Eq, Error)]
+#[derive(Clone, Copy, Debug, PartialEq, Eq)]
 pub enum BookRefused {
     /// A table of that name is there.
-    #[error("a table of that name is there")]
     TableExists,
     /// 64 tables are there.
-    #[error("64 tables are there")]
     TooMany,
     /// No table of that name is there.
-    #[error("no table of that name is there")]
     NoTable,
     /// The table has no column of that name.
-    #[error("the table has no column of that name")]
     NoColumn,
     /// A value is not of its column's kind, or a row does not fit the table's columns.
-    #[error("a value is not of its column's kind, or a row does not fit the table's columns")]
     WrongKind,
     /// 1,000,000 commits are there, or the table would have more than 1,000,000 versions.
-    #[error("1,000,000 commits are there, or the table would have more than 1,000,000 versions")]
     Full,
     /// The table has a key, and two of its rows would be equal in each column of it and share an instant.
-    #[error("two rows of one key would share an instant")]
     KeyOverlap,
 }
+
+impl fmt::Display for BookRefused {
+    fn fmt<W: fmt::Write>(&self, f: &mut fmt::Formatter<W>) -> fmt::Result {
+        f.write_str(match self {
+            BookRefused::TableExists => "a table of that name is there",
+            BookRefused::TooMany => "64 tables are there",
+            BookRefused::NoTable => "no table of that name is there",
+            BookRefused::NoColumn => "the table has no column of that name",
+            BookRefused::WrongKind => {
+                "a value is not of its column's kind, or a row does not fit the table's columns"
+            }
+            BookRefused::Full => {
+                "1,000,000 commits are there, or the table would have more than 1,000,000 versions"
+            }
+            BookRefused::KeyOverlap => "two rows of one key would share an instant",
+        })
+    }
+}
+
+impl error::Error for BookRefused {}
 
 /// Why a change is not made that only the test of its rows' keys can refuse.
 pub(crate) fn overlap_failure(why: Failure<KeyOverlap>) -> Failure<BookRefused>
@@ -46,29 +60,47 @@ pub(crate) fn overlap_failure(why: Failure<KeyOverlap>) -> Failure<BookRefused>
 }
 
 /// Why the rows of a table are not given, in the order of the tests.
-#[derive(Clone, Copy, Debug, PartialEq, Eq, Error)]
+#[derive(Clone, Copy, Debug, PartialEq, Eq)]
 pub enum RowsRefused {
     /// There are fewer commits.
-    #[error("there are fewer commits")]
     Future,
     /// No table of that name is there.
-    #[error("no table of that name is there")]
     NoTable,
 }
 
+impl fmt::Display for RowsRefused {
+    fn fmt<W: fmt::Write>(&self, f: &mut fmt::Formatter<W>) -> fmt::Result {
+        f.write_str(match self {
+            RowsRefused::Future => "there are fewer commits",
+            RowsRefused::NoTable => "no table of that name is there",
+        })
+    }
+}
+
+impl error::Error for RowsRefused {}
+
 /// Why the versions of a table are not given, in the order of the tests.
-#[derive(Clone, Copy, Debug, PartialEq, Eq, Error)]
+#[derive(Clone, Copy, Debug, PartialEq, Eq)]
 pub enum VersionsRefused {
     /// There are fewer commits.
-    #[error("there are fewer commits")]
     Future,
     /// The two commits are not in order.
-    #[error("the two commits are not in order")]
     BadPeriod,
     /// No table of that name is there.
-    #[error("no table of that name is there")]
     NoTable,
 }
+
+impl fmt::Display for VersionsRefused {
+    fn fmt<W: fmt::Write>(&self, f: &mut fmt::Formatter<W>) -> fmt::Result {
+        f.write_str(match self {
+            VersionsRefused::Future => "there are fewer commits",
+            VersionsRefused::BadPeriod => "the two commits are not in order",
+            VersionsRefused::NoTable => "no table of that name is there",
+        })
+    }
+}
+
+impl error::Error for VersionsRefused {}
 
 /// No table has that name.
 #[derive(Clone, Copy, Debug, PartialEq, Eq, Error)]

@@ -12,7 +12,7 @@ use std::sync::Arc;
 use version_core::Versions;
 
 /// A table with all versions of its rows, which copies share until one of them is changed.
-#[derive(Debug, Drop)]
+#[derive(Drop)]
 pub(crate) struct Table {
     pub name: Name,
     pub schema: Schema,
