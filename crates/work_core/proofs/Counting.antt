@@ -22,3 +22,6 @@ times-last x xs =
     let both = times-append x xs (x ∷ []) in
     let one : times x (x ∷ []) ≡ 1 = grind (arith, nat_tests) in
     omega (arith, both, one)
+
+pub times-other : (x n : ℕ) → x < n → times x (n ∷ []) ≡ 0
+times-other x n h = grind (arith, nat_tests)

@@ -1,8 +1,8 @@
 -- What workers keep, and what they hand back.
-use Rattle.std.proofs.Common.{◌≡◌, ℕ, zero, suc, ◌+◌, ◌<◌, ◌≤◌, max, List, [], ◌∷◌, ◌++◌, length, Some, Option, slice_set, ap, ◌∙◌, sym, subst, ⊎_elim, arith, length-set}
+use Rattle.std.proofs.Common.{rules, None, replicate, refl, ◌≡◌, ℕ, zero, suc, ◌+◌, ◌<◌, ◌≤◌, max, List, [], ◌∷◌, ◌++◌, length, Some, Option, slice_index_or, slice_set, ap, ◌∙◌, sym, subst, ⊎_elim, arith, length-set}
 use Rattle.std.proofs.lemmas.Bool.{cases_lt}
 use Rattle.std.proofs.lemmas.List.{map-append}
-use Rattle.std.proofs.lemmas.List.Elements.{All-push, All-same}
+use Rattle.std.proofs.lemmas.List.Elements.{All-nil, All-push, All-same}
 use Rattle.atomic_table.specs.Table.{Me}
 use Rattle.work_core.specs.declared.claim_view.ClaimView.{ClaimView}
 use Rattle.work_core.specs.declared.job.PairWork as PairWork
@@ -12,7 +12,8 @@ use Rattle.work_core.specs.Claims.{joined_view}
 use Rattle.work_core.specs.Collected.{AreAtTheirPlaces}
 use Rattle.work_core.specs.Counting.{times}
 use Rattle.work_core.specs.Workers.{numbers_of, count_at, count_kept, KeepsValue, IsOfItsPair, IsRun, AreOfDrawn}
-use Rattle.work_core.proofs.Counting.{times-append}
+use Rattle.work_core.proofs.Counting.{times-append, times-other}
+use Rattle.work_core.proofs.PresentValues.{not_none}
 use Rattle.work_core.proofs.Places.{count_at-set, at_their_places-set}
 
 -- the numbers of two lists of values
@@ -66,6 +67,11 @@ one_more zero kept more after next was keeps some = omega (arith, some)
 one_more (suc drawn) kept more after next was keeps some =
     let p : 0 < after = keeps (was (omega arith)) in omega (arith, p)
 
+same_in : {X : Type 0} (n i : ℕ) (x : X) → slice_index_or (replicate n x) i x ≡ x
+same_in zero i x = search rules
+same_in (suc n) zero x = refl
+same_in (suc n) (suc i) x = same_in n i x
+
 module _ {W Out : Type 0} (g : PairWork.Ghosts W Out) (w : W) where
   -- the number drawn last was run, and one more was drawn
   pub drawn_next : (drawn : List ℕ) (n next : ℕ) (before after : KeptValues Out) → n < g.pairs w
@@ -100,6 +106,33 @@ module _ {W Out : Type 0} (g : PairWork.Ghosts W Out) (w : W) where
         each = each;
       })
       (cases_lt n (length old))
+
+  -- one number is drawn, and nothing is kept
+  pub drawn_none : (n : ℕ) (kept : KeptValues Out) → kept.places.items ≡ replicate (length kept.places.items) None
+      → kept.values.items ≡ [] → AreOfDrawn g w (n ∷ []) (n ∷ []) kept
+  drawn_none n kept none empty = record {
+    placed = λ i o there.
+        absurd (not_none (Some o)
+        (sym there ∙ ap (λ (l : List (Option Out)). slice_index_or l i None) none
+        ∙ same_in (length kept.places.items) i None)
+        (search rules));
+    listed = All-same (IsOfItsPair g w) kept.values.items [] empty (All-nil (IsOfItsPair g w));
+    whole = λ all. empty;
+    each = λ x below some. omega (arith, some);
+  }
+
+  -- the number drawn last is past the pairs
+  pub drawn_past : (drawn : List ℕ) (n : ℕ) (kept : KeptValues Out) → g.pairs w ≤ n
+      → AreOfDrawn g w drawn (n ∷ []) kept → AreOfDrawn g w drawn [] kept
+  drawn_past drawn n kept past are = record {
+    placed = are.placed;
+    listed = are.listed;
+    whole = are.whole;
+    each = λ x below some.
+        let there = are.each x below some in
+        let other = times-other x n (omega (arith, below, past)) in
+        omega (arith, there, other);
+  }
 
 -- what a seat knows after a join
 pub joined_me : {S : Type 0} (a b m : Me S ClaimView) → m ≡ (joined_view a.0 b.0, a.1)

@@ -7,7 +7,7 @@ use Rattle.std.specs.Option.{option_map}
 use Rattle.work_core.specs.Collected.{present_values}
 
 -- an empty place has no value
-not_none : {T : Type 0} (x : Option T) → x ≡ None → IsSome x → ⊥
+pub not_none : {T : Type 0} (x : Option T) → x ≡ None → IsSome x → ⊥
 not_none None e h = cc
 not_none (Some y) e h = cc
 

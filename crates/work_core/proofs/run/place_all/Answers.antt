@@ -5,6 +5,9 @@ use Rattle.work_core.specs.declared.numbered.Numbered.{Numbered}
 use Rattle.work_core.specs.Counting.{times}
 use Rattle.work_core.specs.Workers.{IsOfItsPair, numbers_of, count_at}
 use Rattle.work_core.proofs.Places.{All-first, places-put, count_at-set_more}
+use Rattle.std.proofs.Common.{◌≡◌, [], ap, sym}
+use Rattle.std.proofs.lemmas.List.{nil_from_length}
+use Rattle.std.proofs.lemmas.List.Elements.{All-same}
 use Rattle.work_core.proofs.run.place_all.Goals as goal
 
 pub loop-numbered-preserved-in-Some : goal.loop-numbered-preserved-in-Some
@@ -48,3 +51,30 @@ loop-numbered-preserved g c =
           (subst (λ (l : List (Numbered g.row.W-Out.Denot)). 0 < count_at old x + times x (numbers_of l)) step
           (was.each x below some));
     }
+
+pub loop-numbered-init : goal.loop-numbered-init
+loop-numbered-init g c =
+    let old = c.args.places.now.items in
+    let iter = c.into_iter-numbered-iterator.ensures.into_iter_gives in
+    record {
+      may_next = tt;
+      ends = tt;
+      are = c.requires.are;
+      rest = All-same (IsOfItsPair g.W.PairWork c.args.job.now)
+          (into_iter_items c.into_iter-numbered-iterator.result) c.args.values.items iter.0 c.requires.values;
+      each = λ x below some.
+          subst (λ (l : List (Numbered g.row.W-Out.Denot)). 0 < count_at old x + times x (numbers_of l)) (sym iter.0)
+          some;
+    }
+
+pub returns-clause-are : goal.returns-clause-are
+returns-clause-are g c = c.loop-numbered.invariant.are
+
+pub returns-clause-each : goal.returns-clause-each
+returns-clause-each g c = λ x below some.
+    let left = c.loop-numbered.numbered-iterator in
+    let nil : into_iter_items left ≡ [] =
+    nil_from_length (into_iter_items left) (omega (arith, c.in-None.ensures.steps.0, left.rest.ok)) in
+    let none = ap (λ (l : List (Numbered g.row.W-Out.Denot)). times x (numbers_of l)) nil in
+    let there = c.loop-numbered.invariant.each x below some in
+    omega (arith, none, there)

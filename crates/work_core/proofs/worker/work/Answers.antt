@@ -6,6 +6,8 @@ use Rattle.work_core.specs.Counting.{times}
 use Rattle.work_core.specs.Workers.{AreOfDrawn, IsRunAfter}
 use Rattle.work_core.proofs.Counting.{times-append, times-last}
 use Rattle.work_core.proofs.Handed.{drawn_next, length-places-kept}
+use Rattle.std.proofs.Common.{rules, refl, sym, subst, ℕ, List, ◌≤◌, ◌++◌}
+use Rattle.work_core.proofs.Handed.{drawn_none, drawn_past}
 use Rattle.work_core.proofs.worker.work.Goals as goal
 
 pub loop-number-preserved : goal.loop-number-preserved
@@ -44,4 +46,46 @@ loop-number-preserved g c =
           (IfOk-at_ok (AreOfDrawn g.W.PairWork c.args.job.now old (n ∷ [])) run.was was.drawn)))
           c.run_next-kept.ensures;
       refused = λ refused. (n, inside, mine);
+    }
+
+pub loop-number-init : goal.loop-number-init
+loop-number-init g c =
+    let fresh = c.requires.0.1 in
+    let draw = c.draw-number in
+    let n = draw.result in
+    let after = draw.ensures.drawn in
+    let room = ap (λ (v : ClaimView). v.room) after in
+    let least = ap (λ (v : ClaimView). v.least) after in
+    let drawn = ap (λ (v : ClaimView). v.drawn) after ∙ ap (λ m. m.0.drawn ++ n ∷ []) fresh in
+    let before = ap (λ m. m.0.room) fresh in
+    record {
+      table_is = draw.ensures.table;
+      part = ap (λ (v : ClaimView). v.parts) after ∙ ap (λ m. m.0.parts) fresh;
+      free = draw.ensures.kept ∙ ap (λ m. m.1) fresh;
+      reached = least;
+      room = omega (arith, room, least, before);
+      last = rw drawn (times-last n []);
+      places = refl;
+      drawn =
+          subst (λ (l : List ℕ). AreOfDrawn g.W.PairWork c.args.job.now l (n ∷ []) c.args.worker.kept) (sym drawn)
+          (drawn_none g.W.PairWork c.args.job.now n c.args.worker.kept c.requires.1 c.requires.2);
+      refused = search rules;
+    }
+
+pub returns : goal.returns
+returns g c =
+    let was = c.loop-number.invariant in
+    let past : g.W.PairWork.pairs c.args.job.now ≤ c.loop-number.number =
+    omega (arith, c.loop-number-test.false, c.count-count.ensures) in
+    record {
+      table_is = was.table_is ∙ c.requires.0.0;
+      free = was.free;
+      part = was.part;
+      past = omega (arith, was.reached, past);
+      places = was.places;
+      values = IfOk-weaker c.loop-number.kept _ _
+          (λ (kept : KeptValues g.row.W-Out.Denot) (are : AreOfDrawn g.W.PairWork c.args.job.now c.loop-number.seat.me.0.drawn (c.loop-number.number ∷ []) kept).
+          drawn_past g.W.PairWork c.args.job.now c.loop-number.seat.me.0.drawn c.loop-number.number kept past are)
+          was.drawn;
+      refused = was.refused;
     }
