@@ -1,7 +1,8 @@
 -- The rows of all items, from those of the items of some classes and of all higher ones.
-use Rattle.std.proofs.Common.{◌≡◌, ◌≢◌, ◌⊎◌, ℕ, ◌<◌, ◌≤◌, ℤ, All, Some, List, [], ◌++◌, length, get_or, sym, subst, ap, ◌∙◌, refl, inl, inr, arith, append-nil}
+use Rattle.std.proofs.Common.{◌≡◌, ◌≢◌, ◌⊎◌, ℕ, ◌+◌, ◌∷◌, ◌<◌, ◌≤◌, ℤ, All, Some, List, [], ◌++◌, length, get_or, sym, subst, ap, ◌∙◌, refl, inl, inr, arith, append-nil}
 use Rattle.std.specs.Prelude.{Contains, AllPairs, slice_get}
-use Rattle.std.proofs.lemmas.List.{append_assoc}
+use Rattle.std.proofs.lemmas.List.{append_assoc, length-append}
+use Rattle.std.proofs.lemmas.Option.{same_Some}
 use Rattle.std.proofs.lemmas.List.Elements.{All-contains, Contains-append_left, Contains-append_right, Contains-append_cases}
 use Rattle.dip_core.specs.declared.item.Item.{Item}
 use Rattle.dip_core.specs.Item.{HasDistinctIds}
@@ -213,3 +214,16 @@ bundling_end left right lefts rights rows none i =
     subst (AreItemsRows left right) (append-nil rows)
     (i.goes_on []
     (subst (λ (xs : List Item). AreItemsRows xs rights []) (sym none) (AreItemsRows-none rights [] refl)))
+
+-- behind the first item's class are fewer items
+pub fewer_behind : (class : ℕ) (first : Item) (items low high : List Item) → Some first ≡ slice_get items 0
+    → first.class ≤ class → ArePartedAt (class + 1) items low high → length high < length items
+fewer_behind class first items (y ∷ low) high starts least parted =
+    let all = ap length parted.whole in let both = length-append low high in omega (arith, all, both)
+fewer_behind class first items [] [] starts least parted =
+    let none = starts ∙ ap (λ l. slice_get l 0) parted.whole in absurd cc
+fewer_behind class first items [] (z ∷ high) starts least parted =
+    let at = starts ∙ ap (λ l. slice_get l 0) parted.whole in
+    let same = ap (λ (x : Item). x.class) (same_Some first z at) in
+    let beyond = parted.from 0 first (omega arith) in
+    absurd (omega (arith, same, least, beyond))

@@ -1,14 +1,19 @@
 -- Rows that are gathered by their ids and sorted, range by range.
-use Rattle.std.proofs.Common.{◌≡◌, ◌≢◌, ◌⊎◌, ℕ, ◌<◌, ◌&&◌, Bool, false, not, Option, Some, None, List, ◌++◌, filter, refl, sym, subst, ap, ◌∙◌, inl, inr, arith, append-nil}
+use Rattle.std.proofs.Common.{◌≡◌, ◌≢◌, ◌⊎◌, ℕ, ◌+◌, ◌<◌, [], ◌∷◌, get_or, take, length, add-one, true, ◌&&◌, Bool, false, not, Option, Some, None, List, ◌++◌, filter, refl, sym, subst, ap, ◌∙◌, inl, inr, arith, append-nil}
 use mathlib.Core.Bool.{true≢false}
-use Rattle.std.specs.Prelude.{AllPairs, Contains, IsPermutation, IsSorted, flat_map, true}
+use Rattle.std.specs.Prelude.{AllPairs, Contains, IsPermutation, IsSorted, flat_map}
 use Rattle.std.specs.Cmp.{nat_cmp_is}
 use Rattle.std.specs.Ordering.{int_cmp, nat_cmp, ordering_then}
 use Rattle.std.specs.declared.cmp.Ordering.{Ordering}
 use Rattle.std.specs.declared.cmp.Ordering.TheVariants.{Less}
 use Rattle.std.proofs.lemmas.Bool.Decides.{nat_tests}
 use Rattle.std.proofs.lemmas.Cmp.{nat_cmp_total}
-use Rattle.std.proofs.lemmas.List.Elements.{All-contains, Contains-append_cases, Contains-append_left, filter_passes}
+use Rattle.std.proofs.lemmas.List.Elements.{filter-append, All-contains, Contains-append_cases, Contains-append_left, filter_passes}
+use Rattle.std.proofs.lemmas.Grind.{common_steps}
+use Rattle.std.proofs.Math.Seq.{take-suc}
+use Rattle.std.specs.Global.{Vec}
+use Rattle.list_core.specs.Chunks.{all_in}
+use Rattle.list_core.proofs.ChunkLemmas.{all_in-more}
 use Rattle.std.proofs.lemmas.List.Kept.{AllPairs-filter}
 use Rattle.std.proofs.lemmas.List.Sorted.{Contains-permutation, IsPermutation-filter_both, IsPermutation-sym}
 use Rattle.list_core.specs.Wanted.{IsListOf}
@@ -24,6 +29,30 @@ use Rattle.anti_core.specs.declared.rows.AntiRow.{AntiRow}
 use Rattle.anti_core.specs.Anti.{AntiRowBefore, anti_cmp}
 use Rattle.anti_core.specs.Ordering.{IsRowOf}
 use Rattle.anti_core.proofs.OrderLemmas.{sorted_rows}
+
+-- ---- gathering
+
+-- another row, which passes
+pub kept-more : (test : AntiRow → Bool) (base list : List AntiRow) (i : ℕ) (row : AntiRow) (old new : List AntiRow)
+    → i < length list → row ≡ get_or list i row → test row ≡ true → old ≡ base ++ filter test (take i list)
+    → new ≡ old ++ row ∷ [] → new ≡ base ++ filter test (take (i + 1) list)
+kept-more test base list i row old new inside at pass was is = grind (arith, common_steps)
+
+-- another row, which doesn't
+pub kept-same : (test : AntiRow → Bool) (base list : List AntiRow) (i : ℕ) (row : AntiRow) (old new : List AntiRow)
+    → i < length list → row ≡ get_or list i row → test row ≡ false → old ≡ base ++ filter test (take i list)
+    → new ≡ old → new ≡ base ++ filter test (take (i + 1) list)
+kept-same test base list i row old new inside at fails was is = grind (arith, common_steps)
+
+-- those of another list
+pub kept_in-more : (test : AntiRow → Bool) (lists : List (Vec AntiRow)) (i : ℕ) (list : Vec AntiRow)
+    (old new : List AntiRow) → i < length lists → list ≡ get_or lists i list → old ≡ filter test (all_in (take i lists))
+    → new ≡ old ++ filter test list.items → new ≡ filter test (all_in (take (i + 1) lists))
+kept_in-more test lists i list old new inside at was is =
+    let step : take (i + 1) lists ≡ take i lists ++ list ∷ [] =
+    ap (λ n. take n lists) (add-one i) ∙ take-suc lists i list inside ∙ ap (λ l. take i lists ++ l ∷ []) (sym at) in
+    is ∙ ap (λ z. z ++ filter test list.items) was ∙ sym (filter-append test (all_in (take i lists)) list.items)
+    ∙ ap (λ z. filter test z) (sym (all_in-more (take i lists) list)) ∙ ap (λ l. filter test (all_in l)) (sym step)
 
 -- ---- the rows of one range
 

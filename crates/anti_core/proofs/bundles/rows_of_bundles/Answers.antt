@@ -1,6 +1,9 @@
 use Rattle.std.proofs.Common.{◌+◌}
 use Rattle.grid_core.proofs.BundleLemmas.{from-rise, low-distinct, none_first}
 use Rattle.anti_core.proofs.BundleLemmas.{bundling_start, bundling_from, bundling_more, bundling_end}
+use Rattle.std.proofs.Common.{length, ap, arith}
+use Rattle.std.proofs.lemmas.List.{length-append}
+use Rattle.anti_core.proofs.BundleLemmas.{fewer_behind}
 use Rattle.anti_core.proofs.bundles.rows_of_bundles.Goals as goal
 
 pub bundles-init : goal.bundles-init
@@ -33,3 +36,15 @@ pub returns : goal.returns
 returns g c =
     bundling_end c.args.left.now c.args.right.now c.bundles.lefts.now c.bundles.rights.now c.bundles.rows.items
     (none_first c.bundles.lefts.now c.in_default.ensures.value) c.bundles.invariant
+
+pub rows_of_items-requires-clause-left_few : goal.rows_of_items-requires-clause-left_few
+rows_of_items-requires-clause-left_few g c = λ κs outlives.
+    let whole = ap length c.parted_behind.ensures.whole in
+    let both = length-append c.parted_behind.result.0.now c.parted_behind.result.1.now in
+    let few = c.bundles.invariant.left_few in
+    omega (arith, whole, both, few)
+
+pub bundles-smaller : goal.bundles-smaller
+bundles-smaller g c =
+    fewer_behind c.last_class-class.result c.in-Some.first.now c.bundles.lefts.now c.parted_behind.result.0.now
+    c.parted_behind.result.1.now c.in-Some.ensures.value c.last_class-class.ensures c.parted_behind.ensures

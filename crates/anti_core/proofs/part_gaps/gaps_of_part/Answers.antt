@@ -1,10 +1,12 @@
-use Rattle.std.proofs.Common.{◌≡◌, ℕ, ◌+◌, ◌-◌, ◌*◌, ◌<◌, ◌≤◌, List, length, min, take, drop, arith, sym, subst, ap, ◌∙◌}
+use Rattle.std.proofs.Common.{[], ◌≡◌, ℕ, ◌+◌, ◌-◌, ◌*◌, ◌<◌, ◌≤◌, List, length, min, take, drop, arith, sym, subst, ap, ◌∙◌}
 use Rattle.std.proofs.Math.Arith.{digits_lt}
 use Rattle.dip_core.specs.declared.item.Item.{Item}
 use Rattle.dip_core.specs.Division.{all_of, part_at}
 use Rattle.merge_core.specs.Gaps.{ListsGaps}
 use Rattle.anti_core.specs.PairGaps.{AreGapsAgainst}
 use Rattle.anti_core.proofs.SupplyLemmas.{AreGapsAgainst-from_pairs, more-met, supply-held}
+use Rattle.std.proofs.lemmas.List.{take_all}
+use Rattle.merge_core.specs.Meets.{IdsTell}
 use Rattle.anti_core.proofs.part_gaps.gaps_of_part.Goals as goal
 
 pub supply_at-requires-clause-supply : goal.supply_at-requires-clause-supply
@@ -52,3 +54,34 @@ loop-done-preserved g c =
           c.in_ok-gaps-2.ensures.both (part_at ps c.args.number) right others c.requires.tell a b),
       λ x e. supply-held ps qs ready x e c.in_ok-ready.ensures.values,
     )
+
+pub loop-done-init : goal.loop-done-init
+loop-done-init g c = (
+  omega arith,
+  subst (λ (p : List Item). ListsGaps p [] c.in_ok-gaps.gaps) c.part-part.ensures c.in_ok-gaps.ensures,
+  c.requires.supply,
+)
+
+pub meet_values-requires : goal.meet_values-requires
+meet_values-requires g c =
+    let there = c.in_ok-ready.ensures.there in
+    let least = c.min-count.ensures in
+    let len = c.len.ensures in
+    let more = c.loop-done-test.true in
+    record {
+      some = omega (arith, there.0, there.1, least, len, more);
+      inside = omega (arith, there.0, there.1, least, len, more);
+      tell = subst (λ (p : List Item). IdsTell p) (sym c.part-part.ensures) c.requires.tell;
+    }
+
+pub returns-clause-gaps : goal.returns-clause-gaps
+returns-clause-gaps g c =
+    let qs = c.args.pairs.now.right.now in
+    let all = c.loop-done-test.false in
+    let rights : c.parts-rights.result ≡ length qs = c.parts-rights.ensures.value in
+    subst
+    (λ (l : List (List Item)). ListsGaps (part_at c.args.pairs.now.left.now c.args.number) (all_of l) c.loop-done.gaps)
+    (take_all c.loop-done.done qs (omega (arith, all, rights))) c.loop-done.invariant.1
+
+pub returns-clause-supply : goal.returns-clause-supply
+returns-clause-supply g c = c.loop-done.invariant.2
