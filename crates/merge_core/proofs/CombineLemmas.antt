@@ -1,7 +1,8 @@
 -- Two lists of steps taken together, step by step.
 use Rattle.std.proofs.Common.{◌≡◌, ℕ, List, [], ◌∷◌, ◌++◌, Option, Some, None, drop, inl, inr, refl, sym, subst, ap, ◌∙◌, arith, append-nil, append_assoc}
 use Rattle.std.specs.Prelude.{ℤ, ◌≤ℤ◌, ◌<ℤ◌, Contains}
-use Rattle.std.proofs.lemmas.Int.{ints}
+use Rattle.std.specs.Int.{int_min}
+use Rattle.std.proofs.lemmas.Int.{clamps, ints}
 use Rattle.list_core.proofs.RisingLemmas.{Contains-head, Contains-cons, Contains-cons_cases, Contains-none}
 use Rattle.merge_core.specs.declared.tally.Tally.{Tally}
 use Rattle.merge_core.specs.declared.step.Step.{Step}
@@ -146,6 +147,29 @@ pub record IsCombining (one other lefts rights : List Step) (at : ℤ) (now : Li
   pub left_beyond : EndsBeyond at lefts
   pub right_beyond : EndsBeyond at rights
   pub can_add : CanAdd lefts rights
+
+-- two steps that start together
+pub starts_together : (x y s : Step) → y.period.from ≤ℤ x.period.from → x.period.from ≤ℤ y.period.from
+    → s.period.from ≡ x.period.from → s.period.to ≡ int_min x.period.to y.period.to
+    → Some s.tally ≡ both (Some x.tally) (Some y.tally) → IsFirstOfBoth x y s
+starts_together x y s later early from to tally = record {
+  from = λ at a b. omega (arith, ints);
+  to_left = omega (arith, ints, clamps);
+  to_right = omega (arith, ints, clamps);
+  tallies = λ t h.
+      (let hx : t <ℤ x.period.to = omega (arith, ints, clamps) in
+      let hy : t <ℤ y.period.to = omega (arith, ints, clamps) in
+      elim (by_order s.period.from t) [
+        | inl on ↦
+            at_yes s [] t on h ∙ tally
+            ∙ ap (λ (o : Option Tally). both o (Some y.tally)) (sym (at_yes x [] t (omega (arith, ints)) hx))
+            ∙ ap (λ (o : Option Tally). both (tally_at (x ∷ []) t) o) (sym (at_yes y [] t (omega (arith, ints)) hy))
+        | inr before ↦
+            at_early s [] t before
+            ∙ ap (λ (o : Option Tally). both o None) (sym (at_early x [] t (omega (arith, ints))))
+            ∙ ap (λ (o : Option Tally). both (tally_at (x ∷ []) t) o) (sym (at_early y [] t (omega (arith, ints))))
+      ]);
+}
 
 start_beyond : (at : ℤ) (steps : List Step) → StartsFrom at steps → EndsBeyond at steps
 start_beyond at steps h s k =

@@ -28,3 +28,14 @@ pub returns : goal.returns
 returns c =
     combining_end c.args.one.now c.args.other.now c.loop-step.lefts.now c.loop-step.rights.now c.loop-step.at
     c.loop-step.steps.items c.in_default-next_step.ensures.0 c.in_default-next_step.ensures.1 c.loop-step.invariant
+
+pub next_step-requires : goal.next_step-requires
+next_step-requires c =
+    let was = c.loop-step.invariant in
+    record {
+      left_apart = was.left_apart;
+      right_apart = was.right_apart;
+      left_beyond = was.left_beyond;
+      right_beyond = was.right_beyond;
+      can_add = was.can_add;
+    }
