@@ -1,5 +1,7 @@
 -- From the anti-join of items to that of their rows.
-use Rattle.std.proofs.Common.{◌≤◌, ℕ, ℤ, List, length, sym, subst, ◌∙◌}
+use Rattle.std.proofs.Common.{◌≡◌, ◌≤◌, ◌<◌, ◌+◌, ◌++◌, ◌∷◌, [], ℕ, ℤ, List, length, map, take, get_or, add-one, append_assoc, ap, sym, subst, ◌∙◌}
+use Rattle.std.proofs.Math.Seq.{take-suc}
+use Rattle.std.proofs.lemmas.List.{map-append}
 use Rattle.period_core.specs.declared.period.Period.{Period}
 use Rattle.period_core.specs.Period.{Holds}
 use Rattle.row_core.specs.declared.row.Row.{Row}
@@ -12,7 +14,8 @@ use Rattle.match_core.proofs.Tell.{ClassesTell}
 use Rattle.match_core.proofs.RowItems.{IsItemAt, row_of_item, item_of_row}
 use Rattle.anti_core.specs.declared.rows.AntiRow.{AntiRow}
 use Rattle.anti_core.specs.Anti.{AntiRowBefore, IsMet, IsUnmet, IsAntiRow, IsAnti}
-use Rattle.anti_core.specs.ItemAnti.{IsItemsAntiRow, IsItemsAnti}
+use Rattle.merge_core.specs.declared.gap.Gap.{Gap}
+use Rattle.anti_core.specs.ItemAnti.{IsItemsAntiRow, IsItemsAnti, row_of_gap}
 
 module _ (Matches : Row → Row → Type 0) (left right : List Row) (lefts rights : List ℕ)
     (left_enough : length left ≤ length lefts) (right_enough : length right ≤ length rights)
@@ -91,3 +94,15 @@ module _ (Matches : Row → Row → Type 0) (left right : List Row) (lefts right
   IsAnti-of_items rows lists =
       IsListOf-same AntiRowBefore (IsItemsAntiRow (items_with left lefts) (items_with right rights))
       (IsAntiRow Matches left right) rows row-of_items row-of_rows lists
+
+-- the row of another gap
+pub rows-more : (base : List AntiRow) (gaps : List Gap) (i : ℕ) (gap : Gap) (old new : List AntiRow) → i < length gaps
+    → gap ≡ get_or gaps i gap → old ≡ base ++ map row_of_gap (take i gaps) → new ≡ old ++ row_of_gap gap ∷ []
+    → new ≡ base ++ map row_of_gap (take (i + 1) gaps)
+rows-more base gaps i gap old new inside at was is =
+    let so_far = take i gaps in
+    let step : take (i + 1) gaps ≡ so_far ++ gap ∷ [] =
+    ap (λ n. take n gaps) (add-one i) ∙ take-suc gaps i gap inside ∙ ap (λ x. so_far ++ x ∷ []) (sym at) in
+    is ∙ ap (λ z. z ++ row_of_gap gap ∷ []) was ∙ append_assoc base (map row_of_gap so_far) (row_of_gap gap ∷ [])
+    ∙ ap (λ z. base ++ z) (sym (map-append row_of_gap so_far (gap ∷ [])))
+    ∙ ap (λ l. base ++ map row_of_gap l) (sym step)

@@ -14,3 +14,6 @@ returns g c =
     (ranges-rows left right c.in_ok-shares.shares.cuts.items c.in_ok-lists.lists.items c.requires.ids
     c.in_ok-lists.ensures))
     c.in_one_list.ensures
+
+pub returns-then-len-eq1 : goal.returns-then-len-eq1
+returns-then-len-eq1 g c = c.rows_of_bundles.ensures

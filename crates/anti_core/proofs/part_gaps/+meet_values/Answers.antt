@@ -39,3 +39,9 @@ returns t c = λ rights start inside against.
     (against-back p rights start values c.args.from count half fewer against))
     (λ right more a b. h p right more c.requires.tell a b))
     c.meet_gaps-2.ensures.both)
+
+pub meet_values-requires : goal.meet_values-requires
+meet_values-requires t c = (omega arith, (omega arith, (omega arith, c.requires.tell)))
+
+pub meet_values-requires-2 : goal.meet_values-requires-2
+meet_values-requires-2 t c = (omega arith, (omega arith, (omega arith, c.requires.tell)))

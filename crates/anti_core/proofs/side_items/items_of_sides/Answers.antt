@@ -33,3 +33,12 @@ returns-clause-union g c =
     (λ (united : Vec Item Global).
     IsUnion (items_in_range c.args.range c.args.right.now.rows.now c.args.right.now.classes.now) united.items)
     c.in_ok-united-2.was c.join-united.ensures.first
+
+pub returns-then-workers-lt2-clause-permutation : goal.returns-then-workers-lt2-clause-permutation
+returns-then-workers-lt2-clause-permutation g c = c.in_ok-lefts.ensures.permutation
+
+pub returns-then-workers-lt2-clause-sorted : goal.returns-then-workers-lt2-clause-sorted
+returns-then-workers-lt2-clause-sorted g c = c.in_ok-lefts.ensures.sorted
+
+pub returns-then-workers-lt2-clause-union : goal.returns-then-workers-lt2-clause-union
+returns-then-workers-lt2-clause-union g c = c.in_ok-united.ensures
