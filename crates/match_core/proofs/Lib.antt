@@ -7,8 +7,10 @@ pub mod RankLemmas
 pub mod NumberLemmas
 pub mod RefinedClasses
 pub mod RowItems
+pub mod SentLemmas
 pub mod SideIds
 pub mod Sided
 pub mod SplitClasses
+pub mod StandInLemmas
 pub mod Tell
 pub mod VecLemmas

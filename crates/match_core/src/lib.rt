@@ -6,6 +6,7 @@
 mod cells;
 mod classes;
 mod columns;
+mod laws;
 mod numbering;
 mod ranks;
 mod row_items;
@@ -15,6 +16,7 @@ mod split;
 
 pub use classes::{Classes, classes_of};
 pub use columns::{QueryRefused, refusal_of_pairs};
+pub use laws::matching_rows_have_equal_values;
 pub use period_core::NoMemory;
 pub use row_items::{items, items_in_range, items_with};
 pub use side::Side;

@@ -1,0 +1,63 @@
+-- Rows that stand for others match as these do, and are ordered as they are.
+use Rattle.std.proofs.Common.{◌≡◌, ◌⊎◌, ◌<◌, ℕ, List, inl, inr, sym, ap, ◌∙◌, arith}
+use Rattle.std.specs.Prelude.{Contains}
+use Rattle.std.specs.Ordering.{nat_cmp}
+use Rattle.std.specs.declared.cmp.Ordering.TheVariants.{Less, Equal, Greater}
+use Rattle.std.proofs.lemmas.Bool.Decides.{nat_tests}
+use Rattle.row_core.specs.Name.{NamePair}
+use Rattle.row_core.specs.declared.row.Row.{Row}
+use Rattle.row_core.specs.declared.schema.Column.{Column}
+use Rattle.match_core.specs.Columns.{MatchesOn}
+use Rattle.match_core.specs.Lots.{left_values, right_values}
+use Rattle.match_core.specs.StandIns.{StandFor}
+use Rattle.match_core.proofs.SentLemmas.{rows_match_by_values}
+
+-- numbers as they are compared
+nat_less : (m n : ℕ) → m < n → nat_cmp m n ≡ Less
+nat_less m n h = grind (arith, nat_tests)
+
+nat_more : (m n : ℕ) → n < m → nat_cmp m n ≡ Greater
+nat_more m n h = grind (arith, nat_tests)
+
+-- of two numbers one is less, or both are one
+nat_order : (m n : ℕ) → (m < n) ⊎ ((m ≡ n) ⊎ (n < m))
+nat_order m n = grind arith
+
+-- a function that rises keeps the order of numbers
+pub risen_cmp : (f : ℕ → ℕ) → ((m n : ℕ) → m < n → f m < f n) → (m n : ℕ) → nat_cmp (f m) (f n) ≡ nat_cmp m n
+risen_cmp f rises m n = elim (nat_order m n) [
+  | inl less ↦ nat_less (f m) (f n) (rises m n less) ∙ sym (nat_less m n less)
+  | inr other ↦ elim other [
+    | inl same ↦ same_cmp m n same
+    | inr more ↦ nat_more (f m) (f n) (rises n m more) ∙ sym (nat_more m n more)
+  ]
+]
+  where
+    tied : (k : ℕ) → nat_cmp k k ≡ Equal
+    tied k = grind (arith, nat_tests)
+
+    same_cmp : (k l : ℕ) → k ≡ l → nat_cmp (f k) (f l) ≡ nat_cmp k l
+    same_cmp k l e =
+        ap (λ v. nat_cmp (f k) (f v)) (sym e) ∙ tied (f k) ∙ sym (tied k) ∙ ap (λ v. nat_cmp k v) e
+
+module _ (left_here right_here left_there right_there : List Column) (on_here on_there : List NamePair)
+    (left right : List Row) (left_of right_of : Row → Row) (left_id right_id : ℕ → ℕ)
+    (lefts : StandFor (left_values left_here on_here) (left_values left_there on_there) left_of left_id left)
+    (rights : StandFor (right_values right_here on_here) (right_values right_there on_there) right_of right_id right) where
+  -- what stands for rows that match matches
+  pub match_here : (x y : Row) → Contains left x → Contains right y
+      → MatchesOn left_there right_there on_there (left_of x) (right_of y) → MatchesOn left_here right_here on_here x y
+  match_here x y x_in y_in matches =
+      (rows_match_by_values left_here right_here on_here x y).1
+      (sym (lefts.values_are x x_in)
+      ∙ (rows_match_by_values left_there right_there on_there (left_of x) (right_of y)).0 matches
+      ∙ rights.values_are y y_in)
+
+  -- and the other way round
+  pub match_there : (x y : Row) → Contains left x → Contains right y → MatchesOn left_here right_here on_here x y
+      → MatchesOn left_there right_there on_there (left_of x) (right_of y)
+  match_there x y x_in y_in matches =
+      (rows_match_by_values left_there right_there on_there (left_of x) (right_of y)).1
+      (lefts.values_are x x_in
+      ∙ (rows_match_by_values left_here right_here on_here x y).0 matches
+      ∙ sym (rights.values_are y y_in))
