@@ -4,6 +4,8 @@ pub mod CutLemmas
 pub mod FoundLemmas
 pub mod ItemLemmas
 pub mod JoinExistence
+pub mod JoinLotLemmas
+pub mod JoinStandInLemmas
 pub mod JoinedLemmas
 pub mod LeastLemmas
 pub mod ListLemmas

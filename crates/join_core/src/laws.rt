@@ -7,6 +7,8 @@ ghost use Rattle.row_core.specs.Name.{NamePair};
 ghost use Rattle.match_core.specs.Columns.{MatchesOn};
 ghost use Rattle.join_core.specs.declared.rows.JoinRow.{JoinRow};
 ghost use Rattle.join_core.specs.Join.{IsJoin};
+ghost use Rattle.join_core.specs.JoinLots.{LotJoinIsOfWhole, LotJoinsAreApart, WholeJoinIsOfLots};
+ghost use Rattle.join_core.specs.JoinStandIns.{JoinIsOfStandIns};
 
 /// The rows of two tables have exactly one join by given columns.
 pub fn join_has_one_list()
@@ -18,4 +20,22 @@ pub fn join_has_one_list()
         (one other : List JoinRow)
         → IsJoin (MatchesOn left_columns right_columns on) left right one
         → IsJoin (MatchesOn left_columns right_columns on) left right other → one ≡ other }
+{}
+
+/// What is sent to lots can be joined lot by lot. A function sends each left row to a lot, and another each right row,
+/// so that rows that match are sent to one. Then the join of what is sent to a lot is just the rows of the join of all
+/// whose left row is sent there, in their order; the join of all is the ordered list of what stands in those of the
+/// lots; and no row stands in two of them. Rows keep their ids and periods. Whether a program outside sends rows so is
+/// not said here.
+pub fn join_is_that_of_its_lots()
+    ensures lot { LotJoinIsOfWhole }
+    ensures whole { WholeJoinIsOfLots }
+    ensures apart { LotJoinsAreApart }
+{}
+
+/// Rows can be joined as others that stand for them: in a table of their own, with their periods and compared values
+/// alone, and with ids of their own that rise with theirs. The join of those, with the ids given back, is the join of
+/// these. So a run that numbers the rows of a lot anew, by their order, answers the lot's join.
+pub fn join_is_that_of_stand_ins()
+    ensures { JoinIsOfStandIns }
 {}

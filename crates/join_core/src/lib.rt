@@ -17,6 +17,6 @@ mod tiles;
 
 pub use item_join::JoinAnswer;
 pub use joins::join;
-pub use laws::join_has_one_list;
+pub use laws::{join_has_one_list, join_is_that_of_its_lots, join_is_that_of_stand_ins};
 pub use pairs::{JoinOut, JoinPairs, JoinWork};
 pub use rows::{JoinRow, JoinRows};
