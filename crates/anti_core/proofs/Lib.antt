@@ -1,4 +1,6 @@
 pub mod AntiExistence
+pub mod AntiLotLemmas
+pub mod AntiStandInLemmas
 pub mod BorderLemmas
 pub mod BundleLemmas
 pub mod InPlaceLemmas

@@ -1,4 +1,6 @@
 pub mod Anti
+pub mod AntiLots
+pub mod AntiStandIns
 pub mod ItemAnti
 pub mod Ordering
 pub mod PairGaps

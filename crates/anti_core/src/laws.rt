@@ -9,6 +9,8 @@ ghost use Rattle.match_core.specs.Columns.{MatchesOn};
 ghost use Rattle.merge_core.specs.Gaps.{IsMaximal};
 ghost use Rattle.anti_core.specs.declared.rows.AntiRow.{AntiRow};
 ghost use Rattle.anti_core.specs.Anti.{IsAnti, IsBordered, IsUnmet};
+ghost use Rattle.anti_core.specs.AntiLots.{LotAntiIsOfWhole, LotAntisAreApart, WholeAntiIsOfLots};
+ghost use Rattle.anti_core.specs.AntiStandIns.{AntiIsOfStandIns};
 
 /// Any rows of two tables have exactly one anti-join by the same columns.
 pub fn anti_has_one_list()
@@ -29,4 +31,23 @@ pub fn unmet_periods_are_bordered()
         (x : Row) (p : Period)
         → IsMaximal (IsUnmet (MatchesOn left_columns right_columns on) right x) p
         ↔ IsBordered (MatchesOn left_columns right_columns on) right x p }
+{}
+
+/// What is sent to lots can be anti-joined lot by lot. A function sends each left row to a lot, and another each right
+/// row, so that rows that match are sent to one. Then the anti-join of what is sent to a lot is just the rows of the
+/// anti-join of all whose left row is sent there, in their order; the anti-join of all is the ordered list of what
+/// stands in those of the lots; and no row stands in two of them. A lot to which left rows are sent, and no right ones,
+/// has an anti-join too: leaving it out leaves rows out. Rows keep their ids and periods. Whether a program outside
+/// sends rows so is not said here.
+pub fn anti_is_that_of_its_lots()
+    ensures lot { LotAntiIsOfWhole }
+    ensures whole { WholeAntiIsOfLots }
+    ensures apart { LotAntisAreApart }
+{}
+
+/// Rows can be anti-joined as others that stand for them: in a table of their own, with their periods and compared
+/// values alone, and with ids of their own that rise with theirs. The anti-join of those, with the ids given back, is
+/// the anti-join of these. So a run that numbers the rows of a lot anew, by their order, answers the lot's anti-join.
+pub fn anti_is_that_of_stand_ins()
+    ensures { AntiIsOfStandIns }
 {}

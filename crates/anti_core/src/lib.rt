@@ -19,6 +19,9 @@ mod supply;
 mod united;
 
 pub use anti_joins::anti;
-pub use laws::{anti_has_one_list, unmet_periods_are_bordered};
+pub use laws::{
+    anti_has_one_list, anti_is_that_of_its_lots, anti_is_that_of_stand_ins,
+    unmet_periods_are_bordered,
+};
 pub use pairs::{GapPairs, GapWork};
 pub use rows::{AntiRow, AntiRows};
