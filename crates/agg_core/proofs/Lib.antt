@@ -6,3 +6,7 @@ pub mod AggExistence
 pub mod ShareLemmas
 pub mod GetLemmas
 mod PieceItems
+pub mod AggLotLemmas
+pub mod AggStandInLemmas
+pub mod ClipLemmas
+pub mod SliceLemmas

@@ -93,7 +93,7 @@ tally_comes Min items tally is = (is.min_in, is.min_least)
 tally_comes Max items tally is = (is.max_in, is.max_greatest)
 
 -- numbers come to one value
-comes_once : (measure : Measure) (numbers : List ℤ) (v w : ℤ) → ComeTo measure numbers v → ComeTo measure numbers w
+pub comes_once : (measure : Measure) (numbers : List ℤ) (v w : ℤ) → ComeTo measure numbers v → ComeTo measure numbers w
     → v ≡ w
 comes_once Count numbers v w a b = a ∙ sym b
 comes_once Sum numbers v w a b = a ∙ sym b
@@ -105,7 +105,7 @@ some_inside : {X : Type 0} (xs : List X) (x : X) → Contains xs x → 0 < lengt
 some_inside xs x (i, inside, e) = omega (arith, inside)
 
 -- and the other way round
-inside_some : {X : Type 0} (xs : List X) → 0 < length xs → (x : X) × Contains xs x
+pub inside_some : {X : Type 0} (xs : List X) → 0 < length xs → (x : X) × Contains xs x
 inside_some [] some = absurd (omega (arith, some))
 inside_some (x ∷ xs) some = (x, Contains-head x xs)
 
@@ -126,7 +126,7 @@ module _ (measure : Measure) (amount_of : Row → ℤ) (c : ℕ) (rows : List Ro
       }
 
   -- what rows come to, they come to as items
-  items_come : (t : ℤ) → HoldAndComeTo measure amount_of rows value t
+  pub items_come : (t : ℤ) → HoldAndComeTo measure amount_of rows value t
       → HasValue measure (map (amount_item amount_of c) rows) value t
   items_come t h = told (some_tally (map (amount_item amount_of c) rows) t)
     where
@@ -162,7 +162,7 @@ module _ (measure : Measure) (amount_of : Row → ℤ) (c : ℕ) (rows : List Ro
 -- ---- rows of plateaus
 
 -- numbers are ordered as they are compared
-int_less : (a b : ℤ) → a <ℤ b → int_cmp a b ≡ Less
+pub int_less : (a b : ℤ) → a <ℤ b → int_cmp a b ≡ Less
 int_less a b h = grind (arith, ints)
 
 -- a group of which a row is wanted is that of some row

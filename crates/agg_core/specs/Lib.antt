@@ -4,3 +4,6 @@ pub mod Entries
 pub mod KeyRanges
 pub mod Grouping
 pub mod Shares
+pub mod AggLots
+pub mod AggStandIns
+pub mod Slices

@@ -1,0 +1,159 @@
+-- The aggregates of rows that are sent to lots, and the aggregate of all.
+use Rattle.std.proofs.Common.{◌≡◌, ◌↔◌, ℕ, ℤ, Bool, true, false, cond, List, [], ◌∷◌, Option, refl, sym, ap, subst, ◌∙◌}
+use Rattle.std.specs.Prelude.{Contains, filter, ◌==◌}
+use Rattle.std.proofs.lemmas.Bool.Decides.{Decides-eqb}
+use Rattle.row_core.specs.ValueOrder.{same_maybe}
+use Rattle.row_core.specs.declared.row.Row.{Row}
+use Rattle.row_core.specs.declared.value.Value.{Value}
+use Rattle.row_core.proofs.ValueLemmas.{maybe_decides}
+use Rattle.list_core.specs.Wanted.{IsListOf}
+use Rattle.list_core.proofs.RisingLemmas.{Contains-cons, Contains-head, IsListOf-unique}
+use Rattle.list_core.proofs.WantedLemmas.{IsListOf-same}
+use Rattle.list_core.proofs.OrderedLemmas.{before-asym}
+use Rattle.match_core.specs.Lots.{IsInSome, rows_sent}
+use Rattle.match_core.proofs.SentLemmas.{IsListOf-filter, contained-list_any, list_any-contains, sent-in, sent-there, sent-to}
+use Rattle.merge_core.specs.Gaps.{IsMaximal}
+use Rattle.round_core.specs.declared.measure.Measure.{Measure}
+use Rattle.agg_core.specs.declared.rows.AggRow.{AggRow}
+use Rattle.agg_core.specs.Agg.{AreAggRows, HoldAndComeTo, IsAggRow, amount_in, measure_of, value_in}
+use Rattle.agg_core.specs.AggLots.{LotAggIsOfWhole, LotAggsAreApart, SendsGroupsTogether, ValuesSendGroupsTogether, WholeAggIsOfLots, agg_rows_sent, has_group}
+use Rattle.agg_core.specs.Groups.{AggRowBefore, agg_row_cmp, rows_of_group}
+use Rattle.agg_core.proofs.OrderLemmas.{agg_row_total}
+use Rattle.agg_core.proofs.PlateauLemmas.{row_of_group}
+
+-- a test that each thing passes that passes another may go before that one
+filter-filter : {X : Type 0} (before after : X → Bool) (xs : List X)
+    → ((x : X) → Contains xs x → after x ≡ true → before x ≡ true) → filter after (filter before xs) ≡ filter after xs
+filter-filter before after [] passes = refl
+filter-filter before after (x ∷ xs) passes =
+    by_tests (before x) (after x) refl refl (passes x (Contains-head x xs))
+    (filter-filter before after xs (λ y h. passes y (Contains-cons x xs y h)))
+  where
+    by_tests : (b c : Bool) → before x ≡ b → after x ≡ c → (after x ≡ true → before x ≡ true)
+        → filter after (filter before xs) ≡ filter after xs
+        → filter after (cond b (x ∷ filter before xs) (filter before xs))
+        ≡ cond c (x ∷ filter after xs) (filter after xs)
+    by_tests true c e f goes rest =
+        ap (λ t. cond t (x ∷ filter after (filter before xs)) (filter after (filter before xs))) f
+        ∙ ap (λ l. cond c (x ∷ l) l) rest
+    by_tests false true e f goes rest = absurd (let bad : true ≡ false = sym (goes f) ∙ e in cc)
+    by_tests false false e f goes rest = rest
+
+-- a group that a row is of is told
+has_group-there : (group_of : Row → Option Value) (rows : List Row) (row : Row) (group : Option Value) → Contains rows row
+    → group_of row ≡ group → has_group group_of rows group ≡ true
+has_group-there group_of rows row group h e =
+    list_any-contains (λ (r : Row). same_maybe (group_of r) group) rows row h ((maybe_decides (group_of row) group).1 e)
+
+-- a group that is told is some row's
+row_of_told : (group_of : Row → Option Value) (rows : List Row) (group : Option Value)
+    → has_group group_of rows group ≡ true → (row : Row) × Contains rows row × (group_of row ≡ group)
+row_of_told group_of rows group told =
+    let (row, h, passes) = contained-list_any (λ (r : Row). same_maybe (group_of r) group) rows told in
+    (row, h, (maybe_decides (group_of row) group).0 passes)
+
+module _ (measure : Measure) (amount_of : Row → ℤ) (group_of : Row → Option Value) (lot_of : Row → ℕ) (rows : List Row)
+    (together : SendsGroupsTogether group_of lot_of rows) where
+  -- all rows of a group are sent where one is
+  group_sent : (lot : ℕ) (group : Option Value) (row : Row) → Contains (rows_sent lot_of lot rows) row
+      → group_of row ≡ group
+      → rows_of_group group_of group (rows_sent lot_of lot rows) ≡ rows_of_group group_of group rows
+  group_sent lot group row h e =
+      let row_in : Contains rows row = sent-in lot_of lot rows row h in
+      filter-filter (λ (r : Row). lot_of r == lot) (λ (r : Row). same_maybe (group_of r) group) rows
+      (λ x x_in passes.
+      let same : group_of row ≡ group_of x = e ∙ sym ((maybe_decides (group_of x) group).0 passes) in
+      (Decides-eqb (lot_of x) lot).1
+      (sym (together row x row_in x_in same) ∙ sent-to lot_of lot rows row h))
+
+  -- a row of the aggregate of what is sent to a lot
+  abbrev IsLotRow : ℕ → AggRow → Type 0
+  IsLotRow lot = IsAggRow measure amount_of group_of (rows_sent lot_of lot rows)
+
+  -- it is of a group that is sent there
+  row_sent : (lot : ℕ) (row : AggRow) → IsLotRow lot row
+      → (r : Row) × Contains (rows_sent lot_of lot rows) r × (group_of r ≡ row.group)
+  row_sent lot row is = row_of_group measure amount_of group_of (rows_sent lot_of lot rows) row is
+
+  -- it is a row of the aggregate of all
+  whole_row : (lot : ℕ) (row : AggRow) → IsLotRow lot row → IsAggRow measure amount_of group_of rows row
+  whole_row lot row is =
+      let (r, h, e) = row_sent lot row is in
+      record {
+        maximal =
+            subst (λ (l : List Row). IsMaximal (HoldAndComeTo measure amount_of l row.value) row.period)
+            (group_sent lot row.group r h e) is.maximal;
+      }
+
+  -- a row of the aggregate of all is one of its group's lot
+  lot_row : (lot : ℕ) (row : AggRow) (r : Row) → Contains (rows_sent lot_of lot rows) r → group_of r ≡ row.group
+      → IsAggRow measure amount_of group_of rows row → IsLotRow lot row
+  lot_row lot row r h e is =
+      record {
+        maximal =
+            subst (λ (l : List Row). IsMaximal (HoldAndComeTo measure amount_of l row.value) row.period)
+            (sym (group_sent lot row.group r h e)) is.maximal;
+      }
+
+  -- no row is one of two lots
+  lots_apart : (one other : ℕ) (row : AggRow) → IsLotRow one row → IsLotRow other row → one ≡ other
+  lots_apart one other row is is' =
+      let (r, h, e) = row_sent one row is in
+      let (s, k, f) = row_sent other row is' in
+      sym (sent-to lot_of one rows r h)
+      ∙ together r s (sent-in lot_of one rows r h) (sent-in lot_of other rows s k) (e ∙ sym f)
+      ∙ sent-to lot_of other rows s k
+
+  -- the aggregate of what is sent to a lot is the rows of the aggregate of all whose group is
+  lot_agg : (lot : ℕ) (whole answer : List AggRow) → AreAggRows measure amount_of group_of rows whole
+      → AreAggRows measure amount_of group_of (rows_sent lot_of lot rows) answer
+      → answer ≡ agg_rows_sent group_of lot_of rows lot whole
+  lot_agg lot whole answer is is' =
+      let sent : List Row = rows_sent lot_of lot rows in
+      IsListOf-unique AggRowBefore (IsLotRow lot) answer (agg_rows_sent group_of lot_of rows lot whole)
+      (before-asym agg_row_cmp agg_row_total) is'
+      (IsListOf-filter AggRowBefore (IsAggRow measure amount_of group_of rows) (IsLotRow lot)
+      (λ (row : AggRow). has_group group_of sent row.group) whole is
+      (λ row p. (
+        whole_row lot row p,
+        (let (r, h, e) = row_sent lot row p in has_group-there group_of sent r row.group h e),
+      ))
+      (λ row w told. let (r, h, e) = row_of_told group_of sent row.group told in lot_row lot row r h e w))
+
+  -- the aggregate of all is what stands in those of the lots
+  whole_agg : (answer_of : ℕ → List AggRow) (whole : List AggRow)
+      → ((lot : ℕ) → AreAggRows measure amount_of group_of (rows_sent lot_of lot rows) (answer_of lot))
+      → AreAggRows measure amount_of group_of rows whole ↔ IsListOf AggRowBefore (IsInSome answer_of) whole
+  whole_agg answer_of whole each = (
+    IsListOf-same AggRowBefore (IsAggRow measure amount_of group_of rows) (IsInSome answer_of) whole to back,
+    IsListOf-same AggRowBefore (IsInSome answer_of) (IsAggRow measure amount_of group_of rows) whole back to,
+  )
+    where
+      to : (row : AggRow) → IsAggRow measure amount_of group_of rows row → IsInSome answer_of row
+      to row is =
+          let (r, h, e) = row_of_group measure amount_of group_of rows row is in
+          let sent = sent-there lot_of (lot_of r) rows r h refl in
+          (lot_of r, ((each (lot_of r)).exactly row).1 (lot_row (lot_of r) row r sent e is))
+
+      back : (row : AggRow) → IsInSome answer_of row → IsAggRow measure amount_of group_of rows row
+      back row (lot, h) = whole_row lot row (((each lot).exactly row).0 h)
+
+-- so it is of a table's rows
+pub lot_agg_is_of_whole : LotAggIsOfWhole
+lot_agg_is_of_whole columns func group rows lot_of lot whole answer together is is' =
+    lot_agg (measure_of func) (amount_in columns func) (value_in columns group) lot_of rows together lot whole answer
+    is is'
+
+pub whole_agg_is_of_lots : WholeAggIsOfLots
+whole_agg_is_of_lots columns func group rows lot_of answer_of whole together each =
+    whole_agg (measure_of func) (amount_in columns func) (value_in columns group) lot_of rows together answer_of whole
+    each
+
+pub lot_aggs_are_apart : LotAggsAreApart
+lot_aggs_are_apart columns func group rows lot_of one other answer more row together is is' h k =
+    lots_apart (measure_of func) (amount_in columns func) (value_in columns group) lot_of rows together one other row
+    ((is.exactly row).0 h) ((is'.exactly row).0 k)
+
+-- a hash of a group's value sends its rows to one lot
+pub values_send_groups_together : ValuesSendGroupsTogether
+values_send_groups_together columns group hash rows x y x_in y_in same = ap hash same

@@ -1,0 +1,26 @@
+-- The aggregate of rows that stand for others, beside the aggregate of those.
+use Rattle.std.specs.Prelude.{◌≡◌, ◌↔◌, ℕ, ℤ, List, Contains, Option, map}
+use Rattle.row_core.specs.declared.row.Row.{Row}
+use Rattle.row_core.specs.declared.schema.Column.{Column}
+use Rattle.row_core.specs.declared.value.Value.{Value}
+use Rattle.agg_core.specs.Agg.{IsAgg, amount_in, measure_of, value_in}
+use Rattle.agg_core.specs.declared.func.Func.{Func}
+use Rattle.agg_core.specs.declared.rows.AggRow.{AggRow}
+
+-- each of some rows has the period, the amount and the group of the row that a function gives
+pub record StandInGroups (amount_here amount_there : Row → ℤ) (group_here group_there : Row → Option Value)
+    (row_of : Row → Row) (rows : List Row) : Type 0 where
+  pub period_is : (row : Row) → Contains rows row → (row_of row).period ≡ row.period
+  pub amount_is : (row : Row) → Contains rows row → amount_there (row_of row) ≡ amount_here row
+  pub group_is : (row : Row) → Contains rows row → group_there (row_of row) ≡ group_here row
+
+-- the aggregate of rows that stand for others is the aggregate of these
+abbrev pub AggIsOfStandIns : Type 0
+AggIsOfStandIns =
+    (columns_here columns_there : List Column) (func_here func_there : Func) (by_here by_there : Option (List ℕ))
+    (rows : List Row) (row_of : Row → Row) (answer : List AggRow)
+    → measure_of func_here ≡ measure_of func_there
+    → StandInGroups (amount_in columns_here func_here) (amount_in columns_there func_there)
+    (value_in columns_here by_here) (value_in columns_there by_there) row_of rows
+    → IsAgg columns_here func_here by_here rows answer
+    ↔ IsAgg columns_there func_there by_there (map row_of rows) answer
