@@ -9,6 +9,13 @@ from pathlib import Path
 from processes import children, wait_for
 
 COMMON = ["--no-dashboard"]
+HERE = Path(__file__).resolve().parent
+
+
+def environment():
+    """In which a worker finds the modules of tests, too."""
+    path = [str(HERE), *filter(None, [os.environ.get("PYTHONPATH")])]
+    return {**os.environ, "PYTHONPATH": os.pathsep.join(path)}
 
 
 class Cluster:
@@ -40,7 +47,7 @@ class Cluster:
         log = Path(self.folder.name) / f"{module}-{len(self.processes)}.log"
         with log.open("wb") as said:
             words = [sys.executable, "-m", f"distributed.cli.{module}", *COMMON, *words]
-            self.processes.append(subprocess.Popen(words, stdout=said, stderr=said))
+            self.processes.append(subprocess.Popen(words, stdout=said, stderr=said, env=environment()))
         return self.processes[-1]
 
     def add_worker(self):

@@ -69,7 +69,7 @@ class KilledWorker(unittest.TestCase):
             for run in range(KILLS):
                 name = random.choice(list(QUESTIONS))
                 with self.subTest(run=run, question=name):
-                    client.wait_for_workers(3)
+                    client.wait_for_workers(3, timeout=120)
                     lazy = QUESTIONS[name](spread(100), spread(200), parts=random.randint(2, 7))
                     future = client.compute(lazy, pure=False)
                     victim = random.choice(cluster.workers)

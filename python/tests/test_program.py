@@ -53,7 +53,7 @@ class Program(unittest.TestCase):
     def test_a_program_ends_where_its_caller_is_killed(self):
         self.command("exec sleep 60")
         caller = subprocess.Popen([sys.executable, "-c", CALLER])
-        self.assertTrue(wait_for(lambda: any(b"sleep" in name_of(pid) for pid in children(caller.pid)), 30))
+        self.assertTrue(wait_for(lambda: [name_of(pid) for pid in children(caller.pid)] == [b"sleep\0" b"60\0"], 60))
         [running] = children(caller.pid)
         time.sleep(0.2)
         self.assertTrue(is_running(running))

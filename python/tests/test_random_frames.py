@@ -12,7 +12,7 @@ import random_frames
 import ruzgalt
 from ruzgalt.frames import split
 
-PAIRS = int(os.environ.get("FRAMES_PAIRS", "60"))
+PAIRS = int(os.environ.get("FRAMES_PAIRS", "40"))
 SEED = int(os.environ.get("FRAMES_SEED", "1"))
 # So many rows a table may have: mostly what it has, often so few that frames go in parts.
 ROWS = [1_000_000, 1_000_000, 1, 2, 3, 5, 8, 12]

@@ -16,7 +16,7 @@ try:
 except ImportError:
     raise unittest.SkipTest("Dask isn't here: apt-get install python3-dask python3-distributed") from None
 
-RUNS = int(os.environ.get("FRAMES_SPREADS", "12"))
+RUNS = int(os.environ.get("FRAMES_SPREADS", "8"))
 SEED = int(os.environ.get("FRAMES_SEED", "1"))
 SMALL = ("int8", "int64", "Int32", "int32")
 

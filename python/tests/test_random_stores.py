@@ -14,7 +14,7 @@ import random_frames
 import ruzgalt
 from ruzgalt import records
 
-STORES = int(os.environ.get("FRAMES_STORES", "25"))
+STORES = int(os.environ.get("FRAMES_STORES", "15"))
 SEED = int(os.environ.get("FRAMES_SEED", "1"))
 DECIMALS = {"price": 2, "exact": 3}
 
