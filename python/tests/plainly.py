@@ -125,7 +125,8 @@ class Store:
         self.versions, self.commit, self.log = [], 0, []
 
     def shown(self, commit):
-        return [one for one in self.versions if one["made"] <= commit and (one["closed"] is None or commit < one["closed"])]
+        made = [one for one in self.versions if one["made"] <= commit]
+        return [one for one in made if one["closed"] is None or commit < one["closed"]]
 
     def add(self, start, end, values):
         row_id = len(self.versions) + 1

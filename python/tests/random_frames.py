@@ -5,8 +5,8 @@ import numpy as np
 import pandas as pd
 
 TEXTS = [
-    "", "a", "b", "a,b", 'a"b', '"', "a\nb", "a\r\nb", "\r", "a\0b", "a\0", "a\0c", "é", "e\u0301", "😀", "NA", "null", " x ",
-    "007", "1", "row", "end", "\ufeffz", "x" * 100, "nan", "é" * 2048,
+    "", "a", "b", "a,b", 'a"b', '"', "a\nb", "a\r\nb", "\r", "a\0b", "a\0", "a\0c", "é", "e\u0301", "😀", "NA", "null",
+    " x ", "007", "1", "row", "end", "\ufeffz", "x" * 100, "nan", "é" * 2048,
 ]
 POINTS = ("ns", "D", "S", "date", "datetime")
 FIRST_YEARS = {"ns": [1700, 1969, 2024, 2261]}
@@ -37,7 +37,8 @@ def column(kind, moments):
 def period(kind, one):
     if one is None:
         return pd.NaT
-    return pd.Period(year=one.year, month=one.month, day=one.day, hour=one.hour, minute=one.minute, second=one.second, freq=kind)
+    day = {"year": one.year, "month": one.month, "day": one.day}
+    return pd.Period(**day, hour=one.hour, minute=one.minute, second=one.second, freq=kind)
 
 
 def few_texts(random):
@@ -68,12 +69,14 @@ def frame(random, count, kind, **words):
         cells[name] = compared_column(random, count, own)
     cells["float"] = pd.Series([random.choice([1.5, float("nan"), 0.1]) for _ in range(count)], dtype="float64")
     cells["object"] = objects(random, count)
-    cells["euros"] = pd.Series([random.choice([random.randint(-5, 5), random.randint(-5, 5), 2**62]) for _ in range(count)], dtype="int64")
+    euros = [random.choice([random.randint(-5, 5), random.randint(-5, 5), 2**62]) for _ in range(count)]
+    cells["euros"] = pd.Series(euros, dtype="int64")
     order = list(cells)
     random.shuffle(order)
     made = pd.DataFrame({name: cells[name] for name in order})
-    has_labels = random.random() < 0.5
-    made.index = pd.Index([random.choice("abc") for _ in range(count)], dtype=object) if has_labels else pd.RangeIndex(5, 5 + count)
+    made.index = pd.RangeIndex(5, 5 + count)
+    if random.random() < 0.5:
+        made.index = pd.Index([random.choice("abc") for _ in range(count)], dtype=object)
     return made
 
 

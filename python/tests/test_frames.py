@@ -1,4 +1,4 @@
-"""Frames of other shapes than the random ones: labels of several levels, odd names, no rows, one row; files from Dask."""
+"""Frames of other shapes than the random ones: labels of several levels, odd names, no rows, one; files from Dask."""
 import importlib.util
 import tempfile
 import unittest

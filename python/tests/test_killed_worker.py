@@ -1,4 +1,4 @@
-"""A worker of Dask is killed while it runs the program: the answers are the same, and no program outlives its worker."""
+"""A worker of Dask is killed while it runs the program: the answers are the same, and no program outlives it."""
 import os
 import stat
 import tempfile
@@ -38,7 +38,8 @@ def piece(seed):
     random = np.random.default_rng(seed)
     start = np.datetime64("2000-01-01") + random.integers(0, 100, ROWS)
     end = start + random.integers(1, 60, ROWS)
-    return pd.DataFrame({"from": start.astype("M8[ns]"), "to": end.astype("M8[ns]"), "person": random.integers(0, PERSONS, ROWS)})
+    person = random.integers(0, PERSONS, ROWS)
+    return pd.DataFrame({"from": start.astype("M8[ns]"), "to": end.astype("M8[ns]"), "person": person})
 
 
 def spread(first):
@@ -77,7 +78,8 @@ class KilledWorker(unittest.TestCase):
                     hits += not future.done()
                     programs = cluster.kill(victim)
                     cluster.add_worker()
-                    self.assertTrue(wait_for(lambda: not any(map(is_running, programs)), 5), "a program outlives its worker")
+                    are_over = wait_for(lambda: not any(map(is_running, programs)), 5)
+                    self.assertTrue(are_over, "a program outlives its worker")
                     pd.testing.assert_frame_equal(in_order(future.result(timeout=120)), self.wanted[name])
         self.assertGreater(hits, 0, "no worker was killed before the answer was there")
 

@@ -13,7 +13,8 @@ FIRST, LAST = datetime.datetime(1, 1, 1), datetime.datetime(9999, 12, 31, 23, 59
 
 
 def period(one, freq):
-    return pd.Period(year=one.year, month=one.month, day=one.day, hour=one.hour, minute=one.minute, second=one.second, freq=freq)
+    day = {"year": one.year, "month": one.month, "day": one.day}
+    return pd.Period(**day, hour=one.hour, minute=one.minute, second=one.second, freq=freq)
 
 
 def objects(*cells):
@@ -22,7 +23,7 @@ def objects(*cells):
 
 # A column for each kind, the edges of what it holds in it.
 EDGES = {
-    "ns": pd.Series(pd.to_datetime(["1677-09-21T00:12:44", "1969-12-31T23:59:59", "1970-01-01", "2262-04-11T23:47:16"])),
+    "ns": pd.Series(pd.to_datetime(["1677-09-21T00:12:44", "1969-12-31T23:59:59", "2262-04-11T23:47:16"])),
     "D": pd.Series(pd.PeriodIndex([period(FIRST, "D"), period(LAST, "D")])),
     "S": pd.Series(pd.PeriodIndex([period(FIRST, "S"), period(LAST, "S")])),
     "date": objects(FIRST.date(), datetime.date(2024, 2, 29), LAST.date()),
@@ -68,8 +69,10 @@ class Points(unittest.TestCase):
         self.assertEqual(points.read(matrix[:, :10], matrix[:, 10:]).tolist(), SECONDS.tolist())
 
     def test_kinds_of_two_frames(self):
-        cases = [("ns", "ns", "ns"), ("ns", "D", "S"), ("ns", "s", "s"), ("us", "ms", "ms"), ("date", "datetime", "datetime"),
-                 ("date", "", "date"), ("D", "S", "S"), ("date", "D", "S"), ("", "", "")]
+        cases = [
+            ("ns", "ns", "ns"), ("ns", "D", "S"), ("ns", "s", "s"), ("us", "ms", "ms"), ("date", "", "date"),
+            ("date", "datetime", "datetime"), ("D", "S", "S"), ("date", "D", "S"), ("", "", ""),
+        ]
         for one, other, wanted in cases:
             self.assertEqual((points.joint_kind(one, other), points.joint_kind(other, one)), (wanted, wanted))
 

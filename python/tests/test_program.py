@@ -71,7 +71,8 @@ class Program(unittest.TestCase):
         real = program.program()
         self.command(f'sleep 0.2\nexec {real} "$@"')
         found = []
-        threads = [threading.Thread(target=lambda: found.append(len(ruzgalt.join(FRAME, FRAME, on="k")))) for _ in range(12)]
+        asked = lambda: found.append(len(ruzgalt.join(FRAME, FRAME, on="k")))  # noqa: E731
+        threads = [threading.Thread(target=asked) for _ in range(12)]
         for thread in threads:
             thread.start()
             time.sleep(0.03)
@@ -116,7 +117,7 @@ class Program(unittest.TestCase):
 
     def test_nothing_is_printed(self):
         lines = CALLER.replace("threading.Thread(target=ruzgalt.dip, args=(frame,)).start()", "ruzgalt.dip(frame)")
-        ran = subprocess.run([sys.executable, "-W", "error", "-c", lines], stdout=subprocess.PIPE, stderr=subprocess.PIPE)
+        ran = subprocess.run([sys.executable, "-W", "error", "-c", lines], capture_output=True)
         self.assertEqual((ran.returncode, ran.stdout, ran.stderr), (0, b"", b""))
 
 

@@ -81,11 +81,12 @@ class RandomFrames(unittest.TestCase):
         self.assertEqual([plainly.number(point, days) for point in column], wanted)
         if case.kinds[0] == case.kinds[1] and len(column):
             self.assertEqual(column.dtype, case.frames[0][case.periods[0][0]].dtype)
-            is_date = case.kinds[0] == "date"
-            for point in column if case.kinds[0] in ("date", "datetime") else ():
-                self.assertIs(type(point), type(None) if point is None else datetime.date if is_date else datetime.datetime)
+            wanted_type = {"date": datetime.date, "datetime": datetime.datetime}.get(case.kinds[0])
+            for point in column if wanted_type else ():
+                self.assertIs(type(point), type(None) if point is None else wanted_type)
             if case.is_open and is_end:
-                self.assertEqual([bool(pd.isna(point)) for point in column], [plainly.moment(point) == plainly.OPEN for point in column])
+                is_open = [plainly.moment(point) == plainly.OPEN for point in column]
+                self.assertEqual([bool(pd.isna(point)) for point in column], is_open)
 
     def has_cells(self, got, frame, name, places):
         """The cells of a frame's column at these places, with their dtype and types."""

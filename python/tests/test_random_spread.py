@@ -38,8 +38,9 @@ def other_dtypes(random, frame, compared, like):
     for name, kind in compared.items():
         if kind == "text" and len(like) and len(made):
             told = [random.choice(like[name].tolist()) for _ in range(len(made))]
-            has_zero = any("\0" in one for one in told)
-            made[name] = pd.Series(told, made.index, dtype=object).astype(random.choice(["object", "string", *([] if has_zero else ["category"])]))
+            # pandas.Categorical itself takes a\0b for a.
+            dtypes = ["object", "string", *([] if any("\0" in one for one in told) else ["category"])]
+            made[name] = pd.Series(told, made.index, dtype=object).astype(random.choice(dtypes))
         elif kind == "int" and len(made) and -100 <= made[name].min() and made[name].max() <= 100:
             made[name] = made[name].astype(random.choice(SMALL))
     return made
@@ -54,8 +55,8 @@ def spread(random, frame):
 
 def rows_of(frame, has_labels):
     """The rows in some order that is the same for the same rows."""
-    cells = [[plainly.moment(one) if name in ("from", "to") else None if one is pd.NA else one for one in frame[name]] for name in frame.columns]
-    rows = list(zip(*cells))
+    times = random_frames.PERIOD
+    rows = list(zip(*(map(plainly.moment, frame[name]) if name in times else frame[name] for name in frame)))
     return sorted([(label, *row) for label, row in zip(frame.index, rows)] if has_labels else rows, key=repr)
 
 
@@ -78,11 +79,13 @@ class Case:
         words, parts = {"open_end": self.is_open}, {"parts": self.parts}
         left, right = spread(self.random, self.left), spread(self.random, self.right)
         on = {"on": self.names, **words}
-        yield "join", ruzgalt.join(self.left, self.right, labels=True, **on), ruzgalt.join(left, right, labels=True, **on, **parts)
+        told = {"labels": True, **on}
+        yield "join", ruzgalt.join(self.left, self.right, **told), ruzgalt.join(left, right, **told, **parts)
         yield "anti", ruzgalt.anti(self.left, self.right, **on), ruzgalt.anti(left, right, **on, **parts)
         by = {"by": self.names, **words}
         yield "agg by", ruzgalt.agg(self.left, "sum", "euros", **by), ruzgalt.agg(left, "sum", "euros", **by, **parts)
-        yield "agg", ruzgalt.agg(self.left, function, *amount, **words), ruzgalt.agg(left, function, *amount, **words, **parts)
+        whole = ruzgalt.agg(self.left, function, *amount, **words)
+        yield "agg", whole, ruzgalt.agg(left, function, *amount, **words, **parts)
 
 
 class RandomSpread(unittest.TestCase):
@@ -116,9 +119,9 @@ ALIKE = [
     ("object and string", column(TEXTS, object), column(TEXTS, "string")),
     ("object and category", column(TEXTS, object), column(TEXTS, "category")),
     ("string and category", column(TEXTS, "string"), column(TEXTS, "category")),
-    ("categories in another order", column(TEXTS, "category"), pd.Series(pd.Categorical(TEXTS, categories=TEXTS[::-1]))),
+    ("categories in another order", column(TEXTS, "category"), column(TEXTS, pd.CategoricalDtype(TEXTS[::-1]))),
     ("category of int64 and int64", column(NUMBERS, "category"), column(NUMBERS, "int64")),
-    ("category of int32 and int64", pd.Series(pd.Categorical.from_codes(range(100), pd.Index(np.array(NUMBERS, "i4")))), column(NUMBERS, "int64")),
+    ("category of int32", column(NUMBERS, pd.CategoricalDtype(np.array(NUMBERS, "i4"))), column(NUMBERS, "int64")),
 ]
 
 
@@ -149,7 +152,8 @@ class Spread(unittest.TestCase):
 
     def test_what_cannot_be_split_is_refused(self):
         frame = dd.from_pandas(day_of(column(NUMBERS, "int64")), npartitions=3)
-        for asked in (lambda: ruzgalt.dip(frame), lambda: ruzgalt.join(frame, frame), lambda: ruzgalt.anti(frame, frame)):
+        asks = [lambda: ruzgalt.dip(frame), lambda: ruzgalt.join(frame, frame), lambda: ruzgalt.anti(frame, frame)]
+        for asked in asks:
             with self.assertRaises(ruzgalt.Refused) as caught:
                 asked()
             self.assertEqual(caught.exception.name, "BadCommand")
@@ -158,14 +162,19 @@ class Spread(unittest.TestCase):
         cells = day_of(column(NUMBERS, "int64"))
         cells.loc[70, "to"] = pd.Timestamp("2023-01-01")
         frame = dd.from_pandas(cells, npartitions=4)
-        for asked in (lambda: ruzgalt.join(frame, frame, on="k"), lambda: ruzgalt.agg(frame, "count"), lambda: ruzgalt.agg(frame, "count", by="k")):
+        asks = [
+            lambda: ruzgalt.join(frame, frame, on="k"), lambda: ruzgalt.agg(frame, "count"),
+            lambda: ruzgalt.agg(frame, "count", by="k"),
+        ]
+        for asked in asks:
             with self.assertRaises(ruzgalt.Refused) as caught:
                 asked().compute(scheduler="sync")
             self.assertEqual((caught.exception.name, caught.exception.label), ("BadPeriod", 70))
 
     def test_rows_over_many_slices_are_closed_up(self):
         starts = pd.date_range("2024-01-01", periods=40)
-        cells = pd.DataFrame({"from": [pd.Timestamp("2023-01-01"), *starts], "to": [pd.Timestamp("2025-01-01"), *(starts + pd.Timedelta(days=1))]})
+        first, last = pd.Timestamp("2023-01-01"), pd.Timestamp("2025-01-01")
+        cells = pd.DataFrame({"from": [first, *starts], "to": [last, *(starts + pd.Timedelta(days=1))]})
         frame = dd.from_pandas(cells, npartitions=6)
         got = ruzgalt.agg(frame, "count").compute(scheduler="sync").reset_index(drop=True)
         pd.testing.assert_frame_equal(got, ruzgalt.agg(cells, "count"))

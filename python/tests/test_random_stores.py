@@ -1,4 +1,4 @@
-"""Random stores of one table, with changes and questions, beside plainly.Store; and their scripts, read by tools' modules."""
+"""Random stores of one table, with changes and questions, beside plainly.Store; and their scripts."""
 import copy
 import datetime
 import decimal
@@ -17,6 +17,8 @@ from ruzgalt import records
 STORES = int(os.environ.get("FRAMES_STORES", "15"))
 SEED = int(os.environ.get("FRAMES_SEED", "1"))
 DECIMALS = {"price": 2, "exact": 3}
+EXACT = [decimal.Decimal(text) for text in ("0.1", "-2.500", "7")]
+CHANGES = ("table", "load", "update", "delete")
 
 
 class Case:
@@ -45,7 +47,7 @@ class Case:
             "person": pd.Series([random.choice(self.texts) for _ in range(count)], dtype=self.dtypes[0]),
             "euros": pd.Series([random.randint(-2, 2) for _ in range(count)], dtype=self.dtypes[1]),
             "price": pd.Series([random.choice([0.1, 12.34, -7.0, 0.29]) for _ in range(count)], dtype="float64"),
-            "exact": pd.Series([decimal.Decimal(random.choice(["0.1", "-2.500", "7"])) for _ in range(count)], dtype=object),
+            "exact": pd.Series([random.choice(EXACT) for _ in range(count)], dtype=object),
         })
         return made[random.sample(list(made.columns), 6)]
 
@@ -114,7 +116,8 @@ class Case:
 
     def some_values(self):
         random = self.random
-        told = {"person": random.choice(self.texts), "euros": random.randint(-2, 2), "price": random.choice([0.1, 12.34])}
+        told = {"person": random.choice(self.texts), "euros": random.randint(-2, 2)}
+        told["price"] = random.choice([0.1, 12.34])
         return {name: value for name, value in told.items() if random.random() < 0.4}
 
     def listed(self, frame, more=()):
@@ -145,7 +148,8 @@ class RandomStores(unittest.TestCase):
         self.assertEqual(case.listed(store.at("t", point)), case.wanted(held))
         first = random.randint(0, plain.commit)
         last = random.randint(first, plain.commit)
-        seen = [one for one in plain.versions if one["made"] <= last and (one["closed"] is None or one["closed"] > first)]
+        made = [one for one in plain.versions if one["made"] <= last]
+        seen = [one for one in made if one["closed"] is None or one["closed"] > first]
         told = case.listed(store.between("t", first, last), more=("sys_from", "sys_to"))
         self.assertEqual(told, case.wanted(seen, has_commits=True))
         self.assertEqual(list(store.log().itertuples(index=False, name=None)), plain.log)
@@ -162,8 +166,8 @@ class RandomStores(unittest.TestCase):
         self.assertEqual(pairs["left_exact"].tolist(), told["exact_left"].tolist())
         for name, other in (("valid_from", "from"), ("valid_to", "to")):
             pd.testing.assert_series_equal(pairs[name], told[other], check_names=False)
-        sums, wanted = store.agg("t", "sum", "price", by="person"), ruzgalt.agg(frame, "sum", "price", by="person", decimals=DECIMALS, **words)
-        pd.testing.assert_frame_equal(sums, wanted)
+        wanted = ruzgalt.agg(frame, "sum", "price", by="person", decimals=DECIMALS, **words)
+        pd.testing.assert_frame_equal(store.agg("t", "sum", "price", by="person"), wanted)
         self.assertEqual(len(store.anti("t", "t", [("person", "person")])), 0)
 
     def divides(self, case, rows):
@@ -188,7 +192,7 @@ class RandomStores(unittest.TestCase):
                 self.divides(case, rows)
                 # A script of changes alone, a record of which each accepted one begins.
                 words = [record.word for record in records.read(case.store.script())]
-                self.assertEqual([word for word in words if word in ("table", "load", "update", "delete")], [one[2] for one in case.plain.log])
+                self.assertEqual([word for word in words if word in CHANGES], [one[2] for one in case.plain.log])
 
 
 class Stores(unittest.TestCase):

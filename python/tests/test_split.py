@@ -24,6 +24,11 @@ def days_of(first, last, count):
     return pd.DataFrame({"from": pd.Timestamp(first), "to": pd.Timestamp(last), "k": 0, "cents": np.arange(count)})
 
 
+def counted():
+    """The program's runs, as a context."""
+    return mock.patch.object(program, "run", side_effect=program.run)
+
+
 QUESTIONS = {
     "join": lambda left, right: ruzgalt.join(left, right, on="k", labels=True),
     "join of all": lambda left, right: ruzgalt.join(left, right, labels=True),
@@ -42,7 +47,7 @@ class Split(unittest.TestCase):
         for name, asked in QUESTIONS.items():
             with self.subTest(name):
                 whole = asked(left, right)
-                with mock.patch.object(split, "ROWS", rows), mock.patch.object(program, "run", side_effect=program.run) as runs:
+                with mock.patch.object(split, "ROWS", rows), counted() as runs:
                     pd.testing.assert_frame_equal(asked(left, right), whole)
                 self.assertGreater(runs.call_count, 1)
                 self.assertLessEqual(runs.call_count, most)
@@ -87,7 +92,7 @@ class Split(unittest.TestCase):
         wide = frame(200, 12, values=20)
         wide["k"] = ["x" * 4000 + str(value) for value in wide["k"]]
         whole = ruzgalt.join(wide, wide, on="k")
-        with mock.patch.object(split.script, "ROOM", 400_000), mock.patch.object(program, "run", side_effect=program.run) as runs:
+        with mock.patch.object(split.script, "ROOM", 400_000), counted() as runs:
             pd.testing.assert_frame_equal(ruzgalt.join(wide, wide, on="k"), whole)
         self.assertGreater(runs.call_count, 3)
 

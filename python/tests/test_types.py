@@ -15,8 +15,9 @@ class Types(unittest.TestCase):
     @unittest.skipUnless(importlib.util.find_spec("mypy"), "mypy isn't here: apt-get install python3-mypy")
     def test_types_are_right(self):
         with tempfile.TemporaryDirectory() as cache:
-            words = [sys.executable, "-m", "mypy", "--config-file", "python/mypy.ini", "--cache-dir", cache, "-p", "ruzgalt.frames"]
-            ran = subprocess.run(words, cwd=TOP, env={**os.environ, "MYPYPATH": str(TOP / "python")}, stdout=subprocess.PIPE)
+            words = ["mypy", "--config-file", "python/mypy.ini", "--cache-dir", cache, "-p", "ruzgalt.frames"]
+            environment = {**os.environ, "MYPYPATH": str(TOP / "python")}
+            ran = subprocess.run([sys.executable, "-m", *words], cwd=TOP, env=environment, capture_output=True)
         self.assertEqual(ran.returncode, 0, ran.stdout.decode())
 
 

@@ -18,7 +18,7 @@ class WithoutPandas(unittest.TestCase):
                 Path(folder, f"{name}.py").write_text(text)
             path = os.pathsep.join([folder, str(TOP / "python")])
             words = [sys.executable, "-c", lines]
-            ran = subprocess.run(words, env={**os.environ, "PYTHONPATH": path}, stdout=subprocess.PIPE, stderr=subprocess.PIPE)
+            ran = subprocess.run(words, env={**os.environ, "PYTHONPATH": path}, capture_output=True)
         return ran.stdout.decode(), ran.stderr.decode()
 
     def test_modules_of_the_tools_are_imported(self):

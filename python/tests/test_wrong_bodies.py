@@ -1,4 +1,4 @@
-"""Wrong bodies of functions, each of which the random tests are to notice; in the long form, since it runs many of these."""
+"""Wrong bodies of functions, each of which the random tests are to notice; in the long form, since it runs many."""
 import os
 import unittest
 from unittest import mock
@@ -43,6 +43,14 @@ def unclipped(side, low, high):
     return side.take(np.flatnonzero((side.start < (high or points.LAST)) & (side.end > (low or points.FIRST))))
 
 
+def next_days(form, column):
+    return points.seconds_of(column, form.is_open)
+
+
+def classes(sides):
+    return [np.arange(len(side)) for side in sides]
+
+
 FRAMES, STORES = test_random_frames.RandomFrames, test_random_stores.RandomStores
 # The words for it, what is replaced, by what, and the tests that are to notice.
 WRONG = [
@@ -52,8 +60,8 @@ WRONG = [
     ("texts that end at a zero byte", values, "codes_by_dict", factorized, FRAMES),
     ("a missing end as a start", points, "NO_END", points.LAST, FRAMES),
     ("points as the left frame's", points, "joint_kind", lambda *kinds: kinds[0], FRAMES),
-    ("last days as the days behind", points.Form, "ends_of", lambda form, column: points.seconds_of(column, form.is_open), FRAMES),
-    ("each row in a class of its own", split, "classes_of", lambda sides: [np.arange(len(side)) for side in sides], FRAMES),
+    ("last days as the days behind", points.Form, "ends_of", next_days, FRAMES),
+    ("each row in a class of its own", split, "classes_of", classes, FRAMES),
     ("quotes that stay", output, "READERS", {**output.READERS, "t": quoted}, STORES),
     ("open versions as closed ones", output, "READERS", {**output.READERS, "c": closed}, STORES),
 ]

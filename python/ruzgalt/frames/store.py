@@ -100,6 +100,8 @@ class Store:
         if not equal:
             raise Refused("BadCommand", f"{name} has no key: where= names the columns that tell which rows are meant")
         given = [column for column in frame.columns if column not in (*table.period, *equal)]
+        if not given:
+            raise Refused("BadCommand", "the frame has no column but those of the period and of where=, so none to set")
         side = table.side_of(frame, [*given, *equal])
         texts = [column_texts(column) for column in side.columns]
         times = zip(points.texts_of(side.start), points.texts_of(side.end))

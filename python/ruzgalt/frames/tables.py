@@ -1,8 +1,9 @@
 """A table of a store: what the columns of its frames are there, and how fields become cells again."""
 from __future__ import annotations
 
+import datetime
 from dataclasses import dataclass, replace
-from typing import Any, Dict, Iterator, List, Mapping, Optional, Sequence
+from typing import Any, Dict, Iterator, List, Mapping, Sequence
 
 import numpy as np
 import pandas as pd
@@ -122,9 +123,11 @@ def seconds_of(point: Any) -> Ints:
         if read is None:
             raise Refused("BadPoint", f"{point!r}: {REMEDIES['BadPoint']}")
         return np.array([round((read - points.EPOCH).total_seconds())], np.int64)
-    dtype: Optional[str] = "M8[ns]" if point is None or isinstance(point, pd.Timestamp) else None
+    if point is None:
+        return np.array([points.NO_END], np.int64)
+    # Objects for dates, datetimes and Timestamps; pandas finds the dtype of a Period itself.
+    dtype = object if isinstance(point, datetime.date) else None
     try:
-        column = pd.Series([point], dtype=None if getattr(point, "tzinfo", None) else dtype)
-        return points.seconds_of(column if dtype or column.dtype != "M8[ns]" else column.astype("M8[ns]"), True)[0]
+        return points.seconds_of(pd.Series([point], dtype=dtype), True)[0]
     except Refused as error:
         raise Refused(error.name, error.reason) from None
