@@ -23,7 +23,7 @@ Python 3.9 and its library are all that is needed. A module stands on those abov
 from importlib import import_module
 from typing import Any
 
-FRAMES = ("join", "anti", "agg", "dip", "Store", "Refused", "Stopped")
+FRAMES = ("frames", "join", "anti", "agg", "dip", "Store", "Refused", "Stopped")
 
 
 def __getattr__(name: str) -> Any:
@@ -31,7 +31,8 @@ def __getattr__(name: str) -> Any:
     if name not in FRAMES:
         raise AttributeError(f"module 'ruzgalt' has no attribute {name!r}")
     try:
-        return getattr(import_module("ruzgalt.frames"), name)
+        frames = import_module("ruzgalt.frames")
+        return frames if name == "frames" else getattr(frames, name)
     except ModuleNotFoundError as missing:
         if missing.name not in ("numpy", "pandas"):
             raise

@@ -151,7 +151,7 @@ def texts_of(column: Any) -> Values:
     cells = np.asarray(column, object)
     if pd.api.types.infer_dtype(cells, skipna=False) not in ("string", "empty"):
         wrong = np.fromiter((not isinstance(cell, str) for cell in cells), bool, len(cells))
-        remedy = ".fillna('') or .astype(str) makes texts, .astype('int64') numbers"
+        remedy = ".fillna('') for missing ones, .astype('int64') for numbers, decimals= for Decimals"
         refuse(wrong, column, "WrongKind", f"{cells[int(wrong.argmax())]!r} is no text; {remedy}")
     whole = "".join(cells)
     if not whole.isascii() or max(map(len, cells), default=0) > forms.TEXT_LIMIT:
