@@ -6,6 +6,7 @@ import csv
 import io
 import unicodedata
 from dataclasses import dataclass
+from types import SimpleNamespace
 from typing import Iterable, List, Optional, Sequence
 
 csv.field_size_limit(1 << 27)
@@ -69,13 +70,9 @@ def encode(text: str) -> bytes:
     return text.encode("utf-8", "surrogateescape")
 
 
-def to_field(text: str) -> str:
-    return '"' + text.replace('"', '""') + '"' if set(text) & set(',"\r\n') else text
-
-
 def to_record(fields: Sequence[str]) -> str:
     """The fields as dipq prints them, without a line end."""
-    return ",".join(map(to_field, fields)) or '""'
+    return Printer().record(fields)
 
 
 def short(text: str) -> str:
@@ -100,5 +97,28 @@ def code_of(character: str) -> str:
     return character.encode("unicode_escape").decode()
 
 
+class Printer:
+    """Prints records as dipq does, one at a time, by Python's writer of CSV.
+
+    Its lines end with CR and LF, so that a field stands in quotes for either; they are taken off.
+    """
+
+    def __init__(self) -> None:
+        self.lines: List[str] = []
+        self.writer = csv.writer(SimpleNamespace(write=self.lines.append), lineterminator="\r\n")
+
+    def record(self, fields: Sequence[str]) -> str:
+        """The record without a line end."""
+        self.writer.writerow(fields)
+        return self.lines.pop()[:-2]
+
+    def text(self, records: Iterable[Sequence[str]]) -> str:
+        self.writer.writerows(records)
+        text = "".join([line[:-2] + "\n" for line in self.lines])
+        self.lines.clear()
+        return text
+
+
 def to_text(records: Iterable[Sequence[str]]) -> str:
-    return "".join(to_record(fields) + "\n" for fields in records)
+    """The records as dipq prints them, each with a line end."""
+    return Printer().text(records)

@@ -32,6 +32,13 @@ class Schema:
     def names(self) -> List[str]:
         return [column.name for column in self.columns]
 
+    @property
+    def fields(self) -> List[str]:
+        """The record that makes the table."""
+        columns = [text for column in self.columns for text in (column.name, column.kind.value)]
+        key = ["key", *(self.names[place] for place in self.key)] if self.key else []
+        return ["table", self.name, *columns, *key]
+
     def place(self, name: str) -> int:
         if name not in self.names:
             raise Misfit(f"the table {self.name} has no column {name}, but {', '.join(self.names) or 'none'}")

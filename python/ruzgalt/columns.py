@@ -1,0 +1,126 @@
+"""The columns of a CSV file that is loaded: what each value becomes, what is wrong with it, what may not be meant."""
+import re
+from argparse import Namespace
+from typing import Callable, Dict, Optional
+
+from ruzgalt import dates
+from ruzgalt.dates import NO_END
+from ruzgalt.decimals import SPACES
+from ruzgalt.doubts import Doubt, LookAlikes, doubt_of
+from ruzgalt.errors import Misfit
+from ruzgalt.forms import is_integer, is_short
+from ruzgalt.records import Printer, visible
+from ruzgalt.tables import Kind
+
+TO_SPACE = str.maketrans(SPACES, " " * len(SPACES))
+
+
+# What stands in quotes in a record.
+MARKED = re.compile('[,"\r\n]')
+
+
+class Column(Dict[str, Optional[str]]):
+    """The field that each value of a column becomes, found once of those that are alike; None where it is at fault."""
+
+    def __init__(self, name: str, convert: Callable[[str], str]) -> None:
+        super().__init__()
+        self.name, self.convert = name, convert
+        self.faults: Dict[str, str] = {}
+        self.doubts: Dict[str, Doubt] = {}
+        self.printer = Printer()
+
+    def __missing__(self, value: str) -> Optional[str]:
+        made: Optional[str] = None
+        try:
+            made = self.convert(value)
+            made = self.printer.record([made]) if MARKED.search(made) else made
+        except Misfit as error:
+            self.faults[value] = str(error)
+        self[value] = made
+        return made
+
+
+class Start(Column):
+    def __init__(self, name: str, form: Optional[str]) -> None:
+        super().__init__(name, self.point)
+        self.form = form
+
+    def point(self, value: str) -> str:
+        made = dates.point(value.strip(SPACES), self.form)
+        if dates.is_far_off(made):
+            self.doubts[value] = Doubt("far off", f"{made[:4]} is far off; is the year right?")
+        return made
+
+
+class End(Column):
+    def __init__(self, name: str, options: Namespace) -> None:
+        super().__init__(name, self.point)
+        self.form, self.is_open, self.is_last_day = form_of(options), options.open, options.last_day
+        self.no_ends = {*options.no_end, *([""] if options.open else [])}
+
+    def point(self, value: str) -> str:
+        # No point has a space at its ends, so none is lost.
+        text = value.strip(SPACES)
+        if text in self.no_ends:
+            return NO_END
+        if text.lower() in dates.MISSING:
+            raise Misfit(self.remedy(text))
+        made = dates.point(text, self.form)
+        if dates.is_far_off(made):
+            told = f"a row ends there; where no end is known, --no-end '{text}' makes it {NO_END}"
+            self.doubts[value] = Doubt("far off", told)
+        if "T23:59" in made and not self.is_last_day:
+            self.doubts[value] = Doubt("23:59", "the row doesn't hold at its end: a day ends at the next one's midnight")
+        return self.the_next_day(made) if self.is_last_day else made
+
+    def remedy(self, text: str) -> str:
+        if not text:
+            return f"no end; with --open it is {NO_END}, for no end that is known"
+        return f"no date; --no-end '{text}' takes it for no end that is known"
+
+    def the_next_day(self, text: str) -> str:
+        if text == NO_END:
+            if not self.is_open:
+                raise Misfit(f"no day is behind it; with --open it is {NO_END}, for no end that is known")
+            return NO_END
+        if len(text) != 10:
+            raise Misfit("a last day has no time")
+        return dates.shifted(text, 1)
+
+
+class Text(Column):
+    """A text, or a number that is taken as it is."""
+
+    def __init__(self, name: str, options: Namespace, kind: Optional[Kind], is_key: bool) -> None:
+        super().__init__(name, self.value)
+        self.has_plain_spaces, self.mark = options.plain_spaces, mark_of(options)
+        self.kind, self.is_key = kind, is_key
+        self.look_alikes = LookAlikes()
+
+    def value(self, text: str) -> str:
+        made = text.translate(TO_SPACE) if self.has_plain_spaces else text
+        if self.kind is Kind.INT:
+            if not is_integer(made):
+                told = "numbers are whole, as 5000; --decimals makes them so of others"
+                raise Misfit(f"no number of the table; {told}: --decimals {self.name}=2")
+            return made
+        if not is_short(made):
+            raise Misfit("a text has 4,096 bytes at most")
+        told = doubt_of(made, self.mark)
+        other = self.look_alikes.other(made)
+        if told:
+            self.doubts[text] = Doubt(told, told)
+        elif other is not None:
+            self.doubts[text] = Doubt("alike", f"it is another text than '{visible(other)}', though they look alike")
+        elif self.is_key and not made:
+            self.doubts[text] = Doubt("empty", "it is empty, so all such rows are of one")
+        return made
+
+
+def form_of(options: Namespace) -> Optional[str]:
+    form: Optional[str] = options.dates or (dates.GERMAN if options.german else None)
+    return form
+
+
+def mark_of(options: Namespace) -> str:
+    return options.decimal_mark or ("," if options.german else ".")

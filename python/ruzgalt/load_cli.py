@@ -1,0 +1,193 @@
+"""The words of tools/csv-to-load."""
+import gc
+import os
+import signal
+import sys
+from argparse import ArgumentParser, ArgumentTypeError, Namespace
+from pathlib import Path
+from typing import List, Optional, Sequence, Tuple
+
+from ruzgalt import commands, dates, records
+from ruzgalt.errors import Misfit
+from ruzgalt.loading import Load
+from ruzgalt.sheets import Sheet
+from ruzgalt.tables import Schema, is_schema
+
+ABOUT = """Turns a CSV file with a header into a load. FROM, TO and the COLUMNs are names of the file's header, in the
+order of a row's fields; other columns of the file are left out. The file is UTF-8; its fields are parted by commas,
+semicolons or tabs, whichever its header has most of. Values are taken as they are, unless an option tells of them.
+What may not be meant is told on standard error, and loaded. Where something is at fault, no load is printed but one
+record that the store refuses, so that a script of which it is a part has a refused command."""
+# What is printed in place of a load.
+FAILED = b"csv-to-load failed\n"
+
+
+def decimals(word: str) -> Tuple[str, int]:
+    """COLUMN=DIGITS, as a pair."""
+    name, _, digits = word.rpartition("=")
+    if not name or not digits.isdigit() or len(digits) > 2:
+        raise ArgumentTypeError(f"{word}: not COLUMN=DIGITS, as Pay=2")
+    return name, int(digits)
+
+
+def part(word: str) -> Tuple[int, int]:
+    """K/N, as a pair."""
+    number, _, parts = word.partition("/")
+    if not (number.isdigit() and parts.isdigit() and 1 <= int(number) <= int(parts)):
+        raise ArgumentTypeError(f"{word}: not K/N, as 1/2 and 2/2")
+    return int(number), int(parts)
+
+
+def words() -> ArgumentParser:
+    parser = ArgumentParser(prog="tools/csv-to-load", description=ABOUT)
+    parser.add_argument("table", metavar="TABLE", help="the table of the store")
+    parser.add_argument("start", metavar="FROM", help="the file's column with the start of a row")
+    parser.add_argument("end", metavar="TO", help="that with its end")
+    parser.add_argument("column", nargs="*", metavar="COLUMN", help="that with a value, in the order of the table's")
+    parser.add_argument("--file", metavar="FILE", help="the file, where it isn't standard input")
+    words_of_table(parser)
+    words_of_values(parser)
+    parser.add_argument("--line-breaks", action="store_true", help="fields in quotes may have line breaks")
+    parser.add_argument("--part", type=part, metavar="K/N", help="only rows whose key is of part K of N, by a checksum")
+    return parser
+
+
+def words_of_table(parser: ArgumentParser) -> None:
+    parser.add_argument(
+        "--table", dest="record", metavar="RECORD",
+        help="the table's record, as table,pay,person,text, or a script that has it: what doesn't fit it is refused, "
+        "and its names are the COLUMNs where none is told",
+    )
+    parser.add_argument("--print-table", action="store_true", help="prints that record before the load")
+    parser.add_argument(
+        "--update", action="append", default=[], metavar="COLUMN",
+        help="prints updates of rows with this value, and no load: FROM and TO are the portion, others are set",
+    )
+
+
+def words_of_values(parser: ArgumentParser) -> None:
+    parser.add_argument("--german", action="store_true", help="dates may be as 31.12.2024, decimals are as 1.234,50")
+    parser.add_argument(
+        "--dates", choices=dates.names_of_forms(), metavar="FORM",
+        help=f"the last day of 2024 in the form of the file's dates: {', '.join(dates.names_of_forms())}; "
+        f"{dates.EXCEL} is Excel's number of a day",
+    )
+    parser.add_argument(
+        "--decimals", type=decimals, action="append", default=[], metavar="COLUMN=DIGITS",
+        help="numbers with so many decimals at most, which become whole: with euros=2, 4800.5 is 480050 cents",
+    )
+    parser.add_argument("--decimal-mark", choices=(".", ","), help="tells how 7,500 is read, which could be both")
+    parser.add_argument("--last-day", action="store_true", help="TO is the last day of a row, and not the next one")
+    parser.add_argument("--open", action="store_true", help=f"an empty TO is {dates.NO_END}")
+    parser.add_argument(
+        "--no-end", action="append", default=[], metavar="VALUE", help=f"a TO of this value, as NULL, is {dates.NO_END}",
+    )
+    parser.add_argument("--plain-spaces", action="store_true", help="no-break spaces become spaces")
+
+
+def refuse_words(options: Namespace) -> None:
+    """Refuses names that are no COLUMNs, or that are told twice."""
+    columns: List[str] = options.column
+    for word, names in (("decimals", [name for name, _ in options.decimals]), ("update", options.update)):
+        for name in names:
+            if name not in columns:
+                raise Misfit(f"--{word} {name}: none of the columns {', '.join(columns)}")
+            if names.count(name) > 1:
+                raise Misfit(f"--{word} {name}: told twice")
+    twice = [name for name in columns if columns.count(name) > 1]
+    if twice:
+        raise Misfit(f"{twice[0]} is told twice, and a column of the file fills one of the table's")
+    if options.update and len(options.update) == len(columns):
+        raise Misfit("--update: no column is left that would be set")
+    if options.print_table and not options.record:
+        raise Misfit("--print-table: --table tells no table")
+
+
+def schema_of(options: Namespace) -> Optional[Schema]:
+    """The table that is told by its record, or by a script that has it."""
+    if options.record is None:
+        return None
+    is_file = not options.record.startswith("table,")
+    data = Path(options.record).read_bytes() if is_file else options.record.encode("utf-8", "surrogateescape")
+    tables = [one.record.fields for one in commands.commands(records.read(data)) if one.word == "table"]
+    found = next((fields for fields in tables if fields[1:2] == [options.table]), None)
+    if found is None:
+        raise Misfit(f"--table: no `table` record of {options.table}")
+    if not is_schema(found):
+        raise Misfit(f"--table: {records.to_record(found)}: no table,T,COLUMN,KIND..[,key,COLUMN..]")
+    return Schema.read(found)
+
+
+def fit(options: Namespace, schema: Schema, header: List[str]) -> None:
+    """Refuses columns that aren't the table's, as far as names tell, and fills them in where none is told."""
+    by_name = {name.strip().lower(): name for name in header}
+    if not options.column:
+        options.column = [by_name.get(name, name) for name in schema.names]
+    if len(options.column) != len(schema.names):
+        wanted = f"{schema.name} has {len(schema.names)}: {', '.join(schema.names)}"
+        raise Misfit(f"{len(options.column)} columns are told, and {wanted}")
+    for place, name in enumerate(options.column):
+        plain = name.strip().lower()
+        if plain in schema.names and schema.names[place] != plain:
+            raise Misfit(f"{name} is told as column {place + 1}, which is {schema.names[place]} in the table")
+
+
+def load_of(options: Namespace) -> Tuple[Load, Optional[Schema]]:
+    data = Path(options.file).read_bytes() if options.file else sys.stdin.buffer.read()
+    sheet = Sheet(data, options.line_breaks)
+    schema = schema_of(options)
+    if schema:
+        fit(options, schema, sheet.header)
+    refuse_words(options)
+    return Load(sheet, options, schema), schema
+
+
+def made(options: Namespace) -> Tuple[List[bytes], List[str], List[str], int]:
+    """What is printed; what is at fault, or what is noted; and how many faults there are."""
+    load, schema = load_of(options)
+    head = records.encode(records.to_text([schema.fields])) if schema and options.print_table else b""
+    opening, end = (b"", b"") if options.update else (records.encode(records.to_text([["load", options.table]])), b"end\n")
+    try:
+        pieces = list(load.made())
+    except Misfit as error:
+        load.add_fault(str(error))
+        pieces = []
+    notes = [] if load.count_of_faults else list(load.noted())
+    return [head, opening, *pieces, end], load.faults, notes, load.count_of_faults
+
+
+def tell(told: List[str], count: int) -> None:
+    text = "".join(f"csv-to-load: {one}\n" for one in told)
+    more = f"csv-to-load: and {count - len(told)} more\n" if count > len(told) else ""
+    sys.stderr.write((text + more).encode("utf-8", "replace").decode())
+
+
+def show(pieces: Sequence[bytes]) -> None:
+    try:
+        sys.stdout.buffer.writelines(pieces)
+        sys.stdout.flush()
+    except OSError as error:
+        sys.stderr.write(f"csv-to-load: {error.strerror}\n")
+        # What is left in the buffer isn't to be tried again at the end.
+        os._exit(1)
+
+
+def main(arguments: Sequence[str]) -> int:
+    # Where what is printed isn't read to its end, the tool ends as other programs do.
+    signal.signal(signal.SIGPIPE, signal.SIG_DFL)
+    # What is read is dropped when it is done with, or kept to the end.
+    gc.disable()
+    pieces: List[bytes] = []
+    try:
+        options = words().parse_intermixed_args(arguments)
+        pieces, faults, notes, count = made(options)
+    except SystemExit as ended:
+        sys.stdout.write(FAILED.decode() if ended.code else "")
+        raise
+    except Misfit as error:
+        faults, notes, count = [str(error)], [], 1
+    except OSError as error:
+        faults, notes, count = [f"{error.filename}: {error.strerror}"], [], 1
+    tell(faults or notes, count)
+    show([FAILED] if count else pieces)
+    return 1 if count else 0

@@ -1,0 +1,188 @@
+"""A load, or updates, made of a CSV file with a header, piece by piece."""
+from argparse import Namespace
+from itertools import repeat
+from typing import Iterator, List, Optional, Sequence, cast
+from zlib import crc32
+
+from ruzgalt import records
+from ruzgalt.columns import Column, End, Start, Text, form_of, mark_of
+from ruzgalt.decimals import Marks, Scale, both_readings
+from ruzgalt.doubts import Ends, Notes, Twins
+from ruzgalt.errors import Misfit
+from ruzgalt.forms import is_name
+from ruzgalt.progress import Progress
+from ruzgalt.records import visible
+from ruzgalt.sheets import Piece, Sheet
+from ruzgalt.tables import Schema
+
+# What a script and a table can have; from nine tenths on it is told.
+MOST_BYTES, MOST_ROWS = 67_108_864, 1_000_000
+TOLD = 20
+
+
+class Load:
+    """The records made of a sheet's rows, with the faults of rows and what is noted of columns."""
+
+    def __init__(self, sheet: Sheet, options: Namespace, schema: Optional[Schema]) -> None:
+        self.sheet, self.options, self.schema = sheet, options, schema
+        self.names = [options.start, options.end, *options.column]
+        refuse_header(sheet.header, self.names)
+        self.places = [sheet.header.index(name) for name in self.names]
+        self.marks = Marks(mark_of(options), bool(options.decimal_mark))
+        self.keys = self.key_places()
+        self.columns = [Start(options.start, form_of(options)), End(options.end, options), *self.value_columns()]
+        self.stored = self.names_in_store()
+        self.faults: List[str] = []
+        self.count_of_faults = self.rows = self.bytes = 0
+        self.either_line: Optional[int] = None
+        self.notes, self.twins = Notes(), Twins()
+        key = ", ".join(options.column[place] for place in self.keys) or "table"
+        self.ends = Ends(options.end, key, options.last_day)
+
+    def key_places(self) -> List[int]:
+        """The columns that tell whose fact a row is: those of the table's key, or else the first."""
+        if self.options.update:
+            return [self.options.column.index(name) for name in self.options.update]
+        if self.schema and self.schema.key:
+            return list(self.schema.key)
+        return [0] if self.options.column else []
+
+    def value_columns(self) -> Iterator[Column]:
+        digits = dict(self.options.decimals)
+        for place, name in enumerate(self.options.column):
+            kind = self.schema.columns[place].kind if self.schema else None
+            if name in digits:
+                yield Column(name, Scale(name, digits[name], self.marks))
+            else:
+                yield Text(name, self.options, kind, place in self.keys)
+
+    def made(self) -> Iterator[bytes]:
+        """What the rows become, by pieces: bytes of records. Where something is at fault, more is read, for its faults."""
+        progress = Progress("csv-to-load")
+        for piece in self.sheet.pieces():
+            lines, taken = self.whole(piece)
+            fields = list(zip(*taken)) or [()] * len(self.sheet.header)
+            values = [fields[place] for place in self.places]
+            found = [list(map(column.__getitem__, one)) for column, one in zip(self.columns, values)]
+            self.look_at(lines, values, found)
+            if not self.count_of_faults:
+                text = records.encode(self.to_text(found))
+                self.bytes += len(text)
+                yield text
+            self.rows += len(taken)
+            progress.tell(self.rows)
+        progress.end()
+        self.refuse_either()
+
+    def whole(self, piece: Piece) -> Piece:
+        """The records with as many fields as the header has, of this part of the file."""
+        width = len(self.sheet.header)
+        if {width}.issuperset(map(len, piece.records)):
+            return piece
+        lines: List[int] = []
+        records: List[List[str]] = []
+        for line, record in zip(*piece):
+            if len(record) != width:
+                quoted = "a field that has the parting character in it stands in quotes"
+                self.add_fault(f"line {line}: {len(record)} fields, and not the {width} of the header; {quoted}")
+            else:
+                lines.append(line)
+                records.append(record)
+        return Piece(lines, records)
+
+    def is_of_part(self, row: Sequence[str]) -> bool:
+        """Whether the row is of the part that is wanted, by a checksum of its key: equal keys are of one part."""
+        part, parts = self.options.part
+        return crc32("\0".join(row[2 + place] for place in self.keys).encode()) % parts == part - 1
+
+    def look_at(
+        self, lines: Sequence[int], values: List[Sequence[str]], found: List[List[Optional[str]]],
+    ) -> None:
+        faulty = {row for made in found if None in made for row, one in enumerate(made) if one is None}
+        for row in sorted(faulty):
+            for column, texts, made in zip(self.columns, values, found):
+                if made[row] is None:
+                    told = f"{column.name} is '{visible(texts[row])}': {column.faults[texts[row]]}"
+                    self.add_fault(f"line {lines[row]}: {told}")
+        for column, texts in zip(self.columns, values):
+            self.notes.count(column.name, column.doubts, lines, texts)
+        if self.marks.either and self.either_line is None:
+            name, text = self.marks.either
+            self.either_line = lines[values[self.names.index(name)].index(text)]
+        if not faulty:
+            # None is at fault, so each is a text.
+            starts, ends, *others = cast(List[List[str]], found)
+            self.ends.add(lines, self.keys_of(others) or [""] * len(lines), starts, ends)
+            self.twins.add(lines, list(zip(*found)))
+
+    def keys_of(self, values: Sequence[Sequence[str]]) -> Sequence[object]:
+        keys = [values[place] for place in self.keys]
+        return keys[0] if len(keys) == 1 else list(zip(*keys))
+
+    def refuse_either(self) -> None:
+        if self.marks.either and not self.marks.is_settled:
+            name, text = self.marks.either
+            told = ", ".join(f"--decimal-mark '{mark}' makes it {read}" for mark, read in both_readings(text).items())
+            why = "its mark may part thousands or decimals, and no other number of the file tells"
+            self.add_fault(f"line {self.either_line}: {name} is '{visible(text)}': {why}: {told}")
+
+    def add_fault(self, told: str) -> None:
+        self.count_of_faults += 1
+        if len(self.faults) < TOLD:
+            self.faults.append(told)
+
+    def names_in_store(self) -> List[str]:
+        """The names of the table's columns: those of the file, where no table is told and updates need them."""
+        if self.schema:
+            return self.schema.names
+        names: List[str] = self.options.column
+        wrong = [name for name in names if not is_name(name)]
+        if self.options.update and wrong:
+            raise Misfit(f"{visible(wrong[0])} is no name of a table's column: --table tells the table's")
+        return names
+
+    def to_text(self, found: List[List[Optional[str]]]) -> str:
+        """The records of a load, or else an update for each row. Fields stand in quotes already that need them."""
+        columns = cast(List[List[str]], found)
+        if self.options.part:
+            columns = list(map(list, zip(*filter(self.is_of_part, zip(*columns)))))
+        made = map(self.update_of, zip(*columns)) if self.options.update else zip(repeat("row"), *columns)
+        return "".join([",".join(fields) + "\n" for fields in made]) if columns else ""
+
+    def update_of(self, row: Sequence[str]) -> Sequence[str]:
+        start, end, *values = row
+        pairs = list(zip(self.stored, values))
+        changed = [text for place, pair in enumerate(pairs) if place not in self.keys for text in pair]
+        known = [text for place in self.keys for text in pairs[place]]
+        return ["update", self.options.table, start, end, "set", *changed, "where", *known]
+
+    def noted(self) -> Iterator[str]:
+        """What may not be meant."""
+        if not self.rows:
+            yield "no row stands behind the header, so the load has none"
+        for told in (self.notes, self.ends, self.twins):
+            yield from told.told()
+        yield from self.told_of_scales()
+        if self.rows > MOST_ROWS * 9 // 10 or self.bytes > MOST_BYTES * 9 // 10:
+            limits = f"a script has {MOST_BYTES:,} bytes at most, a table {MOST_ROWS:,} versions of rows"
+            told = f"{self.rows:,} rows in {self.bytes:,} bytes leave little room for corrections"
+            yield f"{told}: {limits}; --part 1/2 and --part 2/2 make two scripts of the file"
+
+    def told_of_scales(self) -> Iterator[str]:
+        for column in self.columns:
+            scale = column.convert
+            if isinstance(scale, Scale) and scale.digits > 2 and 0 < scale.longest < scale.digits:
+                told = f"its numbers have {scale.longest} decimals at most, and become whole as if they had {scale.digits}"
+                yield f"{column.name}: {told}; --decimals {column.name}={scale.longest} takes them as they are"
+
+
+def refuse_header(header: List[str], names: List[str]) -> None:
+    if not header:
+        raise Misfit("no header, since the file has nothing but empty lines")
+    unknown = [name for name in names if name not in header]
+    if unknown:
+        shown = ", ".join(f"'{visible(name)}'" for name in header)
+        raise Misfit(f"not in the header: {', '.join(map(visible, unknown))}; it has {shown}")
+    twice = [name for name in names if header.count(name) > 1]
+    if twice:
+        raise Misfit(f"two columns of the header have the name {visible(twice[0])}")

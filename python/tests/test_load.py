@@ -1,0 +1,216 @@
+"""What tools/csv-to-load makes of a file, what it refuses, and what it notes."""
+import tempfile
+import unittest
+from pathlib import Path
+from typing import List, Tuple, Union
+from unittest import mock
+
+from ruzgalt import load_cli, loading
+from ruzgalt.errors import Misfit
+
+HEADER = "Name,Pay,Start,End\n"
+WORDS = ["pay", "Start", "End", "Name", "Pay"]
+
+
+def load(text: Union[str, bytes], *words: str) -> Tuple[str, List[str]]:
+    """What is printed, and what is told: faults, or else notes. Nothing is printed where something is at fault."""
+    with tempfile.TemporaryDirectory() as folder:
+        file = Path(folder, "pay.txt")
+        file.write_bytes(text.encode() if isinstance(text, str) else text)
+        options = load_cli.words().parse_intermixed_args([*words, "--file", str(file)])
+        try:
+            pieces, faults, notes, _ = load_cli.made(options)
+        except Misfit as error:
+            return "", [str(error)]
+    return "" if faults else b"".join(pieces).decode(), faults or notes
+
+
+def rows(*lines: str) -> str:
+    return HEADER + "".join(line + "\n" for line in lines)
+
+
+class Case(unittest.TestCase):
+    def told(self, part: str, text: Union[str, bytes], *words: str) -> None:
+        """One thing is told, and it has this part; the file is loaded or not."""
+        _, told = load(text, *(words or WORDS))
+        self.assertEqual(len(told), 1, told)
+        self.assertIn(part, told[0])
+
+    def refused(self, part: str, text: Union[str, bytes], *words: str) -> None:
+        printed, _ = load(text, *(words or WORDS))
+        self.assertEqual(printed, "")
+        self.told(part, text, *words)
+
+    def loaded(self, wanted: str, text: Union[str, bytes], *words: str) -> None:
+        """The load is this, and nothing is told."""
+        self.assertEqual(load(text, *(words or WORDS)), (wanted, []))
+
+
+class LastDays(Case):
+    def test_a_start_behind_the_last_day_is_told_with_lines_and_counts(self) -> None:
+        text = rows("A,1,2024-01-01,2024-03-15", "A,2,2024-03-16,2024-06-01")
+        self.told("1 start on the day behind it (line 3 after line 2): a row doesn't hold on that day any more", text)
+
+    def test_the_first_of_a_month_elsewhere_hides_no_last_days(self) -> None:
+        ends = ["A,1,2024-01-01,2024-03-31", "B,1,2024-01-01,2024-05-31", "C,1,2024-01-01,2024-07-31"]
+        ends += ["D,1,2024-01-01,2024-08-31", "E,1,2024-01-01,2024-10-31", "F,1,2024-01-01,2024-07-01"]
+        self.told("5 ends are last days of a month, and 1 first ones", rows(*ends))
+
+    def test_last_day_where_rows_touch_is_told(self) -> None:
+        text = rows("A,1,2024-01-01,2024-03-15", "A,2,2024-03-15,2024-06-02")
+        self.told("1 start on it (line 3 after line 2): --last-day takes it", text, *WORDS, "--last-day")
+
+    def test_rows_of_both_kinds_are_told(self) -> None:
+        text = rows(
+            "A,1,2024-01-01,2024-03-15", "A,2,2024-03-15,2024-05-20", "B,1,2024-01-01,2024-03-15",
+            "B,2,2024-03-15,2024-05-20", "B,3,2024-05-21,2024-06-20",
+        )
+        self.told("1 start on the day behind it (line 6 after line 5) and 2 start on it (line 3 after line 2): is it", text)
+
+    def test_rows_that_touch_are_loaded_without_a_word(self) -> None:
+        text = rows("A,1,2024-01-01,2024-03-15", "A,2,2024-03-15,2024-06-02")
+        self.loaded("load,pay\nrow,2024-01-01,2024-03-15,A,1\nrow,2024-03-15,2024-06-02,A,2\nend\n", text)
+
+    def test_the_last_minute_of_a_day_is_told(self) -> None:
+        text = rows("A,1,2024-01-01,2024-03-15 23:59:59")
+        self.told("the row doesn't hold at its end", text, *WORDS, "--dates", "2024-12-31 00:00:00")
+
+
+class Separators(Case):
+    def test_a_mark_that_could_be_either_is_refused_without_german(self) -> None:
+        text = HEADER + 'A,"7,500",2024-01-01,2024-03-05\n'
+        self.refused("line 2: Pay is '7,500': its mark may part", text, *WORDS, "--decimals", "Pay=3")
+
+    def test_a_mark_that_could_be_either_is_refused_with_german(self) -> None:
+        text = rows("A,7.500,2024-01-01,2024-03-05")
+        self.refused("--decimal-mark '.' makes it 7.500", text, *WORDS, "--decimals", "Pay=3", "--german")
+
+    def test_another_number_of_the_file_settles_it(self) -> None:
+        text = HEADER + 'A,"7,500",2024-01-01,2024-03-05\nB,2.5,2024-01-01,2024-03-05\n'
+        printed, told = load(text, *WORDS, "--decimals", "Pay=1")
+        self.assertIn(",A,75000\nrow,2024-01-01,2024-03-05,B,25\n", printed)
+        self.assertEqual(told, [])
+
+    def test_a_word_settles_it(self) -> None:
+        text = HEADER + 'A,"7,500",2024-01-01,2024-03-05\n'
+        printed, _ = load(text, *WORDS, "--decimals", "Pay=3", "--decimal-mark", ",")
+        self.assertIn(",A,7500\n", printed)
+
+    def test_cents_that_are_told_as_thousandths_are_noted(self) -> None:
+        text = rows("A,7.25,2024-01-01,2024-03-05")
+        self.told("--decimals Pay=2 takes them as they are", text, *WORDS, "--decimals", "Pay=3")
+
+
+class LookAlikeTexts(Case):
+    def test_texts_that_look_alike_are_told_once_with_a_count_and_a_line(self) -> None:
+        for one, other in [("1", "001"), ("Müller", "MÜLLER"), ("José", "Jose\u0301"), ("A B", "A  B")]:
+            text = rows(f"{one},1,2024-01-01,2024-02-05", f"{other},1,2024-03-03,2024-04-05", f"{other},2,2024-05-03,2024-06-05")
+            with self.subTest(other):
+                self.told("(line 3, and 1 more rows)", text)
+
+    def test_what_spreadsheets_make_of_numbers_is_told(self) -> None:
+        for value, part in [('"=""001"""', "a formula of a"), ("1.23E+05", "digits are rounded off"), ("", "it is empty")]:
+            with self.subTest(value):
+                self.told(part, rows(f"{value},1,2024-01-01,2024-02-05"))
+
+    def test_a_zero_byte_is_refused_with_its_line(self) -> None:
+        self.refused("line 2: a zero byte, of 1 in the file", rows("A\0,1,2024-01-01,2024-02-05"))
+
+
+class Tables(Case):
+    RECORD = "table,pay,person,text,euros,int,key,person"
+
+    def test_columns_in_another_order_are_refused(self) -> None:
+        text = "Person,Euros,Start,End\nA,1,2024-01-01,2024-03-05\n"
+        words = ["pay", "Start", "End", "Euros", "Person", "--table", self.RECORD]
+        self.refused("Euros is told as column 1, which is person in the table", text, *words)
+
+    def test_a_column_told_twice_is_refused(self) -> None:
+        self.refused("Name is told twice", rows("A,1,2024-01-01,2024-03-05"), "pay", "Start", "End", "Name", "Name")
+
+    def test_too_few_columns_are_refused(self) -> None:
+        words = ["pay", "Start", "End", "Name", "--table", self.RECORD]
+        self.refused("1 columns are told, and pay has 2: person, euros", rows("A,1,2024-01-01,2024-03-05"), *words)
+
+    def test_a_value_of_another_kind_is_refused_with_its_line(self) -> None:
+        text = rows("A,4.5,2024-01-01,2024-03-05")
+        self.refused("line 2: Pay is '4.5': no number of the table", text, *WORDS, "--table", self.RECORD)
+
+    def test_the_record_is_printed_and_its_names_are_the_columns(self) -> None:
+        text = "Euros,Person,Start,End\n1,A,2024-01-01,2024-03-05\n"
+        wanted = f"{self.RECORD}\nload,pay\nrow,2024-01-01,2024-03-05,A,1\nend\n"
+        self.loaded(wanted, text, "pay", "Start", "End", "--table", self.RECORD, "--print-table")
+
+    def test_a_script_so_far_has_the_record(self) -> None:
+        with tempfile.NamedTemporaryFile("w", suffix=".csv") as script:
+            script.write(f"table,other\n{self.RECORD}\n")
+            script.flush()
+            words = ["--table", script.name]
+            self.refused("no `table` record of due", rows("A,1,2024-01-01,2024-03-05"), "due", *WORDS[1:], *words)
+            self.loaded(
+                "load,pay\nrow,2024-01-01,2024-03-05,A,1\nend\n", rows("A,1,2024-01-01,2024-03-05"), *WORDS, *words,
+            )
+
+
+class Dates(Case):
+    def test_each_form_is_read(self) -> None:
+        for form, text in [
+            ("31/12/2024", "5/3/2024"), ("12/31/2024", "3/5/2024"), ("20241231", "20240305"), ("45657", "45356"),
+            ("2024-12-31 00:00:00", "2024-03-05 00:00:00"), ("31.12.2024", "5.3.2024"),
+        ]:
+            with self.subTest(form):
+                wanted = "load,pay\nrow,2024-01-01,2024-03-05,A,1\nend\n"
+                self.loaded(wanted, rows(f"A,1,2024-01-01,{text}"), *WORDS, "--dates", form)
+
+    def test_another_form_is_refused_with_its_word(self) -> None:
+        for text, part in [
+            ("2024-03-05 00:00:00", "with --dates '2024-12-31 00:00:00'"), ("5/3/2024", "--dates 31/12/2024 or --dates 12"),
+            ("20240305", "with --dates 20241231 it is one"), ("45356", "with --dates 45657 it is one"),
+            ("5.3.24", "a year has four digits"), ("2024-03-05T08:00:00Z", "points have no zone"),
+            ("NULL", "--no-end 'NULL' takes it"), ("NaT", "--no-end 'NaT'"), ("unbefristet", "--no-end 'unbef"),
+        ]:
+            with self.subTest(text):
+                self.refused(part, rows(f"A,1,2024-01-01,{text}"))
+
+    def test_a_word_for_no_end_is_taken(self) -> None:
+        text = rows("A,1,2024-01-01,NULL")
+        self.loaded("load,pay\nrow,2024-01-01,9999-12-31,A,1\nend\n", text, *WORDS, "--no-end", "NULL")
+
+    def test_years_far_off_are_told(self) -> None:
+        self.told("2204 is far off", rows("A,1,2204-01-01,2205-02-05").replace("2205-02-05", "9999-12-31"))
+        self.told("0204 is far off", rows("A,1,0204-01-01,2024-02-05"))
+        self.told("--no-end '2099-12-31' makes it", rows("A,1,2024-01-01,2099-12-31"))
+
+
+class Updates(Case):
+    def test_a_row_becomes_an_update_of_its_key_and_portion(self) -> None:
+        text = "person,euros,Start,End\n\"Hill, Grace\",1,2024-01-01,2024-03-05\n"
+        wanted = 'update,pay,2024-01-01,2024-03-05,set,euros,1,where,person,"Hill, Grace"\n'
+        self.loaded(wanted, text, "pay", "Start", "End", "person", "euros", "--update", "person")
+
+    def test_names_that_are_none_of_a_table_are_refused(self) -> None:
+        self.refused("Name is no name of a table's", rows("A,1,2024-01-01,2024-03-05"), *WORDS, "--update", "Name")
+
+
+class Files(Case):
+    def test_a_workbook_is_told_as_that(self) -> None:
+        self.refused("this is a workbook of a spreadsheet", b"PK\x03\x04...")
+
+    def test_parts_have_each_row_once(self) -> None:
+        lines = [f"{name},1,2024-01-01,2024-03-05" for name in ("Öztürk", "von der Höhe", "A", "B", "C")]
+        printed = [load(rows(*lines), *WORDS, "--part", f"{part}/3")[0].splitlines()[1:-1] for part in (1, 2, 3)]
+        whole = load(rows(*lines), *WORDS)[0].splitlines()[1:-1]
+        self.assertEqual(sorted(sum(printed, [])), sorted(whole))
+
+    def test_nine_tenths_of_a_limit_are_told(self) -> None:
+        lines = [f"{letter},1,2024-01-01,2024-03-05" for letter in "ABCDEFGHIJ"]
+        with mock.patch.object(loading, "MOST_ROWS", 10):
+            self.told("10 rows in 300 bytes leave little room for corrections", rows(*lines))
+
+    def test_rows_behind_a_wrong_one_are_read_for_their_faults(self) -> None:
+        _, told = load(rows("A,1,2024-01-01", "B,1,x,y"), *WORDS)
+        self.assertEqual([one[:7] for one in told], ["line 2:", "line 3:", "line 3:"])
+
+
+if __name__ == "__main__":
+    unittest.main()
