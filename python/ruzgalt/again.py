@@ -84,7 +84,7 @@ def judged(store: Store, answer: Answer) -> Iterator[Texts]:
     """The verdict on a division, with its numbers where they stand in the answer's table."""
     _, name, count, instant = answer.command.front
     rows = {str(version.row_id): version for version in store.rows(name, answer.commit)}
-    claimed = [list(record.fields[1:]) for record in answer.command.block[:-1]]
+    claimed = [list(record.fields[1:]) for record in answer.command.rows]
     point = printed(instant)
     crowd = sum(one.row.start <= point < one.row.end for one in rows.values()) if instant != "-" else 0
     fault = fault_of_parts(claimed, rows, int(count))

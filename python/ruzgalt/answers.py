@@ -1,18 +1,21 @@
 """Reads a script beside its answers: of each answer the command, the record and its line, and what was answered."""
 from dataclasses import dataclass, field
+from itertools import islice
 from pathlib import Path
-from typing import Callable, Dict, Iterator, List, Optional, Sequence, Tuple, Union
+from typing import Dict, Iterable, Iterator, List, Optional, Sequence, Union
 
-from ruzgalt import commands, records, tables
+from ruzgalt import commands, tables
+from ruzgalt.checking import Checks
 from ruzgalt.commands import Command
 from ruzgalt.errors import Misfit
-from ruzgalt.forms import is_count, is_printed, is_sum, printed
+from ruzgalt.forms import is_count, is_printed, printed
+from ruzgalt.progress import Progress
+from ruzgalt.reader import Block, Place, Reader, Row, Rows, Source
 from ruzgalt.records import Record, short
-from ruzgalt.tables import Column, Kind, Schema, Table
+from ruzgalt.tables import Column, Schema, Table
 
 # Bytes, or the file that has them.
-Source = Union[bytes, str, Path]
-Rows = List[List[Optional[str]]]
+Given = Union[bytes, str, Path]
 
 
 @dataclass(frozen=True)
@@ -48,39 +51,43 @@ class Answer:
         return self.commits if self.command.as_of is None else int(self.command.as_of)
 
 
-def of(script: Source, output: Source) -> List[Answer]:
+def of(script: Given, output: Given) -> List[Answer]:
     """The answers in the output, which are those to the script. Raises Misfit where they can't be."""
-    return of_records(records.read(bytes_of(script)), bytes_of(output))
+    return of_commands(commands.commands(Source(bytes_of(script))), bytes_of(output))
 
 
-def of_records(script: List[Record], output: bytes) -> List[Answer]:
-    return list(Reading(records.read(output)).answers(script))
+def of_commands(script: Iterable[Command], output: bytes) -> List[Answer]:
+    return list(Reading(Source(output)).answers(script))
 
 
-def bytes_of(source: Source) -> bytes:
+def bytes_of(source: Given) -> bytes:
     return source if isinstance(source, bytes) else Path(source).read_bytes()
 
 
 class Reading:
     """The answers' records, of which some first ones are read, and the tables and commits of the store by then."""
 
-    def __init__(self, output: List[Record]):
-        self.output, self.place = output, 0
+    def __init__(self, output: Source):
+        self.source, self.output = output, Reader(output)
+        self.place = self.output.place
+        self.progress = Progress("answers")
         self.tables: Dict[str, Schema] = {}
         self.commits = 0
         # The queries of a block read the commit that it began with, and its load is the next.
         self.held: Optional[int] = None
 
-    def answers(self, script: List[Record]) -> Iterator[Answer]:
-        for number, command in enumerate(commands.commands(script), 1):
+    def answers(self, script: Iterable[Command]) -> Iterator[Answer]:
+        for number, command in enumerate(script, 1):
             if not command.in_together:
                 self.held = None
             yield self.answer(number, command)
-        if self.place < len(self.output):
-            extra = self.output[self.place]
+        extra = self.output.next()
+        if extra is not None:
             raise Misfit(f"the script has no command for the answer at line {extra.line}: {short(extra.text)}")
+        self.progress.end()
 
     def answer(self, number: int, command: Command) -> Answer:
+        self.place = self.output.place
         first = self.take(command, "an answer")
         if first.word == "error":
             shown = self.commits if self.held is None else self.held
@@ -113,11 +120,11 @@ class Reading:
         return len(command.front) == 4 and all(map(is_count, command.front[2:]))
 
     def take(self, command: Command, wanted: str) -> Record:
-        if self.place == len(self.output):
+        record = self.output.next()
+        if record is None:
             more = "; --answers is to have those to each --ask too" if command.record.is_asked else ""
             raise Misfit(f"{command.place}: {short(command.text)}: the answers end before {wanted}{more}")
-        self.place += 1
-        return self.output[self.place - 1]
+        return record
 
     def refusal(self, command: Command, record: Record) -> Refusal:
         number = record.fields[1] if len(record.fields) == 3 else ""
@@ -143,41 +150,42 @@ class Reading:
         self.held = self.commits
         return Table(tables.ints("commit"), [[record.fields[1]]])
 
-    def listed(self, command: Command, first: Record, columns: List[Column]) -> Rows:
-        """The records of a list up to its end, which counts them."""
+    def listed(self, command: Command, first: Record, columns: List[Column]) -> Sequence[Row]:
+        """The records of a list up to its end, which counts them. They are looked at, and read again where wanted."""
         word = {"between": "version", "fromto": "version", "log": "commit"}.get(command.word, "row")
-        rows, record, tests = [], first, tests_of(columns)
-        point = printed(command.front[2]) if command.word == "at" else None
-        while record.word == word and len(record.fields) == len(columns) + 1:
-            rows.append(row_in(command, record, tests))
-            # The texts of points are in the order of time.
-            if point and not record.fields[2] <= point < record.fields[3]:
-                raise misfit(command, "a row that holds at that point", record)
+        place, count, record = self.place, 0, first
+        if word == first.word and len(first.fields) == len(columns) + 1:
+            checks = Checks(command, columns, printed(command.front[2]) if command.word == "at" else None)
+            for piece in self.output.pieces(first, len(columns) + 1):
+                if not checks.pass_over(piece):
+                    raise checks.fault(Reader(self.source, place), first)
+                count += len(piece)
+                self.progress.tell(self.output.number)
             record = self.take(command, "the list's end")
-        if list(record.fields) != ["end", str(len(rows))]:
+        if list(record.fields) != ["end", str(count)]:
             names = ",".join(column.name for column in columns)
-            raise misfit(command, f"{word},{names} or end,{len(rows)}", record)
-        return rows
+            raise misfit(command, f"{word},{names} or end,{count}", record)
+        return Listed(self.source, place, count, record.line)
 
-    def divided(self, command: Command, first: Record, _: List[Column]) -> Rows:
+    def divided(self, command: Command, first: Record, _: List[Column]) -> Sequence[Row]:
         """A record for each row of each part, with the instant that all have."""
         if first.word != "dip" or len(first.fields) != 4 or not all(map(is_count, first.fields[1:3])):
             raise misfit(command, "dip,ROWS,PARTS,INSTANT", first)
         if first.fields[3] != "-" if first.fields[1] == "0" else not is_printed(first.fields[3]):
             raise misfit(command, "dip,ROWS,PARTS,INSTANT with a point, or - where there are no rows", first)
         _, count, parts, instant = first.fields
-        rows: Rows = []
+        place, found = self.output.place, 0
         for part in range(int(parts)):
             record = self.take(command, f"part,{part}")
             if list(record.fields[:2]) != ["part", str(part)] or not all(map(is_count, record.fields[2:])):
                 raise misfit(command, f"part,{part} with ids", record)
-            rows.extend([str(part), row_id, instant] for row_id in record.fields[2:])
-        if len(rows) != int(count):
-            told = f"{count} rows are told, and {len(rows)} stand in parts"
+            found += len(record.fields) - 2
+        if found != int(count):
+            told = f"{count} rows are told, and {found} stand in parts"
             raise Misfit(f"{command.place}: {short(command.text)}: {told}")
-        return rows
+        return Rows(found, lambda: parts_at(self.source, place, int(parts), instant))
 
-    def judged(self, command: Command, first: Record, _: List[Column]) -> Rows:
+    def judged(self, command: Command, first: Record, _: List[Column]) -> Sequence[Row]:
         """A verdict, with its numbers under the names of what they count."""
         fields = list(first.fields)
         if fields == ["yes"]:
@@ -201,26 +209,42 @@ LISTS = ("rows", "at", "between", "fromto", "join", "anti", "agg", "log")
 READERS = {**{word: Reading.listed for word in LISTS}, "dip": Reading.divided, "check": Reading.judged}
 
 
-# The columns that have a kind's form, each with the place of its field in a record.
-Tests = List[Tuple[int, Column, Callable[[str], bool]]]
-FORMS: Dict[Kind, Callable[[str], bool]] = {Kind.INT: is_sum, Kind.POINT: is_printed}
+class Listed(Rows):
+    """The records of a list, without their first word."""
+
+    # So many bytes are printed at once.
+    STRIDE = 1 << 20
+
+    def __init__(self, source: Source, place: Place, count: int, end: int) -> None:
+        super().__init__(count, self.rows)
+        self.source, self.place, self.end = source, place, end
+
+    def rows(self) -> Iterator[Row]:
+        reader = Reader(self.source, self.place)
+        for fields in islice(filter(None, reader.fields), self.count):
+            row: Row = [*fields[1:]]
+            if fields[0] == "version" and row[4] == "-":
+                row[4] = None
+            yield row
+
+    def lines(self) -> Iterator[bytes]:
+        """The records of rows as they stand in the answers, without their first word, where each is a line."""
+        data, byte, last = self.source.data, self.source.byte_of(self.place.line), self.source.byte_of(self.end)
+        while byte < last:
+            end = min(data.find(b"\n", byte + self.STRIDE) + 1 or last, last)
+            yield data[byte:end].replace(b"\nrow,", b"\n")[4:]
+            byte = end
+
+    @property
+    def has_lines(self) -> bool:
+        first, last = self.source.byte_of(self.place.line), self.source.byte_of(self.end)
+        is_plain = self.source.ends is None and not self.source.has_zero and self.source.data.startswith(b"row,", first)
+        return is_plain and self.source.data.count(b"\n", first, last) == self.count and b"\r" not in self.source.data
 
 
-def tests_of(columns: Sequence[Column]) -> Tests:
-    return [(place, one, FORMS[one.kind]) for place, one in enumerate(columns, 1) if one.kind in FORMS]
-
-
-def row_in(command: Command, record: Record, tests: Tests) -> List[Optional[str]]:
-    """The fields behind the record's word. Raises Misfit where one is none of its column's kind."""
-    row: List[Optional[str]] = list(record.fields[1:])
-    if record.word == "version" and row[4] == "-":
-        row[4] = None
-    for place, column, has_form in tests:
-        text = row[place - 1]
-        if text is not None and not has_form(text):
-            told = f"field {place + 1} ({column.name}) of the answer at line {record.line}, {short(text)}"
-            raise Misfit(f"{command.place}: {short(command.text)}: {told}, is no {column.kind.value}")
-    return row
+def parts_at(source: Source, place: Place, parts: int, instant: str) -> Iterator[Row]:
+    for record in islice(Reader(source, place), parts):
+        yield from ([record.fields[1], row_id, instant] for row_id in record.fields[2:])
 
 
 OF_QUERIES = "BadCommand BadName BadNumber Future NoTable"
@@ -259,8 +283,9 @@ def is_doable(command: Command, there: Dict[str, Schema]) -> bool:
         return tables.is_schema(texts)
     if len(texts) < 2 or texts[1] not in there:
         return False
-    width = 3 + len(there[texts[1]].columns)
-    return all(len(row.fields) == width for row in command.block[:-1]) if command.word == "load" else len(texts) > 3
+    if isinstance(command.block, Block):
+        return command.block.widths <= {3 + len(there[texts[1]].columns)}
+    return len(texts) > 3
 
 
 def misfit(command: Command, wanted: str, found: Record) -> Misfit:

@@ -51,7 +51,7 @@ def compared(answer: Answer) -> Tuple[List[Column], List[Held]]:
     places = [place for place in range(len(table.columns)) if place not in left_out]
     # Of an `at` it is the second that was asked for, since what else held before or behind it isn't told.
     point = point_of(answer)
-    records = table.texts()
+    records = list(table.texts())
     periods = [(point, next_second(point)) if point else (record[start], record[start + 1]) for record in records]
     held = [(*period, tuple(record[place] for place in places)) for period, record in zip(periods, records)]
     return [table.columns[place] for place in places], held

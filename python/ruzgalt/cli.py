@@ -7,7 +7,7 @@ import sys
 import textwrap
 from argparse import ArgumentParser, ArgumentTypeError, Namespace
 from pathlib import Path
-from typing import Callable, Dict, List, NamedTuple, Optional, Sequence, Tuple
+from typing import Callable, Dict, Iterable, List, NamedTuple, Optional, Sequence, Tuple
 
 from ruzgalt import (
     answers, changes, export, fitting, overlaps, picks, pictures, program, questions, records, refusals, single, store,
@@ -44,12 +44,17 @@ def read(options: Namespace, shows_refusals: bool = False) -> Found:
     """
     if options.script == options.answers == "-":
         raise Misfit("standard input is the script, or its answers, and not both")
-    script = questions.put_behind(bytes_of(options.script), options.ask)
-    if options.answers is None:
-        output = program.output(options.program, script.text)
-    else:
-        output = bytes_of(options.answers)
-    found = answers.of_records(script.records, output)
+    text, own_lines = questions.put_behind(bytes_of(options.script), options.ask)
+    # The program works while the script is read.
+    running = program.Running(options.program, text) if options.answers is None else None
+    try:
+        begun = questions.commands_of(text, options.ask, own_lines)
+    except Misfit:
+        if running:
+            running.process.kill()
+        raise
+    output = running.output() if running else bytes_of(options.answers)
+    found = answers.of_commands(begun, output)
     refused = [answer for answer in found if answer.refusal and not shows_refusals]
     if refused and not options.go_on:
         more = f"{len(refused)} refused; `{NAME} refusals` explains, --go-on goes on"
@@ -99,9 +104,14 @@ def last(found: Found, words: Sequence[str], count: int) -> List[Answer]:
 
 
 def show(text: str) -> None:
+    show_pieces([records.encode(text)])
+
+
+def show_pieces(pieces: Iterable[bytes]) -> None:
     # Where what is printed isn't read to its end, as by `head`, the tool ends as other programs do.
     signal.signal(signal.SIGPIPE, signal.SIG_DFL)
-    sys.stdout.buffer.write(records.encode(text))
+    for piece in pieces:
+        sys.stdout.buffer.write(piece)
     sys.stdout.flush()
 
 
@@ -126,7 +136,7 @@ def do_csv(options: Namespace) -> None:
     if options.folder:
         export.to_folder(chosen(found, options.pick), Path(options.folder), options.replace)
     else:
-        show(export.to_csv(last(found, options.pick, 1)[0].table))
+        show_pieces(export.to_csv(last(found, options.pick, 1)[0].table))
 
 
 def do_json(options: Namespace) -> None:
@@ -160,12 +170,12 @@ def asked(database: sqlite3.Connection, query: str, made: Sequence[picks.Pick]) 
 
 def do_changed(options: Namespace) -> None:
     before, after = last(read(options), options.pick, 2)
-    show(export.to_csv(changes.between(before, after)))
+    show_pieces(export.to_csv(changes.between(before, after)))
 
 
 def do_overlaps(options: Namespace) -> None:
     [answer] = last(read(options), options.of, 1)
-    show(export.to_csv(overlaps.in_answer(answer, options.column)))
+    show_pieces(export.to_csv(overlaps.in_answer(answer, options.column)))
 
 
 def do_picture(options: Namespace) -> None:

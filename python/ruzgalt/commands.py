@@ -1,7 +1,8 @@
 """Takes a script apart into its commands, as docs/LANGUAGE.md tells where each ends."""
 from dataclasses import dataclass, replace
-from typing import Iterator, List, Optional, Tuple
+from typing import Iterator, List, Optional, Sequence, Tuple
 
+from ruzgalt.reader import Block, Reader, Source
 from ruzgalt.records import Record
 
 # Words whose records run to the next `end`, whatever their other fields are.
@@ -15,7 +16,7 @@ class Command:
     """A command that has one answer: its first record, those of its block, and whether the block has its end."""
 
     record: Record
-    block: List[Record]
+    block: Sequence[Record]
     is_ended: bool = True
     in_together: bool = False
 
@@ -50,44 +51,44 @@ class Command:
     def record_of(self, number: int) -> Optional[Record]:
         """The record of that number, where it is one of this command's."""
         place = number - self.record.number
-        records = [self.record, *self.block] if 0 <= place <= len(self.block) else []
-        return records[place] if records else None
+        if place == 0:
+            return self.record
+        return self.block[place - 1] if 0 < place <= len(self.block) else None
+
+    @property
+    def rows(self) -> Sequence[Record]:
+        """The records of its block without the `end`, where that is there."""
+        return self.block[:-1] if self.is_ended else self.block
 
 
-def commands(records: List[Record]) -> Iterator[Command]:
+def commands(source: Source) -> Iterator[Command]:
     """The commands of a script, in the order of their answers; those of a block of commands come behind its first."""
-    place = 0
-    while place < len(records):
-        if records[place].word == "together":
-            inner, end, is_ended = commands_within(records, place + 1)
-            yield Command(records[place], records[place + 1:end], is_ended)
-            if is_ended and len(records[place].fields) == 1:
+    reader = Reader(source)
+    for record in reader:
+        if record.word == "together":
+            place = reader.place
+            inner, is_ended = commands_within(reader)
+            yield Command(record, Block(source, place, reader.number - place.number), is_ended)
+            if is_ended and len(record.fields) == 1:
                 yield from inner
         else:
-            command = command_at(records, place)
-            yield command
-            end = place + 1 + len(command.block)
-        place = end
+            yield command_of(record, reader)
 
 
-def commands_within(records: List[Record], place: int) -> Tuple[List[Command], int, bool]:
-    """The commands of a block from its second record on, the place behind it, and whether it has its `end`."""
+def commands_within(reader: Reader) -> Tuple[List[Command], bool]:
+    """The commands of a block from its second record on, and whether it has its `end`."""
     inner: List[Command] = []
-    while place < len(records):
-        if records[place].is_end():
-            return inner, place + 1, True
-        command = command_at(records, place)
-        inner.append(replace(command, in_together=True))
-        place += 1 + len(command.block)
-    return inner, place, False
+    for record in reader:
+        if record.is_end():
+            return inner, True
+        inner.append(replace(command_of(record, reader), in_together=True))
+    return inner, False
 
 
-def command_at(records: List[Record], place: int) -> Command:
-    """The command that begins there, with its block where it is a load or a check."""
-    opening = records[place]
+def command_of(opening: Record, reader: Reader) -> Command:
+    """The command that begins with this record, with its block where it is a load or a check."""
     if opening.word not in BLOCKS:
         return Command(opening, [])
-    for end in range(place + 1, len(records)):
-        if records[end].is_end():
-            return Command(opening, records[place + 1:end + 1])
-    return Command(opening, records[place + 1:], is_ended=False)
+    place = reader.place
+    skipped = reader.skip_block()
+    return Command(opening, Block(reader.source, place, skipped.count, skipped.widths), skipped.is_ended)

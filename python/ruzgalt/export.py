@@ -2,18 +2,29 @@
 import json
 import re
 import sqlite3
+from itertools import islice
 from pathlib import Path
-from typing import Any, Dict, List, Sequence
+from typing import Any, Dict, Iterator, List, Sequence
 
-from ruzgalt.answers import Answer
+from ruzgalt.answers import Answer, Listed
 from ruzgalt.errors import Misfit
 from ruzgalt.picks import Pick
-from ruzgalt.records import encode, to_text
+from ruzgalt.reader import PIECE
+from ruzgalt.records import Printer, encode, to_text
 from ruzgalt.tables import Kind, Table
 
 
-def to_csv(table: Table) -> str:
-    return to_text([table.names, *table.texts()])
+def to_csv(table: Table) -> Iterator[bytes]:
+    """The table with a header, by pieces."""
+    yield encode(to_text([table.names]))
+    if isinstance(table.records, Listed) and table.records.has_lines:
+        yield from table.records.lines()
+        return
+    printer, texts = Printer(), table.texts()
+    piece = list(islice(texts, PIECE))
+    while piece:
+        yield encode(printer.text(piece))
+        piece = list(islice(texts, PIECE))
 
 
 def to_folder(picks: Sequence[Pick], folder: Path, is_replacing: bool = False) -> None:
@@ -26,7 +37,8 @@ def to_folder(picks: Sequence[Pick], folder: Path, is_replacing: bool = False) -
             raise Misfit(f"{file} is there, so no file was written: --replace replaces it")
     folder.mkdir(parents=True, exist_ok=True)
     for pick, file in zip(picks, files):
-        file.write_bytes(encode(to_csv(pick.answer.table)))
+        with file.open("wb") as written:
+            written.writelines(to_csv(pick.answer.table))
 
 
 def to_sqlite(picks: Sequence[Pick], database: sqlite3.Connection, is_replacing: bool = False) -> List[str]:
@@ -72,7 +84,7 @@ def kinds(table: Table) -> List[str]:
     return [
         "integer" if column.kind is Kind.INT and all(number is None or -limit <= number < limit for number in values)
         else "text"
-        for column, values in zip(table.columns, zip(*table.values()) if table.records else ((),) * len(table.columns))
+        for column, values in zip(table.columns, zip(*table.values()) if len(table.records) else ((),) * len(table.columns))
     ]
 
 

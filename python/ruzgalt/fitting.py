@@ -34,7 +34,7 @@ def fault(found: Sequence[Answer], store: Store, answer: Answer) -> Optional[str
     return first_difference(answer.table.texts(), RECORDS[word](store, answer)) if word in RECORDS else None
 
 
-def first_difference(told: Sequence[Texts], wanted: Iterable[Texts]) -> Optional[str]:
+def first_difference(told: Iterable[Texts], wanted: Iterable[Texts]) -> Optional[str]:
     """The first record in which they differ, as the answer has it and as the changes give it."""
     for place, (one, other) in enumerate(zip_longest(told, wanted), 1):
         if one is None:

@@ -10,6 +10,7 @@ from typing import List, Optional, Sequence, Tuple
 from ruzgalt import commands, dates, records
 from ruzgalt.errors import Misfit
 from ruzgalt.loading import Load
+from ruzgalt.reader import Source
 from ruzgalt.sheets import Sheet
 from ruzgalt.tables import Schema, is_schema
 
@@ -109,7 +110,7 @@ def schema_of(options: Namespace) -> Optional[Schema]:
         return None
     is_file = not options.record.startswith("table,")
     data = Path(options.record).read_bytes() if is_file else options.record.encode("utf-8", "surrogateescape")
-    tables = [one.record.fields for one in commands.commands(records.read(data)) if one.word == "table"]
+    tables = [one.record.fields for one in commands.commands(Source(data)) if one.word == "table"]
     found = next((fields for fields in tables if fields[1:2] == [options.table]), None)
     if found is None:
         raise Misfit(f"--table: no `table` record of {options.table}")

@@ -97,4 +97,4 @@ def told(thing: Held) -> str:
     if isinstance(thing, Version):
         return f"row {thing.row_id}, made by commit {thing.made}: {text}"
     place = f" in place of row {row.in_place_of}" if row.in_place_of else ""
-    return f"{row.source.place}{place}: {text}"
+    return f"{row.place}{place}: {text}"

@@ -4,7 +4,8 @@ from dataclasses import dataclass, replace
 from typing import Callable, Dict, Iterable, List, Optional, Sequence, Tuple, Union
 
 from ruzgalt import store
-from ruzgalt.answers import FORMS, Answer
+from ruzgalt.answers import Answer
+from ruzgalt.checking import FORMS
 from ruzgalt.errors import Misfit
 from ruzgalt.forms import printed, read_point, seconds
 from ruzgalt.records import short, visible

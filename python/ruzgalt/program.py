@@ -1,30 +1,55 @@
 """Asks the program: of a script for its answers, and for all faulty rows of its loads."""
 import os
+import shutil
 import subprocess
 import sys
+import tempfile
 from pathlib import Path
 from typing import Iterator, List, Sequence, Tuple
 
 from ruzgalt import answers, commands, records
 from ruzgalt.answers import Answer
 from ruzgalt.errors import Misfit
+from ruzgalt.reader import Source
 from ruzgalt.refusals import reason
 
 
 def default() -> str:
-    """The program that DIPQ names in the environment, or ./dipq of the repository whose tool was called."""
-    called = Path(os.path.abspath(sys.argv[0])).parent.parent / "dipq"
-    # The tool may be called by a link that stands elsewhere.
-    beside = called if called.exists() else Path(__file__).resolve().parents[2] / "dipq"
-    return os.environ.get("DIPQ") or str(beside)
+    """The program that DIPQ names in the environment, or ./dipq of the repository whose tool was called, or `dipq`.
+
+    The tool may be called by a link that stands elsewhere, or be copied to where no repository is.
+    """
+    places = [Path(os.path.abspath(sys.argv[0])).parents[1] / "dipq", Path(__file__).resolve().parents[2] / "dipq"]
+    beside = next((str(place) for place in places if place.is_file()), None)
+    return os.environ.get("DIPQ") or beside or shutil.which("dipq") or str(places[0])
+
+
+class Running:
+    """The program at work on a script. What it says on standard error stands there too."""
+
+    def __init__(self, program: str, script: bytes) -> None:
+        self.program, self.printed = program, tempfile.TemporaryFile()
+        with tempfile.TemporaryFile() as given:
+            given.write(script)
+            given.seek(0)
+            try:
+                self.process = subprocess.Popen([program], stdin=given, stdout=self.printed)
+            except FileNotFoundError:
+                told = "no such program: DIPQ in the environment, or --program, names it, or a dipq on the PATH is taken"
+                raise Misfit(f"{program}: {told}") from None
+
+    def output(self) -> bytes:
+        """What it answers, when it has ended."""
+        status = self.process.wait()
+        if status not in (0, 1):
+            raise Misfit(f"{self.program} ended with status {status}, so not all is answered")
+        with self.printed:
+            self.printed.seek(0)
+            return self.printed.read()
 
 
 def output(program: str, script: bytes) -> bytes:
-    """What the program answers. What it says on standard error stands there too."""
-    ran = subprocess.run([program], input=script, stdout=subprocess.PIPE)
-    if ran.returncode not in (0, 1):
-        raise Misfit(f"{program} ended with status {ran.returncode}, so not all is answered")
-    return ran.stdout
+    return Running(program, script).output()
 
 
 def faulty(program: str, script: bytes) -> List[str]:
@@ -33,7 +58,7 @@ def faulty(program: str, script: bytes) -> List[str]:
     Each row is loaded alone, into a table of the same columns without a key, since rows of one key that overlap are
     no fault of a single row.
     """
-    tried = list(single_loads(records.read(script)))
+    tried = list(single_loads(Source(script)))
     text = records.to_text(fields for _, loads in tried for fields in loads)
     found = answers.of(records.encode(text), output(program, records.encode(text)))
     by_number = {answer.command.record.number: answer for answer in found}
@@ -56,14 +81,13 @@ def refused_otherwise(program: str, script: bytes) -> List[Answer]:
 Tried = Tuple[records.Record, List[Sequence[str]]]
 
 
-def single_loads(script: List[records.Record]) -> Iterator[Tried]:
+def single_loads(script: Source) -> Iterator[Tried]:
     """The tables, and a load for each row, each with the record that it tries."""
     for command in commands.commands(script):
         if command.word == "table":
             yield command.record, [without_key(command)]
         elif command.word == "load":
-            rows = command.block[:-1] if command.is_ended else command.block
-            yield from ((row, [command.record.fields, row.fields, ["end"]]) for row in rows)
+            yield from ((row, [command.record.fields, row.fields, ["end"]]) for row in command.rows)
 
 
 def without_key(table: commands.Command) -> Sequence[str]:

@@ -1,46 +1,44 @@
 """Questions that are put behind a script, each of which is to be a command of its own."""
-from typing import List, NamedTuple, Sequence
+from typing import List, Optional, Sequence, Tuple
 
 from ruzgalt import commands, records
 from ruzgalt.commands import Command
 from ruzgalt.errors import Misfit
+from ruzgalt.reader import Reader, Source
 from ruzgalt.records import Record, short
 
 
-class Asked(NamedTuple):
-    """A script with its questions, and all of its records."""
-
-    text: bytes
-    records: List[Record]
-
-
-def put_behind(script: bytes, questions: Sequence[str]) -> Asked:
-    """Each question on a line of its own. Raises Misfit where one would be no command by itself."""
+def put_behind(script: bytes, questions: Sequence[str]) -> Tuple[bytes, Optional[int]]:
+    """The script with each question on a line of its own, and how many lines it has itself."""
     if not questions:
-        return Asked(script, records.read(script))
+        return script, None
     pieces = [script + (b"\n" if script and not script.endswith((b"\n", b"\r")) else b"")]
-    own_lines = count_lines(pieces[0])
-    lines, last = [], own_lines
     for question in questions:
         stripped = records.encode(question.strip("\r\n"))
         if not stripped:
             raise Misfit("--ask: the question is empty")
-        lines.append(last + 1)
         pieces.append(stripped + b"\n")
-        last += count_lines(pieces[-1])
-    text = b"".join(pieces)
-    found = records.read(text, own_lines)
-    refuse_taken(found, questions, lines)
-    return Asked(text, found)
+    return b"".join(pieces), count_lines(pieces[0])
 
 
-def refuse_taken(found: List[Record], questions: Sequence[str], lines: List[int]) -> None:
+def commands_of(text: bytes, questions: Sequence[str], own_lines: Optional[int]) -> List[Command]:
+    """The commands of a script with its questions. Raises Misfit where one would be no command by itself."""
+    source = Source(text, own_lines)
+    begun = list(commands.commands(source))
+    if own_lines is not None:
+        refuse_taken(source, begun, questions, own_lines)
+    return begun
+
+
+def refuse_taken(source: Source, begun: List[Command], questions: Sequence[str], line: int) -> None:
     """An open quote or a block without its end takes what stands behind it, and another answer would be shown."""
-    begun = list(commands.commands(found))
     own = {command.line for command in begun}
-    for question, line in zip(questions, lines):
+    line += 1
+    for question in questions:
         if line not in own:
-            raise Misfit(f"--ask {short(question)}: the question was taken into {taker_of(found, begun, line)}")
+            taker = taker_of(list(Reader(source)), begun, line)
+            raise Misfit(f"--ask {short(question)}: the question was taken into {taker}")
+        line += count_lines(records.encode(question.strip("\r\n"))) + 1
 
 
 def taker_of(found: List[Record], begun: List[Command], line: int) -> str:

@@ -1,24 +1,15 @@
-"""Records of CSV as dipq reads and prints them, with the lines on which they begin.
-
-Bytes that are no UTF-8 stay as they are in texts (`surrogateescape`), so what is read and printed again is the same.
-"""
+"""Records of CSV as dipq reads and prints them, with the lines on which they begin."""
 import csv
-import io
 import unicodedata
-from dataclasses import dataclass
 from types import SimpleNamespace
-from typing import Iterable, List, Optional, Sequence
+from typing import Iterable, List, NamedTuple, Sequence
 
-csv.field_size_limit(1 << 27)
 
 # So many characters of a record are told in a message.
 LONGEST = 120
-# Python 3.9's csv takes no zero byte, so one is put in its place that no decoded text has.
-ZERO, STAND_IN = "\0", "\ud800"
 
 
-@dataclass(frozen=True)
-class Record:
+class Record(NamedTuple):
     """A record: its number from 1 on, the line of the text on which it begins, its fields, and whether it is asked."""
 
     number: int
@@ -41,29 +32,6 @@ class Record:
 
     def is_end(self) -> bool:
         return list(self.fields) == ["end"]
-
-
-def read(data: bytes, own_lines: Optional[int] = None) -> List[Record]:
-    """The records of a script or of answers. Empty lines give none, and have no number.
-
-    Those behind so many lines of its own are asked.
-    """
-    text = decode(data)
-    has_zero = ZERO in text
-    reader = csv.reader(io.StringIO(text.replace(ZERO, STAND_IN) if has_zero else text, newline=""))
-    records, line = [], 1
-    for fields in reader:
-        if fields:
-            kept = [field.replace(STAND_IN, ZERO) for field in fields] if has_zero else fields
-            records.append(Record(len(records) + 1, line, kept, own_lines is not None and line > own_lines))
-        line = reader.line_num + 1
-    return records
-
-
-def decode(data: bytes) -> str:
-    """The text of these bytes, without a byte order mark."""
-    mark = b"\xef\xbb\xbf"
-    return data[len(mark) if data.startswith(mark) else 0:].decode("utf-8", "surrogateescape")
 
 
 def encode(text: str) -> bytes:

@@ -5,7 +5,7 @@ texts are in the order of time; of two values the texts are equal exactly where 
 """
 from collections import defaultdict
 from dataclasses import dataclass, field
-from typing import Dict, Iterable, Iterator, List, Optional, Sequence, Tuple
+from typing import Dict, Iterable, Iterator, List, NamedTuple, Optional, Sequence, Tuple
 
 from ruzgalt import fields
 from ruzgalt.answers import Answer
@@ -19,25 +19,28 @@ from ruzgalt.tables import Schema
 Pairs = List[Tuple[int, str]]
 
 
-@dataclass(frozen=True)
-class Row:
-    """A row: its period and values, the record of the script that made it, and the row in whose place it came."""
+class Row(NamedTuple):
+    """A row: its period and values, the line that made it (0 where that was asked), and in whose place it came."""
 
     start: str
     end: str
     values: Tuple[str, ...]
-    source: Record
+    line: int
     in_place_of: Optional[int] = None
 
+    @property
+    def place(self) -> str:
+        return f"line {self.line}" if self.line else "--ask"
 
-@dataclass
+
 class Version:
     """A row under its id, with the commit that made it and the one that closed it, where one did."""
 
-    row_id: int
-    row: Row
-    made: int
-    closed: Optional[int] = None
+    __slots__ = ("row_id", "row", "made", "closed")
+
+    def __init__(self, row_id: int, row: Row, made: int) -> None:
+        self.row_id, self.row, self.made = row_id, row, made
+        self.closed: Optional[int] = None
 
     def is_shown(self, commit: int) -> bool:
         return self.made <= commit and (self.closed is None or commit < self.closed)
@@ -110,13 +113,13 @@ class Store:
         """What a load, an update or a delete does to the rows that are there, or would have done."""
         command, texts = answer.command, answer.command.record.fields
         if command.word == "load":
-            return Change(added=[row_of(record) for record in command.block[:-1]])
+            return Change(added=[row_of(record) for record in command.rows])
         wanted = pairs(texts, fields.where_places(texts), answer.tables[texts[1]])
         set_to = pairs(texts, fields.set_places(texts), answer.tables[texts[1]]) if command.word == "update" else None
         start, end = printed(texts[2]), printed(texts[3])
         found = self.open[texts[1]].with_values(wanted)
         closed = [version for version in found if version.row.start < end and start < version.row.end]
-        made = (parts(version, (start, end), set_to, command.record) for version in closed)
+        made = (parts(version, (start, end), set_to, line_of(command.record)) for version in closed)
         return Change(closed, [row for rows in made for row in rows])
 
     def rows(self, table: str, commit: int) -> List[Version]:
@@ -125,7 +128,12 @@ class Store:
 
 
 def row_of(record: Record) -> Row:
-    return Row(printed(record.fields[1]), printed(record.fields[2]), tuple(record.fields[3:]), record)
+    _, start, end, *values = record.fields
+    return Row(printed(start), printed(end), tuple(values), line_of(record))
+
+
+def line_of(record: Record) -> int:
+    return 0 if record.is_asked else record.line
 
 
 def pairs(texts: Sequence[str], places: Iterable[int], table: Schema) -> Pairs:
@@ -133,18 +141,18 @@ def pairs(texts: Sequence[str], places: Iterable[int], table: Schema) -> Pairs:
     return [(table.place(texts[place]), texts[place + 1]) for place in places]
 
 
-def parts(version: Version, portion: Tuple[str, str], set_to: Optional[Pairs], source: Record) -> Iterator[Row]:
+def parts(version: Version, portion: Tuple[str, str], set_to: Optional[Pairs], line: int) -> Iterator[Row]:
     """What comes in place of a row: its part before the portion, that inside of an update, and that behind."""
     row, (start, end) = version.row, portion
     if row.start < start:
-        yield Row(row.start, start, row.values, source, version.row_id)
+        yield Row(row.start, start, row.values, line, version.row_id)
     if set_to is not None:
         values = list(row.values)
         for place, value in set_to:
             values[place] = value
-        yield Row(max(row.start, start), min(row.end, end), tuple(values), source, version.row_id)
+        yield Row(max(row.start, start), min(row.end, end), tuple(values), line, version.row_id)
     if end < row.end:
-        yield Row(end, row.end, row.values, source, version.row_id)
+        yield Row(end, row.end, row.values, line, version.row_id)
 
 
 def behind(answers: Iterable[Answer]) -> Store:

@@ -1,7 +1,7 @@
 """Which columns a table of the store has, and which the answer to each command."""
 from dataclasses import dataclass, field
 from enum import Enum
-from typing import Dict, Iterable, List, Optional, Sequence, Tuple, Union
+from typing import Dict, Iterable, Iterator, List, Optional, Sequence, Tuple, Union
 
 from ruzgalt.commands import Command
 from ruzgalt.errors import Misfit
@@ -71,22 +71,22 @@ class Table:
     """An answer as a table. A field that isn't told, as the end of a version that is open, is None."""
 
     columns: List[Column]
-    records: List[List[Optional[str]]] = field(default_factory=list)
+    records: Sequence[List[Optional[str]]] = field(default_factory=list)
 
     @property
     def names(self) -> List[str]:
         return [column.name for column in self.columns]
 
-    def values(self) -> List[List[Value]]:
+    def values(self) -> Iterator[List[Value]]:
         """The records with numbers as numbers."""
         is_int = [column.kind is Kind.INT for column in self.columns]
-        return [
+        return (
             [int(text) if number and text is not None else text for number, text in zip(is_int, record)]
             for record in self.records
-        ]
+        )
 
-    def texts(self) -> List[List[str]]:
-        return [["" if text is None else text for text in record] for record in self.records]
+    def texts(self) -> Iterator[List[str]]:
+        return (["" if text is None else text for text in record] for record in self.records)
 
     def place(self, name: str) -> int:
         if name not in self.names:
