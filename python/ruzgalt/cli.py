@@ -10,13 +10,16 @@ from pathlib import Path
 from typing import Callable, Dict, Iterable, List, NamedTuple, Optional, Sequence, Tuple
 
 from ruzgalt import (
-    answers, changes, export, fitting, overlaps, picks, pictures, program, questions, records, refusals, single, store,
+    answers, changes, export, fitting, marks, overlaps, picks, pictures, program, questions, records, refusals, single, store,
     svg, terminal,
 )
 from ruzgalt.answers import Answer
 from ruzgalt.errors import Misfit
+from ruzgalt.store import Store
 
 NAME = "tools/answers"
+# So many doubts are told of a script.
+MARKED = 20
 ABOUT = f"""Reads a script of dipq beside its answers, so that it knows of each answer its command and its columns.
 
 usage: {NAME} COMMAND SCRIPT ..
@@ -117,16 +120,23 @@ def show_pieces(pieces: Iterable[bytes]) -> None:
 
 def do_list(options: Namespace) -> int:
     """Tells all answers, refusals too. The status is 1 where there is one, as that of dipq is."""
-    found = read(options, shows_refusals=True).answers
+    own = read(options, shows_refusals=True)
+    found = own.answers
+    if not own.is_own:
+        fitting.refuse_unfit(found, found)
     show(export.listing(found))
-    warn_of_idle(found)
+    found_marks, store = marks.Marks(found), Store()
+    for answer, store in marks.walk(found):
+        found_marks.look(answer, store)
+    warn_of_marks(found_marks.end(store))
     return 1 if any(answer.refusal for answer in found) and not options.go_on else 0
 
 
-def warn_of_idle(found: Sequence[Answer]) -> None:
-    for answer in store.idle(found):
-        told = "no row of that time has what its `where` tells, so nothing was changed"
+def warn_of_marks(found: Sequence[marks.Mark]) -> None:
+    for answer, told in found[:MARKED]:
         warn(f"{answer.place}: {records.short(answer.command.text)}: {told}")
+    if len(found) > MARKED:
+        warn(f"and {len(found) - MARKED} more of such kinds")
 
 
 def do_csv(options: Namespace) -> None:
@@ -197,13 +207,15 @@ def columns_of_terminal() -> int:
 def do_refusals(options: Namespace) -> int:
     """Tells each refusal, and of one for a key the rows. The status is 1 where there is one."""
     found = read(options, shows_refusals=True).answers
-    refused = [answer for answer in found if answer.refusal]
-    for answer in refused:
-        show(refusals.told(answer) + "\n")
-        if answer.refusal.name == "KeyOverlap":
-            show("".join(f"  {line}\n" for line in overlaps.explained(found, answer)))
-    warn_of_idle(found)
-    return 1 if refused else 0
+    found_marks, store = marks.Marks(found), Store()
+    for answer, store in marks.walk(found):
+        found_marks.look(answer, store)
+        if answer.refusal:
+            show(refusals.told(answer) + "\n")
+            if answer.refusal.name == "KeyOverlap":
+                show("".join(f"  {line}\n" for line in overlaps.explained(store, answer)))
+    warn_of_marks(found_marks.end(store))
+    return 1 if any(answer.refusal for answer in found) else 0
 
 
 def do_only(options: Namespace) -> None:

@@ -2,7 +2,7 @@
 from dataclasses import dataclass, replace
 from typing import Iterator, List, Optional, Sequence, Tuple
 
-from ruzgalt.reader import Block, Reader, Source
+from ruzgalt.reader import Block, Reader, Skipped, Source
 from ruzgalt.records import Record
 
 # Words whose records run to the next `end`, whatever their other fields are.
@@ -68,7 +68,8 @@ def commands(source: Source) -> Iterator[Command]:
         if record.word == "together":
             place = reader.place
             inner, is_ended = commands_within(reader)
-            yield Command(record, Block(source, place, reader.number - place.number), is_ended)
+            skipped = Skipped(reader.number - place.number, is_ended, set())
+            yield Command(record, Block(source, place, skipped, reader.line), is_ended)
             if is_ended and len(record.fields) == 1:
                 yield from inner
         else:
@@ -91,4 +92,4 @@ def command_of(opening: Record, reader: Reader) -> Command:
         return Command(opening, [])
     place = reader.place
     skipped = reader.skip_block()
-    return Command(opening, Block(reader.source, place, skipped.count, skipped.widths), skipped.is_ended)
+    return Command(opening, Block(reader.source, place, skipped, reader.line), skipped.is_ended)

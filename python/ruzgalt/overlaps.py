@@ -2,12 +2,13 @@
 from collections import defaultdict
 from dataclasses import dataclass
 from itertools import islice
+from operator import itemgetter
 from typing import Dict, Generic, Iterable, Iterator, List, Sequence, Tuple, TypeVar, Union
 
 from ruzgalt.answers import Answer
 from ruzgalt.errors import Misfit
 from ruzgalt.records import to_record
-from ruzgalt.store import Change, Row, Store, Version, behind
+from ruzgalt.store import Change, Row, Store, Version
 from ruzgalt.tables import PERIOD, Table, ints, unique
 
 Thing = TypeVar("Thing")
@@ -56,9 +57,8 @@ def in_answer(answer: Answer, key: Sequence[str]) -> Table:
     return Table(columns, found)
 
 
-def explained(answers: Sequence[Answer], answer: Answer) -> List[str]:
-    """Which key, and which rows: lines for a person on a load or an update that was refused for a key."""
-    store = behind(answers[:answer.number - 1])
+def explained(store: Store, answer: Answer) -> List[str]:
+    """Which key, and which rows: lines for a person on a load or an update of this store, refused for a key."""
     name = answer.command.record.fields[1]
     schema = answer.tables[name]
     found = collisions(store, name, store.change(answer), schema.key)
@@ -75,11 +75,12 @@ def collisions(store: Store, name: str, change: Change, key: Sequence[int]) -> I
     """The pairs of rows of one key that a change would leave, of which one at least is new."""
     closed = {version.row_id for version in change.closed}
     stay = [version for row_id, version in store.open[name].by_id.items() if row_id not in closed]
-    by_key: Dict[Tuple[str, ...], List[Held]] = defaultdict(list)
+    by_key: Dict[object, List[Held]] = defaultdict(list)
+    key_of = itemgetter(*key)
     for row in change.added:
-        by_key[tuple(row.values[place] for place in key)].append(row)
+        by_key[key_of(row.values)].append(row)
     for version in stay:
-        values = tuple(version.row.values[place] for place in key)
+        values = key_of(version.row.values)
         if values in by_key:
             by_key[values].append(version)
     for things in by_key.values():

@@ -7,7 +7,7 @@ import io
 import re
 from bisect import bisect_left
 from itertools import accumulate
-from typing import Callable, Iterator, List, NamedTuple, Optional, Sequence, Set, Union, overload
+from typing import Callable, Iterator, List, NamedTuple, Optional, Sequence, Set, Tuple, Union, overload
 
 from ruzgalt.records import Record
 
@@ -108,6 +108,13 @@ class Reader:
                 return self.made(begun, fields)
         return None
 
+    def numbered(self) -> Iterator[Tuple[int, List[str]]]:
+        """The fields of each record, with the line on which it begins."""
+        for fields in self.fields:
+            begun, self.line = self.line, self.first_line + self.csv.line_num
+            if fields:
+                yield begun, fields
+
     def made(self, line: int, fields: List[str]) -> Record:
         own_lines = self.source.own_lines
         self.number += 1
@@ -164,9 +171,18 @@ def with_zeros(fields: List[str]) -> List[str]:
 class Block(Sequence[Record]):
     """The records of a block, read again where they are asked for."""
 
-    def __init__(self, source: Source, place: Place, count: int, widths: Optional[Set[int]] = None) -> None:
-        self.source, self.place, self.count = source, place, count
-        self.widths = widths or set()
+    def __init__(self, source: Source, place: Place, skipped: Skipped, end: int) -> None:
+        self.source, self.place, self.end, self.skipped = source, place, end, skipped
+        self.count = skipped.count
+
+    @property
+    def widths(self) -> Set[int]:
+        """How many fields its records have, but for an `end`."""
+        return self.skipped.widths
+
+    def bytes(self) -> bytes:
+        """The lines on which its records stand, and an `end`."""
+        return self.source.bytes_between(self.place.line, self.end)
 
     def __len__(self) -> int:
         return self.count
@@ -188,7 +204,7 @@ class Block(Sequence[Record]):
         if isinstance(place, slice):
             start, stop, step = place.indices(self.count)
             if (start, step) == (0, 1):
-                return Block(self.source, self.place, stop, self.widths)
+                return Block(self.source, self.place, self.skipped._replace(count=stop), self.end)
         return list(self)[place]
 
 

@@ -5,12 +5,15 @@ texts are in the order of time; of two values the texts are equal exactly where 
 """
 from collections import defaultdict
 from dataclasses import dataclass, field
+from itertools import islice
 from typing import Dict, Iterable, Iterator, List, NamedTuple, Optional, Sequence, Tuple
 
 from ruzgalt import fields
 from ruzgalt.answers import Answer
+from ruzgalt.commands import Command
 from ruzgalt.errors import Misfit
 from ruzgalt.forms import printed
+from ruzgalt.reader import Block, Reader
 from ruzgalt.records import Record
 from ruzgalt.tables import Schema
 
@@ -90,6 +93,8 @@ class Store:
     def __init__(self) -> None:
         self.versions: Dict[str, List[Version]] = {}
         self.open: Dict[str, OpenRows] = {}
+        # How many versions each commit closed.
+        self.closed: Dict[int, int] = {}
 
     def do(self, answer: Answer) -> None:
         """Does what an answer says was done: nothing, where it is that of a query or a refusal."""
@@ -101,6 +106,7 @@ class Store:
             self.versions[name], self.open[name] = [], OpenRows()
             return
         change = self.change(answer)
+        self.closed[answer.commits] = len(change.closed)
         for version in change.closed:
             version.closed = answer.commits
             self.open[name].close(version)
@@ -113,7 +119,7 @@ class Store:
         """What a load, an update or a delete does to the rows that are there, or would have done."""
         command, texts = answer.command, answer.command.record.fields
         if command.word == "load":
-            return Change(added=[row_of(record) for record in command.rows])
+            return Change(added=list(loaded(command)))
         wanted = pairs(texts, fields.where_places(texts), answer.tables[texts[1]])
         set_to = pairs(texts, fields.set_places(texts), answer.tables[texts[1]]) if command.word == "update" else None
         start, end = printed(texts[2]), printed(texts[3])
@@ -127,9 +133,14 @@ class Store:
         return [version for version in self.versions.get(table, []) if version.is_shown(commit)]
 
 
-def row_of(record: Record) -> Row:
-    _, start, end, *values = record.fields
-    return Row(printed(start), printed(end), tuple(values), line_of(record))
+def loaded(command: Command) -> Iterator[Row]:
+    """The rows of a load."""
+    block = command.rows
+    if isinstance(block, Block):
+        own_lines = block.source.own_lines
+        for line, (_, start, end, *values) in islice(Reader(block.source, block.place).numbered(), len(block)):
+            is_asked = own_lines is not None and line > own_lines
+            yield Row(printed(start), printed(end), tuple(values), 0 if is_asked else line)
 
 
 def line_of(record: Record) -> int:
@@ -173,14 +184,10 @@ def later_tables(answers: Sequence[Answer], answer: Answer) -> List[Tuple[str, i
     return [(name, made[name]) for name in dict.fromkeys(names) if name in made]
 
 
-def idle(answers: Sequence[Answer]) -> List[Answer]:
-    """The updates and deletes whose `where` no row had, so that nothing was changed."""
-    told = [one for one in answers if not one.refusal and one.command.word in ("update", "delete")]
-    asked = [one for one in told if fields.where_places(one.command.record.fields)]
-    if not asked:
-        return []
-    closing = {version.closed for versions in behind(answers).versions.values() for version in versions}
-    return [one for one in asked if one.commits not in closing]
+def asks_for_values(answer: Answer) -> bool:
+    """Whether it is a change of rows with some values, which may touch none."""
+    is_change = not answer.refusal and answer.command.word in ("update", "delete")
+    return is_change and bool(fields.where_places(answer.command.record.fields))
 
 
 def rows_of(answers: Sequence[Answer], answer: Answer) -> List[Version]:

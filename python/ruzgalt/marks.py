@@ -1,0 +1,148 @@
+"""What is accepted, and may not be meant: changes of no row, or of all, portions that leave a day out, joins of nothing."""
+import re
+from typing import Dict, Iterator, List, NamedTuple, Optional, Sequence, Set, Tuple
+
+from ruzgalt.answers import Answer
+from ruzgalt.dates import NO_END, is_month_end
+from ruzgalt.doubts import fold
+from ruzgalt.fields import where_places
+from ruzgalt.reader import Block
+from ruzgalt.records import visible
+from ruzgalt.store import Store
+
+HOURS = re.compile(rb",\"?\d{4}-\d\d-\d\dT(?!00:00:00)\d\d:")
+LAST_SECOND = re.compile(rb"row,[^,\r\n]*,(?!9999)\d{4}-\d\d-\d\dT23:59:59")
+JOINS, PORTIONS = ("join", "anti"), ("update", "delete")
+Values = Set[Tuple[str, ...]]
+
+
+class Mark(NamedTuple):
+    answer: Answer
+    told: str
+
+
+def needs_store(found: Sequence[Answer]) -> bool:
+    """Whether some answer is looked at beside the rows that were there."""
+    words = {one.command.word for one in found if not one.refusal}
+    return bool(words & {*JOINS, *PORTIONS}) or any(one.refusal and one.refusal.name == "KeyOverlap" for one in found)
+
+
+def walk(found: Sequence[Answer]) -> Iterator[Tuple[Answer, Store]]:
+    """Each answer with the store as it was before; without its rows where none is needed."""
+    store, is_needed = Store(), needs_store(found)
+    for answer in found:
+        yield answer, store
+        if is_needed:
+            store.do(answer)
+
+
+class Marks:
+    """What is marked of a script's answers, looked at one behind another."""
+
+    def __init__(self, found: Sequence[Answer]) -> None:
+        self.found = found
+        self.loads: Dict[Tuple[str, int], int] = {}
+        self.with_hours: Set[str] = set()
+        self.marks: List[Mark] = []
+
+    def look(self, answer: Answer, store: Store) -> None:
+        word = answer.command.word
+        if answer.refusal:
+            self.add(answer, self.left_out(answer) if word == "load" else None)
+        elif word == "load":
+            self.look_at_load(answer)
+        elif word in JOINS:
+            self.add(answer, of_join(answer, store))
+        elif word == "at":
+            self.add(answer, self.of_point(answer))
+        elif word in PORTIONS:
+            self.add(answer, of_portion(answer.command.record.fields))
+
+    def add(self, answer: Answer, told: Optional[str]) -> None:
+        if told:
+            self.marks.append(Mark(answer, told))
+
+    def look_at_load(self, answer: Answer) -> None:
+        table, block = answer.command.record.fields[1], answer.command.block
+        data = block.bytes() if isinstance(block, Block) else b""
+        line = self.loads.setdefault((table, hash(data)), answer.line)
+        if line != answer.line and len(block) > 1:
+            self.add(answer, f"its rows are those of the load at line {line}, so each is there twice")
+        if HOURS.search(data):
+            self.with_hours.add(table)
+        last = LAST_SECOND.search(data)
+        if last:
+            self.add(answer, f"{last[0].decode()} doesn't hold in that second: a day ends at the next one's midnight")
+
+    def of_point(self, answer: Answer) -> Optional[str]:
+        _, table, point = answer.command.front
+        if len(point) == 10 and table in self.with_hours:
+            return f"{table} has times of day, and this is the midnight that begins the day: `rows` has the whole day"
+        return None
+
+    def left_out(self, answer: Answer) -> Optional[str]:
+        """How many rows of a refused load stand in no later one, where there is one."""
+        name, at_fault = answer.command.record.fields[1:2], answer.refusal.record if answer.refusal else None
+        later = [one for one in self.found[answer.number:] if one.command.word == "load" and not one.refusal]
+        blocks = [one.command.rows for one in later if one.command.record.fields[1:2] == name]
+        if not blocks or at_fault is answer.command.record:
+            return None
+        loaded = {tuple(record.fields) for block in blocks for record in block}
+        rows = [tuple(record.fields) for record in answer.command.rows if record != at_fault]
+        count = sum(row not in loaded for row in rows)
+        return f"it was refused whole, and {count} of its other rows stand in no later load" if count else None
+
+    def end(self, store: Store) -> List[Mark]:
+        """All that is marked, by the answers' order; what changes touched is known now."""
+        for answer in self.found:
+            if not answer.refusal and answer.command.word in PORTIONS:
+                self.add(answer, of_count(answer, store.closed.get(answer.commits, 0)))
+        return sorted(self.marks, key=lambda mark: mark.answer.number)
+
+
+def of_portion(texts: Sequence[str]) -> Optional[str]:
+    end = texts[3]
+    if "T23:59" in end and not end.startswith("9999"):
+        return f"{end} isn't in it: a day ends at the next one's midnight"
+    if end < NO_END and is_month_end(end):
+        return f"{end} isn't in it: a portion ends before its TO, so one that has this day ends on the next"
+    return None
+
+
+def of_count(answer: Answer, count: int) -> Optional[str]:
+    """What an update or a delete touched, where that was nothing, or all that there was."""
+    has_where = bool(where_places(answer.command.record.fields))
+    if has_where and not count:
+        return "no row of that time has what its `where` tells, so nothing was changed"
+    if not has_where and count > 1:
+        return f"without a `where` it acts on all rows of that time: {count} were changed"
+    return None
+
+
+def of_join(answer: Answer, store: Store) -> Optional[str]:
+    front = answer.command.front
+    left, right = (
+        values_of(store, answer, name, columns) for name, columns in zip(front[1:3], (front[4::2], front[5::2]))
+    )
+    if len(front) > 3 and left and right and not left & right:
+        return f"{front[1]} and {front[2]} have no value of these columns in common, so no row matches{like(left, right)}"
+    if front[0] == "anti" and not len(answer.table.records):
+        told = f"each row of {front[1]} is matched all the time"
+        return f"{told}; the rows of {front[2]} without one of {front[1]} are asked for by anti,{front[2]},{front[1]}"
+    told = like(left - right, right - left) if len(front) > 3 else ""
+    return f"some values don't match{told}" if told else None
+
+
+def values_of(store: Store, answer: Answer, name: str, columns: Sequence[str]) -> Values:
+    places = [answer.tables[name].place(column) for column in columns]
+    return {tuple(one.row.values[place] for place in places) for one in store.rows(name, answer.commit)}
+
+
+def like(left: Values, right: Values) -> str:
+    """Two values that look alike."""
+    folded = {tuple(map(fold, values)): values for values in right}
+    pairs = [(values, folded[alike]) for values in sorted(left) for alike in [tuple(map(fold, values))] if alike in folded]
+    if not pairs:
+        return ""
+    shown = " and ".join(repr(visible(",".join(values))) for values in pairs[0])
+    return f": {shown} look alike, and are two texts" + (f" ({len(pairs)} such pairs)" if len(pairs) > 1 else "")
