@@ -8,7 +8,7 @@ from ruzgalt.dates import NO_END
 from ruzgalt.decimals import SPACES
 from ruzgalt.doubts import Doubt, LookAlikes, doubt_of
 from ruzgalt.errors import Misfit
-from ruzgalt.forms import is_integer, is_short
+from ruzgalt.forms import TEXT_LIMIT, is_integer, is_short
 from ruzgalt.records import Printer, visible
 from ruzgalt.tables import Kind
 
@@ -104,7 +104,8 @@ class Text(Column):
                 told = "numbers are whole, as 5000; --decimals makes them so of others"
                 raise Misfit(f"no number of the table; {told}: --decimals {self.name}=2")
             return made
-        if not is_short(made):
+        # No character has more than four bytes.
+        if len(made) > TEXT_LIMIT // 4 and not is_short(made):
             raise Misfit("a text has 4,096 bytes at most")
         told = doubt_of(made, self.mark)
         other = self.look_alikes.other(made)

@@ -3,7 +3,7 @@ import re
 import unicodedata
 from array import array
 from collections import Counter
-from typing import Dict, Iterator, List, NamedTuple, Optional, Sequence, Tuple
+from typing import Dict, Iterator, NamedTuple, Optional, Sequence, Tuple
 
 from ruzgalt.dates import is_far_off, is_month_end, shifted
 from ruzgalt.decimals import SPACES, number_in
@@ -159,27 +159,30 @@ class Ends:
     def told(self) -> Iterator[str]:
         on_end, on_next = self.meetings(self.same), self.meetings(self.behind)
         if on_end or on_next:
-            is_odd = len(on_end) >= len(on_next) if self.is_last_day else len(on_next) >= len(on_end)
+            is_odd = on_end >= on_next if self.is_last_day else on_next >= on_end
             if is_odd or (on_end and on_next):
                 yield self.told_of_meetings(on_end, on_next, is_odd)
                 return
         seldom, often = sorted((self.month_ends, self.month_starts))
         is_odd = (self.month_starts if self.is_last_day else self.month_ends) == often
-        met = len(on_next if self.is_last_day else on_end)
-        if often > 4 * seldom and is_odd and often > 10 * met:
+        if often > 4 * seldom and is_odd and often > 10 * (on_next if self.is_last_day else on_end):
             yield self.told_of_months()
 
-    def meetings(self, ends: "array[int]") -> List[Tuple[int, int]]:
-        """The lines of rows that another one meets at these points, each with that one's."""
-        return [(line, self.starts[end]) for line, end in zip(self.lines, ends) if end in self.starts]
+    def meetings(self, ends: "array[int]") -> int:
+        """How many rows another one of their key meets at these points."""
+        return sum(map(self.starts.__contains__, ends))
 
-    def told_of_meetings(self, on_end: List[Tuple[int, int]], on_next: List[Tuple[int, int]], is_odd: bool) -> str:
+    def told_of_meetings(self, on_end: int, on_next: int, is_odd: bool) -> str:
         told = " and ".join(
-            f"{len(lines)} start on {where} (line {lines[0][1]} after line {lines[0][0]})"
-            for lines, where in ((on_next, "the day behind it"), (on_end, "it")) if lines
+            f"{count} start on {where} ({self.example_of(ends)})"
+            for count, where, ends in ((on_next, "the day behind it", self.behind), (on_end, "it", self.same)) if count
         )
         remedy = self.remedy() if is_odd else "is it the last day in some rows, and the day behind it in others?"
         return f"{self.name}: of rows that follow one of the same {self.key}, {told}: {remedy}"
+
+    def example_of(self, ends: "array[int]") -> str:
+        line, end = next(pair for pair in zip(self.lines, ends) if pair[1] in self.starts)
+        return f"line {self.starts[end]} after line {line}"
 
     def remedy(self) -> str:
         if self.is_last_day:
