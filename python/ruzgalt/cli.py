@@ -10,11 +10,13 @@ from pathlib import Path
 from typing import Callable, Dict, Iterable, List, NamedTuple, Optional, Sequence, Tuple
 
 from ruzgalt import (
-    answers, changes, export, fitting, marks, overlaps, picks, pictures, program, questions, records, refusals, single, store,
+    answers, changes, commands, export, fitting, front, history, marks, overlaps, picks, pictures, program, questions, records, refusals, single, store,
     svg, terminal,
 )
 from ruzgalt.answers import Answer
 from ruzgalt.errors import Misfit
+from ruzgalt.forms import read_point
+from ruzgalt.reader import Source
 from ruzgalt.store import Store
 
 NAME = "tools/answers"
@@ -38,6 +40,8 @@ class Found(NamedTuple):
     answers: List[Answer]
     asked: List[Answer]
     is_own: bool
+    # The names of those that were asked with one, by their answers' numbers.
+    names: Dict[int, str]
 
 
 def read(options: Namespace, shows_refusals: bool = False) -> Found:
@@ -47,6 +51,8 @@ def read(options: Namespace, shows_refusals: bool = False) -> Found:
     """
     if options.script == options.answers == "-":
         raise Misfit("standard input is the script, or its answers, and not both")
+    named = [questions.named(word) for word in options.ask]
+    options.ask = [question for _, question in named]
     text, own_lines = questions.put_behind(bytes_of(options.script), options.ask)
     # The program works while the script is read.
     running = program.Running(options.program, text) if options.answers is None else None
@@ -66,7 +72,8 @@ def read(options: Namespace, shows_refusals: bool = False) -> Found:
         if answer.command.record.is_asked:
             raise Misfit(f"{refusals.told(answer)} (--go-on passes over no question that is asked)")
     asked = [answer for answer in found if answer.command.record.is_asked]
-    return Found(found, asked, is_own=options.answers is None)
+    names = {answer.number: name for answer, (name, _) in zip(asked, named) if name}
+    return Found(found, asked, options.answers is None, names)
 
 
 def bytes_of(name: str) -> bytes:
@@ -81,7 +88,7 @@ def chosen(found: Found, words: Sequence[str]) -> List[picks.Pick]:
 
 
 def picked(found: Found, words: Sequence[str]) -> List[picks.Pick]:
-    return picks.pick(found.answers if words or not found.asked else found.asked, words)
+    return picks.pick(found.answers if words or not found.asked else found.asked, words, found.names)
 
 
 def look_at(found: Found, told: Sequence[Answer]) -> None:
@@ -158,9 +165,15 @@ def do_sqlite(options: Namespace) -> None:
         raise Misfit(f"{options.database}: the DATABASE is missing: it stands behind SCRIPT, and before the first PICK")
     found = chosen(read(options), options.pick)
     database = sqlite3.connect(options.database)
-    for column in export.to_sqlite(found, database, options.replace):
+    if options.day is not None and read_point(options.day) is None:
+        raise Misfit(f"--day {options.day}: no point, as 2024-01-05 or 2024-01-05T08:30:00")
+    for column in export.to_sqlite(found, database, options.replace, options.open_null):
         warn(f"{column} has sums past SQLite's integers, so it is a text there, and isn't in the order of numbers")
+    if options.day is not None:
+        export.make_views(found, database, options.day)
     for query in options.query:
+        for told in export.odd_periods(query):
+            warn(f"--query: {told}")
         for text in export.odd_points(query):
             warn(f"--query: {text} is compared as a text: points are as '2024-01-31' in the tables")
         show(asked(database, query, found))
@@ -186,6 +199,37 @@ def do_changed(options: Namespace) -> None:
 def do_overlaps(options: Namespace) -> None:
     [answer] = last(read(options), options.of, 1)
     show_pieces(export.to_csv(overlaps.in_answer(answer, options.column)))
+
+
+def do_gaps(options: Namespace) -> None:
+    [answer] = last(read(options), options.of, 1)
+    show_pieces(export.to_csv(overlaps.gaps_in_answer(answer, options.column)))
+
+
+def do_history(options: Namespace) -> None:
+    if options.retroactive and not options.diary:
+        raise Misfit("--retroactive: --diary tells the days of commits, and none is told")
+    found = read(options)
+    if not found.is_own:
+        fitting.refuse_unfit(found.answers, found.answers)
+    table = history.of_table(found.answers, options.table, options.where, options.diary)
+    table = history.retroactive(table) if options.retroactive else table
+    show_pieces(export.to_csv(table if options.commit is None else history.of_commit(table, options.commit)))
+
+
+def do_front(options: Namespace) -> int:
+    """Tells what differs. The status is 1 where something does."""
+    script, kept = bytes_of(options.script), bytes_of(options.kept)
+    lines = list(front.edits(bytes_of(options.before), script)) if options.before else []
+    output = program.output(options.program, script)
+    reading = answers.Reading(Source(output))
+    found, places = [], []
+    for answer in reading.answers(commands.commands(Source(script))):
+        found.append(answer)
+        places.append(reading.place.number)
+    lines.extend(front.told_of(kept, output, found, places))
+    show("".join(line + "\n" for line in lines))
+    return 1 if lines else 0
 
 
 def do_picture(options: Namespace) -> None:
@@ -260,6 +304,10 @@ def words_of_sqlite(parser: ArgumentParser) -> None:
         help="prints what the database answers, as CSV; without one the tables are told",
     )
     parser.add_argument("--replace", action="store_true", help="replaces tables of these names in the database")
+    parser.add_argument("--open-null", action="store_true", help="an end in the year 9999 is NULL in the tables")
+    parser.add_argument(
+        "--day", metavar="POINT", help="makes a view NAME_day of each table, with the records that hold at that point",
+    )
 
 
 def words_of_picture(parser: ArgumentParser) -> None:
@@ -278,6 +326,21 @@ def words_of_picture(parser: ArgumentParser) -> None:
 def words_of_overlaps(parser: ArgumentParser) -> None:
     parser.add_argument("column", nargs="+", metavar="COLUMN", help="a column of the key")
     parser.add_argument("--of", action="append", default=[], metavar="PICK", help="the answer, where it isn't the last")
+
+
+def words_of_history(parser: ArgumentParser) -> None:
+    parser.add_argument("table", metavar="TABLE", help="a table of the script")
+    parser.add_argument(
+        "--where", type=pair, action="append", default=[], metavar="COLUMN=VALUE", help="only rows with this value",
+    )
+    parser.add_argument("--diary", metavar="TABLE", help="a table whose first column is the newest commit of a time")
+    parser.add_argument("--commit", type=int, metavar="N", help="only what this commit changed")
+    parser.add_argument("--retroactive", action="store_true", help="only the time before the day that the diary tells")
+
+
+def words_of_front(parser: ArgumentParser) -> None:
+    parser.add_argument("kept", metavar="KEPT", help="answers of an earlier time")
+    parser.add_argument("--before", metavar="SCRIPT", help="the script of that time: what was edited in it is told")
 
 
 def words_of_only(parser: ArgumentParser) -> None:
@@ -315,6 +378,11 @@ TOOLS: Dict[str, Tool] = {
         do_changed, "tells what really changed between two answers (the last two)", with_picks, more=OF_CHANGED,
     ),
     "overlaps": Tool(do_overlaps, "finds the rows that a key of the columns would forbid", words_of_overlaps),
+    "gaps": Tool(do_gaps, "finds the times between rows of one value without any", words_of_overlaps),
+    "history": Tool(do_history, "tells what each commit changed of a table, or of one fact", words_of_history),
+    "front": Tool(
+        do_front, "tells whether answers that were kept are still the front of the script's", words_of_front, False,
+    ),
     "refusals": Tool(do_refusals, "tells each refusal, its field and its reason; of keys, the rows"),
     "only": Tool(do_only, "prints the command that deletes or updates the row of an id, and no other", words_of_only),
     "faulty": Tool(do_faulty, "tells all faulty rows of all loads, where dipq tells the first", has_answers=False),
@@ -332,8 +400,9 @@ def parser_of(name: str, tool: Tool) -> ArgumentParser:
     if tool.has_answers:
         parser.add_argument("--answers", metavar="FILE", help="the answers, or - for standard input; no program is run")
         parser.add_argument(
-            "--ask", action="append", default=[], metavar="COMMAND",
-            help="puts a command behind the script; where no PICK is told, the answers to these are taken",
+            "--ask", action="append", default=[], metavar="[NAME=]COMMAND",
+            help="puts a command behind the script; where no PICK is told, the answers to these are taken; as "
+            "NAME=COMMAND it gets that name",
         )
         parser.add_argument("--go-on", action="store_true", help="goes on where commands were refused")
     return parser

@@ -8,6 +8,7 @@ from typing import Any, Dict, Iterator, List, Sequence
 
 from ruzgalt.answers import Answer, Listed
 from ruzgalt.errors import Misfit
+from ruzgalt.forms import printed
 from ruzgalt.picks import Pick
 from ruzgalt.reader import PIECE
 from ruzgalt.records import Printer, encode, to_text
@@ -41,15 +42,17 @@ def to_folder(picks: Sequence[Pick], folder: Path, is_replacing: bool = False) -
             written.writelines(to_csv(pick.answer.table))
 
 
-def to_sqlite(picks: Sequence[Pick], database: sqlite3.Connection, is_replacing: bool = False) -> List[str]:
-    """A table for each answer. Numbers are integers, all else is text.
+def to_sqlite(
+    picks: Sequence[Pick], database: sqlite3.Connection, is_replacing: bool = False, has_null: bool = False,
+) -> List[str]:
+    """A table for each answer. Numbers are integers, all else is text; where it is told, an end in 9999 is NULL.
 
     None is made where one of their names is there and isn't to be replaced. What is given back are the columns of
     numbers that are texts there.
     """
     if not is_replacing:
         refuse_present(picks, database)
-    texts = []
+    texts: List[str] = []
     with database:
         for pick in picks:
             table, name = pick.answer.table, quoted(pick.name)
@@ -60,9 +63,22 @@ def to_sqlite(picks: Sequence[Pick], database: sqlite3.Connection, is_replacing:
             # SQLite turns a number's text into an integer where the column is one.
             places = ", ".join("?" * len(table.columns))
             database.executemany(f"insert into {name} values ({places})", table.records)
+            if has_null and "valid_to" in table.names:
+                database.execute(f"update {name} set valid_to = null where valid_to >= '9999'")
             longest = (column.name for column, kind in typed if column.kind is Kind.INT and kind == "text")
             texts.extend(f"{pick.name}.{long}" for long in longest)
     return texts
+
+
+def make_views(picks: Sequence[Pick], database: sqlite3.Connection, point: str) -> None:
+    """A view NAME_day of each table with periods: the records that hold at the point."""
+    with database:
+        for pick in picks:
+            if "valid_to" in pick.answer.table.names:
+                name, view = quoted(pick.name), quoted(f"{pick.name}_day")
+                holds = f"valid_from <= '{printed(point)}' and ('{printed(point)}' < valid_to or valid_to is null)"
+                database.execute(f"drop view if exists {view}")
+                database.execute(f"create view {view} as select * from {name} where {holds}")
 
 
 def refuse_present(picks: Sequence[Pick], database: sqlite3.Connection) -> None:
@@ -131,6 +147,18 @@ def odd_points(query: str) -> List[str]:
     if bare:
         raise Misfit(f"--query: {bare[0]} is a subtraction: a point stands in single quotes, as '{bare[0]}'")
     return ODD_DAY.findall(query)
+
+
+BETWEEN_ENDS = re.compile(r"\bbetween\s+[\w.\"`]*valid_from[\"`]?\s+and\s+[\w.\"`]*valid_to", re.IGNORECASE)
+LENGTH = re.compile(r"julianday\s*\(\s*[\w.\"`]*valid_to", re.IGNORECASE)
+
+
+def odd_periods(query: str) -> Iterator[str]:
+    """What takes a record to hold at its end, or an end that isn't known for a day."""
+    if BETWEEN_ENDS.search(query):
+        yield "a record doesn't hold at its valid_to, which `between` includes: valid_from <= '..' and '..' < valid_to"
+    if LENGTH.search(query) and "9999" not in query and "min(" not in query.lower():
+        yield "a length up to 9999-12-31, where no end is known, is 8,000 years: cut it, as by min(valid_to, '..')"
 
 
 def in_backquotes(name: str) -> str:

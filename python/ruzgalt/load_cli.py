@@ -7,7 +7,7 @@ from argparse import ArgumentParser, ArgumentTypeError, Namespace
 from pathlib import Path
 from typing import List, Optional, Sequence, Tuple
 
-from ruzgalt import commands, dates, records
+from ruzgalt import claims, commands, dates, records
 from ruzgalt.errors import Misfit
 from ruzgalt.loading import Load
 from ruzgalt.reader import Source
@@ -46,6 +46,9 @@ def words() -> ArgumentParser:
     parser.add_argument("end", metavar="TO", help="that with its end")
     parser.add_argument("column", nargs="*", metavar="COLUMN", help="that with a value, in the order of the table's")
     parser.add_argument("--file", metavar="FILE", help="the file, where it isn't standard input")
+    parser.add_argument(
+        "--check", metavar="INSTANT", help="prints a check of a division: FROM is the column of a row's part, TO of its id",
+    )
     words_of_table(parser)
     words_of_values(parser)
     parser.add_argument("--line-breaks", action="store_true", help="fields in quotes may have line breaks")
@@ -133,9 +136,12 @@ def fit(options: Namespace, schema: Schema, header: List[str]) -> None:
             raise Misfit(f"{name} is told as column {place + 1}, which is {schema.names[place]} in the table")
 
 
+def given(options: Namespace) -> bytes:
+    return Path(options.file).read_bytes() if options.file else sys.stdin.buffer.read()
+
+
 def load_of(options: Namespace) -> Tuple[Load, Optional[Schema]]:
-    data = Path(options.file).read_bytes() if options.file else sys.stdin.buffer.read()
-    sheet = Sheet(data, options.line_breaks)
+    sheet = Sheet(given(options), options.line_breaks)
     schema = schema_of(options)
     if schema:
         fit(options, schema, sheet.header)
@@ -143,8 +149,18 @@ def load_of(options: Namespace) -> Tuple[Load, Optional[Schema]]:
     return Load(sheet, options, schema), schema
 
 
+def claimed(options: Namespace) -> bytes:
+    """The check of a division that the file tells."""
+    if options.column:
+        raise Misfit(f"--check: a division has a part and an id alone, and not {options.column[0]}")
+    sheet = Sheet(given(options), options.line_breaks)
+    return records.encode(claims.check_of(sheet, options.table, options.start, options.end, options.check))
+
+
 def made(options: Namespace) -> Tuple[List[bytes], List[str], List[str], int]:
     """What is printed; what is at fault, or what is noted; and how many faults there are."""
+    if options.check is not None:
+        return [claimed(options)], [], [], 0
     load, schema = load_of(options)
     head = records.encode(records.to_text([schema.fields])) if schema and options.print_table else b""
     opening, end = (b"", b"") if options.update else (records.encode(records.to_text([["load", options.table]])), b"end\n")

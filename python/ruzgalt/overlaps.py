@@ -8,12 +8,14 @@ from typing import Dict, Generic, Iterable, Iterator, List, Sequence, Tuple, Typ
 from ruzgalt.answers import Answer
 from ruzgalt.errors import Misfit
 from ruzgalt.records import to_record
-from ruzgalt.store import Change, Row, Store, Version
-from ruzgalt.tables import PERIOD, Table, ints, unique
+from ruzgalt.store import Change, Store, Version
+from ruzgalt.store import Row as StoredRow
+from ruzgalt.reader import Row
+from ruzgalt.tables import PERIOD, Column, Table, ints, unique
 
 Thing = TypeVar("Thing")
 # A row that would come, or one that is there.
-Held = Union[Row, Version]
+Held = Union[StoredRow, Version]
 # So many pairs of rows are told of one refusal.
 TOLD = 20
 
@@ -38,23 +40,46 @@ def pairs(rows: Iterable[Tuple[str, str, Thing]]) -> Iterator[Pair[Thing]]:
         running.append((start, end, thing))
 
 
-def in_answer(answer: Answer, key: Sequence[str]) -> Table:
-    """The pairs of rows of an answer that a key of these columns would forbid."""
+Spans = List[Tuple[str, str, str]]
+
+
+def by_key(answer: Answer, key: Sequence[str]) -> Tuple[List[Column], Dict[Tuple[str, ...], Spans]]:
+    """The key's columns, and for each of its values the rows of the answer: start, end and id."""
     if answer.command.word == "at":
         raise Misfit(f"{answer.place}: {answer.command.text}: an `at` tells of its point alone: ask by `rows`")
     if answer.command.word != "rows":
         raise Misfit(f"{answer.place}: {answer.command.text}: no list of rows: ask by `rows`")
-    table, schema = answer.table, answer.tables[answer.command.front[1]]
+    schema = answer.tables[answer.command.front[1]]
     places = [3 + schema.place(name) for name in key]
-    by_key: Dict[Tuple[str, ...], List[Tuple[str, str, str]]] = defaultdict(list)
-    for record in table.texts():
-        by_key[tuple(record[place] for place in places)].append((record[1], record[2], record[0]))
-    columns = unique([*ints("row_id", "other_row_id"), *PERIOD, *(schema.columns[place - 3] for place in places)])
-    found = [
+    found: Dict[Tuple[str, ...], Spans] = defaultdict(list)
+    for record in answer.table.texts():
+        found[tuple(record[place] for place in places)].append((record[1], record[2], record[0]))
+    return [schema.columns[place - 3] for place in places], found
+
+
+def in_answer(answer: Answer, key: Sequence[str]) -> Table:
+    """The pairs of rows of an answer that a key of these columns would forbid."""
+    columns, spans = by_key(answer, key)
+    found: List[Row] = [
         [pair.first, pair.second, pair.start, pair.end, *values]
-        for values, rows in sorted(by_key.items()) for pair in pairs(rows)
+        for values, rows in sorted(spans.items()) for pair in pairs(rows)
     ]
-    return Table(columns, found)
+    return Table(unique([*ints("row_id", "other_row_id"), *PERIOD, *columns]), found)
+
+
+def gaps_in_answer(answer: Answer, key: Sequence[str]) -> Table:
+    """The times between rows of one key at which none of it holds."""
+    columns, spans = by_key(answer, key)
+    found: List[Row] = [[*gap, *values] for values, rows in sorted(spans.items()) for gap in gaps(rows)]
+    return Table(unique([*PERIOD, *columns]), found)
+
+
+def gaps(rows: Spans) -> Iterator[Tuple[str, str]]:
+    reached = ""
+    for start, end, _ in sorted(rows):
+        if reached and reached < start:
+            yield reached, start
+        reached = max(reached, end)
 
 
 def explained(store: Store, answer: Answer) -> List[str]:
@@ -87,7 +112,7 @@ def collisions(store: Store, name: str, change: Change, key: Sequence[int]) -> I
         yield from pairs((row_in(thing).start, row_in(thing).end, thing) for thing in things)
 
 
-def row_in(thing: Held) -> Row:
+def row_in(thing: Held) -> StoredRow:
     return thing.row if isinstance(thing, Version) else thing
 
 

@@ -1,7 +1,7 @@
 """Chooses answers by their number, by their line, or from the last one back, and gives them names."""
 import re
 from dataclasses import dataclass
-from typing import Dict, List, Sequence
+from typing import Dict, List, Optional, Sequence
 
 from ruzgalt.answers import Answer
 from ruzgalt.errors import Misfit
@@ -22,17 +22,23 @@ class Pick:
     answer: Answer
 
 
-def pick(answers: Sequence[Answer], words: Sequence[str]) -> List[Pick]:
-    """The answers that the words tell, or all that are tables where there are no words."""
+def pick(answers: Sequence[Answer], words: Sequence[str], names: Optional[Dict[int, str]] = None) -> List[Pick]:
+    """The answers that the words tell, or all that are tables where there are no words.
+
+    Names are those that answers of these numbers have already.
+    """
+    names = names or {}
     if not words:
-        return [Pick(name_of(answer), answer) for answer in answers if is_asked(answer)]
+        found = [Pick(names.get(answer.number, name_of(answer)), answer) for answer in answers if is_asked(answer)]
+        refuse_twins(found)
+        return found
     picks = []
     for word in words:
         which, _, name = word.partition("=")
         answer = find(answers, which)
         if answer.refusal:
             raise Misfit(f"{which}: {answer.place}: {answer.command.text} was refused: {answer.refusal.name}")
-        picks.append(Pick(name or name_of(answer), answer))
+        picks.append(Pick(name or names.get(answer.number, name_of(answer)), answer))
     refuse_twins(picks)
     return picks
 

@@ -1,4 +1,5 @@
 """Questions that are put behind a script, each of which is to be a command of its own."""
+import re
 from typing import List, Optional, Sequence, Tuple
 
 from ruzgalt import commands, records
@@ -6,6 +7,15 @@ from ruzgalt.commands import Command
 from ruzgalt.errors import Misfit
 from ruzgalt.reader import Reader, Source
 from ruzgalt.records import Record, short
+
+
+NAMED = re.compile(r"(?P<name>[A-Za-z_][A-Za-z0-9_]*)=(?P<question>.*)", re.DOTALL)
+
+
+def named(word: str) -> Tuple[str, str]:
+    """The name of a question, or nothing, and the question: no word of a command has such a sign."""
+    told = NAMED.fullmatch(word)
+    return (told["name"], told["question"]) if told else ("", word)
 
 
 def put_behind(script: bytes, questions: Sequence[str]) -> Tuple[bytes, Optional[int]]:

@@ -53,6 +53,8 @@ def bad_command(answer: Answer) -> str:
         place = wrong_kinds(record)[0]
         return f"field {place + 1}, {visible(to_record([record.fields[place]]))}, is no KIND, int or text"
     form = reasons.FORMS.get(command.word)
+    if command.word == "agg" and "by" in command.front[3:-2]:
+        return f"the form is {form}; behind `by` stands one column: load one that has the values of both"
     return f"the form is {form}" if form else f"field 1, {visible(to_record([command.word]))}, {no_word(command.word)}"
 
 
@@ -70,7 +72,24 @@ def no_word(word: str) -> str:
     mark = next((one for one in ";\t" if one in word), None)
     if mark and word.partition(mark)[0] in reasons.FORMS:
         return "is no command: commas part the fields"
-    return "is no command; of a CSV file with a header tools/csv-to-load makes a load"
+    if plain.startswith(("#", "--", "//")):
+        return "is no command: a script has no comments"
+    if plain.startswith("sep="):
+        return "is no command, but a spreadsheet's first line: leave it out"
+    other = next((told for words, told in OTHER_WORDS if plain.split(" ")[0] in words), None)
+    known = f"is no command: these are {', '.join(reasons.FORMS)}"
+    return f"{known}; {other or 'of a CSV file with a header tools/csv-to-load makes a load'}"
+
+
+# Words of other languages, and what is done here.
+OTHER_WORDS = [
+    (("select", "with", "from"), "SQL is asked of answers, by `tools/answers sqlite`"),
+    (("alter", "drop", "truncate", "rename"), "a table keeps its columns, and stays: a new one takes the rows with others"),
+    (("create",), "`table` makes a table"),
+    (("insert", "add", "row", "merge", "upsert"), "rows stand between `load,T` and `end`"),
+    (("set", "modify"), "`update` gives rows other values for a time"),
+    (("begin", "commit", "rollback"), "each change is a commit, and a block of questions begins with `together`"),
+]
 
 
 def wrong_kinds(table: Record) -> List[int]:

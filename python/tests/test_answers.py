@@ -1,0 +1,177 @@
+"""The words of tools/answers, beside scripts and answers that are told here: no program is run."""
+import contextlib
+import io
+import sys
+import tempfile
+import unittest
+from pathlib import Path
+from typing import List, Tuple
+from unittest import mock
+
+from ruzgalt import cli
+
+PAY = "table,pay,person,text,euros,int\nload,pay\nrow,2024-01-01,2024-03-01,A,5\nrow,2024-04-01,2024-06-01,A,6\nend\n"
+ROWS = "row,1,2024-01-01,2024-03-01,A,5\nrow,2,2024-04-01,2024-06-01,A,6\nend,2\n"
+FAKE = """#!/usr/bin/env python3
+import sys
+sys.stdin.read()
+sys.stdout.write({!r})
+"""
+
+
+def answers(words: str, script: str, told: str) -> Tuple[int, str, str]:
+    """The status of a command, what it prints, and what it says; $S stands for the script, $A for its answers."""
+    with tempfile.TemporaryDirectory() as folder:
+        files = {"$S": Path(folder, "script.csv"), "$A": Path(folder, "answers.csv"), "$P": Path(folder, "program")}
+        for file, text in zip(files.values(), (script, told, FAKE.format(told))):
+            file.write_text(text, encoding="utf-8", newline="")
+        files["$P"].chmod(0o700)
+        split = words.split(" ")
+        return run([next((one.replace(name, str(file)) for name, file in files.items() if name in one), one) for one in split])
+
+
+def run(words: List[str]) -> Tuple[int, str, str]:
+    printed, said = io.TextIOWrapper(io.BytesIO(), "utf-8"), io.StringIO()
+    with mock.patch.object(sys, "stdout", printed), contextlib.redirect_stderr(said):
+        status = cli.main(words)
+        printed.flush()
+    data = printed.buffer
+    assert isinstance(data, io.BytesIO)
+    return status, data.getvalue().decode(), said.getvalue()
+
+
+class Lists(unittest.TestCase):
+    def marks(self, part: str, script: str, told: str) -> None:
+        _, _, said = answers("list $S --answers $A --go-on", script, told)
+        self.assertIn(part, said)
+
+    def test_an_update_of_all_rows_is_marked(self) -> None:
+        script = PAY + "update,pay,2024-01-01,2024-12-01,set,euros,7\n"
+        self.marks("without a `where` it acts on all rows of that time: 2 were changed", script, "ok,1\nok,2\nok,3\n")
+
+    def test_a_portion_to_a_last_day_is_marked(self) -> None:
+        script = PAY + "delete,pay,2024-01-01,2024-12-31,where,person,A\n"
+        self.marks("2024-12-31 isn't in it: a portion ends before its TO", script, "ok,1\nok,2\nok,3\n")
+
+    def test_a_portion_to_the_last_second_is_marked(self) -> None:
+        script = PAY + "delete,pay,2024-01-01,2024-12-30T23:59:59,where,person,A\n"
+        self.marks("2024-12-30T23:59:59 isn't in it", script, "ok,1\nok,2\nok,3\n")
+
+    def test_a_row_to_the_last_second_is_marked(self) -> None:
+        script = PAY + "load,pay\nrow,2024-07-01,2024-07-05T23:59:59,A,1\nend\n"
+        self.marks("2024-07-05T23:59:59 doesn't hold in that second", script, "ok,1\nok,2\nok,3\n")
+
+    def test_the_same_load_twice_is_marked(self) -> None:
+        script = PAY + PAY.partition("\n")[2]
+        self.marks("its rows are those of the load at line 2", script, "ok,1\nok,2\nok,3\n")
+
+    def test_a_day_asked_of_a_table_with_hours_is_marked(self) -> None:
+        script = PAY + "load,pay\nrow,2024-07-01T08:00:00,2024-07-01T12:00:00,A,1\nend\nat,pay,2024-07-01\n"
+        self.marks("pay has times of day, and this is the midnight", script, "ok,1\nok,2\nok,3\nend,0\n")
+
+    def test_rows_that_were_refused_with_a_wrong_one_are_marked(self) -> None:
+        script = "table,t,a,int\nload,t\nrow,2024-01-01,2024-02-01,1\nrow,2024-01-01,2024-02-01,x\nend\n"
+        script += "load,t\nrow,2024-01-01,2024-02-01,2\nend\n"
+        self.marks("1 of its other rows stand in no later load", script, "ok,1\nerror,4,BadNumber\nok,2\n")
+
+    def test_a_join_without_a_value_in_common_is_marked(self) -> None:
+        script = PAY + "table,of,name,text\nload,of\nrow,2024-01-01,2024-03-01,a\nend\njoin,pay,of,on,person,name\n"
+        told = "ok,1\nok,2\nok,3\nok,4\nend,0\n"
+        self.marks("no value of these columns in common, so no row matches: 'A' and 'a' look alike", script, told)
+
+    def test_an_anti_join_of_nothing_tells_of_the_other_way_round(self) -> None:
+        script = PAY + "anti,pay,pay,on,person,person\n"
+        self.marks("asked for by anti,pay,pay", script, "ok,1\nok,2\nend,0\n")
+
+    def test_answers_from_a_file_are_compared_whole(self) -> None:
+        status, _, said = answers("list $S --answers $A", PAY + "rows,pay\n", "ok,1\nok,2\nend,0\n")
+        self.assertEqual(status, 1)
+        self.assertIn("the answer lacks 1,2024-01-01", said)
+
+
+class Tables(unittest.TestCase):
+    def prints(self, wanted: str, words: str, script: str, told: str) -> None:
+        status, printed, said = answers(words, script, told)
+        self.assertEqual((status, printed, said), (0, wanted, ""))
+
+    def test_gaps_are_the_times_between_rows_of_one_value(self) -> None:
+        wanted = "valid_from,valid_to,person\n2024-03-01,2024-04-01,A\n"
+        self.prints(wanted, "gaps $S person --answers $A", PAY + "rows,pay\n", f"ok,1\nok,2\n{ROWS}")
+
+    def test_history_tells_what_each_commit_changed_of_a_fact(self) -> None:
+        script = PAY + "update,pay,2024-05-01,2024-06-01,set,euros,9,where,person,A\n"
+        wanted = "commit,place,change,valid_from,valid_to,person,euros\n3,line 6,-,2024-05-01,2024-06-01,A,6\n"
+        wanted += "3,line 6,+,2024-05-01,2024-06-01,A,9\n"
+        words = "history $S pay --answers $A --where person=A --commit 3"
+        self.prints(wanted, words, script, "ok,1\nok,2\nok,3\n")
+
+    def test_history_tells_the_past_that_a_commit_changed_by_a_diary(self) -> None:
+        script = PAY + "update,pay,2024-05-01,2024-06-01,set,euros,9,where,person,A\n"
+        script += "table,diary,newest,int\nload,diary\nrow,2024-01-01,2024-05-11,2\nrow,2024-05-11,9999-12-31,3\nend\n"
+        wanted = "commit,place,entered,change,valid_from,valid_to,person,euros\n"
+        wanted += "3,line 6,2024-05-11,-,2024-05-01,2024-05-11,A,6\n3,line 6,2024-05-11,+,2024-05-01,2024-05-11,A,9\n"
+        words = "history $S pay --answers $A --diary diary --retroactive --commit 3"
+        self.prints(wanted, words, script, "".join(f"ok,{number}\n" for number in range(1, 6)))
+
+    def test_a_name_of_a_question_is_that_of_its_table(self) -> None:
+        words = "sqlite $S :memory: --answers $A --ask all=rows,pay"
+        self.prints("table,rows\nall,2\n", words, PAY, f"ok,1\nok,2\n{ROWS}")
+
+    def test_open_ends_are_null_and_a_day_is_a_view_where_asked(self) -> None:
+        script = PAY.replace("2024-06-01", "9999-12-31")
+        words = "sqlite $S :memory: --answers $A --open-null --day 2030-01-01 --ask all=rows,pay --query"
+        wanted = "row_id,valid_from,valid_to,person,euros\n2,2024-04-01,,A,6\n"
+        told = f"ok,1\nok,2\n{ROWS}".replace("2024-06-01", "9999-12-31")
+        self.prints(wanted, f"{words}=select\t*\tfrom\tall_day".replace("--query=", "--query="), script, told)
+
+    def test_between_the_ends_of_a_record_is_told(self) -> None:
+        words = "sqlite $S :memory: --answers $A --ask a=rows,pay --query=select\t1\tfrom\ta\twhere\t'1'\tbetween\tvalid_from\tand\tvalid_to"
+        _, _, said = answers(words, PAY, f"ok,1\nok,2\n{ROWS}")
+        self.assertIn("a record doesn't hold at its valid_to, which `between` includes", said)
+
+
+class Fronts(unittest.TestCase):
+    def test_answers_that_go_on_are_a_front(self) -> None:
+        with tempfile.NamedTemporaryFile("w") as kept:
+            kept.write("ok,1\nok,2\n")
+            kept.flush()
+            status, printed, _ = answers(f"front $S {kept.name} --program $P", PAY + "rows,pay\n", f"ok,1\nok,2\n{ROWS}")
+        self.assertEqual((status, printed), (0, ""))
+
+    def test_an_edited_record_is_told_with_its_line(self) -> None:
+        with tempfile.NamedTemporaryFile("w") as kept, tempfile.NamedTemporaryFile("w") as before:
+            kept.write(f"ok,1\nok,2\n{ROWS}".replace(",A,5", ",A,4"))
+            before.write(PAY.replace(",A,5", ",A,4") + "rows,pay\n")
+            kept.flush()
+            before.flush()
+            words = f"front $S {kept.name} --program $P --before {before.name}"
+            status, printed, _ = answers(words, PAY + "rows,pay\n", f"ok,1\nok,2\n{ROWS}")
+        self.assertEqual(status, 1)
+        self.assertIn("line 3: the script said row,2024-01-01,2024-03-01,A,4 (line 3), and says row,", printed)
+        self.assertIn("line 6: rows,pay: record 3 of the kept answers is row,1,2024-01-01,2024-03-01,A,4", printed)
+
+
+class Hints(unittest.TestCase):
+    def test_words_of_other_languages_are_told_what_to_write(self) -> None:
+        for record, part in [
+            ("select * from pay", "SQL is asked of answers"), ("alter,pay", "a table keeps its columns, and stays"),
+            ("drop,pay", "a table keeps its columns, and stays"), ("# a comment", "a script has no comments"),
+            ("sep=;", "a spreadsheet's first line"), ("hello", "these are table, load, "),
+        ]:
+            with self.subTest(record):
+                _, printed, _ = answers("refusals $S --answers $A", record + "\n", "error,1,BadCommand\n")
+                self.assertIn(part, printed)
+
+    def test_two_columns_behind_by_are_told(self) -> None:
+        script = PAY + "agg,pay,count,by,person,euros\n"
+        _, printed, _ = answers("refusals $S --answers $A", script, "ok,1\nok,2\nerror,6,BadCommand\n")
+        self.assertIn("behind `by` stands one column", printed)
+
+    def test_a_program_that_is_missing_is_told_with_its_name_in_the_environment(self) -> None:
+        status, _, said = answers("csv $S --program /none/dipq", PAY, "")
+        self.assertEqual(status, 1)
+        self.assertIn("DIPQ in the environment", said)
+
+
+if __name__ == "__main__":
+    unittest.main()
