@@ -1,6 +1,6 @@
 """Whether the records of a list have the forms of their columns, many at once."""
 import re
-from typing import List, Optional, Sequence, Set, Tuple
+from typing import List, Optional, Sequence, Set
 
 from ruzgalt.commands import Command
 from ruzgalt.errors import Misfit
@@ -34,7 +34,8 @@ class Checks:
 
     def has_form(self, kind: Kind, texts: Sequence[str], but: Optional[str]) -> bool:
         if kind is Kind.INT:
-            return bool(SUMS.fullmatch(",".join(texts if but is None else [text for text in texts if text != but] or "0")))
+            numbers = texts if but is None else [text for text in texts if text != but]
+            return not numbers or bool(SUMS.fullmatch(",".join(numbers)))
         new = set(texts) - self.known
         self.known |= new
         return all(map(is_printed, new))
@@ -50,6 +51,6 @@ class Checks:
                     return Misfit(f"{place}: {told}, is no {column.kind.value}")
             # The texts of points are in the order of time.
             if self.point and not record.fields[2] <= self.point < record.fields[3]:
-                told = f"the answer at line {record.line} is {short(record.text)}, and not a row that holds at that point"
-                return Misfit(f"{place}: {told}")
+                told = f"the answer at line {record.line} is {short(record.text)}"
+                return Misfit(f"{place}: {told}, and not a row that holds at that point")
         return Misfit(f"{place}: the answer at line {first.line} has another form")

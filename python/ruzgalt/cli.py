@@ -10,8 +10,8 @@ from pathlib import Path
 from typing import Callable, Dict, Iterable, List, NamedTuple, Optional, Sequence, Tuple
 
 from ruzgalt import (
-    answers, changes, commands, export, fitting, front, history, marks, overlaps, picks, pictures, program, questions, records, refusals, single, store,
-    svg, terminal,
+    answers, changes, commands, export, fitting, front, history, marks, overlaps, picks, pictures, program, questions,
+    records, refusals, single, store, svg, terminal,
 )
 from ruzgalt.answers import Answer
 from ruzgalt.errors import Misfit
@@ -60,7 +60,7 @@ def read(options: Namespace, shows_refusals: bool = False) -> Found:
         begun = questions.commands_of(text, options.ask, own_lines)
     except Misfit:
         if running:
-            running.process.kill()
+            running.stop()
         raise
     output = running.output() if running else bytes_of(options.answers)
     found = answers.of_commands(begun, output)

@@ -70,7 +70,8 @@ class End(Column):
             told = f"a row ends there; where no end is known, --no-end '{text}' makes it {NO_END}"
             self.doubts[value] = Doubt("far off", told)
         if "T23:59" in made and not self.is_last_day:
-            self.doubts[value] = Doubt("23:59", "the row doesn't hold at its end: a day ends at the next one's midnight")
+            told = "the row doesn't hold at its end: a day ends at the next one's midnight"
+            self.doubts[value] = Doubt("23:59", told)
         return self.the_next_day(made) if self.is_last_day else made
 
     def remedy(self, text: str) -> str:

@@ -76,7 +76,8 @@ def make_views(picks: Sequence[Pick], database: sqlite3.Connection, point: str) 
         for pick in picks:
             if "valid_to" in pick.answer.table.names:
                 name, view = quoted(pick.name), quoted(f"{pick.name}_day")
-                holds = f"valid_from <= '{printed(point)}' and ('{printed(point)}' < valid_to or valid_to is null)"
+                day = f"'{printed(point)}'"
+                holds = f"valid_from <= {day} and ({day} < valid_to or valid_to is null)"
                 database.execute(f"drop view if exists {view}")
                 database.execute(f"create view {view} as select * from {name} where {holds}")
 

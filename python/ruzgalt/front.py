@@ -34,7 +34,8 @@ def told_of(kept: bytes, now: bytes, found: Sequence[Answer], places: Sequence[i
     was = next((record for record in Reader(Source(kept)) if record.number == odd.number), None)
     shown = visible(odd.text) if odd.fields else "nothing"
     command = f"{answer.place}: {short(answer.command.text)}" if answer else "the answers"
-    yield f"{command}: record {odd.number} of the kept answers is {visible(was.text) if was else 'none'}, and now {shown}"
+    before = visible(was.text) if was else "none"
+    yield f"{command}: record {odd.number} of the kept answers is {before}, and now {shown}"
 
 
 def edits(before: bytes, now: bytes) -> Iterator[str]:

@@ -1,10 +1,10 @@
-"""What each commit changed of a table: the time for which values hold since, or don't any more, and what lay in the past.
+"""What each commit changed of a table: the time for which values hold since, or don't any more; what lay in the past.
 
 The records are by commit; those of a commit as in an answer to `changed`.
 """
 from typing import Dict, Iterator, List, Optional, Sequence, Tuple
 
-from ruzgalt.answers import Answer
+from ruzgalt.answers import CHANGES, Answer
 from ruzgalt.changes import Held, changes, order
 from ruzgalt.errors import Misfit
 from ruzgalt.store import Store, Version, behind
@@ -20,7 +20,7 @@ def of_table(found: Sequence[Answer], name: str, where: Sequence[Tuple[str, str]
     schema, store = tables[name], behind(found)
     wanted = [(schema.place(column), value) for column, value in where]
     days = days_of(store, diary, tables[diary]) if diary is not None else None
-    lines = {one.commits: one.place for one in found if not one.refusal and one.command.word in ("load", "update", "delete")}
+    lines = {one.commits: one.place for one in found if not one.refusal and one.command.word in CHANGES}
     columns = [*ints("commit"), Column("place", Kind.TEXT), *([Column("entered", Kind.POINT)] if diary else [])]
     columns = unique([*columns, Column("change", Kind.TEXT), *PERIOD, *schema.columns])
     records: List[List[Optional[str]]] = []

@@ -47,7 +47,8 @@ def words() -> ArgumentParser:
     parser.add_argument("column", nargs="*", metavar="COLUMN", help="that with a value, in the order of the table's")
     parser.add_argument("--file", metavar="FILE", help="the file, where it isn't standard input")
     parser.add_argument(
-        "--check", metavar="INSTANT", help="prints a check of a division: FROM is the column of a row's part, TO of its id",
+        "--check", metavar="INSTANT",
+        help="prints a check of a division: FROM is the column of a row's part, TO of its id",
     )
     words_of_table(parser)
     words_of_values(parser)
@@ -84,7 +85,8 @@ def words_of_values(parser: ArgumentParser) -> None:
     parser.add_argument("--last-day", action="store_true", help="TO is the last day of a row, and not the next one")
     parser.add_argument("--open", action="store_true", help=f"an empty TO is {dates.NO_END}")
     parser.add_argument(
-        "--no-end", action="append", default=[], metavar="VALUE", help=f"a TO of this value, as NULL, is {dates.NO_END}",
+        "--no-end", action="append", default=[], metavar="VALUE",
+        help=f"a TO of this value, as NULL, is {dates.NO_END}",
     )
     parser.add_argument("--plain-spaces", action="store_true", help="no-break spaces become spaces")
 
@@ -163,7 +165,8 @@ def made(options: Namespace) -> Tuple[List[bytes], List[str], List[str], int]:
         return [claimed(options)], [], [], 0
     load, schema = load_of(options)
     head = records.encode(records.to_text([schema.fields])) if schema and options.print_table else b""
-    opening, end = (b"", b"") if options.update else (records.encode(records.to_text([["load", options.table]])), b"end\n")
+    opening = b"" if options.update else records.encode(records.to_text([["load", options.table]]))
+    end = b"" if options.update else b"end\n"
     try:
         pieces = list(load.made())
     except Misfit as error:

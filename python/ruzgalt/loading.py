@@ -57,7 +57,7 @@ class Load:
                 yield Text(name, self.options, kind, place in self.keys)
 
     def made(self) -> Iterator[bytes]:
-        """What the rows become, by pieces: bytes of records. Where something is at fault, more is read, for its faults."""
+        """What the rows become, by pieces. Where something is at fault, the rest is read for its faults."""
         progress = Progress("csv-to-load")
         for piece in self.sheet.pieces():
             lines, taken = self.whole(piece)
@@ -172,7 +172,7 @@ class Load:
         for column in self.columns:
             scale = column.convert
             if isinstance(scale, Scale) and scale.digits > 2 and 0 < scale.longest < scale.digits:
-                told = f"its numbers have {scale.longest} decimals at most, and become whole as if they had {scale.digits}"
+                told = f"its numbers have {scale.longest} decimals at most, and are told to have {scale.digits}"
                 yield f"{column.name}: {told}; --decimals {column.name}={scale.longest} takes them as they are"
 
 

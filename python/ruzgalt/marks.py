@@ -1,4 +1,4 @@
-"""What is accepted, and may not be meant: changes of no row, or of all, portions that leave a day out, joins of nothing."""
+"""What is accepted, and may not be meant: changes of no row or of all, portions without a day, joins of nothing."""
 import re
 from typing import Dict, Iterator, List, NamedTuple, Optional, Sequence, Set, Tuple
 
@@ -125,7 +125,8 @@ def of_join(answer: Answer, store: Store) -> Optional[str]:
         values_of(store, answer, name, columns) for name, columns in zip(front[1:3], (front[4::2], front[5::2]))
     )
     if len(front) > 3 and left and right and not left & right:
-        return f"{front[1]} and {front[2]} have no value of these columns in common, so no row matches{like(left, right)}"
+        told = f"{front[1]} and {front[2]} have no value of these columns in common"
+        return f"{told}, so no row matches{like(left, right)}"
     if front[0] == "anti" and not len(answer.table.records):
         told = f"each row of {front[1]} is matched all the time"
         return f"{told}; the rows of {front[2]} without one of {front[1]} are asked for by anti,{front[2]},{front[1]}"
@@ -141,7 +142,8 @@ def values_of(store: Store, answer: Answer, name: str, columns: Sequence[str]) -
 def like(left: Values, right: Values) -> str:
     """Two values that look alike."""
     folded = {tuple(map(fold, values)): values for values in right}
-    pairs = [(values, folded[alike]) for values in sorted(left) for alike in [tuple(map(fold, values))] if alike in folded]
+    found = ((values, folded.get(tuple(map(fold, values)))) for values in sorted(left))
+    pairs = [(values, other) for values, other in found if other is not None]
     if not pairs:
         return ""
     shown = " and ".join(repr(visible(",".join(values))) for values in pairs[0])

@@ -35,8 +35,8 @@ class Running:
             try:
                 self.process = subprocess.Popen([program], stdin=given, stdout=self.printed)
             except FileNotFoundError:
-                told = "no such program: DIPQ in the environment, or --program, names it, or a dipq on the PATH is taken"
-                raise Misfit(f"{program}: {told}") from None
+                told = "DIPQ in the environment, or --program, names it, or a dipq on the PATH is taken"
+                raise Misfit(f"{program}: no such program: {told}") from None
 
     def output(self) -> bytes:
         """What it answers, when it has ended."""
@@ -46,6 +46,12 @@ class Running:
         with self.printed:
             self.printed.seek(0)
             return self.printed.read()
+
+    def stop(self) -> None:
+        """Ends it, where its answers aren't wanted any more."""
+        self.process.kill()
+        self.process.wait()
+        self.printed.close()
 
 
 def output(program: str, script: bytes) -> bytes:

@@ -68,7 +68,7 @@ class Source:
 
 
 class Skipped(NamedTuple):
-    """Records of a block that were passed over: how many, whether `end` is the last, and how many fields others have."""
+    """Records of a block that were passed over: how many, whether `end` is the last, how many fields others have."""
 
     count: int
     is_ended: bool

@@ -9,6 +9,7 @@ from ruzgalt.reasons import kind_of
 from ruzgalt.records import Record, short, to_record, visible
 from ruzgalt.tables import Kind
 
+
 def told(answer: Answer) -> str:
     """Line, command, field and reason of a refusal, in one line."""
     refusal, command = answer.refusal, answer.command

@@ -1,0 +1,67 @@
+"""Runs the tools as a shell does, but in this process, from the repository's top."""
+import contextlib
+import io
+import os
+import sys
+import tempfile
+import unittest
+from pathlib import Path
+from typing import Iterator, List, Tuple
+from unittest import mock
+
+from ruzgalt import cli, load_cli
+
+TOP = Path(__file__).resolve().parents[2]
+EXAMPLE = "examples/pay.csv"
+TOOLS = {"tools/answers": cli.main, "tools/csv-to-load": load_cli.main}
+
+
+class Stream(io.TextIOWrapper):
+    """Standard input, output or error, with its bytes."""
+
+    def __init__(self, given: bytes = b"") -> None:
+        self.bytes = io.BytesIO(given)
+        super().__init__(self.bytes, "utf-8", "surrogateescape", newline="", write_through=True)
+
+
+def run(words: List[str], given: str = "") -> Tuple[int, str, str]:
+    """The status of a tool, what it prints and what it says."""
+    printed, said = Stream(), Stream()
+    with mock.patch.multiple(sys, stdin=Stream(given.encode()), stdout=printed, stderr=said), moved_to(TOP):
+        try:
+            status = TOOLS[words[0]](words[1:])
+        except SystemExit as ended:
+            status = int(ended.code or 0)
+    return status, printed.bytes.getvalue().decode(), said.bytes.getvalue().decode()
+
+
+@contextlib.contextmanager
+def moved_to(folder: Path) -> Iterator[None]:
+    before = os.getcwd()
+    os.chdir(folder)
+    try:
+        yield
+    finally:
+        os.chdir(before)
+
+
+@contextlib.contextmanager
+def kept(script: str) -> Iterator[str]:
+    """The name of a file that has the script."""
+    with tempfile.NamedTemporaryFile("w", encoding="utf-8", newline="") as file:
+        file.write(script)
+        file.flush()
+        yield file.name
+
+
+class ToolCase(unittest.TestCase):
+    def check(self, words: List[str], given: str, status: int, part: str) -> None:
+        """The tool ends with the status, and prints or tells this part; where something is at fault, in one line."""
+        with self.subTest(" ".join(words)[:200]):
+            ended, printed, said = run(words, given)
+            self.assertEqual(ended, status, said)
+            self.assertIn(part, printed + said)
+            if status == 1 and said:
+                # In place of a load stands a record that the store refuses.
+                nothing = "csv-to-load failed\n" if words[0] == "tools/csv-to-load" else ""
+                self.assertEqual((said.count("\n"), printed), (1, nothing))

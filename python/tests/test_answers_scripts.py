@@ -1,0 +1,121 @@
+"""Each script of examples/ and tests/ beside its answers: tables, pictures, refusals, and answers that are damaged."""
+import json
+import re
+import sqlite3
+import subprocess
+import sys
+import unittest
+import xml.etree.ElementTree
+from importlib.util import find_spec
+from pathlib import Path
+from typing import Iterator, List, Tuple
+
+from ruzgalt import answers, export, fitting, overlaps, picks, pictures, reader, records, refusals, store, svg, terminal
+from ruzgalt.answers import Answer
+from ruzgalt.errors import Misfit
+from tests.support import TOP
+
+SCRIPTS = sorted([*TOP.glob("examples/*.csv"), *TOP.glob("tests/**/*.csv")])
+# So many records of a script's answers are left out and doubled, one by one.
+DAMAGED = 60
+
+
+def output_of(script: Path) -> bytes:
+    return script.with_name(script.name + ".stdout").read_bytes()
+
+
+def found_in(script: Path) -> List[Answer]:
+    return answers.of(script, output_of(script))
+
+
+def damaged(output: bytes) -> Iterator[Tuple[int, bytes]]:
+    """The output with a record too few, or one twice."""
+    kept = [list(record.fields) for record in reader.Reader(reader.Source(output))]
+    for place in range(min(len(kept), DAMAGED)):
+        for wrong in (kept[:place] + kept[place + 1:], kept[:place] + kept[place:place + 1] + kept[place:]):
+            yield place + 1, records.encode(records.to_text(wrong))
+
+
+class Scripts(unittest.TestCase):
+    def test_answers_fit_their_script(self) -> None:
+        for script in SCRIPTS:
+            with self.subTest(script.name):
+                found = found_in(script)
+                fitting.refuse_unfit(found, found)
+
+    def test_rows_are_what_the_changes_leave(self) -> None:
+        for script in SCRIPTS:
+            found = found_in(script)
+            for answer in found:
+                if answer.command.word == "rows" and not answer.refusal:
+                    with self.subTest(script.name, line=answer.line):
+                        rows = store.rows_of(found, answer)
+                        texts = [[str(one.row_id), one.row.start, one.row.end, *one.row.values] for one in rows]
+                        self.assertEqual(texts, list(answer.table.records))
+
+    def test_a_refusal_is_told_in_one_line_and_of_a_key_the_rows(self) -> None:
+        for script in SCRIPTS:
+            found = found_in(script)
+            for answer in found:
+                if answer.refusal:
+                    with self.subTest(script.name, line=answer.line):
+                        told = refusals.told(answer)
+                        self.assertIn(f": {answer.refusal.name}: ", told)
+                        self.assertNotIn("\n", told)
+                        if answer.refusal.name == "KeyOverlap":
+                            self.assertTrue(overlaps.explained(store.behind(found[:answer.number - 1]), answer))
+
+    def test_pictures_keep_to_80_columns_and_are_xml(self) -> None:
+        for script in SCRIPTS:
+            found = found_in(script)
+            for answer in found:
+                with self.subTest(script.name, line=answer.line):
+                    self.draw(found, answer)
+
+    def draw(self, found: List[Answer], answer: Answer) -> None:
+        word = answer.command.word
+        if answer.refusal or word not in ("dip", "rows", "at", "anti", "join", "agg", "between", "fromto"):
+            return
+        try:
+            picture = pictures.of(found, answer, pictures.Wish())
+        except Misfit:
+            # Versions are drawn of one fact, and there may be several.
+            self.assertIn(word, ("between", "fromto"))
+            return
+        # The title is the command, which may be longer.
+        widths = map(terminal.width_of, terminal.draw(picture, 80).splitlines()[1:])
+        self.assertLessEqual(max(widths, default=0), 80)
+        xml.etree.ElementTree.fromstring(svg.draw(picture))
+
+    def test_tables_are_the_same_in_sqlite_and_json(self) -> None:
+        for script in SCRIPTS:
+            chosen = picks.pick(found_in(script), [])
+            database = sqlite3.connect(":memory:")
+            export.to_sqlite(chosen, database)
+            for pick, told in zip(chosen, json.loads(export.to_json(chosen))):
+                with self.subTest(script.name, answer=pick.name):
+                    table = pick.answer.table
+                    kept = database.execute(f"select * from {export.quoted(pick.name)}")
+                    texts = [[None if value is None else str(value) for value in row] for row in kept]
+                    self.assertEqual(texts, list(table.records))
+                    self.assertEqual([list(row.values()) for row in told["records"]], list(table.values()))
+
+    def test_a_record_too_few_or_one_twice_is_noticed(self) -> None:
+        for script in SCRIPTS:
+            for number, output in damaged(output_of(script)):
+                with self.subTest(script.name, record=number), self.assertRaises(Misfit):
+                    answers.of(script, output)
+
+    @unittest.skipUnless(find_spec("pandas"), "pandas isn't installed")
+    def test_the_lines_for_pandas_make_a_frame(self) -> None:
+        recipe = (TOP / "docs" / "RECIPES.md").read_text(encoding="utf-8")
+        [lines] = re.findall(r"^```python\n(.*?)^```$", recipe, re.MULTILINE | re.DOTALL)
+        code = lines + "print(list(frame.columns), frame.shape, frame.euros.sum())\n"
+        ran = subprocess.run([sys.executable, "-c", code], cwd=TOP, stdout=subprocess.PIPE, check=True)
+        self.assertEqual(
+            ran.stdout.decode(), "['row_id', 'valid_from', 'valid_to', 'person', 'euros'] (2, 5) 10200\n",
+        )
+
+
+if __name__ == "__main__":
+    unittest.main()

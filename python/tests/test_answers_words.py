@@ -1,0 +1,301 @@
+"""The words of tools/answers, by the scripts of examples/ and by others, beside answers that are told here."""
+import tempfile
+import unittest
+from pathlib import Path
+
+from tests.support import EXAMPLE, TOP, ToolCase, kept
+
+
+class Reading(ToolCase):
+    def test_wrong_words_end_with_status_2(self) -> None:
+        reads = ["tools/answers", "csv"]
+        self.check(["tools/answers"], "", 2, "usage: ")
+        self.check(["tools/answers", "tables"], "", 2, "answers: no command tables")
+        self.check([*reads], "", 2, "usage: ")
+        self.check([*reads, "none.csv"], "", 1, "answers: ")
+
+    def test_answers_are_those_to_the_script(self) -> None:
+        reads = ["tools/answers", "csv"]
+        self.check(
+            [*reads, EXAMPLE, "--answers", "examples/joins.csv.stdout"], "", 1, "answers: line 7: at,pay,2024-08-15: ",
+        )
+        self.check([*reads, EXAMPLE, "99", "--answers", EXAMPLE + ".stdout"], "", 1, "answers: 99: no such answer")
+        self.check(
+            [*reads, EXAMPLE, "@7", "--answers", EXAMPLE + ".stdout"], "", 0,
+            "row_id,valid_from,valid_to,person,euros\n",
+        )
+        self.check(
+            [*reads, EXAMPLE, "--answers", "-"], "ok,1\n", 1, "answers: line 2: load,pay: the answers end before",
+        )
+        self.check([*reads, EXAMPLE, "--program", "/bin/false"], "", 1, "answers: line 1: ")
+
+    def test_a_refusal_stops_where_it_isn_t_passed_over(self) -> None:
+        reads = ["tools/answers", "csv"]
+        terms = ["examples/terms.csv", "--answers", "examples/terms.csv.stdout"]
+        self.check([*reads, *terms], "", 1, "answers: line 10: load,terms: BadPeriod: field 2, 2024-10-01, ")
+        self.check([*reads, *terms, "--go-on"], "", 0, "part,row_id,instant\n0,1,2024-03-15\n")
+        self.check(
+            ["tools/answers", "refusals", *terms], "", 1, "line 16: at,posts,2024-07-01: NoTable: field 2, posts, ",
+        )
+
+    def test_a_picture_takes_the_words_that_it_has_a_use_for(self) -> None:
+        picture = ["tools/answers", "picture"]
+        told = ["--answers", "examples/posts.csv.stdout"]
+        self.check([*picture, "examples/posts.csv", *told, "--by", "row_id"], "", 1, "its picture has no use for --by")
+        self.check([*picture, "examples/posts.csv", *told, "--from", "2030-01-01"], "", 0, "\nnothing to draw: ")
+        self.check([*picture, "examples/posts.csv", *told, "--svg"], "", 0, 'fill="#c00">2024-02-05</text>\n<text ')
+        self.check(
+            [*picture, "examples/posts.csv", *told, "--where", "row_id=07"], "", 1, "answers: --where row_id=07: no ",
+        )
+        pay = [*picture, EXAMPLE, "--answers", EXAMPLE + ".stdout"]
+        for value, wrong in [("euros=4.800", "no whole number in digits alone"), ("valid_to=2025-1-1", "no point as it ")]:
+            self.check([*pay, "4", "--where", value], "", 1, f"answers: --where {value}: {wrong}")
+        self.check([*pay, "6", "--where", "sys_to=", "--where", "euros=5400"], "", 0, "commit 2\ncommit 3 [4=")
+
+    def test_changed_compares_what_can_be_compared(self) -> None:
+        changed = ["tools/answers", "changed", EXAMPLE, "--answers", EXAMPLE + ".stdout"]
+        second = '+,2024-08-15,2024-08-15T00:00:01,"Byron, Ada",5000\n-,2024-08-15,2024-08-15T00:00:01,"Byron, Ada",5400\n'
+        self.check([*changed, "4", "5"], "", 0, "change,valid_from,valid_to,person,euros\n" + second)
+        self.check([*changed, "4", "7"], "", 1, "answers: line 10: log: ")
+
+
+class Questions(ToolCase):
+    def test_a_refused_question_isn_t_passed_over(self) -> None:
+        told = "ok,1\nend,0\nerror,3,NoTable\n"
+        with kept("table,t\nrows,t\n") as name:
+            words = [name, "--answers", "-", "--go-on", "--ask", "rows,u"]
+            for tool in (["csv"], ["csv", "--folder", "none"], ["json"], ["sqlite", ":memory:"]):
+                refused = "answers: --ask: rows,u: NoTable: field 2, u, is no table that is there: t "
+                self.check(["tools/answers", tool[0], name, *tool[1:], *words[1:]], told, 1, refused)
+            asked = [*words[:-1], "rows,t", "--ask", "rows,t"]
+            self.check(
+                ["tools/answers", "csv", *asked], "ok,1\nend,0\nend,0\nend,0\n", 1, "answers: 2 answers, and not 1: ",
+            )
+            self.check(["tools/answers", "list", *words], told, 0, "NoTable,,")
+
+    def test_a_question_is_a_command_of_its_own(self) -> None:
+        reads = ["tools/answers", "csv", "--program", "/bin/false"]
+        self.check([*reads, EXAMPLE, "--ask", ""], "", 1, "answers: --ask: the question is empty")
+        for cut in ('table,t,a,text\nload,t\nrow,2024-01-01,2024-01-02,"x', "table,t\nload,t", "together\nload,t\nend"):
+            taken = "--ask at,t,2024-01-01: the question was taken into line "
+            self.check([*reads, "-", "--ask", "at,t,2024-01-01"], cut, 1, f"answers: {taken}")
+
+
+class Forms(ToolCase):
+    def test_a_field_of_another_kind_is_noticed(self) -> None:
+        for script, old, new in [
+            (EXAMPLE, ",5400", ",540O"), (EXAMPLE, "2024-07-01", "01.07.2024"), (EXAMPLE, ",5400", "," + "5" * 5000),
+            ("examples/posts.csv", "3,2024-02-05", "3,heute"), ("examples/divisions.csv", "Overlap,1", "Overlap,i"),
+        ]:
+            told = (TOP / f"{script}.stdout").read_text(encoding="utf-8").replace(old, new)
+            self.check(["tools/answers", "csv", script, "--answers", "-"], told, 1, "answers: line ")
+
+    def test_a_column_may_have_the_name_of_a_period_s_end(self) -> None:
+        with kept("table,t,valid_to,text\nload,t\nrow,2024-01-01,2024-02-01,x\nend\nagg,t,count,by,valid_to\n") as name:
+            counted = "valid_to_,valid_from,valid_to,count\nx,2024-01-01,2024-02-01,1\n"
+            told = "ok,1\nok,2\nrow,x,2024-01-01,2024-02-01,1\nend,1\n"
+            self.check(["tools/answers", "csv", name, "--answers", "-"], told, 0, counted)
+            self.check(["tools/answers", "picture", name, "--answers", "-"], told, 0, "\nx [1===")
+
+    def test_a_load_without_its_end_is_told(self) -> None:
+        with kept("table,t\nload,t\nrows,t\nend\n") as name:
+            told = "a load has row records alone, and not rows,t; is its end missing before it?"
+            self.check(["tools/answers", "refusals", name, "--answers", "-"], "ok,1\nerror,3,BadCommand\n", 1, told)
+
+    def test_answers_of_another_form_are_noticed(self) -> None:
+        day = "table,t\nat,t,2024-01-05"
+        for script, forged in [
+            ("table,t\nload,u", "ok,1\nerror,2,KeyOverlap\n"), ("between,t,1", "end,0\n"),
+            (day, "ok,1\nrow,1,2024-01-06,2024-01-07\nend,1\n"), (day, "ok,1\nrow,1,2024-01-04,2024-01-05\nend,1\n"),
+            ("table,t\nrows,t", "ok,1\nerror,2,WrongKind\n"), ("rows,t", "error,1,NotInBlock\n"),
+            ("load,t\nend", "error,1,Unended\n"), ("load,t\nrow\nend", "error,2,NoTable\n"),
+        ]:
+            with kept(script) as name:
+                self.check(["tools/answers", "list", name, "--answers", "-"], forged, 1, "answers: line ")
+
+
+class Strangers(ToolCase):
+    def test_answers_to_another_question_are_noticed(self) -> None:
+        script = "table,t,a,int\nload,t\nrow,2024-01-01,2024-02-01,5\nend\nload,t\nrow,2024-01-01,2024-02-01,6\nend\n"
+        time, given = "2024-01-01,2024-02-01", ", which the changes before it give; these are answers to another script or "
+        lacks = f"answers: line 8: {{}}: the answer lacks 2,{time},{{}}6{given}"
+        for question, forged, told in [
+            ("rows,t", f"row,1,{time},5\nend,1", lacks.format("rows,t", "")),
+            ("at,t,2024-01-05", f"row,1,{time},5\nend,1", lacks.format("at,t,2024-01-05", "")),
+            ("rows,t,asof,1", f"row,1,{time},5\nend,1", f"record 1 of the answer, 1,{time},5, is more than the changes"),
+            ("between,t,1,3", f"version,1,{time},2,-,5\nend,1", lacks.format("between,t,1,3", "3,,")),
+            ("log", "commit,1,1,table,t,0,0\ncommit,2,1,load,t,2,0\nend,2", "2,1,load,t,2,0 and not 2,1,load,t,1,0, which"),
+            ("dip,t", "dip,1,1,2024-01-01\npart,0,1", "the answer lacks 1,2,2024-01-01, which the changes before it give"),
+            ("dip,t", "dip,2,2,2024-01-01\npart,0,2\npart,1,1", "answer is 0,2,2024-01-01 and not 0,1,2024-01-01, which"),
+            ("check,t,1,2024-01-01\npart,1\nend", "yes", "1 of the answer is yes,,,,, and not no,Missing,,,2,, which"),
+            ("join,t,t,asof,2", f"row,{time},2,2,6,6\nend,1", "rows 2 and 2 don't match, or aren't shown by commit 2"),
+            ("join,t,t", f"row,{time},1,2,5,5\nend,1", "rows 1 and 2 have other values, or share another time"),
+            ("join,t,t,on,a,a", f"row,{time},1,2,5,6\nend,1", "rows 1 and 2 don't match, or aren't shown by commit 3"),
+            ("join,t,t", f"row,{time},1,1,5,5\nend,1", "it has 1 pairs of rows, and the changes before it give 4"),
+            ("anti,t,t", "row,1,2024-01-01,2024-02-02,5\nend,1", "answer, 1,2024-01-01,2024-02-02,5, is more than the"),
+            ("anti,t,t,asof,0", f"row,1,{time},5\nend,1", "is more than the changes before it give; these are answers to"),
+            ("agg,t,sum,a", f"row,{time},5\nend,1", f"record 1 of the answer is {time},5 and not {time},11, which the "),
+            ("agg,t,max,a", f"row,{time},5\nend,1", f"record 1 of the answer is {time},5 and not {time},6, which the "),
+            ("agg,t,count,by,a", f"row,5,{time},1\nend,1", f"the answer lacks 6,{time},1, which the changes before it "),
+        ]:
+            with kept(script + question) as name:
+                self.check(["tools/answers", "csv", name, "--answers", "-"], f"ok,1\nok,2\nok,3\n{forged}\n", 1, told)
+
+
+class Sqlite(ToolCase):
+    def test_tables_have_the_names_of_picks(self) -> None:
+        told = ["--answers", EXAMPLE + ".stdout"]
+        words = ["tools/answers", "sqlite", EXAMPLE]
+        self.check([*words, ":memory:", "4=pay", "7=commits", *told], "", 0, "table,rows\npay,2\ncommits,3\n")
+        self.check([*words, "5=pay", *told], "", 1, "answers: 5=pay: the DATABASE is missing")
+        self.check([*words, ":memory:", "5=pay", "6=PAY", *told], "", 1, " as PAY; give each its own, as 6=PAY_6\n")
+
+    def test_what_is_in_a_database_isn_t_lost(self) -> None:
+        told = ["--answers", EXAMPLE + ".stdout"]
+        words = ["tools/answers", "sqlite", EXAMPLE]
+        with tempfile.TemporaryDirectory() as folder:
+            file = f"{folder}/pay.db"
+            self.check([*words, file, "4=pay", *told], "", 0, "pay,2")
+            self.check(
+                [*words, file, "7=log", "5=Pay", *told], "", 1,
+                "answers: Pay is in the database, so no table was made: ",
+            )
+            self.check([*words, file, "7=log", "5=Pay", *told, "--replace"], "", 0, "log,3\nPay,2")
+            changes = ["delete from more where euros < 5000", "create view few as select * from more"]
+            self.check([*words, file, "4=more", *told, *(f"--query={change}" for change in changes)], "", 0, "")
+            self.check([*words, file, "4=few", *told, "--replace"], "", 1, "answers: use DROP VIEW to delete view few")
+            self.check([*words, file, "5=a", *told, "--query", "select count(*) from few"], "", 0, "count(*)\n1\n")
+
+    def test_queries_are_told_what_is_wrong_with_them(self) -> None:
+        told = ["--answers", EXAMPLE + ".stdout"]
+        words = ["tools/answers", "sqlite", EXAMPLE]
+        for query, status, part in [
+            ("select 1 where '1' < 2024-07-01", 1, "answers: --query: 2024-07-01 is a subtraction: a point stands "),
+            ("select 'a 2024-07-01' as a", 0, "a\na 2024-07-01\n"),
+            ("select '1.7.2024' as a", 0, "answers: --query: '1.7.2024' is compared as a text: points are as "),
+            ("select * from pays", 1, "answers: --query: no such table: pays; made were Pay(row_id, valid_from, "),
+        ]:
+            self.check([*words, ":memory:", "5=Pay", *told, "--query", query], "", status, part)
+        self.check([*words, ":memory:", "5=Pay", *told, "--query", " "], "", 1, "answers: --query: the query is empty")
+        self.check(
+            [*words, ":memory:", "5=Pay", *told, "--query", "select 1; select 2"], "", 1, "one statement at a time",
+        )
+
+    def test_a_name_in_double_quotes_is_a_name(self) -> None:
+        told = ["--answers", EXAMPLE + ".stdout"]
+        words = ["tools/answers", "sqlite", EXAMPLE]
+        for name in ("euro", "eu`ro", 'eu""ro'):
+            wrong = f"""select 'a "text"', euros from Pay where "{name}" > 0"""
+            self.check([*words, ":memory:", "5=Pay", *told, "--query", wrong], "", 1, "no such column: eu")
+        right = """select [euros], 'a "text"' as "a ""b" from Pay where "euros" > 4900 -- "euro\n"""
+        self.check([*words, ":memory:", "5=Pay", *told, "--query", right], "", 0, 'euros,"a ""b"\n5000,"a ""text"""\n')
+
+
+class Only(ToolCase):
+    def test_a_value_of_another_kind_is_refused(self) -> None:
+        words = ["tools/answers", "only", EXAMPLE, "pay", "2", "--answers", EXAMPLE + ".stdout", "--set"]
+        self.check([*words, "euros=4900"], "", 0, "update,pay,2024-03-01,2025-01-01,set,euros,4900,where,")
+        self.check([*words, "euros=4.900"], "", 1, "answers: --set euros: BadNumber: 4.900 is no whole number ")
+        self.check([*words, "person=" + "x" * 4097], "", 1, "answers: --set person: TooLong: xxx")
+        self.check([*words, "person=M\udcfcller"], "", 1, "answers: --set person: BadUtf8: M\\xfcller isn't UTF-8")
+
+
+class Folders(ToolCase):
+    def test_a_file_is_replaced_only_where_that_is_told(self) -> None:
+        words = ["tools/answers", "csv", EXAMPLE, "--answers", EXAMPLE + ".stdout", "@7=august"]
+        with tempfile.TemporaryDirectory() as folder:
+            self.check([*words, "--folder", folder], "", 0, "")
+            self.check(
+                [*words, "@9=versions", "--folder", folder], "", 1,
+                f"answers: {folder}/august.csv is there, so no file ",
+            )
+            self.check([*words, "--folder", folder, "--replace"], "", 0, "")
+        self.check([*words, "--replace"], "", 1, "answers: --replace replaces files of a --folder, and none is told: ")
+
+
+class Told(ToolCase):
+    def test_what_is_made_of_answers_to_a_table_of_numbers(self) -> None:
+        january, february = "row,2024-01-01,2024-02-01,{}\n", "row,2024-02-01,2024-03-01,{}\n"
+        half, row, end = 1 << 62, "row,1,2024-01-01,2024-02-01,5\nend,1\n", "end,0\n"
+        two, low = january.format(-2) + february.format(2), january.format(-2) + february.format(-4)
+        tiny = january.format(-1) + february.format(-1000)
+        drawn = f"\n 1{' ' * 40}{'#' * 38}\n 0 {'-' * 77}\n-1 {'#' * 39}\n"
+        for words, rows, questions, told, status, part in [
+            ("picture", two, "agg,t,sum,a", two + "end,2\n", 0, drawn),
+            ("picture --svg", two, "agg,t,sum,a", two + "end,2\n", 0, 'y="186.0" width="392" height="120.0"'),
+            ("picture", low, "agg,t,sum,a", low + "end,2\n", 0, f"\n 0 {'-' * 77}\n-1 {'#' * 77}\n"),
+            ("picture", tiny, "agg,t,sum,a", tiny + "end,2\n", 0, f"\n    0 {chr(39) * 38}{'-' * 36}\n -100 "),
+            ("sqlite :memory: 3=due", january.format(half) * 2, "agg,t,sum,a", january.format(2 * half) + "end,1\n", 0,
+             "answers: due.sum_a has sums past SQLite's "),
+            ("changed", january.format(5), "rows,t\nat,t,2024-01-05", row + row, 1, "rows,t and at,t,2024-01-05: an `at` "),
+            ("changed", january.format(5), "at,t,2024-01-05\nat,t,2024-02-05", row + end, 1, "answers: line 5 and line 6"),
+            ("changed", two, "agg,t,sum,a,asof,1\nagg,t,sum,a", end + two + "end,2\n", 0, ",-2\n+,2024-02-01,2024-03-01,2"),
+            ("changed", "", "at,t,9999-12-31T23:59:59\nat,t,9999-12-31T23:59:59", end + end, 0, "change,"),
+            ("overlaps a", january.format(5), "at,t,2024-01-05", row, 1, "answers: line 5: at,t,2024-01-05: an `at` "),
+            ("csv", "", "join,t,t,asof,0", end, 0, "answers: line 4: join,t,t,asof,0: t was made by commit 1, so commit "),
+            ("list", "", "at,t,1", end, 1, "answers: line 4: at,t,1: "),
+            ("list", "", "at,t,1", "error,4,BadPoint\n", 1, "3,4,4,BadPoint,,"),
+            ("list", january.format(5), "delete,t,2024-01-01,2024-02-01,where,a,6", "ok,3\n", 0, "answers: line 5: "),
+            ("refusals", january.format(5), "delete,t,2024-02-01,2024-02-02,where,a,5", "ok,3\n", 0, "no row of "),
+            ("list --go-on", "", "at,t,1", "error,4,BadPoint\n", 0, "3,4,4,BadPoint,,"),
+            ("list", "", "together\nend", "together,2\n", 0, "3,4,4,together 2,,together\n"),
+            ("refusals", "", "together\nload,t\nend\nrows,t,asof,3\nend", "together,2\nok,3\nerror,7,Future\n", 1,
+             "line 7: rows,t,asof,3: Future: field 4, 3, is a later commit than the block reads, which `together` "),
+            ("list", "", "together\nload,t\nend\nrows,t,asof,3\nend", "together,2\nok,3\nend,0\n", 1, "answers: line 7: "),
+        ]:
+            with kept(f"table,t,a,int\nload,t\n{rows}end\n{questions}\n") as name:
+                tool, *others = words.split()
+                self.check(
+                    ["tools/answers", tool, name, *others, "--answers", "-"], "ok,1\nok,2\n" + told, status, part,
+                )
+
+
+class Refusals(ToolCase):
+    def test_each_is_told_with_its_field_and_reason(self) -> None:
+        for command, refusal, told in [
+            ("table,set", "BadName", "line 2: table,set: BadName: field 2, set, is a word of the language: "),
+            ("table,u,a,integer", "BadCommand", "field 4, integer, is no KIND"),
+            ("table,u,a,int,key,b", "NoColumn", "field 6, b, is no column before `key`, field 5 (a): names of columns "),
+            ("update,t,2024-01-01,2024-01-02,set,key,5", "BadName", "where are no names; key_ is one"),
+            ("delete,t,2024-01-01,2024-01-02,where,asof,5", "BadName", "field 6, asof, is of queries alone: a "),
+            ("rows,t,asof,2024-01-01", "BadNumber", "is no number of a commit, as `ok,2` and `log` tell it"),
+            ("rows, t", "BadName", "field 2, ' t', is no name: 1 to 32 of a to z, 0 to 9 and _, the first a letter; a "),
+            ("csv-to-load failed", "BadCommand", "stands in place of a load: tools/csv-to-load has told why on standard "),
+            ("ROWS,t", "BadCommand", "field 1, ROWS, is no command, but rows is"),
+            ("\ufeffrows,t", "BadCommand", "begins with a byte order mark, which only a script's own beginning may have"),
+            ("rows;t", "BadCommand", "field 1, rows;t, is no command: commas part the fields"),
+            ("Name;Pay", "BadCommand", "; of a CSV file with a header tools/csv-to-load makes a load"),
+            ("load,t,t.csv", "Unended", "the form is load,T and then rows, since no file is read"),
+            ('load,t\nrow,"2024-01-01\nend', "Unended", "is a second quote missing in line 3? A field "),
+            ("rows,u", "NoTable", "is no table that is there: t"),
+            ("at,t,2024-02-30", "BadPoint", "is no day that exists"),
+            ("at,t,2024\u201102-01", "BadPoint", "2024\\u201102-01"),
+            ("update,t,2024-01-01,2024-01-02,set,a,05", "BadNumber", "has a zero in front"),
+            ("agg,t,sum,b", "NoColumn", "is no column of t, but a"),
+            ("between,t,3,2", "BadPeriod", "field 3, 3, is greater than the field behind it"),
+            ("delete,t,2024-02-01,2024-02-01", "BadPeriod", "isn't before the field behind it: one day ends on the next"),
+            ("load,t\nEND", "Unended", "; line 3, END, isn't the one word end"),
+        ]:
+            with kept(f"table,t,a,int\n{command}\n") as name:
+                self.check(["tools/answers", "refusals", name, "--answers", "-"], f"ok,1\nerror,2,{refusal}\n", 1, told)
+
+    def test_a_table_that_is_missing_is_told(self) -> None:
+        with kept("rows,t\n") as name:
+            none = "line 1: rows,t: NoTable: field 2, t, is no table: a `table` record is to make it before"
+            self.check(["tools/answers", "refusals", name, "--answers", "-"], "error,1,NoTable\n", 1, none)
+
+
+class Faulty(ToolCase):
+    def test_what_is_refused_for_no_row_s_fault_is_told(self) -> None:
+        refused = "answers: line 1: hello: BadCommand: "
+        for script, told, said in [("hello\n", "error,1,BadCommand", refused), ("log\n", "end,0", "")]:
+            with tempfile.TemporaryDirectory() as folder:
+                program = Path(folder, "program")
+                program.write_text(f"#!/bin/sh\nif read record; then echo {told}; fi\n", encoding="utf-8")
+                program.chmod(0o700)
+                words = ["tools/answers", "faulty", "-", "--program", str(program)]
+                self.check(words, script, 1 if said else 0, said)
+
+
+if __name__ == "__main__":
+    unittest.main()
