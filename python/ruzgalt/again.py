@@ -5,7 +5,7 @@ Of a join only its number of records is: they are looked at one by one.
 from bisect import bisect_left, bisect_right
 from collections import defaultdict
 from heapq import heappop, heappush
-from typing import Callable, Dict, Iterable, Iterator, List, Optional, Sequence, Set, Tuple, Union
+from typing import Callable, Dict, Iterable, Iterator, List, Optional, Sequence, Tuple, Union
 
 from ruzgalt.answers import CHANGES, Answer
 from ruzgalt.forms import printed
@@ -98,9 +98,10 @@ def fault_of_parts(claimed: List[List[str]], rows: Dict[str, Version], count: in
     ids = [row_id for part in claimed for row_id in part]
     empty = next((str(place) for place, part in enumerate(claimed) if not part), None)
     unknown = next((row_id for row_id in ids if row_id not in rows), None)
-    before: Set[str] = set()
-    twice = next((row_id for row_id in ids if row_id in before or before.add(row_id)), None)
-    missing = next((row_id for row_id in rows if row_id not in before), None)
+    # A dictionary has each of its keys where it was put first.
+    firsts = {row_id: place for place, row_id in reversed(list(enumerate(ids)))}
+    twice = next((row_id for place, row_id in enumerate(ids) if firsts[row_id] != place), None)
+    missing = next((row_id for row_id in rows if row_id not in firsts), None)
     if len(claimed) != count:
         return ["WrongCount", str(len(claimed)), "", "", ""]
     if empty is not None:
@@ -178,7 +179,7 @@ def aggregated(store: Store, answer: Answer) -> Iterator[Texts]:
     for row in (version.row for version in store.rows(front[1], answer.commit)):
         number = 1 if function == "count" else int(row.values[table.place(front[3])])
         of_group = row.values[table.place(group)] if group else ""
-        is_int = bool(group) and table.columns[table.place(group)].kind is Kind.INT
+        is_int = group is not None and table.columns[table.place(group)].kind is Kind.INT
         rows[int(of_group) if is_int else of_group].append((row.start, row.end, number))
     for name in sorted(rows):
         for start, end, number in over_time(rows[name], function):
@@ -195,7 +196,8 @@ def over_time(rows: Sequence[Numbered], function: str) -> List[Numbered]:
     # The rows by their numbers, and by their ends; those that have ended are left out when they are met.
     by_number: List[Tuple[int, str]] = []
     by_end: List[Tuple[str, int]] = []
-    total, found = 0, []
+    total = 0
+    found: List[Numbered] = []
     for point, after in zip(points, points[1:]):
         for _, end, number in starting[point]:
             heappush(by_number, (sign * number, end))

@@ -42,6 +42,13 @@ class Answer:
         return self.command.line
 
     @property
+    def refused(self) -> Refusal:
+        """The refusal of one that has one."""
+        if self.refusal is None:
+            raise ValueError(f"{self.place}: no refusal")
+        return self.refusal
+
+    @property
     def place(self) -> str:
         return self.command.place
 
@@ -167,13 +174,13 @@ class Reading:
             raise misfit(command, f"{word},{names} or end,{count}", record)
         return Listed(self.source, place, count, record.line)
 
-    def divided(self, command: Command, first: Record, _: List[Column]) -> Sequence[Row]:
+    def divided(self, command: Command, first: Record, columns: List[Column]) -> Sequence[Row]:
         """A record for each row of each part, with the instant that all have."""
         if first.word != "dip" or len(first.fields) != 4 or not all(map(is_count, first.fields[1:3])):
             raise misfit(command, "dip,ROWS,PARTS,INSTANT", first)
         if first.fields[3] != "-" if first.fields[1] == "0" else not is_printed(first.fields[3]):
             raise misfit(command, "dip,ROWS,PARTS,INSTANT with a point, or - where there are no rows", first)
-        _, count, parts, instant = first.fields
+        count, parts, instant = first.fields[1:]
         place, found = self.output.place, 0
         for part in range(int(parts)):
             record = self.take(command, f"part,{part}")
@@ -185,7 +192,7 @@ class Reading:
             raise Misfit(f"{command.place}: {short(command.text)}: {told}")
         return Rows(found, lambda: parts_at(self.source, place, int(parts), instant))
 
-    def judged(self, command: Command, first: Record, _: List[Column]) -> Sequence[Row]:
+    def judged(self, command: Command, first: Record, columns: List[Column]) -> Sequence[Row]:
         """A verdict, with its numbers under the names of what they count."""
         fields = list(first.fields)
         if fields == ["yes"]:
@@ -221,8 +228,8 @@ class Listed(Rows):
 
     def rows(self) -> Iterator[Row]:
         reader = Reader(self.source, self.place)
-        for fields in islice(filter(None, reader.fields), self.count):
-            row: Row = [*fields[1:]]
+        for fields in islice(filter(None, reader.fields), self.size):
+            row: List[Optional[str]] = [*fields[1:]]
             if fields[0] == "version" and row[4] == "-":
                 row[4] = None
             yield row
@@ -239,7 +246,7 @@ class Listed(Rows):
     def has_lines(self) -> bool:
         first, last = self.source.byte_of(self.place.line), self.source.byte_of(self.end)
         is_plain = self.source.ends is None and not self.source.has_zero and self.source.data.startswith(b"row,", first)
-        return is_plain and self.source.data.count(b"\n", first, last) == self.count and b"\r" not in self.source.data
+        return is_plain and self.source.data.count(b"\n", first, last) == self.size and b"\r" not in self.source.data
 
 
 def parts_at(source: Source, place: Place, parts: int, instant: str) -> Iterator[Row]:

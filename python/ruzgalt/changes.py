@@ -28,8 +28,8 @@ def between(before: Answer, after: Answer) -> Table:
     if point_of(before) != point_of(after):
         raise Misfit(f"{both}: an `at` tells of its point alone: ask both for that, or both by `rows`")
     columns = unique([Column("change", Kind.TEXT), *PERIOD, *kept[0][0]])
-    found = list(changes(kept[0][1], kept[1][1]))
-    return Table(columns, sorted(found, key=order(kept[0][0], before.command.word == "agg")))
+    found = sorted(changes(kept[0][1], kept[1][1]), key=order(kept[0][0], before.command.word == "agg"))
+    return Table(columns, found)
 
 
 Held = Tuple[str, str, Tuple[str, ...]]

@@ -1,6 +1,6 @@
 """Whether the records of a list have the forms of their columns, many at once."""
 import re
-from typing import List, Optional, Sequence, Set
+from typing import Callable, Dict, List, Optional, Sequence, Set
 
 from ruzgalt.commands import Command
 from ruzgalt.errors import Misfit
@@ -9,7 +9,7 @@ from ruzgalt.reader import Reader
 from ruzgalt.records import Record, short
 from ruzgalt.tables import Column, Kind
 
-FORMS = {Kind.INT: is_sum, Kind.POINT: is_printed}
+FORMS: Dict[Kind, Callable[[str], bool]] = {Kind.INT: is_sum, Kind.POINT: is_printed}
 # What forms.is_sum takes, several parted by commas.
 SUM = r"(?:0|[1-9]\d{0,25}|-[1-9]\d{0,24})"
 SUMS = re.compile(f"{SUM}(?:,{SUM})*", re.ASCII)

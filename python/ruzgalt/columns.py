@@ -102,8 +102,8 @@ class Text(Column):
         made = text.translate(TO_SPACE) if self.has_plain_spaces else text
         if self.kind is Kind.INT:
             if not is_integer(made):
-                told = "numbers are whole, as 5000; --decimals makes them so of others"
-                raise Misfit(f"no number of the table; {told}: --decimals {self.name}=2")
+                remedy = f"numbers are whole, as 5000; --decimals {self.name}=2 makes them so of others"
+                raise Misfit(f"no number of the table; {remedy}")
             return made
         # No character has more than four bytes.
         if len(made) > TEXT_LIMIT // 4 and not is_short(made):

@@ -36,7 +36,9 @@ def read_as(form: str, text: str) -> Optional[datetime]:
             # The day's part is rounded to a second, as Excel shows it.
             seconds = round(float(f"0.{parts['part'] or 0}") * 86_400)
             return EXCEL_BEGINNING + timedelta(days=int(parts["days"]), seconds=seconds)
-        return datetime(**{name: int(part or 0) for name, part in parts.items()})
+        names = ("year", "month", "day", "hour", "minute", "second")
+        year, month, day, hour, minute, second = (int(parts.get(name) or 0) for name in names)
+        return datetime(year, month, day, hour, minute, second)
     except (ValueError, OverflowError):
         return None
 

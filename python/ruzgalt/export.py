@@ -8,7 +8,7 @@ from typing import Any, Dict, Iterator, List, Sequence
 
 from ruzgalt.answers import Answer, Listed
 from ruzgalt.errors import Misfit
-from ruzgalt.forms import printed
+from ruzgalt.forms import is_integer, printed
 from ruzgalt.picks import Pick
 from ruzgalt.reader import PIECE
 from ruzgalt.records import Printer, encode, to_text
@@ -97,12 +97,11 @@ def told_tables(picks: Sequence[Pick]) -> str:
 
 def kinds(table: Table) -> List[str]:
     """The kinds of the table's columns in SQLite, which has no integer for the longest sums: they are texts."""
-    limit = 1 << 63
-    return [
-        "integer" if column.kind is Kind.INT and all(number is None or -limit <= number < limit for number in values)
-        else "text"
-        for column, values in zip(table.columns, zip(*table.values()) if len(table.records) else ((),) * len(table.columns))
-    ]
+    numbers = [place for place, column in enumerate(table.columns) if column.kind is Kind.INT]
+    # No shorter number is past an integer's limits.
+    texts = ((place, record[place] or "") for record in table.records for place in numbers)
+    longest = {place for place, text in texts if len(text) > 18 and not is_integer(text)}
+    return ["integer" if place in numbers and place not in longest else "text" for place in range(len(table.columns))]
 
 
 def quoted(name: str) -> str:

@@ -16,8 +16,11 @@ BEGINNING = datetime(1, 1, 1)
 
 def read_point(text: str) -> Optional[datetime]:
     told = POINT.fullmatch(text)
+    if told is None:
+        return None
     try:
-        return datetime(*(int(part or 0) for part in told.groups())) if told else None
+        year, month, day, hour, minute, second = (int(part or 0) for part in told.groups())
+        return datetime(year, month, day, hour, minute, second)
     except ValueError:
         return None
 
@@ -38,7 +41,7 @@ def printed(text: str) -> str:
 @lru_cache(1 << 4)
 def next_second(point: str) -> str:
     """The end of the period of that second alone, in which a row holds, so that one is behind it."""
-    return print_point(read_point(point) + timedelta(seconds=1))
+    return print_point(at_second(seconds(point) + 1))
 
 
 @lru_cache(1 << 16)

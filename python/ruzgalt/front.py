@@ -1,6 +1,5 @@
 """Whether answers that were kept are still the front of a script's answers, and what was edited where they aren't."""
-from itertools import zip_longest
-from typing import Iterator, List, Optional, Sequence
+from typing import Iterator, Optional, Sequence
 
 from ruzgalt.answers import Answer
 from ruzgalt.reader import Reader, Source
@@ -40,10 +39,9 @@ def told_of(kept: bytes, now: bytes, found: Sequence[Answer], places: Sequence[i
 
 def edits(before: bytes, now: bytes) -> Iterator[str]:
     """The first record of an earlier script that isn't there any more, as it was and as it is."""
-    today: List[Optional[Record]] = list(Reader(Source(now)))
-    for one, other in zip_longest(Reader(Source(before)), today):
-        if one is None:
-            return
+    today = Reader(Source(now))
+    for one in Reader(Source(before)):
+        other = today.next()
         if other is None or list(one.fields) != list(other.fields):
             place = f"line {other.line}" if other else "behind the last line"
             shown = visible(other.text) if other else "nothing"

@@ -1,7 +1,7 @@
 """A load, or updates, made of a CSV file with a header, piece by piece."""
 from argparse import Namespace
 from itertools import repeat
-from typing import Iterator, List, Optional, Sequence, cast
+from typing import Iterator, List, Optional, Sequence, Tuple, cast
 from zlib import crc32
 
 from ruzgalt import records
@@ -61,7 +61,7 @@ class Load:
         progress = Progress("csv-to-load")
         for piece in self.sheet.pieces():
             lines, taken = self.whole(piece)
-            fields = list(zip(*taken)) or [()] * len(self.sheet.header)
+            fields: List[Sequence[str]] = list(zip(*taken)) or [()] * len(self.sheet.header)
             values = [fields[place] for place in self.places]
             found = [list(map(column.__getitem__, one)) for column, one in zip(self.columns, values)]
             self.look_at(lines, values, found)
@@ -92,7 +92,7 @@ class Load:
 
     def is_of_part(self, row: Sequence[str]) -> bool:
         """Whether the row is of the part that is wanted, by a checksum of its key: equal keys are of one part."""
-        part, parts = self.options.part
+        part, parts = cast(Tuple[int, int], self.options.part)
         return crc32("\0".join(row[2 + place] for place in self.keys).encode()) % parts == part - 1
 
     def look_at(
@@ -117,7 +117,8 @@ class Load:
 
     def keys_of(self, values: Sequence[Sequence[str]]) -> Sequence[object]:
         keys = [values[place] for place in self.keys]
-        return keys[0] if len(keys) == 1 else list(zip(*keys))
+        joined: List[Tuple[str, ...]] = list(zip(*keys))
+        return keys[0] if len(keys) == 1 else joined
 
     def refuse_either(self) -> None:
         if self.marks.either and not self.marks.is_settled:
@@ -145,7 +146,8 @@ class Load:
         """The records of a load, or else an update for each row. Fields stand in quotes already that need them."""
         columns = cast(List[List[str]], found)
         if self.options.part:
-            columns = list(map(list, zip(*filter(self.is_of_part, zip(*columns)))))
+            kept: List[Sequence[str]] = list(filter(self.is_of_part, zip(*columns)))
+            columns = [list(column) for column in zip(*kept)]
         made = map(self.update_of, zip(*columns)) if self.options.update else zip(repeat("row"), *columns)
         return "".join([",".join(fields) + "\n" for fields in made]) if columns else ""
 
@@ -160,9 +162,7 @@ class Load:
         """What may not be meant."""
         if not self.rows:
             yield "no row stands behind the header, so the load has none"
-        for told in (self.notes, self.ends, self.twins):
-            yield from told.told()
-        yield from self.told_of_scales()
+        yield from [*self.notes.told(), *self.ends.told(), *self.twins.told(), *self.told_of_scales()]
         if self.rows > MOST_ROWS * 9 // 10 or self.bytes > MOST_BYTES * 9 // 10:
             limits = f"a script has {MOST_BYTES:,} bytes at most, a table {MOST_ROWS:,} versions of rows"
             told = f"{self.rows:,} rows in {self.bytes:,} bytes leave little room for corrections"

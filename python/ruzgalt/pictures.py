@@ -1,7 +1,7 @@
 """What there is to draw of an answer: bars in lanes, or steps. How it is drawn, terminal.py and svg.py know."""
 from collections import defaultdict
 from dataclasses import dataclass, replace
-from typing import Callable, Dict, Iterable, List, Optional, Sequence, Tuple, Union
+from typing import Dict, Iterable, List, Optional, Sequence, Tuple, Union
 
 from ruzgalt import store
 from ruzgalt.answers import Answer
@@ -138,10 +138,9 @@ def by_value(answer: Answer, wish: Wish) -> Bars:
     for record in wanted(table, wish):
         by_lane[record[by] if by else ""].append(record)
     is_int = by is not None and table.columns[table.place(by)].kind is Kind.INT
-    order: Callable[[str], object] = int if is_int else str
     bars: List[Bar] = []
     lanes: List[str] = []
-    for value in sorted(by_lane, key=order):
+    for value in sorted(by_lane, key=int) if is_int else sorted(by_lane):
         below = stacked(bar_of(record, 0, label_of(record, labels)) for record in by_lane[value])
         bars.extend(replace(bar, lane=len(lanes) + bar.lane) for bar in below)
         lanes.extend([value or "-", *[""] * max(bar.lane for bar in below)])

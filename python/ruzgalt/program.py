@@ -71,7 +71,7 @@ def faulty(program: str, script: bytes) -> List[str]:
     lines, number = [], 1
     for record, loads in tried:
         answer = by_number[number]
-        if answer.refusal and answer.refusal.record is not answer.command.record:
+        if answer.refusal and answer.refused.record is not answer.command.record:
             told = f"{records.short(record.text)}: {answer.refusal.name}: {reason(answer)}"
             lines.append(f"line {record.line}, record {record.number}: {told}")
         number += len(loads)
@@ -81,7 +81,7 @@ def faulty(program: str, script: bytes) -> List[str]:
 def refused_otherwise(program: str, script: bytes) -> List[Answer]:
     """What was refused for another reason than a row of a load: a key, a table that isn't there, no command."""
     refused = [answer for answer in answers.of(script, output(program, script)) if answer.refusal]
-    return [one for one in refused if one.command.word != "load" or one.refusal.record is one.command.record]
+    return [one for one in refused if one.command.word != "load" or one.refused.record is one.command.record]
 
 
 Tried = Tuple[records.Record, List[Sequence[str]]]

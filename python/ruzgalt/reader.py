@@ -70,7 +70,7 @@ class Source:
 class Skipped(NamedTuple):
     """Records of a block that were passed over: how many, whether `end` is the last, how many fields others have."""
 
-    count: int
+    size: int
     is_ended: bool
     widths: Set[int]
 
@@ -173,7 +173,7 @@ class Block(Sequence[Record]):
 
     def __init__(self, source: Source, place: Place, skipped: Skipped, end: int) -> None:
         self.source, self.place, self.end, self.skipped = source, place, end, skipped
-        self.count = skipped.count
+        self.size = skipped.size
 
     @property
     def widths(self) -> Set[int]:
@@ -185,11 +185,11 @@ class Block(Sequence[Record]):
         return self.source.bytes_between(self.place.line, self.end)
 
     def __len__(self) -> int:
-        return self.count
+        return self.size
 
     def __iter__(self) -> Iterator[Record]:
         reader = Reader(self.source, self.place)
-        for _ in range(self.count):
+        for _ in range(self.size):
             record = reader.next()
             if record is not None:
                 yield record
@@ -202,23 +202,23 @@ class Block(Sequence[Record]):
 
     def __getitem__(self, place: Union[int, slice]) -> Union[Record, Sequence[Record]]:
         if isinstance(place, slice):
-            start, stop, step = place.indices(self.count)
+            start, stop, step = place.indices(self.size)
             if (start, step) == (0, 1):
-                return Block(self.source, self.place, self.skipped._replace(count=stop), self.end)
+                return Block(self.source, self.place, self.skipped._replace(size=stop), self.end)
         return list(self)[place]
 
 
-Row = List[Optional[str]]
+Row = Sequence[Optional[str]]
 
 
 class Rows(Sequence[Row]):
     """The records of a table, made again where they are asked for."""
 
-    def __init__(self, count: int, read: Callable[[], Iterator[Row]]) -> None:
-        self.count, self.read = count, read
+    def __init__(self, size: int, read: Callable[[], Iterator[Row]]) -> None:
+        self.size, self.read = size, read
 
     def __len__(self) -> int:
-        return self.count
+        return self.size
 
     def __iter__(self) -> Iterator[Row]:
         return self.read()

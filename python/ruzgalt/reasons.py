@@ -5,7 +5,7 @@ from ruzgalt import forms
 from ruzgalt.answers import Answer
 from ruzgalt.fields import Field, Role
 from ruzgalt.records import to_record, visible
-from ruzgalt.tables import Kind
+from ruzgalt.tables import Kind, Schema
 
 # What is told where no more is known of the field.
 REASONS = {
@@ -93,11 +93,12 @@ def no_table(_: Field, answer: Answer) -> str:
 
 def no_column(field: Field, answer: Answer) -> str:
     if field.role is Role.KEY:
-        columns = ", ".join(field.table.names) or "there is none"
+        columns = ", ".join(field.table.names if field.table else []) or "there is none"
         place = answer.command.record.fields.index("key", 2) + 1
         told = f"is no column before `key`, field {place} ({columns}): names of columns stand behind it"
         return f"{told}, and a column itself needs another name, as key_"
-    return f"is no column of {field.table.name}, but {', '.join(field.table.names) or 'it has none'}"
+    table = field.table or Schema("the table", ())
+    return f"is no column of {table.name}, but {', '.join(table.names) or 'it has none'}"
 
 
 def wrong_kind(field: Field, answer: Answer) -> str:

@@ -12,17 +12,17 @@ from ruzgalt.tables import Kind
 
 def told(answer: Answer) -> str:
     """Line, command, field and reason of a refusal, in one line."""
-    refusal, command = answer.refusal, answer.command
-    return f"{refusal.record.place}: {short(command.text)}: {refusal.name}: {reason(answer)}"
+    refusal = answer.refused
+    return f"{refusal.record.place}: {short(answer.command.text)}: {refusal.name}: {reason(answer)}"
 
 
 def reason(answer: Answer) -> str:
-    refusal, command = answer.refusal, answer.command
+    refusal = answer.refused
     if refusal.name in OF_RECORDS:
         return OF_RECORDS[refusal.name](answer)
     field = at_fault(answer)
     about = reasons.of_field(refusal.name, field, answer) if field else None
-    if about is None:
+    if field is None or about is None:
         return reasons.REASONS.get(refusal.name, "see docs/LANGUAGE.md")
     return f"{reasons.named(field)}, {about}"
 
@@ -35,14 +35,14 @@ def key_overlap(answer: Answer) -> str:
 
 
 def wrong_width(answer: Answer) -> str:
-    record = answer.refusal.record
+    record = answer.refused.record
     wanted = ",".join(["row", "FROM", "TO", *answer.tables[answer.command.record.fields[1]].names])
     count = f"{len(record.fields)} fields, and not the {wanted.count(',') + 1} of {wanted}"
     return f"{visible(record.text)} has {count}; a text with a comma stands in quotes"
 
 
 def bad_command(answer: Answer) -> str:
-    record, command = answer.refusal.record, answer.command
+    record, command = answer.refused.record, answer.command
     if record is not command.record:
         wanted = "row" if command.word == "load" else "part"
         remedy = "; its end is the one word end" if is_like_end(record) else f"; each begins with the word {wanted}"
@@ -85,7 +85,7 @@ def no_word(word: str) -> str:
 # Words of other languages, and what is done here.
 OTHER_WORDS = [
     (("select", "with", "from"), "SQL is asked of answers, by `tools/answers sqlite`"),
-    (("alter", "drop", "truncate", "rename"), "a table keeps its columns, and stays: a new one takes the rows with others"),
+    (("alter", "drop", "truncate", "rename"), "a table keeps its columns, and stays: a new one can have others"),
     (("create",), "`table` makes a table"),
     (("insert", "add", "row", "merge", "upsert"), "rows stand between `load,T` and `end`"),
     (("set", "modify"), "`update` gives rows other values for a time"),
@@ -132,8 +132,8 @@ OF_RECORDS: Dict[str, Callable[[Answer], str]] = {
 
 def at_fault(answer: Answer) -> Optional[Field]:
     """The field for which the record was refused, where it is a single one."""
-    fields = fields_of(answer.command, answer.refusal.record, answer.tables)
-    find = TESTS.get(answer.refusal.name)
+    fields = fields_of(answer.command, answer.refused.record, answer.tables)
+    find = TESTS.get(answer.refused.name)
     return next((field for field in fields if find(answer, field, fields)), None) if find else None
 
 

@@ -71,7 +71,7 @@ class Table:
     """An answer as a table. A field that isn't told, as the end of a version that is open, is None."""
 
     columns: List[Column]
-    records: Sequence[List[Optional[str]]] = field(default_factory=list)
+    records: Sequence[Sequence[Optional[str]]] = field(default_factory=list)
 
     @property
     def names(self) -> List[str]:

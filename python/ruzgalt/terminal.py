@@ -140,7 +140,8 @@ def columns_of(picture: Steps, cells: int) -> List[Optional[int]]:
     for start, end, value in picture.steps:
         place = min(picture.span.place(start, cells), cells - 1)
         for cell in range(place, max(picture.span.place(end, cells), place + 1)):
-            columns[cell] = value if columns[cell] is None else max(columns[cell], value)
+            there = columns[cell]
+            columns[cell] = value if there is None else max(there, value)
     return columns
 
 

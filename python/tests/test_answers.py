@@ -27,7 +27,9 @@ def answers(words: str, script: str, told: str) -> Tuple[int, str, str]:
             file.write_text(text, encoding="utf-8", newline="")
         files["$P"].chmod(0o700)
         split = words.split(" ")
-        return run([next((one.replace(name, str(file)) for name, file in files.items() if name in one), one) for one in split])
+        for name, file in files.items():
+            split = [one.replace(name, str(file)) for one in split]
+        return run(split)
 
 
 def run(words: List[str]) -> Tuple[int, str, str]:
@@ -125,7 +127,8 @@ class Tables(unittest.TestCase):
         self.prints(wanted, f"{words}=select\t*\tfrom\tall_day".replace("--query=", "--query="), script, told)
 
     def test_between_the_ends_of_a_record_is_told(self) -> None:
-        words = "sqlite $S :memory: --answers $A --ask a=rows,pay --query=select\t1\tfrom\ta\twhere\t'1'\tbetween\tvalid_from\tand\tvalid_to"
+        query = "select\t1\tfrom\ta\twhere\t'1'\tbetween\tvalid_from\tand\tvalid_to"
+        words = f"sqlite $S :memory: --answers $A --ask a=rows,pay --query={query}"
         _, _, said = answers(words, PAY, f"ok,1\nok,2\n{ROWS}")
         self.assertIn("a record doesn't hold at its valid_to, which `between` includes", said)
 
@@ -135,7 +138,8 @@ class Fronts(unittest.TestCase):
         with tempfile.NamedTemporaryFile("w") as kept:
             kept.write("ok,1\nok,2\n")
             kept.flush()
-            status, printed, _ = answers(f"front $S {kept.name} --program $P", PAY + "rows,pay\n", f"ok,1\nok,2\n{ROWS}")
+            words = f"front $S {kept.name} --program $P"
+            status, printed, _ = answers(words, PAY + "rows,pay\n", f"ok,1\nok,2\n{ROWS}")
         self.assertEqual((status, printed), (0, ""))
 
     def test_an_edited_record_is_told_with_its_line(self) -> None:

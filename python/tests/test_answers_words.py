@@ -48,13 +48,16 @@ class Reading(ToolCase):
             [*picture, "examples/posts.csv", *told, "--where", "row_id=07"], "", 1, "answers: --where row_id=07: no ",
         )
         pay = [*picture, EXAMPLE, "--answers", EXAMPLE + ".stdout"]
-        for value, wrong in [("euros=4.800", "no whole number in digits alone"), ("valid_to=2025-1-1", "no point as it ")]:
+        for value, wrong in [
+            ("euros=4.800", "no whole number in digits alone"), ("valid_to=2025-1-1", "no point as it "),
+        ]:
             self.check([*pay, "4", "--where", value], "", 1, f"answers: --where {value}: {wrong}")
         self.check([*pay, "6", "--where", "sys_to=", "--where", "euros=5400"], "", 0, "commit 2\ncommit 3 [4=")
 
     def test_changed_compares_what_can_be_compared(self) -> None:
         changed = ["tools/answers", "changed", EXAMPLE, "--answers", EXAMPLE + ".stdout"]
-        second = '+,2024-08-15,2024-08-15T00:00:01,"Byron, Ada",5000\n-,2024-08-15,2024-08-15T00:00:01,"Byron, Ada",5400\n'
+        time = "2024-08-15,2024-08-15T00:00:01"
+        second = f'+,{time},"Byron, Ada",5000\n-,{time},"Byron, Ada",5400\n'
         self.check([*changed, "4", "5"], "", 0, "change,valid_from,valid_to,person,euros\n" + second)
         self.check([*changed, "4", "7"], "", 1, "answers: line 10: log: ")
 
@@ -117,26 +120,34 @@ class Forms(ToolCase):
 class Strangers(ToolCase):
     def test_answers_to_another_question_are_noticed(self) -> None:
         script = "table,t,a,int\nload,t\nrow,2024-01-01,2024-02-01,5\nend\nload,t\nrow,2024-01-01,2024-02-01,6\nend\n"
-        time, given = "2024-01-01,2024-02-01", ", which the changes before it give; these are answers to another script or "
+        time = "2024-01-01,2024-02-01"
+        given = ", which the changes before it give; these are answers to another script or "
         lacks = f"answers: line 8: {{}}: the answer lacks 2,{time},{{}}6{given}"
         for question, forged, told in [
             ("rows,t", f"row,1,{time},5\nend,1", lacks.format("rows,t", "")),
             ("at,t,2024-01-05", f"row,1,{time},5\nend,1", lacks.format("at,t,2024-01-05", "")),
-            ("rows,t,asof,1", f"row,1,{time},5\nend,1", f"record 1 of the answer, 1,{time},5, is more than the changes"),
+            ("rows,t,asof,1", f"row,1,{time},5\nend,1",
+             f"record 1 of the answer, 1,{time},5, is more than the changes"),
             ("between,t,1,3", f"version,1,{time},2,-,5\nend,1", lacks.format("between,t,1,3", "3,,")),
-            ("log", "commit,1,1,table,t,0,0\ncommit,2,1,load,t,2,0\nend,2", "2,1,load,t,2,0 and not 2,1,load,t,1,0, which"),
-            ("dip,t", "dip,1,1,2024-01-01\npart,0,1", "the answer lacks 1,2,2024-01-01, which the changes before it give"),
-            ("dip,t", "dip,2,2,2024-01-01\npart,0,2\npart,1,1", "answer is 0,2,2024-01-01 and not 0,1,2024-01-01, which"),
+            ("log", "commit,1,1,table,t,0,0\ncommit,2,1,load,t,2,0\nend,2",
+             "2,1,load,t,2,0 and not 2,1,load,t,1,0, which"),
+            ("dip,t", "dip,1,1,2024-01-01\npart,0,1",
+             "the answer lacks 1,2,2024-01-01, which the changes before it give"),
+            ("dip,t", "dip,2,2,2024-01-01\npart,0,2\npart,1,1",
+             "answer is 0,2,2024-01-01 and not 0,1,2024-01-01, which"),
             ("check,t,1,2024-01-01\npart,1\nend", "yes", "1 of the answer is yes,,,,, and not no,Missing,,,2,, which"),
             ("join,t,t,asof,2", f"row,{time},2,2,6,6\nend,1", "rows 2 and 2 don't match, or aren't shown by commit 2"),
             ("join,t,t", f"row,{time},1,2,5,5\nend,1", "rows 1 and 2 have other values, or share another time"),
             ("join,t,t,on,a,a", f"row,{time},1,2,5,6\nend,1", "rows 1 and 2 don't match, or aren't shown by commit 3"),
             ("join,t,t", f"row,{time},1,1,5,5\nend,1", "it has 1 pairs of rows, and the changes before it give 4"),
             ("anti,t,t", "row,1,2024-01-01,2024-02-02,5\nend,1", "answer, 1,2024-01-01,2024-02-02,5, is more than the"),
-            ("anti,t,t,asof,0", f"row,1,{time},5\nend,1", "is more than the changes before it give; these are answers to"),
-            ("agg,t,sum,a", f"row,{time},5\nend,1", f"record 1 of the answer is {time},5 and not {time},11, which the "),
+            ("anti,t,t,asof,0", f"row,1,{time},5\nend,1",
+             "is more than the changes before it give; these are answers to"),
+            ("agg,t,sum,a", f"row,{time},5\nend,1",
+             f"record 1 of the answer is {time},5 and not {time},11, which the "),
             ("agg,t,max,a", f"row,{time},5\nend,1", f"record 1 of the answer is {time},5 and not {time},6, which the "),
-            ("agg,t,count,by,a", f"row,5,{time},1\nend,1", f"the answer lacks 6,{time},1, which the changes before it "),
+            ("agg,t,count,by,a", f"row,5,{time},1\nend,1",
+             f"the answer lacks 6,{time},1, which the changes before it "),
         ]:
             with kept(script + question) as name:
                 self.check(["tools/answers", "csv", name, "--answers", "-"], f"ok,1\nok,2\nok,3\n{forged}\n", 1, told)
@@ -227,12 +238,16 @@ class Told(ToolCase):
             ("picture", tiny, "agg,t,sum,a", tiny + "end,2\n", 0, f"\n    0 {chr(39) * 38}{'-' * 36}\n -100 "),
             ("sqlite :memory: 3=due", january.format(half) * 2, "agg,t,sum,a", january.format(2 * half) + "end,1\n", 0,
              "answers: due.sum_a has sums past SQLite's "),
-            ("changed", january.format(5), "rows,t\nat,t,2024-01-05", row + row, 1, "rows,t and at,t,2024-01-05: an `at` "),
-            ("changed", january.format(5), "at,t,2024-01-05\nat,t,2024-02-05", row + end, 1, "answers: line 5 and line 6"),
-            ("changed", two, "agg,t,sum,a,asof,1\nagg,t,sum,a", end + two + "end,2\n", 0, ",-2\n+,2024-02-01,2024-03-01,2"),
+            ("changed", january.format(5), "rows,t\nat,t,2024-01-05", row + row, 1,
+             "rows,t and at,t,2024-01-05: an `at` "),
+            ("changed", january.format(5), "at,t,2024-01-05\nat,t,2024-02-05", row + end, 1,
+             "answers: line 5 and line 6"),
+            ("changed", two, "agg,t,sum,a,asof,1\nagg,t,sum,a", end + two + "end,2\n", 0,
+             ",-2\n+,2024-02-01,2024-03-01,2"),
             ("changed", "", "at,t,9999-12-31T23:59:59\nat,t,9999-12-31T23:59:59", end + end, 0, "change,"),
             ("overlaps a", january.format(5), "at,t,2024-01-05", row, 1, "answers: line 5: at,t,2024-01-05: an `at` "),
-            ("csv", "", "join,t,t,asof,0", end, 0, "answers: line 4: join,t,t,asof,0: t was made by commit 1, so commit "),
+            ("csv", "", "join,t,t,asof,0", end, 0,
+             "answers: line 4: join,t,t,asof,0: t was made by commit 1, so commit "),
             ("list", "", "at,t,1", end, 1, "answers: line 4: at,t,1: "),
             ("list", "", "at,t,1", "error,4,BadPoint\n", 1, "3,4,4,BadPoint,,"),
             ("list", january.format(5), "delete,t,2024-01-01,2024-02-01,where,a,6", "ok,3\n", 0, "answers: line 5: "),
@@ -241,7 +256,8 @@ class Told(ToolCase):
             ("list", "", "together\nend", "together,2\n", 0, "3,4,4,together 2,,together\n"),
             ("refusals", "", "together\nload,t\nend\nrows,t,asof,3\nend", "together,2\nok,3\nerror,7,Future\n", 1,
              "line 7: rows,t,asof,3: Future: field 4, 3, is a later commit than the block reads, which `together` "),
-            ("list", "", "together\nload,t\nend\nrows,t,asof,3\nend", "together,2\nok,3\nend,0\n", 1, "answers: line 7: "),
+            ("list", "", "together\nload,t\nend\nrows,t,asof,3\nend", "together,2\nok,3\nend,0\n", 1,
+             "answers: line 7: "),
         ]:
             with kept(f"table,t,a,int\nload,t\n{rows}end\n{questions}\n") as name:
                 tool, *others = words.split()
@@ -255,14 +271,18 @@ class Refusals(ToolCase):
         for command, refusal, told in [
             ("table,set", "BadName", "line 2: table,set: BadName: field 2, set, is a word of the language: "),
             ("table,u,a,integer", "BadCommand", "field 4, integer, is no KIND"),
-            ("table,u,a,int,key,b", "NoColumn", "field 6, b, is no column before `key`, field 5 (a): names of columns "),
+            ("table,u,a,int,key,b", "NoColumn",
+             "field 6, b, is no column before `key`, field 5 (a): names of columns "),
             ("update,t,2024-01-01,2024-01-02,set,key,5", "BadName", "where are no names; key_ is one"),
             ("delete,t,2024-01-01,2024-01-02,where,asof,5", "BadName", "field 6, asof, is of queries alone: a "),
             ("rows,t,asof,2024-01-01", "BadNumber", "is no number of a commit, as `ok,2` and `log` tell it"),
-            ("rows, t", "BadName", "field 2, ' t', is no name: 1 to 32 of a to z, 0 to 9 and _, the first a letter; a "),
-            ("csv-to-load failed", "BadCommand", "stands in place of a load: tools/csv-to-load has told why on standard "),
+            ("rows, t", "BadName",
+             "field 2, ' t', is no name: 1 to 32 of a to z, 0 to 9 and _, the first a letter; a "),
+            ("csv-to-load failed", "BadCommand",
+             "stands in place of a load: tools/csv-to-load has told why on standard "),
             ("ROWS,t", "BadCommand", "field 1, ROWS, is no command, but rows is"),
-            ("\ufeffrows,t", "BadCommand", "begins with a byte order mark, which only a script's own beginning may have"),
+            ("\ufeffrows,t", "BadCommand",
+             "begins with a byte order mark, which only a script's own beginning may have"),
             ("rows;t", "BadCommand", "field 1, rows;t, is no command: commas part the fields"),
             ("Name;Pay", "BadCommand", "; of a CSV file with a header tools/csv-to-load makes a load"),
             ("load,t,t.csv", "Unended", "the form is load,T and then rows, since no file is read"),
@@ -273,7 +293,8 @@ class Refusals(ToolCase):
             ("update,t,2024-01-01,2024-01-02,set,a,05", "BadNumber", "has a zero in front"),
             ("agg,t,sum,b", "NoColumn", "is no column of t, but a"),
             ("between,t,3,2", "BadPeriod", "field 3, 3, is greater than the field behind it"),
-            ("delete,t,2024-02-01,2024-02-01", "BadPeriod", "isn't before the field behind it: one day ends on the next"),
+            ("delete,t,2024-02-01,2024-02-01", "BadPeriod",
+             "isn't before the field behind it: one day ends on the next"),
             ("load,t\nEND", "Unended", "; line 3, END, isn't the one word end"),
         ]:
             with kept(f"table,t,a,int\n{command}\n") as name:

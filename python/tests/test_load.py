@@ -65,7 +65,8 @@ class LastDays(Case):
             "A,1,2024-01-01,2024-03-15", "A,2,2024-03-15,2024-05-20", "B,1,2024-01-01,2024-03-15",
             "B,2,2024-03-15,2024-05-20", "B,3,2024-05-21,2024-06-20",
         )
-        self.told("1 start on the day behind it (line 6 after line 5) and 2 start on it (line 3 after line 2): is it", text)
+        told = "1 start on the day behind it (line 6 after line 5) and 2 start on it (line 3 after line 2): is it"
+        self.told(told, text)
 
     def test_rows_that_touch_are_loaded_without_a_word(self) -> None:
         text = rows("A,1,2024-01-01,2024-03-15", "A,2,2024-03-15,2024-06-02")
@@ -104,12 +105,15 @@ class Separators(Case):
 class LookAlikeTexts(Case):
     def test_texts_that_look_alike_are_told_once_with_a_count_and_a_line(self) -> None:
         for one, other in [("1", "001"), ("Müller", "MÜLLER"), ("José", "Jose\u0301"), ("A B", "A  B")]:
-            text = rows(f"{one},1,2024-01-01,2024-02-05", f"{other},1,2024-03-03,2024-04-05", f"{other},2,2024-05-03,2024-06-05")
+            seconds = [f"{other},1,2024-03-03,2024-04-05", f"{other},2,2024-05-03,2024-06-05"]
+            text = rows(f"{one},1,2024-01-01,2024-02-05", *seconds)
             with self.subTest(other):
                 self.told("(line 3, and 1 more rows)", text)
 
     def test_what_spreadsheets_make_of_numbers_is_told(self) -> None:
-        for value, part in [('"=""001"""', "a formula of a"), ("1.23E+05", "digits are rounded off"), ("", "it is empty")]:
+        for value, part in [
+            ('"=""001"""', "a formula of a"), ("1.23E+05", "digits are rounded off"), ("", "it is empty"),
+        ]:
             with self.subTest(value):
                 self.told(part, rows(f"{value},1,2024-01-01,2024-02-05"))
 
@@ -164,7 +168,8 @@ class Dates(Case):
 
     def test_another_form_is_refused_with_its_word(self) -> None:
         for text, part in [
-            ("2024-03-05 00:00:00", "with --dates '2024-12-31 00:00:00'"), ("5/3/2024", "--dates 31/12/2024 or --dates 12"),
+            ("2024-03-05 00:00:00", "with --dates '2024-12-31 00:00:00'"),
+            ("5/3/2024", "--dates 31/12/2024 or --dates 12"),
             ("20240305", "with --dates 20241231 it is one"), ("45356", "with --dates 45657 it is one"),
             ("5.3.24", "a year has four digits"), ("2024-03-05T08:00:00Z", "points have no zone"),
             ("NULL", "--no-end 'NULL' takes it"), ("NaT", "--no-end 'NaT'"), ("unbefristet", "--no-end 'unbef"),

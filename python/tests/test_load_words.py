@@ -6,6 +6,8 @@ from tests.support import ToolCase
 LOADS = ["tools/csv-to-load", "pay", "Start", "End", "Name", "Pay"]
 GERMAN = [*LOADS, "--german", "--decimals", "Pay=2", "--last-day", "--open"]
 CSV = "Name;Pay;Start;End\n\"Hill, Grace\";{};{};{}\n"
+# Two stray quotes, which take two lines for one row.
+BROKEN = '"By;6;2024-01-01;2024-02-01\nBy";7;2024-02-01;2024-03-01\n'
 
 
 class Loads(ToolCase):
@@ -44,7 +46,8 @@ class Loads(ToolCase):
         plain = "Name;Pay;Start;End\n{};5;2024-01-01;2024-02-01\n"
         for name, shown, note in [
             ("A\u00a0B", "A\\xa0B", "a no-break space "), ("A ", "A ", "a space at an end "),
-            ("Jose\u0301", "Jose\u0301", "a letter and its accent "), ("A\u200bB", "A\\u200bB", "a character that can't "),
+            ("Jose\u0301", "Jose\u0301", "a letter and its accent "),
+            ("A\u200bB", "A\\u200bB", "a character that can't "),
         ]:
             self.check(LOADS, plain.format(name), 0, f"csv-to-load: Name is '{shown}', and is loaded so: {note}")
 
@@ -70,7 +73,7 @@ class Loads(ToolCase):
         stray = 'Name;Pay;Start;End\n"Hill" G;5;2024-01-01;2024-02-01\n'
         self.check(LOADS, stray, 1, "csv-to-load: line 2: ';' expected after '\"'")
         self.check(LOADS, stray.replace('" G', ""), 1, "csv-to-load: line 2: unexpected end of data")
-        taken = CSV.format("5", "2024-01-01", "2024-02-01") + '"By;6;2024-01-01;2024-02-01\nBy";7;2024-02-01;2024-03-01\n'
+        taken = CSV.format("5", "2024-01-01", "2024-02-01") + BROKEN
         self.check(LOADS, taken, 1, "csv-to-load: line 3: a field in quotes goes on to line 4; ")
 
     def test_ends_that_look_otherwise_are_told(self) -> None:
@@ -81,7 +84,9 @@ class Loads(ToolCase):
             ("2024-01-01", "2025-01-01", ["--last-day"], "End is 2025-01-01: --last-day takes it for the last day "),
         ]:
             self.check([*LOADS, *words], once.format(start, end), 0, f"csv-to-load: {note}")
-        for start, end in [("2024-01-01", "2025-01-01"), ("2024-01-01", "9999-12-31"), ("2024-01-31", "2024-12-31T08:00:00")]:
+        for start, end in [
+            ("2024-01-01", "2025-01-01"), ("2024-01-01", "9999-12-31"), ("2024-01-31", "2024-12-31T08:00:00"),
+        ]:
             self.check(LOADS, once.format(start, end) + ";;;\n", 0, f"load,pay\nrow,{start},{end},A,5\nend\n")
 
     def test_equal_rows_and_files_without_rows_are_told(self) -> None:
@@ -94,7 +99,7 @@ class Loads(ToolCase):
         self.check(LOADS, "\n", 1, "csv-to-load: no header, since the file has nothing but empty lines\n")
 
     def test_line_breaks_stand_in_quotes_where_that_is_told(self) -> None:
-        taken = CSV.format("5", "2024-01-01", "2024-02-01") + '"By;6;2024-01-01;2024-02-01\nBy";7;2024-02-01;2024-03-01\n'
+        taken = CSV.format("5", "2024-01-01", "2024-02-01") + BROKEN
         self.check(
             LOADS, "Name,Pay,Start,End\nHill, G,5,2024-01-01,2024-03-05\n", 1,
             "line 2: 5 fields, and not the 4 of the ",
