@@ -6,19 +6,28 @@
 
 Python 3.9 and its library are all that is needed. A module stands on those above it:
 
-    records, forms      CSV with the lines of its records; points, numbers and names
+    records, forms      CSV as dipq prints it; points, numbers and names
+    reader              records with their lines, read one behind another; of many only where they stand
     commands, tables    a script's commands; the columns of tables and of answers
     questions           put behind a script
-    answers, picks      the answers of a script, each with its command; chosen by number, line or name
+    checking, answers   the forms of many records; the answers of a script, each with its command
+    picks               answers chosen by number, line or name
     fields, reasons     what each field is to be, and the words for what is wrong with it
     refusals            why a record was refused
-    store, overlaps     the changes done again, and rows of one key that hold at one point
+    store, overlaps     the changes done again; rows of one key that hold at one point, and times without any
     again, fitting      queries done again, and whether answers can be those of a script
     changes, single     what really changed; a change of one row alone
+    history, front      what each commit changed; whether kept answers are still the front of today's
     export              CSV, SQLite and JSON
     timeline, pictures  the axis of a picture, and what is drawn of an answer
     terminal, svg       how it is drawn
-    program, cli        the program that answers; the words of tools/answers
+    progress, program   a line that tells how far a tool is; the program that answers
+    sheets              a CSV file with a header: its bytes, its records by pieces
+    dates, decimals     points and numbers in the forms of other programs
+    doubts, marks       what may not be meant in a file that is loaded, and in a script
+    columns, loading    what the values of a column become, and the load that is made of a file
+    claims              somebody's division as a check
+    cli, load_cli       the words of tools/answers and of tools/csv-to-load
 """
 from importlib import import_module
 from typing import Any

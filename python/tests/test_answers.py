@@ -24,7 +24,7 @@ def answers(words: str, script: str, told: str) -> Tuple[int, str, str]:
     with tempfile.TemporaryDirectory() as folder:
         files = {"$S": Path(folder, "script.csv"), "$A": Path(folder, "answers.csv"), "$P": Path(folder, "program")}
         for file, text in zip(files.values(), (script, told, FAKE.format(told))):
-            file.write_text(text, encoding="utf-8", newline="")
+            file.write_bytes(text.encode())
         files["$P"].chmod(0o700)
         split = words.split(" ")
         for name, file in files.items():

@@ -197,6 +197,16 @@ class Updates(Case):
         self.refused("Name is no name of a table's", rows("A,1,2024-01-01,2024-03-05"), *WORDS, "--update", "Name")
 
 
+class Claims(Case):
+    def test_parts_and_ids_become_a_check(self) -> None:
+        text = "Post,Contract\nA,1\nB,2\nA,3\n"
+        wanted = "check,posts,2,2024-01-05\npart,1,3\npart,2\nend\n"
+        self.loaded(wanted, text, "posts", "Post", "Contract", "--check", "2024-01-05")
+
+    def test_an_id_that_is_none_is_refused_with_its_line(self) -> None:
+        self.refused("line 2: A,x: no row with a part", "P,I\nA,x\n", "posts", "P", "I", "--check", "2024-01-05")
+
+
 class Files(Case):
     def test_a_workbook_is_told_as_that(self) -> None:
         self.refused("this is a workbook of a spreadsheet", b"PK\x03\x04...")
