@@ -1,4 +1,4 @@
-"""Runs all tests of this folder; tools/check-frames sets how many. The last line counts, as ./check reads it."""
+"""Runs the tests of frames; tools/check-frames sets how many. The last line counts, as ./check reads it."""
 import importlib.util
 import sys
 import unittest
@@ -6,16 +6,18 @@ import warnings
 from pathlib import Path
 
 HERE = Path(__file__).resolve().parent
+# Those of the tools, which tools/check-answers runs.
+OF_TOOLS = ("test_answers", "test_load")
 # All others need pandas.
-WITHOUT_PANDAS = ("test_without_pandas.py",)
+WITHOUT_PANDAS = ["test_without_pandas"]
 
 
 def suite():
-    loader = unittest.TestLoader()
-    if importlib.util.find_spec("pandas"):
-        return loader.discover(str(HERE), top_level_dir=str(HERE))
-    print("left out: frames, since pandas isn't here; apt-get install python3-pandas")
-    return unittest.TestSuite(loader.discover(str(HERE), pattern, str(HERE)) for pattern in WITHOUT_PANDAS)
+    names = [file.stem for file in sorted(HERE.glob("test_*.py")) if not file.name.startswith(OF_TOOLS)]
+    if not importlib.util.find_spec("pandas"):
+        print("left out: frames, since pandas isn't here; apt-get install python3-pandas")
+        names = WITHOUT_PANDAS
+    return unittest.TestLoader().loadTestsFromNames(names)
 
 
 def main():

@@ -1,7 +1,7 @@
 """Libraries that were proved before. They lie in out/ of their crates, and a later build goes on from them.
 
-A library is kept under a sum of all that its proof read: the toolchain, its files, its line of crates.txt, and each library
-below it as that was made. So none goes stale, and what is found under a sum was proved from the same.
+A library is kept under a sum of all that its proof read: the toolchain, its files, its line of crates.txt, and each
+library below it as that was made. So none goes stale, and what is found under a sum was proved from the same.
 """
 import contextlib
 import hashlib
@@ -91,13 +91,13 @@ def module_of(program: Path) -> ModuleType:
 
 
 def give_of_gate(copy: Path, crates: Crates, toolchain: Toolchain) -> Dict[str, Path]:
-    """Puts into a copy of the repository the libraries that the toolchain's gate proved on this machine from the same files.
+    """Puts into a copy of the repository what the toolchain's gate proved on this machine from the same files.
 
-    The gate keeps them by sums of its own, so its program is asked. A toolchain that is otherwise inside gives none, and all
-    is proved here. Nothing that is proved here goes to the gate.
+    The gate keeps libraries by sums of its own, so its program is asked. A toolchain that is otherwise inside gives
+    none, and all is proved here. Nothing that is proved here goes to the gate.
     """
     given: Dict[str, Path] = {}
-    # It would end the program, with a word of its own, where a crate isn't as it should be: the compiler tells that too.
+    # It would end the program, with words of its own, where a crate isn't as it should be: the compiler tells that.
     with contextlib.suppress(Exception, SystemExit), contextlib.redirect_stderr(io.StringIO()):
         rt: Any = module_of(toolchain.folder / "bin" / "rt")
         rt.Crate.allowed, rt.Crate.cuts_libraries = rt.handles_of(str(copy)), True

@@ -1,8 +1,8 @@
 """Which crate is proved next, and by how many jobs.
 
-Crates are proved side by side, first those with most work behind them, since the longest chain decides when all is done. A job
-is a process of the compiler's. The crate that heads the longest chain has two of them; processors that no other crate waits for
-are shared out, up to four a crate, beyond which more gain little.
+Crates are proved side by side, first those with most work behind them, since the longest chain decides when all is
+done. A job is a process of the compiler's. The crate that heads the longest chain has two of them; processors that no
+other crate waits for are shared out, up to four a crate, beyond which more gain little.
 """
 import os
 from typing import Dict, List, Mapping, NamedTuple, Set
@@ -11,7 +11,7 @@ from building.crates import Crate, Crates
 
 # Lines of code whose proof takes as long as a crate takes that has none.
 LINES_OF_EMPTY = 300
-# What a check takes at most, in bytes: for a crate without lines, for each of these lines, and for each further job a part of it.
+# What a check takes at most, in bytes: for a crate without lines, for each line, and for each further job a part of it.
 BYTES_OF_EMPTY, BYTES_OF_LINE, PART_OF_JOB = 1.2e9, 8e5, 0.6
 # The part of the free memory that checks may take together.
 PART_OF_MEMORY = 0.85
@@ -44,7 +44,7 @@ class Schedule:
         self.jobs: Dict[str, int] = {}
 
     def chains(self) -> Mapping[str, int]:
-        """Of each crate the work of the longest chain of crates that it heads, each of which stands on the one before."""
+        """Of each crate the work of the longest chain that it heads, of crates that stand each on the one before."""
         chain: Dict[str, int] = {}
         for crate in reversed(list(self.crates)):
             above = (it.name for it in self.crates if crate.name in it.libraries)

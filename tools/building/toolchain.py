@@ -43,7 +43,7 @@ class Toolchain:
         return f"{named.read_text() if named.is_file() else ''} {compiler.st_size} {compiler.st_mtime_ns}"
 
     def of_crate(self, crate: Crate, crates: Crates, at: Mapping[str, Path]) -> Words:
-        """The words that name a crate, and the libraries that it is proved over: its own as they lie in the folders given."""
+        """The words that name a crate, and the libraries that it is proved over: the repository's as they lie there."""
         words = ["--crate-name", crate.name, crate.root]
         for name in ("std", *(it for it in crate.libraries if it not in crates.by_name)):
             words += ["--extern", f"{name}={self.folder}/rlibs/{name}.rlib"]
