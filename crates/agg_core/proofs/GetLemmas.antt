@@ -1,14 +1,17 @@
 -- The row at a place of some shares.
-use Rattle.std.proofs.Common.{◌≡◌, ◌<◌, ◌≤◌, ◌-◌, ◌+◌, ℕ, List, ◌∷◌, ◌++◌, length, ap, ◌∙◌, arith}
+use Rattle.std.proofs.Common.{◌≡◌, ◌<◌, ◌≤◌, ◌-◌, ◌+◌, ℕ, List, [], ◌∷◌, ◌++◌, length, map, take, get_or, add-one, append-nil, sym, ap, ◌∙◌, arith}
+use Rattle.std.proofs.Math.Seq.{take-suc}
+use Rattle.std.proofs.lemmas.Grind.{flat_map-append}
 use Rattle.std.specs.Prelude.{slice_get}
-use Rattle.std.proofs.lemmas.List.{length-map}
+use Rattle.std.proofs.lemmas.List.{length-map, map-append}
+use Rattle.agg_core.specs.declared.rows.AggRow.{AggRow}
 use Rattle.list_core.proofs.PlaceLemmas.{slice_get-append_right, slice_get-before}
 use Rattle.agg_core.specs.declared.rows.AggShare.{AggShare}
 use Rattle.agg_core.specs.Grouping.{agg_row_of}
 use Rattle.agg_core.specs.Shares.{rows_in, rows_in_shares}
 
 -- a share has a row for each plateau
-share_length : (share : AggShare) → length (rows_in share) ≡ length share.plateaus
+pub share_length : (share : AggShare) → length (rows_in share) ≡ length share.plateaus
 share_length share = length-map share.plateaus (agg_row_of share.groups.items)
 
 -- a row of the first share
@@ -28,3 +31,24 @@ row_later shares rest share i e past =
     let whole : i ≡ length (rows_in share) + (i - length share.plateaus) = omega (arith, long, past) in
     ap (λ l. slice_get (rows_in_shares l) i) e ∙ ap (slice_get (rows_in share ++ rows_in_shares rest)) whole
     ∙ slice_get-append_right (rows_in share) (rows_in_shares rest) (i - length share.plateaus)
+
+-- what another element of a list is mapped to
+pub mapped-more : {X Y : Type 0} (f : X → Y) (xs : List X) (i : ℕ) (x : X) (old new : List Y) → i < length xs
+    → x ≡ get_or xs i x → old ≡ map f (take i xs) → new ≡ old ++ f x ∷ [] → new ≡ map f (take (i + 1) xs)
+mapped-more {X} {Y} f xs i x old new inside at was is =
+    let step : take (i + 1) xs ≡ take i xs ++ x ∷ [] =
+    ap (λ n. take n xs) (add-one i) ∙ take-suc xs i x inside ∙ ap (λ y. take i xs ++ y ∷ []) (sym at) in
+    is ∙ ap (λ (l : List Y). l ++ f x ∷ []) was ∙ sym (map-append f (take i xs) (x ∷ []))
+    ∙ ap (λ (l : List X). map f l) (sym step)
+
+-- one share alone
+pub rows-alone : (shares : List AggShare) (share : AggShare) → shares ≡ share ∷ []
+    → rows_in_shares shares ≡ rows_in share
+rows-alone shares share e = ap (λ l. rows_in_shares l) e ∙ append-nil (rows_in share)
+
+-- the shares of two lists
+pub rows-append : (all front back : List AggShare) (one other : List AggRow) → all ≡ front ++ back
+    → rows_in_shares front ≡ one → rows_in_shares back ≡ other → rows_in_shares all ≡ one ++ other
+rows-append all front back one other e f b =
+    ap (λ l. rows_in_shares l) e ∙ flat_map-append rows_in front back
+    ∙ ap (λ (l : List AggRow). l ++ rows_in_shares back) f ∙ ap (λ (l : List AggRow). one ++ l) b

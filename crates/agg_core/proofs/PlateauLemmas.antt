@@ -1,10 +1,14 @@
 -- The rows of an aggregate are those of the plateaus of its groups' numbers.
-use Rattle.std.proofs.Common.{◌≡◌, ◌<◌, ◌==◌, ℕ, ℤ, pos, Bool, true, List, [], ◌∷◌, length, map, All, Option, Some, None, inl, inr, refl, sym, ap, subst, ◌∙◌, arith}
-use Rattle.std.specs.Prelude.{filter, slice_get, slice_index_or, ◌<ℤ◌, Contains}
+use Rattle.std.proofs.Common.{rules, ⊎_elim, get_or, IsTrue, ◌≢◌, ◌≡◌, ◌<◌, ◌==◌, ℕ, ℤ, pos, Bool, true, List, [], ◌∷◌, length, map, All, Option, Some, None, inl, inr, refl, sym, ap, subst, ◌∙◌, arith}
+use Rattle.std.specs.Prelude.{bytes_eq, filter, slice_get, slice_index_or, ◌<ℤ◌, Contains}
 use Rattle.std.specs.declared.cmp.Ordering.{Ordering}
 use Rattle.std.specs.declared.cmp.Ordering.TheVariants.{Less}
 use Rattle.std.specs.Ordering.{int_cmp, ordering_then}
+use Rattle.std.proofs.lemmas.Bool.{cases_eq, true≢false}
 use Rattle.std.proofs.lemmas.Bool.Decides.{Decides-eqb}
+use Rattle.std.proofs.lemmas.List.Quantifiers.{position-Some}
+use Rattle.row_core.specs.Schema.{column_of, fits}
+use Rattle.row_core.proofs.FitsLemmas.{fits-lengths}
 use Rattle.std.proofs.lemmas.Cmp.{tied_itself}
 use Rattle.std.proofs.lemmas.Int.{ints}
 use Rattle.std.proofs.lemmas.List.{length-map}
@@ -35,7 +39,7 @@ use Rattle.agg_core.specs.declared.func.Func.{Func}
 use Rattle.agg_core.specs.Agg.{AreAggRows, ComeTo, HoldAndComeTo, IsAgg, IsAggRow, amount_in, measure_of, number_column, amount_of_value, rows_on, value_in}
 use Rattle.agg_core.specs.Entries.{amount_at, place_in, value_at_place}
 use Rattle.agg_core.specs.Groups.{AggRowBefore, rows_of_group}
-use Rattle.agg_core.specs.Grouping.{ArePlateauRows, IsGrouping, agg_row_of, amount_item}
+use Rattle.agg_core.specs.Grouping.{ArePlateauRows, HaveValues, IsGrouping, agg_row_of, amount_item}
 use Rattle.agg_core.proofs.EntryLemmas.{filter-map}
 
 -- ---- lists
@@ -277,6 +281,32 @@ value_at_place-place_in : (columns : List Column) (name : Option (List ℕ))
     → value_at_place (place_in columns name) ≡ value_in columns name
 value_at_place-place_in columns None = refl
 value_at_place-place_in columns (Some n) = refl
+
+-- values that fit columns are as many
+fit-lengths : (columns : List Column) (values : List Value) → IsTrue (fits columns values)
+    → length columns ≡ length values
+fit-lengths columns values fit =
+    ⊎_elim (λ (same : length columns ≡ length values). same)
+    (λ (differ : length columns ≢ length values).
+    absurd (true≢false (sym fit ∙ fits-lengths columns values differ)))
+    (cases_eq (length columns) (length values))
+
+-- rows that fit columns have a value at the place of each
+column-values : (columns : List Column) (rows : List Row) (name : List ℕ) (by : Option ℕ) → column_of columns name ≡ by
+    → All (λ (row : Row). IsTrue (fits columns row.values)) rows → HaveValues by rows
+column-values columns rows name None e fit = tt
+column-values [] rows name (Some p) e fit = absurd (search rules)
+column-values (first ∷ columns) rows name (Some p) e fit = λ k d inside.
+    let values = (get_or rows k d).values in
+    let there = (position-Some (λ (c : Column). bytes_eq c.name name) (first ∷ columns) p first e).0 in
+    let same = fit-lengths (first ∷ columns) values (fit k d inside) in
+    omega (arith, there, same)
+
+-- so they have one at the place of a group's column, where one is named
+pub group-values : (columns : List Column) (rows : List Row) (group : Option (List ℕ)) (by : Option ℕ)
+    → by ≡ place_in columns group → All (λ (row : Row). IsTrue (fits columns row.values)) rows → HaveValues by rows
+group-values columns rows None by e fit = subst (λ (b : Option ℕ). HaveValues b rows) (sym e) tt
+group-values columns rows (Some name) by e fit = column-values columns rows name by (sym e) fit
 
 -- an aggregate by places is one by names
 pub agg_by_names : (columns : List Column) (func : Func) (group : Option (List ℕ)) (rows : List Row) (measure : Measure)

@@ -9,7 +9,7 @@ use round_core::Measure;
 use row_core::{Kind, Name, Schema};
 
 /// What an aggregate asks of the rows that hold an instant.
-#[derive(Clone, Copy, Debug, PartialEq, Eq)]
+#[derive(Clone, Copy, Debug)]
 pub enum Func {
     /// How many they are.
     Count,

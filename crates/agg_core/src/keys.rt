@@ -6,7 +6,7 @@ ghost use Rattle.agg_core.specs.KeyRanges.{group_of_key, in_range};
 use share_core::Range;
 
 /// A value as a sort compares it: what decides is at hand, and no text is copied.
-#[derive(Clone, Copy, Debug, PartialEq, Eq, PartialOrd, Ord)]
+#[derive(Clone, Copy, PartialEq, Eq, PartialOrd, Ord)]
 pub(crate) enum Key<'a> {
     Number(i64),
     Text(&'a str),

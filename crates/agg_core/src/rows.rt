@@ -28,7 +28,7 @@ pub struct AggRow {
 }
 
 /// A row as it stands among the others: its group's value is lent.
-#[derive(Clone, Copy, Debug, PartialEq, Eq)]
+#[derive(Clone, Copy)]
 pub struct AggRowRef<'a> {
     /// The value of the group's rows in the column that they are grouped by; None where all rows are one group.
     pub group: Option<&'a Value>,
@@ -39,7 +39,7 @@ pub struct AggRowRef<'a> {
 }
 
 /// The rows of some groups, as what they are made of: each group's value stands once, however many rows it has.
-#[derive(Debug, Drop)]
+#[derive(Drop)]
 pub struct AggShare {
     /// The groups by number: the value of each one's rows in the column that they are grouped by, or None where all rows
     /// are one group.
@@ -77,7 +77,7 @@ impl AggShare {
 
 /// The rows of an aggregate, by group and start, in shares that were answered apart and stand behind one another.
 /// Contracts see the list of all.
-#[derive(Debug, Drop)]
+#[derive(Drop)]
 pub struct AggRows {
     shares: Vec<AggShare>,
     len: usize,
