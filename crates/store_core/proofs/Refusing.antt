@@ -43,6 +43,16 @@ module _ (h : History) (change : Change) where
       no_name_but_keys (first_refusal (length h) (state_after h) change)
       (leaves_overlap change (table_of (state_after h) (table_named change))) none
 
+none_of : (o : Option BookRefused) (n : ℕ) → IfSome o (IsRefusedAs {T = ℕ} (Ok n)) → o ≡ None
+none_of None n some = refl
+none_of (Some name) n (inl e) = absurd (cc)
+none_of (Some name) n (inr e) = absurd (let f = e.1 in cc)
+
+-- what is accepted nothing refuses
+pub none-accepted : (h : History) (change : Change) (n : ℕ)
+    → IfSome (refusal_after h change) (IsRefusedAs {T = ℕ} (Ok n)) → refusal_after h change ≡ None
+none-accepted h change n some = none_of (refusal_after h change) n some
+
 -- what holds of the error holds of the answer
 pub exit-answers : {U E : Type 0} (r : Result U E) (e : E) (P : E → Type 0) → (y : E) × (r ≡ Err y) × (y ≡ e) → P e
     → IfErr r P
