@@ -2,6 +2,7 @@
 import os
 import stat
 import tempfile
+import time
 import unittest
 from pathlib import Path
 from random import Random
@@ -75,6 +76,8 @@ class KilledWorker(unittest.TestCase):
                     future = client.compute(lazy, pure=False)
                     victim = random.choice(cluster.workers)
                     wait_for(lambda: children(victim.pid) or future.done(), 30)
+                    # In the midst of its program, or as it may send or fetch rows.
+                    time.sleep(random.choice([0, 0, random.uniform(0, 1.5)]))
                     hits += not future.done()
                     programs = cluster.kill(victim)
                     cluster.add_worker()

@@ -2,6 +2,7 @@
 from __future__ import annotations
 
 from dataclasses import dataclass, field, replace
+from functools import cached_property
 from typing import Any, List, Mapping, Optional, Sequence, Tuple
 
 import numpy as np
@@ -49,7 +50,7 @@ class Side:
         """The rows, so many at a time."""
         return [self.take(np.arange(first, min(first + size, len(self)))) for first in range(0, len(self), size)]
 
-    @property
+    @cached_property
     def width(self) -> int:
         """At most so many bytes a row has in a script."""
         has_time = (self.start % points.DAY).any() or (self.end % points.DAY).any()

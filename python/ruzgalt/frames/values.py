@@ -154,9 +154,15 @@ def texts_of(column: Any) -> Values:
         remedy = ".fillna('') for missing ones, .astype('int64') for numbers, decimals= for Decimals"
         refuse(wrong, column, "WrongKind", f"{cells[int(wrong.argmax())]!r} is no text; {remedy}")
     whole = "".join(cells)
-    if not whole.isascii() or max(map(len, cells), default=0) > forms.TEXT_LIMIT:
-        refuse_texts(cells, whole, column)
+    if not forms.is_utf8(whole):
+        # Before pandas.factorize, which takes halves of surrogate pairs for other texts.
+        wrong = np.fromiter((not forms.is_utf8(cell) for cell in cells), bool, len(cells))
+        told = "half of a surrogate pair, which UTF-8 hasn't: read the source again as what it is"
+        refuse(wrong, column, "BadUtf8", told)
     codes, found = codes_by_dict(cells) if "\0" in whole else pd.factorize(cells)
+    is_long = np.fromiter((not forms.is_short(text) for text in found), bool, len(found))
+    if is_long.any():
+        refuse(is_long[codes], column, "TooLong", "a text of more than 4,096 bytes: a shorter one, or several columns")
     return Values(column.name, "text", codes, Texts(list(found)), column.dtype)
 
 
@@ -165,16 +171,6 @@ def codes_by_dict(cells: Cells) -> Tuple[Ints, List[str]]:
     numbers: Dict[str, int] = {}
     codes = [numbers.setdefault(cell, len(numbers)) for cell in cells]
     return np.array(codes, np.int64), list(numbers)
-
-
-def refuse_texts(cells: Cells, whole: str, column: Any) -> None:
-    """Not after pandas.factorize, which takes halves of surrogate pairs for other texts."""
-    if not forms.is_utf8(whole):
-        wrong = np.fromiter((not forms.is_utf8(cell) for cell in cells), bool, len(cells))
-        told = "half of a surrogate pair, which UTF-8 hasn't: read the source again as what it is"
-        refuse(wrong, column, "BadUtf8", told)
-    wrong = np.fromiter((not forms.is_short(cell) for cell in cells), bool, len(cells))
-    refuse(wrong, column, "TooLong", "a text of more than 4,096 bytes: a shorter one, or several columns")
 
 
 def scaled(column: Any, digits: int) -> Ints:
