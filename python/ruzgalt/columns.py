@@ -1,12 +1,12 @@
 """The columns of a CSV file that is loaded: what each value becomes, what is wrong with it, what may not be meant."""
 import re
 from argparse import Namespace
-from typing import Callable, Dict, Optional
+from typing import Callable, Dict, List, Optional, Sequence
 
 from ruzgalt import dates
 from ruzgalt.dates import NO_END
-from ruzgalt.decimals import SPACES
-from ruzgalt.doubts import Doubt, LookAlikes, doubt_of
+from ruzgalt.decimals import SPACES, Scale
+from ruzgalt.doubts import PLAIN_LINES, Doubt, LookAlikes, doubt_of
 from ruzgalt.errors import Misfit
 from ruzgalt.forms import TEXT_LIMIT, is_integer, is_short
 from ruzgalt.records import Printer, visible
@@ -15,6 +15,8 @@ from ruzgalt.tables import Kind
 TO_SPACE = str.maketrans(SPACES, " " * len(SPACES))
 
 
+# So few new values are made one by one.
+FEW = 64
 # What stands in quotes in a record.
 MARKED = re.compile('[,"\r\n]')
 
@@ -28,6 +30,21 @@ class Column(Dict[str, Optional[str]]):
         self.faults: Dict[str, str] = {}
         self.doubts: Dict[str, Doubt] = {}
         self.printer = Printer()
+
+    def made(self, values: Sequence[str]) -> List[Optional[str]]:
+        """The field of each value. New ones are made at once, where all are of a simple form, or else one by one."""
+        found = list(map(self.get, values))
+        if None not in found:
+            return found
+        new = [value for value in dict.fromkeys(values) if value not in self]
+        if len(new) > FEW:
+            self.update(zip(new, self.made_at_once(new)))
+        return list(map(self.__getitem__, values))
+
+    def made_at_once(self, new: List[str]) -> Sequence[str]:
+        """What new values become, if all are of a simple form; nothing else."""
+        made: Sequence[str] = self.convert.at_once(new) if isinstance(self.convert, Scale) else []
+        return made
 
     def __missing__(self, value: str) -> Optional[str]:
         made: Optional[str] = None
@@ -97,6 +114,13 @@ class Text(Column):
         self.has_plain_spaces, self.mark = options.plain_spaces, mark_of(options)
         self.kind, self.is_key = kind, is_key
         self.look_alikes = LookAlikes()
+
+    def made_at_once(self, new: List[str]) -> Sequence[str]:
+        """Plain texts of ASCII, none of which looks like another one, in quotes where they need them."""
+        joined = "\n".join(new)
+        if self.kind is Kind.INT or not PLAIN_LINES.fullmatch(joined) or max(map(len, new)) > TEXT_LIMIT:
+            return []
+        return self.printer.text([value] for value in new).splitlines() if self.look_alikes.are_apart(new) else []
 
     def value(self, text: str) -> str:
         made = text.translate(TO_SPACE) if self.has_plain_spaces else text

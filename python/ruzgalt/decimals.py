@@ -1,6 +1,6 @@
 """Numbers with decimals, made whole: with two of them, euros become cents."""
 import re
-from typing import Dict, Optional, Tuple
+from typing import Dict, List, Optional, Tuple
 
 from ruzgalt.errors import Misfit
 
@@ -65,6 +65,15 @@ class Scale:
                 self.longest = max(self.longest, count)
                 return (whole + decimals + "0" * (self.digits - count)).lstrip("0") or "0"
         return self.read(text)
+
+    def at_once(self, texts: List[str]) -> List[str]:
+        """What numbers become that all have just these decimals, and can't be read in two ways; nothing of others."""
+        form = rf"(?:\d{{1,12}}{re.escape(self.marks.mark)}\d{{{self.digits}}}(?:\n(?!$)|$))+"
+        joined = "\n".join(texts)
+        if self.digits in (0, 3) or self.digits > 6 or not re.fullmatch(form, joined, re.ASCII):
+            return []
+        self.marks.is_settled, self.longest = True, max(self.longest, self.digits)
+        return list(map(str, map(int, joined.replace(self.marks.mark, "").split("\n"))))
 
     def read(self, text: str) -> str:
         told = number_in(text, self.marks.mark)

@@ -3,7 +3,7 @@ import re
 import unicodedata
 from array import array
 from collections import Counter
-from typing import Dict, Iterator, NamedTuple, Optional, Sequence, Tuple
+from typing import Dict, Iterator, List, NamedTuple, Optional, Sequence, Tuple
 
 from ruzgalt.dates import is_far_off, is_month_end, shifted
 from ruzgalt.decimals import SPACES, number_in
@@ -12,6 +12,8 @@ from ruzgalt.records import visible
 NO_BREAK = re.compile(f"[{SPACES[1:]}]")
 # A text that looks like itself: words of ASCII with single spaces between them.
 PLAIN = re.compile(r"[!-<>-~][!-~]*(?: [!-~]+)*")
+# Several of them, a line each, that end with a letter, and so are no numbers.
+PLAIN_LINES = re.compile(r"(?:[!-<>-~][!-~]*(?: [!-~]+)*(?<=[A-Za-z])(?:\n(?!$)|$))+")
 ROUNDED = re.compile(r"-?\d+(?:[.,]\d+)?[eE][+-]?\d+", re.ASCII)
 
 
@@ -57,6 +59,15 @@ class LookAlikes:
 
     def __init__(self) -> None:
         self.by_fold: Dict[str, str] = {}
+
+    def are_apart(self, values: List[str]) -> bool:
+        """Whether of texts of ASCII without spaces too many none looks like another one, or like one before."""
+        folds = "\n".join(values).lower().split("\n")
+        found = dict(zip(folds, values))
+        if len(found) < len(values) or not self.by_fold.keys().isdisjoint(found):
+            return False
+        self.by_fold.update(found)
+        return True
 
     def other(self, value: str) -> Optional[str]:
         found = self.by_fold.setdefault(fold(value), value)

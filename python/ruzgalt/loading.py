@@ -63,7 +63,7 @@ class Load:
             lines, taken = self.whole(piece)
             fields: List[Sequence[str]] = list(zip(*taken)) or [()] * len(self.sheet.header)
             values = [fields[place] for place in self.places]
-            found = [list(map(column.__getitem__, one)) for column, one in zip(self.columns, values)]
+            found = [column.made(one) for column, one in zip(self.columns, values)]
             self.look_at(lines, values, found)
             if not self.count_of_faults:
                 text = records.encode(self.to_text(found))
