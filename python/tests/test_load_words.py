@@ -78,12 +78,12 @@ class Loads(ToolCase):
 
     def test_ends_that_look_otherwise_are_told(self) -> None:
         once = "Name;Pay;Start;End\nA;5;{};{}\n"
-        for start, end, words, note in [
-            ("2024-01-01", "2024-12-31", [], "End is 2024-12-31: a row doesn't hold on that day any more; --last"),
-            ("1.1.2024", "31.12.2024", ["--german"], "End is 2024-12-31: a row doesn't hold on that day any "),
-            ("2024-01-01", "2025-01-01", ["--last-day"], "End is 2025-01-01: --last-day takes it for the last day "),
+        for start, end, word, note in [
+            ("2024-01-01", "2024-12-31", "--open", "End is 2024-12-31: a row doesn't hold on that day any more; "),
+            ("1.1.2024", "31.12.2024", "--german", "End is 2024-12-31: a row doesn't hold on that day any "),
+            ("2024-01-01", "2025-01-01", "--last-day", "End is 2025-01-01: --last-day takes it for the last day "),
         ]:
-            self.check([*LOADS, *words], once.format(start, end), 0, f"csv-to-load: {note}")
+            self.check([*LOADS, word], once.format(start, end), 0, f"csv-to-load: {note}")
         for start, end in [
             ("2024-01-01", "2025-01-01"), ("2024-01-01", "9999-12-31"), ("2024-01-31", "2024-12-31T08:00:00"),
         ]:
