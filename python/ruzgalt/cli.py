@@ -171,8 +171,9 @@ def do_sqlite(options: Namespace) -> None:
         warn(f"{column} has sums past SQLite's integers, so it is a text there, and isn't in the order of numbers")
     if options.day is not None:
         export.make_views(found, database, options.day)
+    is_open = export.has_open_ends(found, database)
     for query in options.query:
-        for told in export.odd_periods(query):
+        for told in export.odd_periods(query, is_open):
             warn(f"--query: {told}")
         for text in export.odd_points(query):
             warn(f"--query: {text} is compared as a text: points are as '2024-01-31' in the tables")

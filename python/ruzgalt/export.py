@@ -153,12 +153,18 @@ BETWEEN_ENDS = re.compile(r"\bbetween\s+[\w.\"`]*valid_from[\"`]?\s+and\s+[\w.\"
 LENGTH = re.compile(r"julianday\s*\(\s*[\w.\"`]*valid_to", re.IGNORECASE)
 
 
-def odd_periods(query: str) -> Iterator[str]:
+def odd_periods(query: str, has_open_ends: bool) -> Iterator[str]:
     """What takes a record to hold at its end, or an end that isn't known for a day."""
     if BETWEEN_ENDS.search(query):
         yield "a record doesn't hold at its valid_to, which `between` includes: valid_from <= '..' and '..' < valid_to"
-    if LENGTH.search(query) and "9999" not in query and "min(" not in query.lower():
+    if has_open_ends and LENGTH.search(query) and "9999" not in query and "min(" not in query.lower():
         yield "a length up to 9999-12-31, where no end is known, is 8,000 years: cut it, as by min(valid_to, '..')"
+
+
+def has_open_ends(picks: Sequence[Pick], database: sqlite3.Connection) -> bool:
+    names = [pick.name for pick in picks if "valid_to" in pick.answer.table.names]
+    query = "select 1 from {} where valid_to >= '9999' limit 1"
+    return any(database.execute(query.format(quoted(name))).fetchone() for name in names)
 
 
 def in_backquotes(name: str) -> str:

@@ -1,6 +1,7 @@
 """A load, or updates, made of a CSV file with a header, piece by piece."""
 from argparse import Namespace
 from itertools import repeat
+from operator import ge
 from typing import Iterator, List, Optional, Sequence, Tuple, cast
 from zlib import crc32
 
@@ -112,8 +113,19 @@ class Load:
         if not faulty:
             # None is at fault, so each is a text.
             starts, ends, *others = cast(List[List[str]], found)
+            self.refuse_empty_periods(lines, starts, ends)
             self.ends.add(lines, self.keys_of(others) or [""] * len(lines), starts, ends)
             self.twins.add(lines, list(zip(*found)))
+
+    def refuse_empty_periods(self, lines: Sequence[int], starts: List[str], ends: List[str]) -> None:
+        # The texts of points are in the order of time.
+        if not any(map(ge, starts, ends)):
+            return
+        for line, start, end in zip(lines, starts, ends):
+            if start >= end:
+                more = "; where that is the last day, --last-day takes it so" if start == end else ""
+                told = f"{self.options.start} is {start}, and isn't before {self.options.end}, {end}{more}"
+                self.add_fault(f"line {line}: {told}")
 
     def keys_of(self, values: Sequence[Sequence[str]]) -> Sequence[object]:
         keys = [values[place] for place in self.keys]

@@ -9,6 +9,7 @@ from typing import List, Tuple
 from unittest import mock
 
 from ruzgalt import cli
+from ruzgalt.progress import Progress
 
 PAY = "table,pay,person,text,euros,int\nload,pay\nrow,2024-01-01,2024-03-01,A,5\nrow,2024-04-01,2024-06-01,A,6\nend\n"
 ROWS = "row,1,2024-01-01,2024-03-01,A,5\nrow,2,2024-04-01,2024-06-01,A,6\nend,2\n"
@@ -126,11 +127,31 @@ class Tables(unittest.TestCase):
         told = f"ok,1\nok,2\n{ROWS}".replace("2024-06-01", "9999-12-31")
         self.prints(wanted, f"{words}=select\t*\tfrom\tall_day".replace("--query=", "--query="), script, told)
 
+    def test_a_length_up_to_an_open_end_is_told(self) -> None:
+        words = "sqlite $S :memory: --answers $A --ask a=rows,pay --query=select\tjulianday(valid_to)\tfrom\ta"
+        for end, told in [("2024-06-01", ""), ("9999-12-31", "answers: --query: a length up to 9999-12-31, where no ")]:
+            with self.subTest(end):
+                rows = f"ok,1\nok,2\n{ROWS}".replace("2024-06-01", end)
+                _, _, said = answers(words, PAY.replace("2024-06-01", end), rows)
+                self.assertEqual(said[:len(told) or None], told)
+
     def test_between_the_ends_of_a_record_is_told(self) -> None:
         query = "select\t1\tfrom\ta\twhere\t'1'\tbetween\tvalid_from\tand\tvalid_to"
         words = f"sqlite $S :memory: --answers $A --ask a=rows,pay --query={query}"
         _, _, said = answers(words, PAY, f"ok,1\nok,2\n{ROWS}")
         self.assertIn("a record doesn't hold at its valid_to, which `between` includes", said)
+
+
+class Terminals(unittest.TestCase):
+    def test_a_line_tells_how_far_a_tool_is_after_two_seconds(self) -> None:
+        said = io.StringIO()
+        with contextlib.redirect_stderr(said), mock.patch.object(said, "isatty", return_value=True, create=True):
+            with mock.patch("ruzgalt.progress.monotonic", side_effect=[0.0, 1.0, 2.5, 2.5]):
+                progress = Progress("answers")
+                progress.tell(1000)
+                progress.tell(2000)
+                progress.end()
+        self.assertEqual(said.getvalue(), "\ranswers: 2,000 records\r\033[K")
 
 
 class Fronts(unittest.TestCase):

@@ -186,6 +186,10 @@ class Dates(Case):
         self.told("0204 is far off", rows("A,1,0204-01-01,2024-02-05"))
         self.told("--no-end '2099-12-31' makes it", rows("A,1,2024-01-01,2099-12-31"))
 
+    def test_a_start_that_isn_t_before_its_end_is_refused(self) -> None:
+        self.refused("line 2: Start is 2024-03-05, and isn't before End, 2024-01-01", rows("A,1,2024-03-05,2024-01-01"))
+        self.refused("2024-01-01; where that is the last day, --last-day", rows("A,1,2024-01-01,2024-01-01"))
+
 
 class Updates(Case):
     def test_a_row_becomes_an_update_of_its_key_and_portion(self) -> None:
