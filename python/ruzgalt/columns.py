@@ -29,19 +29,25 @@ class Column(Dict[str, Optional[str]]):
         self.name, self.convert = name, convert
         self.faults: Dict[str, str] = {}
         self.doubts: Dict[str, Doubt] = {}
-        self.printer = Printer()
+        self.printer, self.is_varied = Printer(), False
 
     def made(self, values: Sequence[str]) -> List[Optional[str]]:
         """The field of each value. New ones are made at once, where all are of a simple form, or else one by one."""
+        if self.is_varied:
+            # Numbers that are nearly all new ones aren't looked for, since that takes longer than to make them.
+            numbers = Column.made_at_once(self, values)
+            if numbers:
+                return [*numbers]
         found = list(map(self.get, values))
         if None not in found:
             return found
         new = [value for value in dict.fromkeys(values) if value not in self]
+        self.is_varied = len(new) > len(values) // 4
         if len(new) > FEW:
             self.update(zip(new, self.made_at_once(new)))
         return list(map(self.__getitem__, values))
 
-    def made_at_once(self, new: List[str]) -> Sequence[str]:
+    def made_at_once(self, new: Sequence[str]) -> Sequence[str]:
         """What new values become, if all are of a simple form; nothing else."""
         made: Sequence[str] = self.convert.at_once(new) if isinstance(self.convert, Scale) else []
         return made
@@ -115,7 +121,7 @@ class Text(Column):
         self.kind, self.is_key = kind, is_key
         self.look_alikes = LookAlikes()
 
-    def made_at_once(self, new: List[str]) -> Sequence[str]:
+    def made_at_once(self, new: Sequence[str]) -> Sequence[str]:
         """Plain texts of ASCII, none of which looks like another one, in quotes where they need them."""
         joined = "\n".join(new)
         if self.kind is Kind.INT or not PLAIN_LINES.fullmatch(joined) or max(map(len, new)) > TEXT_LIMIT:

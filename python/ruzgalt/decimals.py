@@ -1,6 +1,6 @@
 """Numbers with decimals, made whole: with two of them, euros become cents."""
 import re
-from typing import Dict, List, Optional, Tuple
+from typing import Dict, List, Optional, Sequence, Tuple
 
 from ruzgalt.errors import Misfit
 
@@ -66,7 +66,7 @@ class Scale:
                 return (whole + decimals + "0" * (self.digits - count)).lstrip("0") or "0"
         return self.read(text)
 
-    def at_once(self, texts: List[str]) -> List[str]:
+    def at_once(self, texts: Sequence[str]) -> List[str]:
         """What numbers become that all have just these decimals, and can't be read in two ways; nothing of others."""
         form = rf"(?:\d{{1,12}}{re.escape(self.marks.mark)}\d{{{self.digits}}}(?:\n(?!$)|$))+"
         joined = "\n".join(texts)

@@ -3,7 +3,7 @@ import re
 import unicodedata
 from array import array
 from collections import Counter
-from typing import Dict, Iterator, List, NamedTuple, Optional, Sequence, Tuple
+from typing import Dict, Iterator, NamedTuple, Optional, Sequence, Tuple
 
 from ruzgalt.dates import is_far_off, is_month_end, shifted
 from ruzgalt.decimals import SPACES, number_in
@@ -60,7 +60,7 @@ class LookAlikes:
     def __init__(self) -> None:
         self.by_fold: Dict[str, str] = {}
 
-    def are_apart(self, values: List[str]) -> bool:
+    def are_apart(self, values: Sequence[str]) -> bool:
         """Whether of texts of ASCII without spaces too many none looks like another one, or like one before."""
         folds = "\n".join(values).lower().split("\n")
         found = dict(zip(folds, values))
@@ -213,7 +213,7 @@ class Twins:
         self.first: Optional[Tuple[int, int]] = None
         self.count = 0
 
-    def add(self, lines: Sequence[int], rows: Sequence[Tuple[object, ...]]) -> None:
+    def add(self, lines: Sequence[int], rows: Sequence[str]) -> None:
         hashes = list(map(hash, rows))
         found = dict(zip(hashes, lines))
         if len(found) == len(rows) and self.lines.keys().isdisjoint(found):

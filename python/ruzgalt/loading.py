@@ -1,6 +1,6 @@
 """A load, or updates, made of a CSV file with a header, piece by piece."""
 from argparse import Namespace
-from itertools import repeat
+from itertools import compress, repeat
 from operator import ge
 from typing import Iterator, List, Optional, Sequence, Tuple, cast
 from zlib import crc32
@@ -67,7 +67,12 @@ class Load:
             found = [column.made(one) for column, one in zip(self.columns, values)]
             self.look_at(lines, values, found)
             if not self.count_of_faults:
-                text = records.encode(self.to_text(found))
+                columns = cast(List[List[str]], found)
+                texts = self.records_of(columns)
+                self.twins.add(lines, texts)
+                if self.options.part:
+                    texts = list(compress(texts, map(self.is_of_part, zip(*columns))))
+                text = records.encode("\n".join([*texts, ""]))
                 self.bytes += len(text)
                 yield text
             self.rows += len(taken)
@@ -115,7 +120,6 @@ class Load:
             starts, ends, *others = cast(List[List[str]], found)
             self.refuse_empty_periods(lines, starts, ends)
             self.ends.add(lines, self.keys_of(others) or [""] * len(lines), starts, ends)
-            self.twins.add(lines, list(zip(*found)))
 
     def refuse_empty_periods(self, lines: Sequence[int], starts: List[str], ends: List[str]) -> None:
         # The texts of points are in the order of time.
@@ -154,14 +158,10 @@ class Load:
             raise Misfit(f"{visible(wrong[0])} is no name of a table's column: --table tells the table's")
         return names
 
-    def to_text(self, found: List[List[Optional[str]]]) -> str:
+    def records_of(self, columns: List[List[str]]) -> List[str]:
         """The records of a load, or else an update for each row. Fields stand in quotes already that need them."""
-        columns = cast(List[List[str]], found)
-        if self.options.part:
-            kept: List[Sequence[str]] = list(filter(self.is_of_part, zip(*columns)))
-            columns = [list(column) for column in zip(*kept)]
         made = map(self.update_of, zip(*columns)) if self.options.update else zip(repeat("row"), *columns)
-        return "".join([",".join(fields) + "\n" for fields in made]) if columns else ""
+        return list(map(",".join, made))
 
     def update_of(self, row: Sequence[str]) -> Sequence[str]:
         start, end, *values = row
