@@ -19,7 +19,8 @@ def default() -> str:
 
     The tool may be called by a link that stands elsewhere, or be copied to where no repository is.
     """
-    places = [Path(os.path.abspath(sys.argv[0])).parents[1] / "dipq", Path(__file__).resolve().parents[2] / "dipq"]
+    called, package = Path(os.path.abspath(sys.argv[0])), Path(__file__).resolve()
+    places = [called.parent.parent / "dipq", package.parents[2] / "dipq"]
     beside = next((str(place) for place in places if place.is_file()), None)
     return os.environ.get("DIPQ") or beside or shutil.which("dipq") or str(places[0])
 
