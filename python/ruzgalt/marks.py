@@ -82,10 +82,12 @@ class Marks:
 
     def left_out(self, answer: Answer) -> Optional[str]:
         """How many rows of a refused load stand in no later one, where there is one."""
-        name, at_fault = answer.command.record.fields[1:2], answer.refusal.record if answer.refusal else None
+        name, at_fault = answer.command.record.fields[1:2], answer.refused.record
+        if at_fault is answer.command.record or len(answer.command.rows) < 2:
+            return None
         later = [one for one in self.found[answer.number:] if one.command.word == "load" and not one.refusal]
         blocks = [one.command.rows for one in later if one.command.record.fields[1:2] == name]
-        if not blocks or at_fault is answer.command.record:
+        if not blocks:
             return None
         loaded = {tuple(record.fields) for block in blocks for record in block}
         rows = [tuple(record.fields) for record in answer.command.rows if record != at_fault]
