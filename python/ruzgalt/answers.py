@@ -84,14 +84,16 @@ class Reading:
         self.held: Optional[int] = None
 
     def answers(self, script: Iterable[Command]) -> Iterator[Answer]:
-        for number, command in enumerate(script, 1):
-            if not command.in_together:
-                self.held = None
-            yield self.answer(number, command)
+        try:
+            for number, command in enumerate(script, 1):
+                if not command.in_together:
+                    self.held = None
+                yield self.answer(number, command)
+        finally:
+            self.progress.end()
         extra = self.output.next()
         if extra is not None:
             raise Misfit(f"the script has no command for the answer at line {extra.line}: {short(extra.text)}")
-        self.progress.end()
 
     def answer(self, number: int, command: Command) -> Answer:
         self.place = self.output.place

@@ -423,10 +423,9 @@ def main(words: Sequence[str]) -> int:
     if not words or words[0] in ("-h", "--help"):
         (sys.stdout if words else sys.stderr).write(usage())
         return 0 if words else 2
-    if words[0] not in TOOLS:
-        sys.stderr.write(f"answers: no command {words[0]}, but {', '.join(TOOLS)}\n")
-        return 2
-    tool = TOOLS[words[0]]
+    command = ArgumentParser(prog=NAME, usage=f"{NAME} COMMAND SCRIPT ..", add_help=False)
+    command.add_argument("command", choices=TOOLS, metavar="COMMAND")
+    tool = TOOLS[command.parse_args(words[:1]).command]
     options = parser_of(words[0], tool).parse_intermixed_args(words[1:])
     try:
         return tool.do(options) or 0

@@ -60,25 +60,31 @@ class Load:
     def made(self) -> Iterator[bytes]:
         """What the rows become, by pieces. Where something is at fault, the rest is read for its faults."""
         progress = Progress("csv-to-load")
-        for piece in self.sheet.pieces():
-            lines, taken = self.whole(piece)
-            fields: List[Sequence[str]] = list(zip(*taken)) or [()] * len(self.sheet.header)
-            values = [fields[place] for place in self.places]
-            found = [column.made(one) for column, one in zip(self.columns, values)]
-            self.look_at(lines, values, found)
-            if not self.count_of_faults:
-                columns = cast(List[List[str]], found)
-                texts = self.records_of(columns)
-                self.twins.add(lines, texts)
-                if self.options.part:
-                    texts = list(compress(texts, map(self.is_of_part, zip(*columns))))
-                text = records.encode("\n".join([*texts, ""]))
-                self.bytes += len(text)
-                yield text
-            self.rows += len(taken)
-            progress.tell(self.rows)
-        progress.end()
+        try:
+            for piece in self.sheet.pieces():
+                yield self.made_of(self.whole(piece))
+                progress.tell(self.rows)
+        finally:
+            progress.end()
         self.refuse_either()
+
+    def made_of(self, piece: Piece) -> bytes:
+        """The records made of a piece; none where something is at fault in it, or was before."""
+        fields: List[Sequence[str]] = list(zip(*piece.records)) or [()] * len(self.sheet.header)
+        values = [fields[place] for place in self.places]
+        found = [column.made(one) for column, one in zip(self.columns, values)]
+        self.look_at(piece.lines, values, found)
+        self.rows += len(piece.records)
+        if self.count_of_faults:
+            return b""
+        columns = cast(List[List[str]], found)
+        texts = self.records_of(columns)
+        self.twins.add(piece.lines, texts)
+        if self.options.part:
+            texts = list(compress(texts, map(self.is_of_part, zip(*columns))))
+        made = records.encode("\n".join([*texts, ""]))
+        self.bytes += len(made)
+        return made
 
     def whole(self, piece: Piece) -> Piece:
         """The records with as many fields as the header has, of this part of the file."""

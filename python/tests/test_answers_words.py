@@ -10,7 +10,7 @@ class Reading(ToolCase):
     def test_wrong_words_end_with_status_2(self) -> None:
         reads = ["tools/answers", "csv"]
         self.check(["tools/answers"], "", 2, "usage: ")
-        self.check(["tools/answers", "tables"], "", 2, "answers: no command tables")
+        self.check(["tools/answers", "tables"], "", 2, "COMMAND: invalid choice: 'tables' (choose from ")
         self.check([*reads], "", 2, "usage: ")
         self.check([*reads, "none.csv"], "", 1, "answers: ")
 
