@@ -68,9 +68,11 @@ class Marks:
         line = self.loads.setdefault((table, hash(data)), answer.line)
         if line != answer.line and len(block) > 1:
             self.add(answer, f"its rows are those of the load at line {line}, so each is there twice")
-        if HOURS.search(data):
+        # Most loads have days alone, which is seen at once.
+        has_times = b":" in data
+        if has_times and HOURS.search(data):
             self.with_hours.add(table)
-        last = LAST_SECOND.search(data)
+        last = LAST_SECOND.search(data) if has_times else None
         if last:
             self.add(answer, f"{last[0].decode()} doesn't hold in that second: a day ends at the next one's midnight")
 
