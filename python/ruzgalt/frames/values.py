@@ -16,15 +16,20 @@ from typing import Any, Dict, List, Optional, Sequence, Tuple
 import numpy as np
 import pandas as pd
 
-from ruzgalt import forms, records
+from ruzgalt import forms
 from ruzgalt.frames.arrays import Bytes, Cells, Ints, of_objects
 from ruzgalt.frames.errors import Refused, refuse
 
 # Texts up to so many bytes are written by numpy, from a table of fixed width.
 NARROW = 64
-# records.to_field quotes a text that has one of these.
+# A text that has one of these stands in quotes in a script.
 QUOTED = ',"\r\n'
 LEAST, GREATEST = -(2**63), 2**63 - 1
+
+
+def quoted(text: str) -> str:
+    """A field of a script, as records.to_record makes several of them."""
+    return '"' + text.replace('"', '""') + '"' if any(mark in text for mark in QUOTED) else text
 
 
 @dataclass(frozen=True, eq=False)
@@ -38,7 +43,7 @@ class Texts:
         """As they are in a script."""
         whole = "".join(self.cells)
         if any(mark in whole for mark in QUOTED):
-            return [records.to_field(text).encode() for text in self.cells]
+            return [quoted(text).encode() for text in self.cells]
         return [text.encode() for text in self.cells]
 
     @cached_property

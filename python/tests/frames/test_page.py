@@ -6,7 +6,7 @@ import re
 import unittest
 from pathlib import Path
 
-PAGE = Path(__file__).resolve().parents[2] / "docs" / "FRAMES.md"
+PAGE = Path(__file__).resolve().parents[3] / "docs" / "FRAMES.md"
 LONGEST = 1_200
 
 
