@@ -56,7 +56,7 @@ class Texts:
         """The fields, a row of bytes each, zero bytes where one is shorter; None where they are wide or have any."""
         fields = self.fields or [b""]
         width = max(self.width, 1)
-        if width > NARROW or any(b"\0" in field for field in fields):
+        if width > NARROW or b"\0" in b"".join(fields):
             return None
         return np.array(fields, f"S{width}").view(np.uint8).reshape(len(fields), width)
 
@@ -165,8 +165,9 @@ def texts_of(column: Any) -> Values:
         told = "half of a surrogate pair, which UTF-8 hasn't: read the source again as what it is"
         refuse(wrong, column, "BadUtf8", told)
     codes, found = codes_by_dict(cells) if "\0" in whole else pd.factorize(cells)
-    is_long = np.fromiter((not forms.is_short(text) for text in found), bool, len(found))
-    if is_long.any():
+    # A character has at most four bytes.
+    if 4 * max(map(len, found), default=0) > forms.TEXT_LIMIT:
+        is_long = np.fromiter((not forms.is_short(text) for text in found), bool, len(found))
         refuse(is_long[codes], column, "TooLong", "a text of more than 4,096 bytes: a shorter one, or several columns")
     return Values(column.name, "text", codes, Texts(list(found)), column.dtype)
 
