@@ -6,14 +6,12 @@ import warnings
 from pathlib import Path
 
 HERE = Path(__file__).resolve().parent
-# Those of the tools, which tools/check-answers runs.
-OF_TOOLS = ("test_answers", "test_load")
 # All others need pandas.
 WITHOUT_PANDAS = ["test_without_pandas"]
 
 
 def suite():
-    names = [file.stem for file in sorted(HERE.glob("test_*.py")) if not file.name.startswith(OF_TOOLS)]
+    names = [file.stem for file in sorted(HERE.glob("test_*.py"))]
     if not importlib.util.find_spec("pandas"):
         print("left out: frames, since pandas isn't here; apt-get install python3-pandas")
         names = WITHOUT_PANDAS
