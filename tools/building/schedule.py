@@ -2,7 +2,7 @@
 
 Crates are proved side by side, first those with most work behind them, since the longest chain decides when all is
 done. A job is a process of the compiler's. The crate that heads the longest chain has two of them; processors that no
-other crate waits for are shared out, up to four a crate, beyond which more gain little.
+other crate waits for are shared out, up to four a crate: each job more takes more of processors for the same proof.
 """
 import os
 from typing import Dict, List, Mapping, NamedTuple, Set

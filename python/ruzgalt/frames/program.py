@@ -29,9 +29,9 @@ def program() -> str:
 
 
 def refuse_unbuilt(command: str) -> None:
-    """A clone's ./dipq would build the program first, in silence and for half an hour."""
+    """A clone's ./dipq would build the program first, in silence and for many minutes."""
     if command == str(TOP / "dipq") and (TOP / "crates").is_dir() and not (TOP / "crates/dipq/out/dipq").exists():
-        raise Stopped(f"{command}: the program isn't built yet; `{command} </dev/null` does it, in half an hour")
+        raise Stopped(f"{command}: the program isn't built yet; `{command} </dev/null` does it, in many minutes")
 
 
 def ending_with_us(words: List[str]) -> List[str]:
