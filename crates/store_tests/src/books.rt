@@ -1,7 +1,7 @@
 //! Books: what each commit shows, their copies, and their limits.
 
-use crate::fixtures::{day, name, schema};
-use book_core::{Book, BookRefused, Change};
+use crate::fixtures::{day, name, period, schema};
+use book_core::{Book, BookRefused, Change, Pairs};
 use list_core::DeepCopy;
 use period_core::Period;
 use row_core::{Draft, Drafts, Failure, Kind, Row, Value, Values};
@@ -38,7 +38,12 @@ fn load(rt: &(impl Abort + Alloc<A = Global>), rows: usize) -> Change {
 }
 
 // Makes a change, which the book answers so.
-fn check_apply(rt: &impl Abort, book: &mut Book, change: Change, want: Result<u64, BookRefused>) {
+pub(crate) fn check_apply(
+    rt: &impl Abort,
+    book: &mut Book,
+    change: Change,
+    want: Result<u64, BookRefused>,
+) {
     let answer = book.apply(1, change);
     assert_eq!(rt; answer, want.map_err(Failure::Refused));
 }
@@ -150,6 +155,42 @@ fn copies_go_their_own_way(rt: HostRuntime) {
     check_rows(&rt, &book, b"t", 2, 3);
     check_rows(&rt, &copy, b"t", 2, 3);
     check_rows(&rt, &copy, b"t", 3, 6);
+}
+
+// The day behind that of the other rows.
+fn next_day(rt: &impl Abort) -> Period {
+    period(rt, b"2024-01-02", b"2024-01-03")
+}
+
+// The change that adds a row of the next day to the table `t`.
+fn load_next(rt: &(impl Abort + Alloc<A = Global>)) -> Change {
+    Change::Load {
+        table: name(rt, b"t"),
+        rows: drafts(rt, &next_day(rt), 1),
+    }
+}
+
+// The change that takes out what holds on that day.
+fn delete_next(rt: &(impl Abort + Alloc<A = Global>)) -> Change {
+    Change::Delete {
+        table: name(rt, b"t"),
+        portion: next_day(rt),
+        conds: Pairs::new(rt.alloc()),
+    }
+}
+
+// Once a change has closed a row, a list has copies of the others, as each list of earlier rows has.
+#[test]
+fn lists_copies_of_thousands_of_rows(rt: HostRuntime) {
+    let mut book = Book::new(rt.alloc());
+    check_apply(&rt, &mut book, make(&rt, b"t"), Ok(1));
+    check_load(&rt, &mut book, 5_000, Ok(2));
+    check_apply(&rt, &mut book, load_next(&rt), Ok(3));
+    check_rows(&rt, &book, b"t", 2, 5_000);
+    check_rows(&rt, &book, b"t", 3, 5_001);
+    check_apply(&rt, &mut book, delete_next(&rt), Ok(4));
+    check_rows(&rt, &book, b"t", 3, 5_001);
+    check_rows(&rt, &book, b"t", 4, 5_000);
 }
 
 #[test]

@@ -6,6 +6,8 @@ mod books;
 #[cfg(test)]
 mod fixtures;
 #[cfg(test)]
+mod keys;
+#[cfg(test)]
 mod points;
 #[cfg(test)]
 mod portions;

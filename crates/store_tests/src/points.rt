@@ -5,13 +5,15 @@ use period_core::{BadPoint, Point};
 use std::alloc::Global;
 use std::process::Abort;
 
-// Checks the number of a text, and the text that is written of it.
+// Checks the number of a text, and the text that is written and shown of it.
 fn check_point(rt: &(impl Abort + Alloc<A = Global>), text: &[u8], number: i64, written: &[u8]) {
     let point = Point::parse(text).expect(rt, "a point");
     assert!(rt; point.number() == number);
     let mut out = Vec::new(rt.alloc());
     point.write(&mut out).expect(rt, "memory");
     assert!(rt; out.as_slice() == written);
+    let shown = format!(in rt.alloc(); "{point}").expect(rt, "memory");
+    assert!(rt; shown.as_bytes() == written);
 }
 
 #[test]

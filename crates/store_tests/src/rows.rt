@@ -35,10 +35,18 @@ fn are_both(values: &[Value], number: i64, text: &[u8]) -> bool {
     values.len() == 2 && is_int(&values[0], number) && is_text(&values[1], text)
 }
 
+// Checks that a text is a name's, and is shown of it.
+fn check_name(rt: &(impl Abort + Alloc<A = Global>), text: &[u8]) {
+    let name = name(rt, text);
+    assert!(rt; name.as_bytes() == text);
+    let shown = format!(in rt.alloc(); "{name}").expect(rt, "memory");
+    assert!(rt; shown.as_bytes() == text);
+}
+
 #[test]
 fn knows_names(rt: HostRuntime) {
     for text in [&b"a"[..], b"z_9", b"abcdefghijklmnopqrstuvwxyzabcdef"] {
-        assert!(rt; name(&rt, text).as_bytes() == text);
+        check_name(&rt, text);
     }
     for text in [
         &b"asof"[..],
