@@ -19,14 +19,21 @@ Python 3.9 and its library are all that is needed. A module stands on those abov
     changes, single     what really changed; a change of one row alone
     history, front      what each commit changed; whether kept answers are still the front of today's
     export              CSV, SQLite and JSON
-    timeline, pictures  the axis of a picture, and what is drawn of an answer
-    terminal, svg       how it is drawn
+    timeline, cells     the axis of a picture; how wide a text is
+    amounts, shapes     how numbers are printed; the bars and steps that a picture has
+    wishes, squares     what is told beside an answer that is drawn; the picture of versions
+    pictures, scales    what is drawn of an answer; the scale of steps
+    terminal            how it is drawn as text
+    drawing, shades     the pieces of a drawing in SVG, and the colours of its bars
+    labels, svg_steps   where labels stand; steps in SVG
+    svg, picture_cli    how a picture is drawn as SVG; the words of `picture`
     progress, program   a line that tells how far a tool is; the program that answers
     sheets              a CSV file with a header: its bytes, its records by pieces
     dates, decimals     points and numbers in the forms of other programs
     doubts, marks       what may not be meant in a file that is loaded, and in a script
     columns, loading    what the values of a column become, and the load that is made of a file
     claims              somebody's division as a check
+    words               those that several tools take
     cli, load_cli       the words of tools/answers and of tools/csv-to-load
 """
 from importlib import import_module

@@ -1,23 +1,23 @@
 """The words of tools/answers: a subcommand for each thing that is done with a script and its answers."""
 import gc
-import shutil
 import signal
 import sqlite3
 import sys
 import textwrap
-from argparse import ArgumentParser, ArgumentTypeError, Namespace
+from argparse import ArgumentParser, Namespace
 from pathlib import Path
-from typing import Callable, Dict, Iterable, List, NamedTuple, Optional, Sequence, Tuple
+from typing import Callable, Dict, Iterable, List, NamedTuple, Optional, Sequence
 
 from ruzgalt import (
-    answers, changes, commands, export, fitting, front, history, marks, overlaps, picks, pictures, program, questions,
-    records, refusals, single, store, svg, terminal,
+    answers, changes, commands, export, fitting, front, history, marks, overlaps, picks, picture_cli, program,
+    questions, records, refusals, single, store,
 )
 from ruzgalt.answers import Answer
 from ruzgalt.errors import Misfit
 from ruzgalt.forms import read_point
 from ruzgalt.reader import Source
 from ruzgalt.store import Store
+from ruzgalt.words import pair
 
 NAME = "tools/answers"
 # So many doubts are told of a script.
@@ -236,17 +236,7 @@ def do_front(options: Namespace) -> int:
 def do_picture(options: Namespace) -> None:
     found = read(options)
     [answer] = last(found, [options.pick] if options.pick else [], 1)
-    wish = pictures.Wish(options.by, options.label, options.where, options.start, options.end)
-    picture = pictures.of(found.answers, answer, wish)
-    if options.svg:
-        show(svg.draw(picture, options.width))
-    else:
-        show(terminal.draw(picture, max(options.width or columns_of_terminal(), 40)))
-
-
-def columns_of_terminal() -> int:
-    """The terminal's width, or where there is none 80."""
-    return shutil.get_terminal_size((80, 24)).columns if sys.stdout.isatty() else 80
+    show(picture_cli.drawn(found.answers, answer, options))
 
 
 def do_refusals(options: Namespace) -> int:
@@ -280,13 +270,6 @@ def do_faulty(options: Namespace) -> int:
     return 1 if lines or others else 0
 
 
-def pair(word: str) -> Tuple[str, str]:
-    name, mark, value = word.partition("=")
-    if not mark:
-        raise ArgumentTypeError(f"{word}: not COLUMN=VALUE")
-    return name, value
-
-
 def with_picks(parser: ArgumentParser, count: str = "*") -> None:
     parser.add_argument("pick", nargs=count, metavar="PICK", default=[], help=picks.HELP)
 
@@ -313,15 +296,7 @@ def words_of_sqlite(parser: ArgumentParser) -> None:
 
 def words_of_picture(parser: ArgumentParser) -> None:
     with_picks(parser, "?")
-    parser.add_argument("--svg", action="store_true", help="prints SVG for a browser, and not text")
-    parser.add_argument("--by", metavar="COLUMN", help="a lane for each of its values (of the first column)")
-    parser.add_argument("--label", metavar="COLUMN", help="what stands in the bars")
-    parser.add_argument(
-        "--where", type=pair, action="append", default=[], metavar="COLUMN=VALUE", help="only records with this value",
-    )
-    parser.add_argument("--from", dest="start", metavar="POINT", help="the first point that is shown")
-    parser.add_argument("--to", dest="end", metavar="POINT", help="the end of what is shown")
-    parser.add_argument("--width", type=int, help="how many columns of text (the terminal's, or 80), or pixels of SVG")
+    picture_cli.words_of_picture(parser)
 
 
 def words_of_overlaps(parser: ArgumentParser) -> None:

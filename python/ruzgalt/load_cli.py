@@ -13,6 +13,7 @@ from ruzgalt.loading import Load
 from ruzgalt.reader import Source
 from ruzgalt.sheets import Sheet
 from ruzgalt.tables import Schema, is_schema
+from ruzgalt.words import decimals
 
 ABOUT = """Turns a CSV file with a header into a load. FROM, TO and the COLUMNs are names of the file's header, in the
 order of a row's fields; other columns of the file are left out. The file is UTF-8; its fields are parted by commas,
@@ -21,14 +22,6 @@ What may not be meant is told on standard error, and loaded. Where something is 
 record that the store refuses, so that a script of which it is a part has a refused command."""
 # What is printed in place of a load.
 FAILED = b"csv-to-load failed\n"
-
-
-def decimals(word: str) -> Tuple[str, int]:
-    """COLUMN=DIGITS, as a pair."""
-    name, _, digits = word.rpartition("=")
-    if not name or not digits.isdigit() or len(digits) > 2:
-        raise ArgumentTypeError(f"{word}: not COLUMN=DIGITS, as Pay=2")
-    return name, int(digits)
 
 
 def part(word: str) -> Tuple[int, int]:

@@ -1,92 +1,47 @@
 """What there is to draw of an answer: bars in lanes, or steps. How it is drawn, terminal.py and svg.py know."""
 from collections import defaultdict
-from dataclasses import dataclass, replace
-from typing import Dict, Iterable, List, Optional, Sequence, Tuple, Union
+from dataclasses import replace
+from typing import Dict, Iterable, List, Optional, Sequence, Tuple
 
 from ruzgalt import store
 from ruzgalt.answers import Answer
-from ruzgalt.checking import FORMS
 from ruzgalt.errors import Misfit
-from ruzgalt.forms import printed, read_point, seconds
-from ruzgalt.records import short, visible
+from ruzgalt.forms import read_point, seconds
+from ruzgalt.records import short
+from ruzgalt.shapes import NOTHING, Bar, Bars, Groups, Picture, Step, Steps, counted
+from ruzgalt.squares import shaded, square
 from ruzgalt.tables import PERIOD, Kind, Table, group_of, ints, unique
-from ruzgalt.timeline import Span, span_of
+from ruzgalt.timeline import Span
+from ruzgalt.wishes import Record, Wish, bar_of
 
-
-@dataclass(frozen=True)
-class Wish:
-    """What is told beside the answer: the columns of lanes and labels, the rows and the time that are shown."""
-
-    by: Optional[str] = None
-    label: Optional[str] = None
-    where: Sequence[Tuple[str, str]] = ()
-    start: Optional[str] = None
-    end: Optional[str] = None
-
-
-@dataclass(frozen=True)
-class Bar:
-    """A period in a lane, or in several below each other. Bars of one shade are alike."""
-
-    lane: int
-    start: int
-    end: int
-    label: str
-    told: str
-    shade: int = 0
-    lanes: int = 1
-
-
-@dataclass(frozen=True)
-class Bars:
-    """Lanes of bars that don't overlap. A lane without a name belongs to the one above."""
-
-    title: str
-    span: Span
-    lanes: List[str]
-    bars: List[Bar]
-    instant: Optional[str] = None
-
-
-@dataclass(frozen=True)
-class Steps:
-    """A value over time: periods, by their start, with the value in each. Between them is none."""
-
-    title: str
-    span: Span
-    steps: List[Tuple[int, int, int]]
-    name: str
-
-    @property
-    def values(self) -> List[int]:
-        return [value for _, _, value in self.steps]
-
-
-Picture = Union[Bars, Steps]
-# Stands in place of a picture without anything in it.
-NOTHING = "nothing to draw: no record that is asked for holds in what is shown"
-Record = Dict[str, str]
+__all__ = ["NOTHING", "Bar", "Bars", "Groups", "Picture", "Steps", "Wish", "of"]
 
 
 def of(answers: Sequence[Answer], answer: Answer, wish: Wish) -> Picture:
     """The picture of an answer. Raises Misfit where there is none."""
-    limits(wish)
+    wish.limits()
     refuse_unused(answer, wish)
-    front = answer.command.front
-    if front[0] == "dip":
+    word = answer.command.word
+    if word == "dip":
         return division(answers, answer, wish)
-    if front[0] in ("between", "fromto"):
+    if word not in ("between", "fromto", "rows", "at", "anti", "join", "agg"):
+        drawn = "a division, rows, a join, an aggregate or versions"
+        raise Misfit(f"{answer.place}: {short(answer.command.text)}: no picture; what is drawn is {drawn}")
+    wish.amounts.refuse_strangers(answer.table)
+    if word in ("between", "fromto"):
         return square(answer, wish)
     if is_of_steps(answer):
         return steps(answer, wish)
-    if front[0] in ("rows", "at", "anti", "join", "agg"):
-        return by_value(answer, wish)
-    drawn = "a division, rows, a join, an aggregate or versions"
-    raise Misfit(f"{answer.place}: {short(answer.command.text)}: no picture; what is drawn is {drawn}")
+    return groups(answer, wish) if is_of_groups(answer, wish) else by_value(answer, wish)
 
 
 def is_of_steps(answer: Answer) -> bool:
     return answer.command.word == "agg" and group_of(answer.command.front) is None
+
+
+def is_of_groups(answer: Answer, wish: Wish) -> bool:
+    """Whether it is a sum for each value of a column. Bars are drawn of it where their lanes or labels are told."""
+    return answer.command.word == "agg" and answer.command.front[2] == "sum" and not (wish.by or wish.label)
 
 
 def refuse_unused(answer: Answer, wish: Wish) -> None:
@@ -103,7 +58,8 @@ def division(answers: Sequence[Answer], answer: Answer, wish: Wish) -> Bars:
     """A lane for each part, and the instant. The rows' periods are those that the script's changes have left."""
     versions = {str(version.row_id): version.row for version in store.rows_of(answers, answer)}
     table = Table(unique([*ints("row_id"), *PERIOD, *answer.tables[answer.command.front[1]].columns]))
-    refuse_values(table, wish)
+    wish.refuse_values(table)
+    wish.amounts.refuse_strangers(table)
     if {record[1] for record in answer.table.texts()} != set(versions):
         raise Misfit(f"{answer.place}: {short(answer.command.text)}: the ids aren't those of the table's rows")
     parts, records, instant = [], [], "-"
@@ -111,14 +67,12 @@ def division(answers: Sequence[Answer], answer: Answer, wish: Wish) -> Bars:
         row = versions[row_id]
         parts.append(int(part))
         records.append(dict(zip(table.names, [row_id, row.start, row.end, *row.values])))
-    kept = [place for place, record in enumerate(records) if is_wanted(record, wish)]
-    told = [parts[place] for place in kept]
-    shown = [records[place] for place in kept]
-    label = wish.label or "row_id"
-    bars = [bar_of(record, part, label_of(record, [label])) for part, record in zip(told, shown)]
+    kept = [(part, record) for part, record in zip(parts, records) if wish.wants(record)]
+    labels = [wish.label or "row_id"]
+    bars = [bar_of(record, part, wish.labelled(record, labels)) for part, record in kept]
     lanes = [f"part {part}" for part in range(max(parts, default=-1) + 1)]
-    rows = counted(len(records), "row") if len(shown) == len(records) else f"{len(shown)} of {len(records)} rows"
-    title = f"{answer.command.text}: {rows} in {counted(len(lanes), 'part')}, {instant}"
+    rows = counted(len(records), "row") if len(kept) == len(records) else f"{len(kept):,} of {len(records):,} rows"
+    title = wish.title(answer, f"{rows} in {counted(len(lanes), 'part')}, {instant}")
     return Bars(title, span_for(bars, wish), lanes, bars, instant if read_point(instant) else None)
 
 
@@ -134,18 +88,32 @@ def by_value(answer: Answer, wish: Wish) -> Bars:
     labels = [wish.label] if wish.label else (
         [name for name in values if name != by] or [column.name for column in columns[:ids]]
     )
-    by_lane: Dict[str, List[Record]] = defaultdict(list)
-    for record in wanted(table, wish):
-        by_lane[record[by] if by else ""].append(record)
-    is_int = by is not None and table.columns[table.place(by)].kind is Kind.INT
     bars: List[Bar] = []
     lanes: List[str] = []
-    for value in sorted(by_lane, key=int) if is_int else sorted(by_lane):
-        below = stacked(bar_of(record, 0, label_of(record, labels)) for record in by_lane[value])
+    for value, records in lanes_of(table, by, wish):
+        below = stacked(bar_of(record, 0, label_of(answer, record, labels, wish)) for record in records)
         bars.extend(replace(bar, lane=len(lanes) + bar.lane) for bar in below)
         lanes.extend([value or "-", *[""] * max(bar.lane for bar in below)])
-    title = f"{answer.command.text}: {counted(len(bars), 'record')}" + (f" by {by}" if by else "")
+    title = wish.title(answer, counted(len(bars), "record") + (f" by {by}" if by else ""))
     return Bars(title, span_for(bars, wish), lanes, shaded(bars))
+
+
+def lanes_of(table: Table, by: Optional[str], wish: Wish) -> Iterable[Tuple[str, List[Record]]]:
+    """The records of each value of the column, as it is printed, those of numbers by size."""
+    by_lane: Dict[str, List[Record]] = defaultdict(list)
+    for record in wish.wanted(table):
+        by_lane[record[by] if by else ""].append(record)
+    is_int = by is not None and table.columns[table.place(by)].kind is Kind.INT
+    for value in sorted(by_lane, key=int) if is_int else sorted(by_lane):
+        yield wish.amounts.printed(by or "", value) if is_int else value, by_lane[value]
+
+
+def label_of(answer: Answer, record: Record, names: Sequence[str], wish: Wish) -> str:
+    """The values of these columns; what an aggregate comes to has its thousands parted."""
+    value = answer.table.names[-1]
+    if answer.command.word == "agg" and list(names) == [value]:
+        return wish.amounts.parted(int(record[value]), wish.amounts.of(value) or 0)
+    return wish.labelled(record, names)
 
 
 def stacked(bars: Iterable[Bar]) -> List[Bar]:
@@ -159,120 +127,36 @@ def stacked(bars: Iterable[Bar]) -> List[Bar]:
     return placed
 
 
-def shaded(bars: List[Bar]) -> List[Bar]:
-    """The bars, those of one label in one shade."""
-    shades: Dict[str, int] = {}
-    return [replace(bar, shade=shades.setdefault(bar.label, len(shades))) for bar in bars]
-
-
-def square(answer: Answer, wish: Wish) -> Bars:
-    """Valid time across, commits down: a version stands where it holds, from its commit to the one that closed it."""
-    word, _, low, high = answer.command.front
-    records = wanted(answer.table, wish)
-    first, last = max(int(low), 1), min(int(high) - (word == "fromto"), answer.commits)
-    events = {int(record[name]) for record in records for name in ("sys_from", "sys_to") if record[name]}
-    commits = sorted({first, *(commit for commit in events if first < commit <= last)})
-    labels = [wish.label] if wish.label else differing(answer, records)
-    bars = []
-    for record in records:
-        until = int(record["sys_to"] or last + 1)
-        shown = [lane for lane, commit in enumerate(commits) if int(record["sys_from"]) <= commit < until]
-        if shown:
-            bar = bar_of(record, shown[0], label_of(record, labels))
-            bars.append(replace(bar, lanes=len(shown)))
-    refuse_overlaps(answer, bars)
-    lanes = [commit_lane(commit, after) for commit, after in zip(commits, [*commits[1:], last + 1])]
-    title = f"{answer.command.text}: {counted(len(bars), 'version')}, time across and commits down"
-    return Bars(title, span_for(bars, wish), lanes, shaded(bars))
-
-
-def commit_lane(commit: int, after: int) -> str:
-    return f"commit {commit}" if after <= commit + 1 else f"commits {commit}-{after - 1}"
-
-
-def differing(answer: Answer, records: List[Record]) -> List[str]:
-    """The table's columns in which the versions differ, or the id where they don't."""
-    names = answer.table.names[5:]
-    return [name for name in names if len({record[name] for record in records}) > 1] or ["row_id"]
-
-
-def refuse_overlaps(answer: Answer, bars: List[Bar]) -> None:
-    """Versions of one fact don't hold together at one commit: where some do, there are several facts."""
-    for lane in sorted({bar.lane + more for bar in bars for more in range(bar.lanes)}):
-        inside = sorted((bar for bar in bars if bar.lane <= lane < bar.lane + bar.lanes), key=lambda bar: bar.start)
-        for one, other in zip(inside, inside[1:]):
-            if other.start < one.end:
-                both = f"{short(one.told)} and {short(other.told)}"
-                raise Misfit(f"{answer.place}: {both} hold together: tell one fact by --where")
-
-
 def steps(answer: Answer, wish: Wish) -> Steps:
-    found = [(seconds(start), seconds(end), int(value)) for start, end, value in answer.table.texts()]
-    span = span_of(((start, end) for start, end, _ in found), *limits(wish))
+    found = [step_of(record) for record in answer.table.texts()]
+    span = wish.span((start, end) for start, end, _ in found)
     shown = [step for step in found if span.shows(*step[:2])]
-    name = answer.table.names[-1]
-    return Steps(f"{answer.command.text}: {counted(len(shown), 'period')}", span, shown, name)
+    title = wish.title(answer, counted(len(shown), "period"))
+    return Steps(title, span, shown, answer.table.names[-1], wish.amounts)
 
 
-def wanted(table: Table, wish: Wish) -> List[Record]:
-    """The records as fields by their names, those that the wish asks for."""
-    refuse_values(table, wish)
-    records = (dict(zip(table.names, record)) for record in table.texts())
-    return [record for record in records if is_wanted(record, wish)]
+def groups(answer: Answer, wish: Wish) -> Groups:
+    """The steps of each value of the column by which sums are told."""
+    table = answer.table
+    column = table.columns[0]
+    by_value: Dict[str, List[Step]] = defaultdict(list)
+    for record in wish.wanted(table):
+        by_value[record[column.name]].append(step_of(list(record.values())[1:]))
+    span = wish.span(step[:2] for found in by_value.values() for step in found)
+    values = sorted(by_value, key=int) if column.kind is Kind.INT else sorted(by_value)
+    count = sum(map(len, by_value.values()))
+    title = wish.title(answer, f"{counted(count, 'period')} by {column.name}")
+    names = [wish.amounts.printed(column.name, value) if column.kind is Kind.INT else value for value in values]
+    return Groups(title, [
+        (name or "-", Steps(title, span, by_value[value], table.names[-1], wish.amounts))
+        for name, value in zip(names, values)
+    ])
 
 
-def refuse_values(table: Table, wish: Wish) -> None:
-    """A value that no record of its column can have would be taken for one that none has."""
-    for name, value in wish.where:
-        place = table.place(name)
-        kind = table.columns[place].kind
-        has_form = FORMS.get(kind)
-        # The end of a version that is open is empty.
-        if has_form and not has_form(value) and (value or name != "sys_to"):
-            raise Misfit(f"--where {name}={visible(value)}: {NO_VALUE[kind]}")
-
-
-# What is told of a value that is none of its column's kind.
-NO_VALUE = {
-    Kind.INT: "no whole number in digits alone, as 480050 for cents, or -8",
-    Kind.POINT: "no point as it is printed, as 2024-01-05 or 2024-01-05T08:30:00; that of a midnight is its date",
-}
-
-
-def is_wanted(record: Record, wish: Wish) -> bool:
-    start, end = printed(wish.start or ""), printed(wish.end or "")
-    is_shown = start < record["valid_to"] and (not end or record["valid_from"] < end)
-    return is_shown and all(record[name] == value for name, value in wish.where)
-
-
-def counted(count: int, what: str) -> str:
-    return f"{count} {what}" + ("" if count == 1 else "s")
-
-
-def bar_of(record: Record, lane: int, label: str) -> Bar:
-    return Bar(lane, seconds(record["valid_from"]), seconds(record["valid_to"]), label, told(record))
-
-
-def told(record: Record) -> str:
-    return ", ".join(f"{name}: {' '.join(value.split())}" for name, value in record.items() if value)
-
-
-def label_of(record: Record, names: Sequence[str]) -> str:
-    missing = [name for name in names if name not in record]
-    if missing:
-        raise Misfit(f"there is no column {missing[0]}, but {', '.join(record)}")
-    return " ".join(" ".join(record[name].split()) for name in names)
+def step_of(fields: Sequence[str]) -> Step:
+    start, end, value = fields
+    return seconds(start), seconds(end), int(value)
 
 
 def span_for(bars: Sequence[Bar], wish: Wish) -> Span:
-    return span_of(((bar.start, bar.end) for bar in bars), *limits(wish))
-
-
-def limits(wish: Wish) -> Tuple[Optional[int], Optional[int]]:
-    for point in (wish.start, wish.end):
-        if point is not None and read_point(point) is None:
-            raise Misfit(f"{point}: no point, as 2024-01-05 or 2024-01-05T08:30:00")
-    start, end = (None if point is None else seconds(point) for point in (wish.start, wish.end))
-    if start is not None and end is not None and end <= start:
-        raise Misfit(f"{wish.start} isn't before {wish.end}")
-    return start, end
+    return wish.span((bar.start, bar.end) for bar in bars)

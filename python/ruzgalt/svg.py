@@ -1,146 +1,119 @@
 """Draws pictures as SVG, which a browser shows. Each bar tells its record where the pointer rests on it."""
 from collections import Counter
-from html import escape
-from typing import Iterator, Optional, Sequence, Tuple
+from dataclasses import replace
+from typing import Iterator, List, Optional, Tuple
 
-from ruzgalt.forms import print_point, at_second, seconds
-from ruzgalt.pictures import NOTHING, Bar, Bars, Picture, Steps
-from ruzgalt.timeline import Span, base_of, begun_at, levels_of, ticks
+from ruzgalt import shades
+from ruzgalt.cells import shortened
+from ruzgalt.drawing import (
+    ABOVE, BELOW, EDGE, LINE, NARROW, RED, TALL, Frame, across_for, axis, box, document, letters_in, line, margin_for,
+    shape, side_of, text, top_of,
+)
+from ruzgalt.forms import seconds
+from ruzgalt.labels import Box, Unplaced, listed, put
+from ruzgalt.shapes import NOTHING, Bar, Bars, Groups, Picture, is_empty
+from ruzgalt.svg_steps import draw_groups, draw_steps
 
-# Light enough for black letters, and told apart by readers who see few colours.
-SHADES = ["#9ecae1", "#fdd0a2", "#c7e9c0", "#dadaeb", "#fee391", "#d9d9d9", "#fcbba1", "#ccece6"]
-HEIGHT, LETTER, EDGE, TOP = 20, 7.0, 12, 66
-NARROW, WIDE, FOR_BAR, DEPTH = 760, 12_000, 26, 240
+HEIGHT, FOR_BAR, TIP = 20, 26, 6
+# So many lines of notes there is room for, whatever the lanes take.
+KEPT = 8
+POINTED = "A bar with a point goes on: without a known end, or start, or past what is shown."
 
 
-def draw(picture: Picture, width: Optional[int] = None) -> str:
-    if not (picture.bars if isinstance(picture, Bars) else picture.steps):
-        return document(width or NARROW, TOP, picture.title, [text(EDGE, 44, NOTHING)])
-    return draw_bars(picture, width) if isinstance(picture, Bars) else draw_steps(picture, width)
+def draw(picture: Picture, width: Optional[int] = None, height: Optional[int] = None) -> str:
+    """The picture, as wide and at most as tall as is told, or else as it needs within 1,600 and 4,000 pixels."""
+    if is_empty(picture):
+        top = top_of(picture.title, width or NARROW)
+        return document(width or NARROW, top, picture.title, [text(EDGE, top - ABOVE + 44, NOTHING)])
+    if isinstance(picture, Bars):
+        return draw_bars(picture, width, height or TALL)
+    if isinstance(picture, Groups):
+        return draw_groups(picture, width, height or TALL)
+    return draw_steps(picture, width)
 
 
-def draw_bars(picture: Bars, width: Optional[int]) -> str:
+def draw_bars(picture: Bars, width: Optional[int], height: int) -> str:
     """The lanes below each other, in a drawing as wide as the fullest lane needs."""
     margin = margin_for(picture.lanes)
     fullest = max(Counter(bar.lane for bar in picture.bars).values(), default=0)
-    across = max((width or 0) - margin - EDGE, 100) if width else min(max(fullest * FOR_BAR, NARROW), WIDE)
-    bottom = TOP + len(picture.lanes) * HEIGHT
-    parts = [*axis(picture.span, margin, across, bottom)]
-    for place, name in enumerate(picture.lanes):
-        if name:
-            parts.append(text(margin - 6, TOP + place * HEIGHT + 14, cut(name, margin - 8), "end"))
-            parts.append(line(margin, TOP + place * HEIGHT, margin + across, TOP + place * HEIGHT, "#eee"))
-    shown = [bar for bar in picture.bars if picture.span.shows(bar.start, bar.end)]
-    drawn = [bar_parts(bar, picture.span, margin, across) for bar in shown]
-    parts.extend(shape for shape, _ in drawn)
-    if picture.instant and picture.span.start <= seconds(picture.instant) < picture.span.end:
-        place = margin + picture.span.place(seconds(picture.instant), across)
-        parts.append(line(place, TOP - 6, place, bottom + 6, "#c00", 2))
-        parts.append(text(place, TOP - 10, picture.instant, side_of(place, margin, across), "#c00"))
+    across = across_for(width, margin, fullest * FOR_BAR)
+    whole = margin + across + EDGE
+    top = top_of(picture.title, whole)
+    count = max((height - top - BELOW - KEPT * LINE) // HEIGHT, 1)
+    lanes = picture.lanes[:count]
+    frame = Frame(picture.span, margin, across, top, top + len(lanes) * HEIGHT)
+    boxes = [box_of(bar, frame) for bar in in_lanes(picture.shown, len(lanes))]
+    labels, without = put(boxes, frame)
+    many = shades.count_of(picture.bars)
+    parts = [*shades.stripes(many), *axis(frame), *lanes_of(lanes, frame), *(drawn(one, frame, many) for one in boxes)]
     # No line runs over a label.
-    parts.extend(label for _, label in drawn if label)
-    return document(margin + across + EDGE, bottom + 30, picture.title, parts)
+    parts.extend([*instant_of(picture, frame), *labels])
+    notes = [*notes_of(picture, frame, many), *cut(picture, lanes)]
+    room = (height - frame.bottom - BELOW) // LINE - len(notes) - 1
+    return document(whole, frame.bottom + BELOW, picture.title, parts, [
+        *notes, *listed(unplaced(picture, without), whole, room),
+    ])
 
 
-def draw_steps(picture: Steps, width: Optional[int]) -> str:
-    """An area between zero and the values, with a line at each level."""
-    values = picture.values
-    foot, levels = levels_of(values, 12)
-    margin = margin_for([str(level) for level in (foot, *levels)])
-    across = max(width - margin - EDGE, 100) if width else min(max(len(values) * 6, NARROW), WIDE)
-    bottom = TOP + DEPTH
-    for_one = DEPTH / (max([*values, levels[-1]]) - foot)
-    base = base_of(foot, levels)
-    ground = round(bottom - (base - foot) * for_one, 1)
-    parts = [*axis(picture.span, margin, across, bottom)]
-    for level in (foot, *levels):
-        top = round(bottom - (level - foot) * for_one, 1)
-        parts.append(line(margin, top, margin + across, top, "#ddd"))
-        parts.append(text(margin - 6, top + 4, str(level), "end"))
-    for start, end, value in picture.steps:
-        left, right = (margin + picture.span.place(second, across) for second in (start, end))
-        top, right = round(bottom - (value - foot) * for_one, 1), max(right, left + 1)
-        points = (print_point(at_second(second)) for second in (start, end))
-        told = "valid_from: {}, valid_to: {}, {}: {}".format(*points, picture.name, value)
-        parts.append(box(left, min(top, ground), right - left, round(abs(ground - top), 1), SHADES[0], told))
-        parts.append(line(left, top, right, top, "#08519c", 2))
-    parts.append(line(margin, ground, margin + across, ground, "#555"))
-    return document(margin + across + EDGE, bottom + 30, begun_at(picture.title, base), parts)
+def unplaced(picture: Bars, boxes: List[Box]) -> Iterator[Unplaced]:
+    for bar in sorted((one.bar for one in boxes), key=lambda bar: (bar.lane, bar.start)):
+        yield Unplaced(picture.name_of(bar.lane), bar.label, bar.start, bar.end)
 
 
-def margin_for(names: Sequence[str]) -> int:
-    return max(int(min(max((len(name) for name in names), default=0), 28) * LETTER) + 2 * EDGE, 44)
+def in_lanes(bars: List[Bar], count: int) -> Iterator[Bar]:
+    """The bars, and as much of them, as the first lanes have."""
+    return (replace(bar, lanes=min(bar.lanes, count - bar.lane)) for bar in bars if bar.lane < count)
 
 
-def side_of(place: int, margin: int, across: int) -> str:
-    """On which side of a point its text stands, so that it stays inside."""
-    return "start" if place < margin + across // 2 else "end"
+def box_of(bar: Bar, frame: Frame) -> Box:
+    left, right = frame.place(bar.start), frame.place(bar.end)
+    top, height = frame.top + bar.lane * HEIGHT + 2, bar.lanes * HEIGHT - 4
+    return Box(bar, left, max(right, left + 1), top, height)
 
 
-def axis(span: Span, margin: int, across: int, bottom: int) -> Iterator[str]:
-    """Ticks through the whole drawing, with their texts above and below, since a drawing may be long."""
-    taken = 0.0
-    for second, told in ticks(span, max(across // 90, 1)):
-        place = margin + span.place(second, across)
-        yield line(place, TOP - 4, place, bottom + 4, "#ccc")
-        is_long = len(told) > 10
-        left = place if is_long else place - 40
-        if left >= taken and place + (len(told) * LETTER if is_long else 40) <= margin + across + EDGE:
-            taken = left + len(told) * LETTER
-            for top in (bottom + 18, TOP - 26):
-                yield text(place, top, told, "start" if is_long else "middle", "#555")
-    yield line(margin, bottom, margin + across, bottom, "#555")
+def drawn(one: Box, frame: Frame, many: int) -> str:
+    """The bar's box, with a point at an end past which it goes on."""
+    bar, fill = one.bar, shades.fill_of(one.bar.shade, many)
+    before, behind = goes_on(bar, frame)
+    if not (before or behind):
+        return box(one.left, one.top, one.right - one.left, one.height, fill, bar.told, "#666")
+    tip = min(TIP, (one.right - one.left) // 2)
+    left, right = one.left + tip * before, one.right - tip * behind
+    bottom, middle = one.top + one.height, one.top + one.height // 2
+    upper, lower = [(left, one.top), (right, one.top)], [(right, bottom), (left, bottom)]
+    return shape([*upper, (one.right, middle), *lower, (one.left, middle)], fill, bar.told, "#666")
 
 
-def bar_parts(bar: Bar, span: Span, margin: int, across: int) -> Tuple[str, str]:
-    """The bar's box and its label, which is empty where there is no room."""
-    left, right = (margin + span.place(second, across) for second in (bar.start, bar.end))
-    # What goes on past an edge is drawn past it.
-    left, right = left - 4 * (bar.start < span.start), right + EDGE // 2 * (bar.end > span.end)
-    top, height = TOP + bar.lane * HEIGHT + 2, bar.lanes * HEIGHT - 4
-    width = max(right - left, 1)
-    label = fitting(bar.label, width - 6)
-    shape = box(left, top, width, height, SHADES[bar.shade % len(SHADES)], bar.told, "#666")
-    return shape, text(left + 4, top + height // 2 + 4, label) if label else ""
+def goes_on(bar: Bar, frame: Frame) -> Tuple[bool, bool]:
+    """Whether it goes on past the left edge, and past the right one."""
+    return bar.start < frame.span.start, bar.end > frame.span.end
 
 
-def fitting(label: str, width: float) -> str:
-    """The label, or its front where there is room for three letters; a number isn't cut."""
-    room = int(width / LETTER)
-    if len(label) <= room:
-        return label
-    return label[:room - 1] + "\u2026" if room > 3 and not label.isdigit() else ""
+def lanes_of(lanes: List[str], frame: Frame) -> Iterator[str]:
+    for place, name in enumerate(lanes):
+        if name:
+            top = frame.top + place * HEIGHT
+            yield text(frame.left - 6, top + 14, shortened(name, letters_in(frame.left - 8), "\u2026"), "end")
+            yield line(frame.left, top, frame.right, top, "#eee")
 
 
-def cut(name: str, width: float) -> str:
-    """The name, or its front and its end, since many names differ in their ends alone."""
-    room = int(width / LETTER)
-    front = (room - 1) // 2
-    return name if len(name) <= room else f"{name[:front]}\u2026{name[len(name) - (room - 1 - front):]}"
+def instant_of(picture: Bars, frame: Frame) -> Iterator[str]:
+    """A line through the instant of a division, where it is shown."""
+    if picture.instant and picture.span.start <= seconds(picture.instant) < picture.span.end:
+        place = frame.place(seconds(picture.instant))
+        yield line(place, frame.top - 6, place, frame.bottom + 6, RED, 2)
+        yield text(place, frame.top - 10, picture.instant, side_of(place, frame), RED)
 
 
-def line(left: float, top: float, right: float, bottom: float, colour: str, width: int = 1) -> str:
-    return f'<line x1="{left}" y1="{top}" x2="{right}" y2="{bottom}" stroke="{colour}" stroke-width="{width}"/>'
+def notes_of(picture: Bars, frame: Frame, many: int) -> Iterator[str]:
+    if any(any(goes_on(bar, frame)) for bar in picture.shown):
+        yield POINTED
+    if many > shades.MOST:
+        yield shades.NOTE
 
 
-def text(left: float, top: float, words: str, anchor: str = "start", colour: str = "#000") -> str:
-    return f'<text x="{left}" y="{top}" text-anchor="{anchor}" fill="{colour}">{clean(words)}</text>'
-
-
-def box(left: float, top: float, width: float, height: float, colour: str, told: str, edge: str = "none") -> str:
-    place = f'x="{left}" y="{top}" width="{width}" height="{height}"'
-    return f'<rect {place} fill="{colour}" stroke="{edge}"><title>{clean(told)}</title></rect>'
-
-
-def clean(words: str) -> str:
-    """The words for XML, without characters that it can't have."""
-    return escape("".join(one if one.isprintable() else "\ufffd" for one in words))
-
-
-def document(width: int, height: int, title: str, parts: Sequence[str]) -> str:
-    head = (
-        f'<svg xmlns="http://www.w3.org/2000/svg" width="{width}" height="{height}" viewBox="0 0 {width} {height}"'
-        ' font-family="sans-serif" font-size="12">'
-    )
-    back = f'<rect width="{width}" height="{height}" fill="#fff"/>'
-    return "\n".join([head, back, text(EDGE, 18, title), *parts, "</svg>"]) + "\n"
+def cut(picture: Bars, lanes: List[str]) -> Iterator[str]:
+    """That not all lanes are drawn."""
+    if len(lanes) < len(picture.lanes):
+        rest = f"{len(lanes):,} of {len(picture.lanes):,} lanes"
+        yield f"These are the first {rest}: --height PIXELS has room for more, --where and --from show fewer."

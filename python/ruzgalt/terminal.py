@@ -4,20 +4,23 @@ A period that goes on past the edge has `<` or `>` there. One that is shorter th
 cell are `*`. Of steps, `#` is a value that reaches the line, `.` one that reaches none, or `'` where it is below zero,
 and `-` a line at zero.
 """
-import unicodedata
-from typing import List, Optional, Sequence
+from typing import Iterator, List, Optional, Sequence
 
+from ruzgalt.cells import front_of, shortened, to_cells, to_width, width_of
 from ruzgalt.forms import seconds
-from ruzgalt.pictures import NOTHING, Bar, Bars, Picture, Steps
-from ruzgalt.timeline import Span, base_of, begun_at, levels_of, ticks
+from ruzgalt.scales import Scale, begun_at
+from ruzgalt.shapes import NOTHING, Bar, Bars, Groups, Picture, Steps, is_empty
+from ruzgalt.timeline import Span, ticks
 
-# So many lines has the height of steps at most.
-LINES = 12
+# So many lines has the height of steps at most, and that of each of several groups.
+LINES, LINES_OF_GROUP = 12, 4
 
 
 def draw(picture: Picture, width: int) -> str:
-    if not (picture.bars if isinstance(picture, Bars) else picture.steps):
+    if is_empty(picture):
         return f"{picture.title}\n{NOTHING}\n"
+    if isinstance(picture, Groups):
+        return draw_groups(picture, width)
     return draw_bars(picture, width) if isinstance(picture, Bars) else draw_steps(picture, width)
 
 
@@ -29,12 +32,12 @@ def draw_bars(picture: Bars, width: int) -> str:
         mark = picture.span.place(seconds(picture.instant), cells)
     lines = [picture.title]
     by_lane: List[List[Bar]] = [[] for _ in picture.lanes]
-    for bar in picture.bars:
-        if picture.span.shows(bar.start, bar.end):
-            for lane in range(bar.lane, bar.lane + bar.lanes):
-                by_lane[lane].append(bar)
+    for bar in picture.shown:
+        for lane in range(bar.lane, bar.lane + bar.lanes):
+            by_lane[lane].append(bar)
     for name, bars in zip(picture.lanes, by_lane):
-        lines.append(to_width(cut(name, margin - 1), margin - 1) + " " + lane_of(bars, picture.span, cells, mark))
+        told = to_width(shortened(name, margin - 1, ".."), margin - 1)
+        lines.append(told + " " + lane_of(bars, picture.span, cells, mark))
     if mark is not None:
         lines.append(" " * margin + pointed(f"^ {picture.instant}", mark, cells))
     return "\n".join(line.rstrip() for line in [*lines, *axis(picture.span, margin, cells)]) + "\n"
@@ -43,17 +46,6 @@ def draw_bars(picture: Bars, width: int) -> str:
 def margin_for(names: Sequence[str], width: int) -> int:
     """The width of the lanes' names and a space, of a third of the picture at most."""
     return min(max((width_of(name) for name in names), default=0), width // 3) + 1
-
-
-def cut(name: str, width: int) -> str:
-    """The name, or its front and its end, since many names differ in their ends alone."""
-    if width_of(name) <= width:
-        return name
-    front = (width - 2) // 2
-    end = name[max(len(name) - width, 0):]
-    while width_of(end) > width - 2 - front:
-        end = end[1:]
-    return f"{''.join(to_cells(name, front))}..{end}"
 
 
 def pointed(text: str, place: int, cells: int) -> str:
@@ -82,18 +74,10 @@ def bar_text(bar: Bar, span: Span, width: int) -> List[str]:
     """The cells of a bar, with its label inside as far as there is room."""
     if width == 1:
         return ["|"]
-    label = fitting(bar.label, width - 2)
+    label = to_cells(front_of(bar.label, width - 2, ".."), width - 2)
     first = "<" if bar.start < span.start else "["
     last = ">" if bar.end > span.end else ")"
     return [first, *label, *["="] * (width - 2 - len(label)), last]
-
-
-def fitting(label: str, width: int) -> List[str]:
-    """The label, or its front and two points; a number isn't cut, since its front is another one."""
-    cells = to_cells(label, width)
-    if width_of(label) <= width:
-        return cells
-    return [*to_cells(label, width - 2), "..", ""] if width > 4 and not label.isdigit() else []
 
 
 def axis(span: Span, margin: int, cells: int) -> List[str]:
@@ -110,22 +94,37 @@ def axis(span: Span, margin: int, cells: int) -> List[str]:
 
 def draw_steps(picture: Steps, width: int) -> str:
     """Columns of `#` from zero to the greatest value of each cell's time; no column where there is no value."""
-    foot, levels = levels_of(picture.values, LINES)
-    margin = margin_for([str(level) for level in (foot, *levels)], width)
-    cells = width - margin
-    columns = columns_of(picture, cells)
-    base = base_of(foot, levels)
-    lines = [begun_at(picture.title, base)]
-    for level in reversed(levels):
-        drawn = "".join(step_cell(value, level, levels, base) for value in columns)
-        lines.append(str(level).rjust(margin - 1) + " " + drawn)
-    marks, texts = axis(picture.span, margin, cells)
-    lines.extend([str(foot).rjust(margin - 1) + marks[margin - 1:], texts])
+    scale = Scale(picture.values, LINES)
+    names = picture.scale([scale.foot, *scale.levels])
+    margin = margin_for(names, width)
+    marks, texts = axis(picture.span, margin, width - margin)
+    lines = [begun_at(picture, scale), *lines_of(picture, scale, names, margin, width), texts]
     return "\n".join(line.rstrip() for line in lines) + "\n"
 
 
-def step_cell(value: Optional[int], level: int, levels: Sequence[int], base: int) -> str:
+def draw_groups(picture: Groups, width: int) -> str:
+    """The steps of each group below its name."""
+    scale = Scale(picture.values, LINES_OF_GROUP)
+    names = picture.groups[0][1].scale([scale.foot, *scale.levels])
+    margin = margin_for(names, width)
+    lines = [begun_at(picture, scale)]
+    for name, steps in picture.groups:
+        lines.extend([shortened(name, width, ".."), *lines_of(steps, scale, names, margin, width)])
+    lines.append(axis(picture.span, margin, width - margin)[1])
+    return "\n".join(line.rstrip() for line in lines) + "\n"
+
+
+def lines_of(picture: Steps, scale: Scale, names: Sequence[str], margin: int, width: int) -> Iterator[str]:
+    """A line for each level of the scale, the highest first, with its name; then the axis without its texts."""
+    columns = columns_of(picture, width - margin)
+    for level, name in reversed(list(zip(scale.levels, names[1:]))):
+        yield name.rjust(margin - 1) + " " + "".join(step_cell(value, level, scale) for value in columns)
+    yield names[0].rjust(margin - 1) + axis(picture.span, margin, width - margin)[0][margin - 1:]
+
+
+def step_cell(value: Optional[int], level: int, scale: Scale) -> str:
     """What stands for a value in the line of a level. A line at zero goes through, and negative ones hang from it."""
+    base, levels = scale.base, scale.levels
     reached = [] if value is None else [one for one in levels if base < one <= value or value <= one < base]
     if level in reached:
         return "#"
@@ -143,32 +142,3 @@ def columns_of(picture: Steps, cells: int) -> List[Optional[int]]:
             there = columns[cell]
             columns[cell] = value if there is None else max(there, value)
     return columns
-
-
-def cell_width(character: str) -> int:
-    """How many cells a terminal takes for a character."""
-    if unicodedata.combining(character) or not character.isprintable():
-        return 0
-    return 2 if unicodedata.east_asian_width(character) in "WF" else 1
-
-
-def width_of(text: str) -> int:
-    return sum(map(cell_width, text))
-
-
-def to_cells(text: str, width: int) -> List[str]:
-    """A front of the text, in so many cells at most; behind a wide character an empty one stands."""
-    cells: List[str] = []
-    for character in text:
-        wide = cell_width(character)
-        if len(cells) + wide > width:
-            break
-        if wide == 0 and cells and character.isprintable():
-            cells[-1] += character
-        cells.extend([character, *[""] * (wide - 1)] if wide else [])
-    return cells
-
-
-def to_width(text: str, width: int) -> str:
-    cells = to_cells(text, width)
-    return "".join(cells) + " " * (width - len(cells))

@@ -1,7 +1,7 @@
-"""The axes of a picture: the time that it shows, and the points and values that are marked on them."""
+"""The axis of time of a picture: what it shows, and the points that are marked on it."""
 from dataclasses import dataclass
 from datetime import datetime
-from typing import Iterable, List, Optional, Sequence, Tuple
+from typing import Iterable, List, Optional, Tuple
 
 from ruzgalt.forms import at_second, seconds
 
@@ -79,30 +79,3 @@ def text_of(second: int, step: int, is_first: bool) -> str:
     if second % DAY == 0:
         return text[:10]
     return text[0 if is_first else 11:19 if step < 60 else 16]
-
-
-def begun_at(title: str, base: int) -> str:
-    """The title of steps, which tells where their heights aren't in proportion to their values."""
-    return f"{title}; the scale begins at {base}" if base else title
-
-
-def base_of(foot: int, levels: Sequence[int]) -> int:
-    """Where steps begin: at zero, if that is on the scale, and else at its foot."""
-    return 0 if 0 in levels else foot
-
-
-def levels_of(values: Sequence[int], most: int) -> Tuple[int, List[int]]:
-    """The value at the foot of steps, and at most so many above it, round ones at equal distances, rising.
-
-    Zero is the foot, or where a value is below it among those above. It isn't where all are so near each other that
-    their steps would be lost; the foot is then no more than the least value.
-    """
-    low, high = min(values, default=0), max(values, default=1)
-    if low == high or (high - low) * most >= max(high, -low):
-        low, high = min(low, 0), max(high, 0)
-    foot = low
-    distance = 1
-    while (high - foot) // distance >= most:
-        distance = distance * 5 // 2 if str(distance)[0] == "2" else distance * 2
-    foot = foot // distance * distance
-    return foot, list(range(foot + distance, high + 1, distance)) or [foot + distance]

@@ -10,7 +10,9 @@ from importlib.util import find_spec
 from pathlib import Path
 from typing import Iterator, List, Tuple
 
-from ruzgalt import answers, export, fitting, overlaps, picks, pictures, reader, records, refusals, store, svg, terminal
+from ruzgalt import (
+    answers, cells, export, fitting, overlaps, picks, pictures, reader, records, refusals, store, svg, terminal,
+)
 from ruzgalt.answers import Answer
 from ruzgalt.errors import Misfit
 from tests.support import TOP
@@ -83,7 +85,7 @@ class Scripts(unittest.TestCase):
             self.assertIn(word, ("between", "fromto"))
             return
         # The title is the command, which may be longer.
-        widths = map(terminal.width_of, terminal.draw(picture, 80).splitlines()[1:])
+        widths = map(cells.width_of, terminal.draw(picture, 80).splitlines()[1:])
         self.assertLessEqual(max(widths, default=0), 80)
         xml.etree.ElementTree.fromstring(svg.draw(picture))
 

@@ -52,7 +52,8 @@ class Reading(ToolCase):
             ("euros=4.800", "no whole number in digits alone"), ("valid_to=2025-1-1", "no point as it "),
         ]:
             self.check([*pay, "4", "--where", value], "", 1, f"answers: --where {value}: {wrong}")
-        self.check([*pay, "6", "--where", "sys_to=", "--where", "euros=5400"], "", 0, "commit 2\ncommit 3 [4=")
+        drawn = "commit 2\ncommit 3 [Byron, Ada 5400="
+        self.check([*pay, "6", "--where", "sys_to=", "--where", "euros=5400"], "", 0, drawn)
 
     def test_changed_compares_what_can_be_compared(self) -> None:
         changed = ["tools/answers", "changed", EXAMPLE, "--answers", EXAMPLE + ".stdout"]
@@ -235,7 +236,7 @@ class Told(ToolCase):
             ("picture", two, "agg,t,sum,a", two + "end,2\n", 0, drawn),
             ("picture --svg", two, "agg,t,sum,a", two + "end,2\n", 0, 'y="186.0" width="392" height="120.0"'),
             ("picture", low, "agg,t,sum,a", low + "end,2\n", 0, f"\n 0 {'-' * 77}\n-1 {'#' * 77}\n"),
-            ("picture", tiny, "agg,t,sum,a", tiny + "end,2\n", 0, f"\n    0 {chr(39) * 38}{'-' * 36}\n -100 "),
+            ("picture", tiny, "agg,t,sum,a", tiny + "end,2\n", 0, f"\n     0 {chr(39) * 37}{'-' * 36}\n  -100 "),
             ("sqlite :memory: 3=due", january.format(half) * 2, "agg,t,sum,a", january.format(2 * half) + "end,1\n", 0,
              "answers: due.sum_a has sums past SQLite's "),
             ("changed", january.format(5), "rows,t\nat,t,2024-01-05", row + row, 1,
