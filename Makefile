@@ -1,10 +1,11 @@
-# Builds dipq, checks the repository, and puts the program, its manual page, the tools and the Python package where a
-# shell, `man` and Python find them.
+# Builds dipq, checks the repository, and puts the program, the tools, their manual pages and the Python package where a
+# shell, `man` and Python find them; or makes a Debian package of them.
 #
 #     make                                 proves and builds the program, where that isn't done
 #     make check                           the gate
 #     make install PREFIX="$HOME/.local"   without PREFIX, in /usr/local
 #     make uninstall PREFIX="$HOME/.local"
+#     make package                         out/dipq_VERSION_ARCHITECTURE.deb
 #
 # DESTDIR is put before each of these places. The program is found from where its command stands, so all that is
 # installed may be moved together.
@@ -16,14 +17,17 @@ DATADIR = $(PREFIX)/share
 
 command = $(DESTDIR)$(BINDIR)/dipq
 folder = $(DESTDIR)$(LIBEXECDIR)/dipq
-page = $(DESTDIR)$(MANDIR)/man1/dipq.1
+pages = $(DESTDIR)$(MANDIR)/man1
 # python/ and tools/ stand beside one another and a link to the command, as they do here.
 data = $(DESTDIR)$(DATADIR)/dipq
-tools = answers csv-to-load
+# Each tool, and the command that it becomes.
+tools = answers:dipq-answers csv-to-load:dipq-load
+files = $(foreach tool,$(tools),$(firstword $(subst :, ,$(tool))))
+commands = $(foreach tool,$(tools),$(lastword $(subst :, ,$(tool))))
 
 SHELL = bash
 .SHELLFLAGS = -eu -o pipefail -c
-.PHONY: all check install uninstall
+.PHONY: all check install uninstall package
 
 all:
 	./dipq </dev/null
@@ -36,19 +40,23 @@ install: all
 	from_command=$$(realpath -m --relative-to="$(BINDIR)" "$(LIBEXECDIR)/dipq/dipq"); \
 	  { sed '/^# The first word/,$$d' tools/with-allocator; \
 	    echo 'exec "$$(dirname "$$(realpath "$$0")")/'"$$from_command"'" "$$@"'; } | install -D -m 755 /dev/stdin "$(command)"
-	tools/man-page | install -D -m 644 /dev/stdin "$(page)"
+	for name in dipq $(commands); do tools/man-page "$$name" | install -D -m 644 /dev/stdin "$(pages)/$$name.1"; done
 	rm -rf "$(data)/python"
 	find python/ruzgalt -name "*.py" -exec install -D -m 644 "{}" "$(data)/{}" ";"
 	ln -sfn "$$(realpath -m --relative-to="$(DATADIR)/dipq" "$(BINDIR)/dipq")" "$(data)/dipq"
 	for tool in $(tools); do \
-	  install -D -m 755 "tools/$$tool" "$(data)/tools/$$tool"; \
-	  ln -sfn "$$(realpath -m --relative-to="$(BINDIR)" "$(DATADIR)/dipq/tools/$$tool")" "$(command)-$$tool"; \
+	  install -D -m 755 "tools/$${tool%:*}" "$(data)/tools/$${tool%:*}"; \
+	  target=$$(realpath -m --relative-to="$(BINDIR)" "$(DATADIR)/dipq/tools/$${tool%:*}"); \
+	  ln -sfn "$$target" "$(DESTDIR)$(BINDIR)/$${tool#*:}"; \
 	done
 
 uninstall:
-	rm -f "$(command)" "$(folder)/dipq" "$(page)" "$(data)/dipq" $(patsubst %,"$(command)-%",$(tools))
-	rm -f $(patsubst %,"$(data)/tools/%",$(tools))
+	rm -f "$(command)" "$(folder)/dipq" "$(data)/dipq" $(patsubst %,"$(data)/tools/%",$(files))
+	rm -f $(patsubst %,"$(DESTDIR)$(BINDIR)/%",$(commands)) $(patsubst %,"$(pages)/%.1",dipq $(commands))
 	rm -rf "$(data)/python"
 	for folder in "$(folder)" "$(data)/tools" "$(data)"; do \
 	  [ ! -d "$$folder" ] || rmdir --ignore-fail-on-non-empty "$$folder"; \
 	done
+
+package: all
+	tools/make-package

@@ -6,6 +6,7 @@
 
 Python 3.9 and its library are all that is needed. A module stands on those above it:
 
+    called              by what names the tools go
     records, forms      CSV as dipq prints it; points, numbers and names
     reader              records with their lines, read one behind another; of many only where they stand
     commands, tables    a script's commands; the columns of tables and of answers

@@ -4,7 +4,7 @@ from itertools import islice
 from pathlib import Path
 from typing import Dict, Iterable, Iterator, List, Optional, Sequence, Union
 
-from ruzgalt import commands, tables
+from ruzgalt import called, commands, tables
 from ruzgalt.checking import Checks
 from ruzgalt.commands import Command
 from ruzgalt.errors import Misfit
@@ -77,7 +77,7 @@ class Reading:
     def __init__(self, output: Source):
         self.source, self.output = output, Reader(output)
         self.place = self.output.place
-        self.progress = Progress("answers")
+        self.progress = Progress(called.ANSWERS_SAY)
         self.tables: Dict[str, Schema] = {}
         self.commits = 0
         # The queries of a block read the commit that it began with, and its load is the next.

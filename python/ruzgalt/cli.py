@@ -9,7 +9,7 @@ from pathlib import Path
 from typing import Callable, Dict, Iterable, List, NamedTuple, Optional, Sequence
 
 from ruzgalt import (
-    answers, changes, commands, export, fitting, front, history, marks, overlaps, picks, picture_cli, program,
+    answers, called, changes, commands, export, fitting, front, history, marks, overlaps, picks, picture_cli, program,
     questions, records, refusals, single, store,
 )
 from ruzgalt.answers import Answer
@@ -19,15 +19,15 @@ from ruzgalt.reader import Source
 from ruzgalt.store import Store
 from ruzgalt.words import pair
 
-NAME = "tools/answers"
+NAME = called.ANSWERS
 # So many doubts are told of a script.
 MARKED = 20
 ABOUT = f"""Reads a script of dipq beside its answers, so that it knows of each answer its command and its columns.
 
 usage: {NAME} COMMAND SCRIPT ..
 
-SCRIPT is a file, or - for standard input. It is answered by ./dipq (or the program that DIPQ names in the
-environment), which is proved and built at its first use; or --answers names a file of its answers.
+SCRIPT is a file, or - for standard input. It is answered by {called.PROGRAM}, or the program that DIPQ names in the
+environment; or --answers names a file of its answers. A repository's ./dipq is proved and built at its first use.
 
 {textwrap.fill(f"PICK is {picks.HELP}.", 110)}
 
@@ -371,7 +371,8 @@ def parser_of(name: str, tool: Tool) -> ArgumentParser:
     parser.add_argument("script", metavar="SCRIPT", help="a file, or - for standard input")
     tool.words(parser)
     parser.add_argument(
-        "--program", default=program.default(), metavar="PROGRAM", help="what answers the script, in place of ./dipq",
+        "--program", default=program.default(), metavar="PROGRAM",
+        help=f"what answers the script, in place of {called.PROGRAM}",
     )
     if tool.has_answers:
         parser.add_argument("--answers", metavar="FILE", help="the answers, or - for standard input; no program is run")
@@ -418,4 +419,4 @@ def fail(told: str) -> int:
 
 
 def warn(told: str) -> None:
-    sys.stderr.write(f"answers: {told}\n".encode("utf-8", "replace").decode())
+    sys.stderr.write(f"{called.ANSWERS_SAY}: {told}\n".encode("utf-8", "replace").decode())

@@ -7,7 +7,7 @@ from argparse import ArgumentParser, ArgumentTypeError, Namespace
 from pathlib import Path
 from typing import List, Optional, Sequence, Tuple
 
-from ruzgalt import claims, commands, dates, records
+from ruzgalt import called, claims, commands, dates, records
 from ruzgalt.errors import Misfit
 from ruzgalt.loading import Load
 from ruzgalt.reader import Source
@@ -33,7 +33,7 @@ def part(word: str) -> Tuple[int, int]:
 
 
 def words() -> ArgumentParser:
-    parser = ArgumentParser(prog="tools/csv-to-load", description=ABOUT)
+    parser = ArgumentParser(prog=called.LOAD, description=ABOUT)
     parser.add_argument("table", metavar="TABLE", help="the table of the store")
     parser.add_argument("start", metavar="FROM", help="the file's column with the start of a row")
     parser.add_argument("end", metavar="TO", help="that with its end")
@@ -170,8 +170,8 @@ def made(options: Namespace) -> Tuple[List[bytes], List[str], List[str], int]:
 
 
 def tell(told: List[str], count: int) -> None:
-    text = "".join(f"csv-to-load: {one}\n" for one in told)
-    more = f"csv-to-load: and {count - len(told)} more\n" if count > len(told) else ""
+    text = "".join(f"{called.LOAD_SAYS}: {one}\n" for one in told)
+    more = f"{called.LOAD_SAYS}: and {count - len(told)} more\n" if count > len(told) else ""
     sys.stderr.write((text + more).encode("utf-8", "replace").decode())
 
 
@@ -180,7 +180,7 @@ def show(pieces: Sequence[bytes]) -> None:
         sys.stdout.buffer.writelines(pieces)
         sys.stdout.flush()
     except OSError as error:
-        sys.stderr.write(f"csv-to-load: {error.strerror}\n")
+        sys.stderr.write(f"{called.LOAD_SAYS}: {error.strerror}\n")
         # What is left in the buffer isn't to be tried again at the end.
         os._exit(1)
 

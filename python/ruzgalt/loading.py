@@ -5,7 +5,7 @@ from operator import ge
 from typing import Iterator, List, Optional, Sequence, Tuple, cast
 from zlib import crc32
 
-from ruzgalt import records
+from ruzgalt import called, records
 from ruzgalt.columns import Column, End, Start, Text, form_of, mark_of
 from ruzgalt.decimals import Marks, Scale, both_readings
 from ruzgalt.doubts import Ends, Notes, Twins
@@ -59,7 +59,7 @@ class Load:
 
     def made(self) -> Iterator[bytes]:
         """What the rows become, by pieces. Where something is at fault, the rest is read for its faults."""
-        progress = Progress("csv-to-load")
+        progress = Progress(called.LOAD_SAYS)
         try:
             for piece in self.sheet.pieces():
                 yield self.made_of(self.whole(piece))

@@ -3,13 +3,14 @@ import re
 from dataclasses import dataclass
 from typing import Dict, List, Optional, Sequence
 
+from ruzgalt import called
 from ruzgalt.answers import Answer
 from ruzgalt.errors import Misfit
 from ruzgalt.records import short
 
 HELP = (
-    "an answer: its NUMBER in `tools/answers list`, @LINE of its command in the script, `last`, or `last-N` for the "
-    "N-th before that; with =NAME behind it, it gets that name"
+    f"an answer: its NUMBER in `{called.ANSWERS} list`, @LINE of its command in the script, `last`, or `last-N` for "
+    "the N-th before that; with =NAME behind it, it gets that name"
 )
 FORM = re.compile(r"(?P<number>\d{1,9})|@(?P<line>\d{1,9})|last(-(?P<back>\d{1,9}))?", re.ASCII)
 # What these are answered is a number of a commit, and nothing that one would ask for.
@@ -79,5 +80,5 @@ def find(answers: Sequence[Answer], which: str) -> Answer:
         place = int(told["number"]) - 1 if told["number"] else len(answers) - 1 - int(told["back"] or 0)
         found = [answers[place]] if 0 <= place < len(answers) else []
     if not found:
-        raise Misfit(f"{which}: no such answer; there are {len(answers)}, which `tools/answers list` numbers")
+        raise Misfit(f"{which}: no such answer; there are {len(answers)}, which `{called.ANSWERS} list` numbers")
     return found[0]

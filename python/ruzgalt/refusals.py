@@ -1,7 +1,7 @@
 """Why a command was refused: the field that is at fault, and what is wrong with it, for a person."""
 from typing import Callable, Dict, List, Optional
 
-from ruzgalt import forms, reasons
+from ruzgalt import called, forms, reasons
 from ruzgalt.answers import Answer
 from ruzgalt.commands import BLOCKS
 from ruzgalt.fields import Field, Role, fields_of
@@ -65,7 +65,7 @@ def no_word(word: str) -> str:
     if word.startswith("\ufeff"):
         return "begins with a byte order mark, which only a script's own beginning may have: `tail -c +4` leaves it out"
     if word == "csv-to-load failed":
-        return "stands in place of a load: tools/csv-to-load has told why on standard error"
+        return f"stands in place of a load: {called.LOAD} has told why on standard error"
     if plain in reasons.FORMS:
         return f"is no command, but {plain} is"
     if "\0" in word:
@@ -79,12 +79,12 @@ def no_word(word: str) -> str:
         return "is no command, but a spreadsheet's first line: leave it out"
     other = next((told for words, told in OTHER_WORDS if plain.split(" ")[0] in words), None)
     known = f"is no command: these are {', '.join(reasons.FORMS)}"
-    return f"{known}; {other or 'of a CSV file with a header tools/csv-to-load makes a load'}"
+    return f"{known}; {other or f'of a CSV file with a header {called.LOAD} makes a load'}"
 
 
 # Words of other languages, and what is done here.
 OTHER_WORDS = [
-    (("select", "with", "from"), "SQL is asked of answers, by `tools/answers sqlite`"),
+    (("select", "with", "from"), f"SQL is asked of answers, by `{called.ANSWERS} sqlite`"),
     (("alter", "drop", "truncate", "rename"), "a table keeps its columns, and stays: a new one can have others"),
     (("create",), "`table` makes a table"),
     (("insert", "add", "row", "merge", "upsert"), "rows stand between `load,T` and `end`"),

@@ -1,0 +1,105 @@
+"""The pages of dipq-answers and dipq-load, made of what their --help tells."""
+from argparse import Action, ArgumentParser
+from typing import Iterable, Iterator, List, Sequence
+
+from manual.roff import exact, inline, item, opening, paragraph, prose, section, verbatim
+from ruzgalt import cli, load_cli, picks
+
+# The words that each command of dipq-answers takes are told once.
+SHARED = ("script", "help", "program", "answers", "ask", "go_on")
+IN_A_REPOSITORY = "In a repository of Ruzgalt, and in its documents, the command is {}."
+SEE_ALSO = (
+    r"\fBdipq\fR(1), {}. In the repository of Ruzgalt, and in /usr/share/doc/dipq where its package is installed: "
+    r"docs/RECIPES.md, each command with what it prints."
+)
+DIPQ = "The program that answers scripts, in place of the dipq that is installed beside the tool."
+ANSWERS_STATUS = [
+    ("0", "Nothing was refused; of `front`, nothing differs."),
+    ("1", "Something isn't understood, or a command was refused; with `--go-on` that is so only of `refusals`, or "
+     "where a question of `--ask` was refused. Of `front`, something differs; of `faulty`, a row is at fault."),
+    ("2", "The words are wrong."),
+]
+LOAD_STATUS = [
+    ("0", "The load was printed."),
+    ("1", "Something is at fault, which standard error tells. In place of a load stands the record `csv-to-load "
+     "failed`, which the store refuses."),
+    ("2", "The words are wrong; the same record is printed."),
+]
+ANSWERS_EXAMPLES = [
+    ("The script's answers, numbered:", "dipq-answers list pay.csv"),
+    ("The answer to the command at line 7 as CSV, and what held on a day that the script doesn't ask for:",
+     "dipq-answers csv pay.csv @7\ndipq-answers csv pay.csv --ask at,pay,2024-01-15"),
+    ("A query of SQLite over all rows:",
+     "dipq-answers sqlite pay.csv :memory: --ask pay=rows,pay \\\n"
+     "    --query 'select person, max(euros) from pay group by person'"),
+    ("The last division of a script as a picture for a browser:", "dipq-answers picture posts.csv --svg > posts.svg"),
+]
+LOAD_EXAMPLES = [
+    ("A German file, whose last column with a date is the last day of a row, or empty:",
+     "(echo table,rent,flat,text,cents,int,key,flat\n"
+     " dipq-load rent Von Bis Wohnung Miete --german --last-day --open --decimals Miete=2 < miete.csv\n"
+     " echo at,rent,2024-06-30) | dipq"),
+]
+
+
+def answers() -> Iterator[str]:
+    yield from opening("dipq-answers")
+    yield from section("name", [rf"dipq-answers \- {prose('reads a script of dipq beside its answers')}"])
+    yield from section("synopsis", [r"\fBdipq-answers\fR \fICOMMAND\fR \fISCRIPT\fR .."])
+    about = cli.ABOUT.split("\n\n")
+    described = [about[0], about[2], IN_A_REPOSITORY.format("tools/answers")]
+    yield from section("description", (one for text in described for one in paragraph(text)))
+    yield ".SH COMMANDS"
+    for name, tool in cli.TOOLS.items():
+        parser = cli.parser_of(name, tool)
+        own = [action for action in parser._actions if action.dest not in SHARED]
+        yield from [f".SS {name}", *paragraph(parser.description or ""), *words(own)]
+    parser = cli.parser_of("list", cli.TOOLS["list"])
+    shared = [action for action in parser._actions if action.dest in SHARED]
+    yield from section("options", [*words(shared), *item(r"\fIPICK\fR", [inline(sentence(picks.HELP))])])
+    yield from ending(ANSWERS_STATUS, ANSWERS_EXAMPLES, r"\fBdipq-load\fR(1)")
+
+
+def load() -> Iterator[str]:
+    parser = load_cli.words()
+    yield from opening("dipq-load")
+    yield from section("name", [rf"dipq-load \- {prose('turns a CSV file with a header into a load of dipq')}"])
+    yield from section("synopsis", synopsis(parser))
+    described = [parser.description or "", IN_A_REPOSITORY.format("tools/csv-to-load")]
+    yield from section("description", (one for text in described for one in paragraph(text)))
+    yield from section("options", words(parser._actions))
+    yield from ending(LOAD_STATUS, LOAD_EXAMPLES, r"\fBdipq-answers\fR(1)", has_program=False)
+
+
+def synopsis(parser: ArgumentParser) -> List[str]:
+    """The command, and what stands behind it without a hyphen."""
+    given = [action for action in parser._actions if not action.option_strings]
+    told = " ".join(rf"[\fI{one.metavar}\fR ..]" if one.nargs == "*" else rf"\fI{one.metavar}\fR" for one in given)
+    return [rf"\fB{prose(parser.prog)}\fR {told} [\fIOPTION\fR ..] < \fIFILE\fR"]
+
+
+def words(actions: Iterable[Action]) -> Iterator[str]:
+    """An item for each word."""
+    for action in actions:
+        value = (action.metavar or action.dest.upper()) if action.nargs != 0 else ""
+        told = "An answer, as told below." if action.dest == "pick" else sentence(action.help or "")
+        names = ", ".join(rf"\fB{exact(name)}\fR" for name in action.option_strings)
+        yield from item(" ".join(filter(None, [names, rf"\fI{exact(str(value))}\fR" if value else ""])), [
+            inline(told),
+        ])
+
+
+def sentence(told: str) -> str:
+    return f"{told[:1].upper()}{told[1:]}" + ("" if told.endswith(".") else ".")
+
+
+def ending(
+    statuses: Sequence[Sequence[str]], examples: Sequence[Sequence[str]], other: str, has_program: bool = True,
+) -> Iterator[str]:
+    yield from section("exit status", (one for status, told in statuses for one in item(status, [inline(told)])))
+    yield ".SH EXAMPLES"
+    for told, command in examples:
+        yield from [*paragraph(told), *verbatim(command.split("\n"))]
+    if has_program:
+        yield from section("environment", item(r"\fBDIPQ\fR", [prose(DIPQ)]))
+    yield from section("see also", [".PP", SEE_ALSO.format(other)])
