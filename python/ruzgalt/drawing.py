@@ -110,7 +110,8 @@ def document(width: int, bottom: int, title: str, parts: Iterable[str], notes: S
     height = bottom + len(lines) * LINE
     head = (
         f'<svg xmlns="http://www.w3.org/2000/svg" width="{width}" height="{height}" viewBox="0 0 {width} {height}"'
-        f' role="img" aria-label="{clean(title)}" font-family="Helvetica, Arial, sans-serif" font-size="12">'
+        f' style="max-width: 100%" role="img" aria-label="{clean(title)}"'
+        ' font-family="Helvetica, Arial, sans-serif" font-size="12">'
     )
     back = f'<rect width="{width}" height="{height}" fill="#fff"/>'
     heads = [text(EDGE, 18 + place * LINE, one) for place, one in enumerate(wrapped(title, width))]

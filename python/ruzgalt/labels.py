@@ -86,8 +86,8 @@ def listed(given: Iterable[Unplaced], width: int, room: int) -> Iterator[str]:
         note = note if told else f"Without room above: {note}"
         left -= len(wrapped(note, width))
         if left < 0:
-            more = counted(len(labels) - told, "label")
-            yield f"{more} without room {'more ' if told else ''}: --from and --to, or --width PIXELS, give it."
+            rest = counted(len(labels) - told, "label")
+            yield f"{f'And {rest} more' if told else rest} without room: --from and --to, or --width PIXELS, give it."
             return
         told += len(within)
         yield note

@@ -1,19 +1,20 @@
 """Draws pictures as SVG, which a browser shows. Each bar tells its record where the pointer rests on it."""
 from collections import Counter
 from dataclasses import replace
-from typing import Iterator, List, Optional, Tuple
+from typing import Dict, Iterator, List, Optional, Tuple
 
 from ruzgalt import shades
-from ruzgalt.cells import shortened
+from ruzgalt.cells import shortened, width_of
 from ruzgalt.drawing import (
-    ABOVE, BELOW, EDGE, LINE, NARROW, RED, TALL, Frame, across_for, axis, box, document, letters_in, line, margin_for,
-    shape, side_of, text, top_of,
+    ABOVE, BELOW, EDGE, LETTER, LINE, NARROW, RED, TALL, Frame, across_for, axis, box, document, letters_in, line,
+    margin_for, shape, side_of, text, top_of,
 )
 from ruzgalt.forms import seconds
-from ruzgalt.labels import Box, Unplaced, listed, put
+from ruzgalt.labels import ROOM, Box, Unplaced, listed, put
 from ruzgalt.shapes import NOTHING, Bar, Bars, Groups, Picture, is_empty
 from ruzgalt.svg_steps import draw_groups, draw_steps
 
+# Pixels of a lane's height, of a bar at least, and of a point.
 HEIGHT, FOR_BAR, TIP = 20, 26, 6
 # So many lines of notes there is room for, whatever the lanes take.
 KEPT = 8
@@ -35,8 +36,7 @@ def draw(picture: Picture, width: Optional[int] = None, height: Optional[int] = 
 def draw_bars(picture: Bars, width: Optional[int], height: int) -> str:
     """The lanes below each other, in a drawing as wide as the fullest lane needs."""
     margin = margin_for(picture.lanes)
-    fullest = max(Counter(bar.lane for bar in picture.bars).values(), default=0)
-    across = across_for(width, margin, fullest * FOR_BAR)
+    across = across_for(width, margin, max(wanted(picture).values(), default=0))
     whole = margin + across + EDGE
     top = top_of(picture.title, whole)
     count = max((height - top - BELOW - KEPT * LINE) // HEIGHT, 1)
@@ -58,6 +58,14 @@ def draw_bars(picture: Bars, width: Optional[int], height: int) -> str:
 def unplaced(picture: Bars, boxes: List[Box]) -> Iterator[Unplaced]:
     for bar in sorted((one.bar for one in boxes), key=lambda bar: (bar.lane, bar.start)):
         yield Unplaced(picture.name_of(bar.lane), bar.label, bar.start, bar.end)
+
+
+def wanted(picture: Bars) -> Dict[int, int]:
+    """How many pixels each lane would have, were its bars as long as their labels."""
+    pixels: Dict[int, int] = Counter()
+    for bar in picture.shown:
+        pixels[bar.lane] += max(FOR_BAR, int(width_of(bar.label) * LETTER) + ROOM)
+    return pixels
 
 
 def in_lanes(bars: List[Bar], count: int) -> Iterator[Bar]:

@@ -13,7 +13,7 @@ from ruzgalt.shapes import Groups, Step, Steps
 
 FILL, EDGED = "#9ecae1", "#08519c"
 # Pixels of the height of steps, of each of several groups', and of what stands above a group.
-DEPTH, OF_GROUP, NAME = 240, 72, 26
+DEPTH, OF_GROUP, NAME = 240, 72, 34
 LEVELS, LEVELS_OF_GROUP, FOR_STEP, TIP = 12, 4, 6, 6
 # So many lines of notes there is room for, whatever the groups take.
 KEPT = 8
@@ -53,7 +53,7 @@ def draw_groups(picture: Groups, width: Optional[int], height: int) -> str:
     parts = [*axis(frame)]
     for place, (name, steps) in enumerate(groups):
         above = top + place * each
-        parts.append(text(EDGE, above + 14, shortened(name, letters_in(whole - 2 * EDGE), "\u2026")))
+        parts.append(text(EDGE, above + NAME - 12, shortened(name, letters_in(whole - 2 * EDGE), "\u2026")))
         parts.extend(band(steps, scale, Frame(picture.span, margin, across, above + NAME, above + each)))
     notes = []
     if len(groups) < len(picture.groups):
