@@ -34,6 +34,7 @@ Python 3.9 and its library are all that is needed. A module stands on those abov
     doubts, marks       what may not be meant in a file that is loaded, and in a script
     columns, loading    what the values of a column become, and the load that is made of a file
     claims              somebody's division as a check
+    given               the script and its answers that a tool is given
     words               those that several tools take
     cli, load_cli       the words of tools/answers and of tools/csv-to-load
 """

@@ -1,0 +1,92 @@
+"""The script and its answers that a tool is given, and which of the answers are picked."""
+import sys
+from argparse import Namespace
+from pathlib import Path
+from typing import Dict, List, NamedTuple, Sequence
+
+from ruzgalt import answers, called, fitting, picks, program, questions, records, refusals, store
+from ruzgalt.answers import Answer
+from ruzgalt.errors import Misfit
+
+
+class Found(NamedTuple):
+    """What was read: all answers, those to the questions put behind the script, and whether the program was asked."""
+
+    answers: List[Answer]
+    asked: List[Answer]
+    is_own: bool
+    # The names of those that were asked with one, by their answers' numbers.
+    names: Dict[int, str]
+
+
+def read(options: Namespace, shows_refusals: bool = False) -> Found:
+    """The answers to the script. Ends where a command was refused, unless it is told to go on.
+
+    A question that is asked just now isn't passed over, since another one's answer would stand in its place.
+    """
+    if options.script == options.answers == "-":
+        raise Misfit("standard input is the script, or its answers, and not both")
+    named = [questions.named(word) for word in options.ask]
+    options.ask = [question for _, question in named]
+    text, own_lines = questions.put_behind(bytes_of(options.script), options.ask)
+    # The program works while the script is read.
+    running = program.Running(options.program, text) if options.answers is None else None
+    try:
+        begun = questions.commands_of(text, options.ask, own_lines)
+    except Misfit:
+        if running:
+            running.stop()
+        raise
+    output = running.output() if running else bytes_of(options.answers)
+    found = answers.of_commands(begun, output)
+    refused = [answer for answer in found if answer.refusal and not shows_refusals]
+    if refused and not options.go_on:
+        more = f"{len(refused)} refused; `{called.ANSWERS} refusals` explains, --go-on goes on"
+        raise Misfit(f"{refusals.told(refused[0])} ({more})")
+    for answer in refused:
+        if answer.command.record.is_asked:
+            raise Misfit(f"{refusals.told(answer)} (--go-on passes over no question that is asked)")
+    asked = [answer for answer in found if answer.command.record.is_asked]
+    names = {answer.number: name for answer, (name, _) in zip(asked, named) if name}
+    return Found(found, asked, options.answers is None, names)
+
+
+def bytes_of(name: str) -> bytes:
+    return sys.stdin.buffer.read() if name == "-" else Path(name).read_bytes()
+
+
+def chosen(found: Found, words: Sequence[str]) -> List[picks.Pick]:
+    """The answers that were picked, or else all that were asked, or else all of the script."""
+    told = picked(found, words)
+    look_at(found, [pick.answer for pick in told])
+    return told
+
+
+def picked(found: Found, words: Sequence[str]) -> List[picks.Pick]:
+    return picks.pick(found.answers if words or not found.asked else found.asked, words, found.names)
+
+
+def look_at(found: Found, told: Sequence[Answer]) -> None:
+    """Refuses answers that aren't to this script, unless the program has just been asked, and tells empty pasts."""
+    if not found.is_own:
+        fitting.refuse_unfit(found.answers, told)
+    for answer in told:
+        for name, commit in store.later_tables(found.answers, answer):
+            past = f"{name} was made by commit {commit}, so commit {answer.commit} shows no row of it"
+            warn(f"{answer.place}: {records.short(answer.command.text)}: {past}")
+
+
+def last(found: Found, words: Sequence[str], count: int) -> List[Answer]:
+    """So many answers: those that were picked, or else the last that are more than an `ok`."""
+    told = picked(found, words)
+    if len(told) < count and not words:
+        raise Misfit(f"{count} wanted, and {len(told)} of the answers more than an `ok`: ask by --ask, as --ask rows,T")
+    if len(told) != count and (words or found.asked):
+        raise Misfit(f"{len(told)} answers, and not {count}: `csv --folder`, `sqlite` and `json` take several")
+    taken = [pick.answer for pick in told[-count:]]
+    look_at(found, taken)
+    return taken
+
+
+def warn(told: str) -> None:
+    sys.stderr.write(f"{called.ANSWERS_SAY}: {told}\n".encode("utf-8", "replace").decode())
