@@ -11,6 +11,8 @@ from ruzgalt.timeline import Span, ticks
 LETTER, EDGE, LINE, ABOVE, BELOW = 7.0, 12, 16, 66, 30
 # The width that no picture goes below, and those that it doesn't go past unless it is told.
 NARROW, WIDE, TALL = 760, 1_600, 4_000
+# The length of a point; and so many lines of notes there is room for, whatever lanes and groups take.
+TIP, KEPT = 6, 8
 GREY, RED = "#555", "#c00"
 
 

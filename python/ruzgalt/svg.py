@@ -6,18 +6,16 @@ from typing import Dict, Iterator, List, Optional, Tuple
 from ruzgalt import shades
 from ruzgalt.cells import shortened, width_of
 from ruzgalt.drawing import (
-    ABOVE, BELOW, EDGE, LETTER, LINE, NARROW, RED, TALL, Frame, across_for, axis, box, document, letters_in, line,
-    margin_for, shape, side_of, text, top_of,
+    ABOVE, BELOW, EDGE, KEPT, LETTER, LINE, NARROW, RED, TALL, TIP, Frame, across_for, axis, box, document, letters_in,
+    line, margin_for, shape, side_of, text, top_of,
 )
 from ruzgalt.forms import seconds
 from ruzgalt.labels import ROOM, Box, Unplaced, listed, put
 from ruzgalt.shapes import NOTHING, Bar, Bars, Groups, Picture, is_empty
 from ruzgalt.svg_steps import draw_groups, draw_steps
 
-# Pixels of a lane's height, of a bar at least, and of a point.
-HEIGHT, FOR_BAR, TIP = 20, 26, 6
-# So many lines of notes there is room for, whatever the lanes take.
-KEPT = 8
+# Pixels of a lane's height, and of a bar at least.
+HEIGHT, FOR_BAR = 20, 26
 POINTED = "A bar with a point goes on: without a known end, or start, or past what is shown."
 
 

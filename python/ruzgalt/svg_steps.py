@@ -3,8 +3,8 @@ from typing import Iterator, Optional, Sequence
 
 from ruzgalt.cells import shortened, width_of
 from ruzgalt.drawing import (
-    BELOW, EDGE, LETTER, LINE, Frame, across_for, axis, box, document, letters_in, line, margin_for, shape, text,
-    top_of,
+    BELOW, EDGE, KEPT, LETTER, LINE, TIP, Frame, across_for, axis, box, document, letters_in, line, margin_for, shape,
+    text, top_of,
 )
 from ruzgalt.forms import at_second, print_point
 from ruzgalt.labels import LISTED, Unplaced, listed
@@ -14,9 +14,7 @@ from ruzgalt.shapes import Groups, Step, Steps
 FILL, EDGED = "#9ecae1", "#08519c"
 # Pixels of the height of steps, of each of several groups', and of what stands above a group.
 DEPTH, OF_GROUP, NAME = 240, 72, 34
-LEVELS, LEVELS_OF_GROUP, FOR_STEP, TIP = 12, 4, 6, 6
-# So many lines of notes there is room for, whatever the groups take.
-KEPT = 8
+LEVELS, LEVELS_OF_GROUP, FOR_STEP = 12, 4, 6
 
 
 def draw_steps(picture: Steps, width: Optional[int]) -> str:
