@@ -2,7 +2,7 @@
 import sys
 from argparse import Namespace
 from pathlib import Path
-from typing import Dict, List, NamedTuple, Sequence
+from typing import Dict, List, NamedTuple, Optional, Sequence
 
 from ruzgalt import answers, called, fitting, picks, program, questions, records, refusals, store
 from ruzgalt.answers import Answer
@@ -17,10 +17,12 @@ class Found(NamedTuple):
     is_own: bool
     # The names of those that were asked with one, by their answers' numbers.
     names: Dict[int, str]
+    output: bytes
 
 
-def read(options: Namespace, shows_refusals: bool = False) -> Found:
-    """The answers to the script. Ends where a command was refused, unless it is told to go on.
+def read(options: Namespace, shows_refusals: bool = False, script: Optional[bytes] = None) -> Found:
+    """The answers to the script, which is read where it isn't told. Ends where a command was refused, unless it is told
+    to go on.
 
     A question that is asked just now isn't passed over, since another one's answer would stand in its place.
     """
@@ -28,7 +30,8 @@ def read(options: Namespace, shows_refusals: bool = False) -> Found:
         raise Misfit("standard input is the script, or its answers, and not both")
     named = [questions.named(word) for word in options.ask]
     options.ask = [question for _, question in named]
-    text, own_lines = questions.put_behind(bytes_of(options.script), options.ask)
+    script = bytes_of(options.script) if script is None else script
+    text, own_lines = questions.put_behind(script, options.ask)
     # The program works while the script is read.
     running = program.Running(options.program, text) if options.answers is None else None
     try:
@@ -48,7 +51,7 @@ def read(options: Namespace, shows_refusals: bool = False) -> Found:
             raise Misfit(f"{refusals.told(answer)} (--go-on passes over no question that is asked)")
     asked = [answer for answer in found if answer.command.record.is_asked]
     names = {answer.number: name for answer, (name, _) in zip(asked, named) if name}
-    return Found(found, asked, options.answers is None, names)
+    return Found(found, asked, options.answers is None, names, output)
 
 
 def bytes_of(name: str) -> bytes:
