@@ -2,7 +2,7 @@
 
 The records are by commit; those of a commit as in an answer to `changed`.
 """
-from typing import Dict, Iterator, List, Optional, Sequence, Tuple
+from typing import Dict, Iterable, Iterator, List, Optional, Sequence, Tuple
 
 from ruzgalt.answers import CHANGES, Answer
 from ruzgalt.changes import Held, changes, order
@@ -19,7 +19,7 @@ def of_table(found: Sequence[Answer], name: str, where: Sequence[Tuple[str, str]
             raise Misfit(f"{one}: no table that is there")
     schema, store = tables[name], behind(found)
     wanted = [(schema.place(column), value) for column, value in where]
-    days = days_of(store, diary, tables[diary]) if diary is not None else None
+    days = None if diary is None else days_of(tables[diary], open_rows(store, diary))
     lines = {one.commits: one.place for one in found if not one.refusal and one.command.word in CHANGES}
     columns = [*ints("commit"), Column("place", Kind.TEXT), *([Column("entered", Kind.POINT)] if diary else [])]
     columns = unique([*columns, Column("change", Kind.TEXT), *PERIOD, *schema.columns])
@@ -48,12 +48,18 @@ def changes_of(
             yield commit, change
 
 
-def days_of(store: Store, name: str, schema: Schema) -> List[Tuple[str, int]]:
-    """The days of a diary, each with the newest commit from then on: the number in its first column."""
+def days_of(schema: Schema, rows: Iterable[Sequence[str]]) -> List[Tuple[str, int]]:
+    """The days of a diary, each with the newest commit from then on: the number in its first column.
+
+    Its rows are told by start, end and values.
+    """
     if not schema.columns or schema.columns[0].kind is not Kind.INT:
-        raise Misfit(f"{name}: a diary's first column is an int, the newest commit from a row's start on")
-    rows = [one.row for one in store.open[name].by_id.values()]
-    return sorted((row.start, int(row.values[0])) for row in rows)
+        raise Misfit(f"{schema.name}: a diary's first column is an int, the newest commit from a row's start on")
+    return sorted((start, int(newest)) for start, _, newest, *_ in rows)
+
+
+def open_rows(store: Store, name: str) -> Iterator[List[str]]:
+    return ([one.row.start, one.row.end, *one.row.values] for one in store.open[name].by_id.values())
 
 
 def day_of(days: Sequence[Tuple[str, int]], commit: int) -> Optional[str]:
