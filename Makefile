@@ -42,7 +42,7 @@ install: all
 	    echo 'exec "$$(dirname "$$(realpath "$$0")")/'"$$from_command"'" "$$@"'; } | install -D -m 755 /dev/stdin "$(command)"
 	for name in dipq $(commands); do tools/man-page "$$name" | install -D -m 644 /dev/stdin "$(pages)/$$name.1"; done
 	rm -rf "$(data)/python"
-	find python/ruzgalt -name "*.py" -exec install -D -m 644 "{}" "$(data)/{}" ";"
+	find python/ruzgalt -name __pycache__ -prune -o -type f -exec install -D -m 644 "{}" "$(data)/{}" ";"
 	ln -sfn "$$(realpath -m --relative-to="$(DATADIR)/dipq" "$(BINDIR)/dipq")" "$(data)/dipq"
 	for tool in $(tools); do \
 	  install -D -m 755 "tools/$${tool%:*}" "$(data)/tools/$${tool%:*}"; \

@@ -29,6 +29,7 @@ Python 3.9 and its library are all that is needed. A module stands on those abov
     labels, svg_steps   where labels stand; steps in SVG
     svg, picture_cli    how a picture is drawn as SVG; the words of `picture`
     progress, program   a line that tells how far a tool is; the program that answers
+    page                all answers as one page for a browser
     sheets              a CSV file with a header: its bytes, its records by pieces
     dates, decimals     points and numbers in the forms of other programs
     doubts, marks       what may not be meant in a file that is loaded, and in a script

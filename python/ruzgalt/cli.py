@@ -15,6 +15,7 @@ from ruzgalt import (
 from ruzgalt.errors import Misfit
 from ruzgalt.forms import read_point
 from ruzgalt.given import bytes_of, chosen, last, read, warn
+from ruzgalt.page import contents, document, sources
 from ruzgalt.reader import Source
 from ruzgalt.store import Store
 from ruzgalt.words import pair
@@ -160,6 +161,13 @@ def do_picture(options: Namespace) -> None:
     show(picture_cli.drawn(found.answers, answer, options))
 
 
+def do_page(options: Namespace) -> int:
+    """Prints the page. The status is that of a list."""
+    told = sources.ask(options)
+    show_pieces(document.pieces(contents.of(told, options.diary)))
+    return 1 if any(answer.refusal for answer in told.answers) and not options.go_on else 0
+
+
 def do_refusals(options: Namespace) -> int:
     """Tells each refusal, and of one for a key the rows. The status is 1 where there is one."""
     found = read(options, shows_refusals=True).answers
@@ -220,6 +228,13 @@ def words_of_picture(parser: ArgumentParser) -> None:
     picture_cli.words_of_picture(parser)
 
 
+def words_of_page(parser: ArgumentParser) -> None:
+    parser.add_argument("--diary", metavar="TABLE", help="a table whose first column is the newest commit of a time")
+    parser.add_argument(
+        "--once", action="store_true", help="doesn't do the program's answers again, which the page then tells",
+    )
+
+
 def words_of_overlaps(parser: ArgumentParser) -> None:
     parser.add_argument("column", nargs="+", metavar="COLUMN", help="a column of the key")
     parser.add_argument("--of", action="append", default=[], metavar="PICK", help="the answer, where it isn't the last")
@@ -265,6 +280,9 @@ OF_LIST = "A refusal's name stands in the place of an answer. The status is then
 OF_CHANGED = """The first of the two is what was before: `-` is what it has alone, `+` what the second has alone.
 Records are by their values, columns from the left and numbers by size, and then by start; those of aggregates by
 group and then by start, `-` first."""
+OF_PAGE = """It is one file that asks no network: `tools/answers page SCRIPT > audit.html`. It has what was refused
+and what touched nothing, commits, questions with tables and pictures, what was said then beside what is said now, and
+what each table held. Each answer is done again, and where one differs no page is made. The status is that of `list`."""
 TOOLS: Dict[str, Tool] = {
     "list": Tool(do_list, "tells of each answer its number, its line and its command", more=OF_LIST),
     "csv": Tool(do_csv, "prints an answer (the last) as CSV with a header, or writes files", words_of_csv),
@@ -280,6 +298,7 @@ TOOLS: Dict[str, Tool] = {
     "front": Tool(
         do_front, "tells whether answers that were kept are still the front of the script's", words_of_front, False,
     ),
+    "page": Tool(do_page, "prints one page of HTML with all answers, for a browser", words_of_page, more=OF_PAGE),
     "refusals": Tool(do_refusals, "tells each refusal, its field and its reason; of keys, the rows"),
     "only": Tool(do_only, "prints the command that deletes or updates the row of an id, and no other", words_of_only),
     "faulty": Tool(do_faulty, "tells all faulty rows of all loads, where dipq tells the first", has_answers=False),

@@ -1,0 +1,103 @@
+"""What an auditor looks at first: what was refused, what touched nothing, what may not be meant, each with a reason."""
+from typing import Iterator, List, NamedTuple, Optional, Sequence, Tuple
+
+from ruzgalt import marks, overlaps, refusals
+from ruzgalt.answers import CHANGES, Answer
+from ruzgalt.doubts import fold
+from ruzgalt.fields import where_places
+from ruzgalt.page.sources import CLOSED, MADE, Sources, Tally
+from ruzgalt.records import short, visible
+from ruzgalt.store import Store
+from ruzgalt.tables import Table
+
+# So many findings of each kind are told.
+TOLD = 1_000
+
+
+class Finding(NamedTuple):
+    """Where it is, the command, the refusal's name (or nothing), the reason, and more lines about it."""
+
+    place: str
+    command: str
+    name: str
+    reason: str
+    more: List[str]
+
+
+class Findings(NamedTuple):
+    refused: List[Finding]
+    idle: List[Finding]
+    doubtful: List[Finding]
+    # The places of all of them that aren't told.
+    untold: int
+
+
+def of(sources: Sources, counts: Tally) -> Findings:
+    """All findings, each kind by the order of the script."""
+    refused, doubtful = refused_and_doubtful(sources.answers)
+    idle = [finding(one, "", why_idle(one, sources)) for one in sources.answers if is_idle(one, counts)]
+    kinds = refused, idle, doubtful
+    untold = sum(max(len(kind) - TOLD, 0) for kind in kinds)
+    return Findings(refused[:TOLD], idle[:TOLD], doubtful[:TOLD], untold)
+
+
+def finding(answer: Answer, name: str, reason: str, more: Sequence[str] = ()) -> Finding:
+    return Finding(answer.place, short(answer.command.text), name, reason, list(more))
+
+
+def refused_and_doubtful(found: Sequence[Answer]) -> Tuple[List[Finding], List[Finding]]:
+    """What was refused, a key's refusal with the rows; and what is marked, but for changes that touched nothing."""
+    seen, store = marks.Marks(found), Store()
+    refused = []
+    for answer, store in marks.walk(found):
+        seen.look(answer, store)
+        if answer.refusal:
+            more = overlaps.explained(store, answer) if answer.refusal.name == "KeyOverlap" else []
+            told = finding(answer, answer.refusal.name, refusals.reason(answer), more)
+            refused.append(told._replace(place=answer.refusal.record.place))
+    idle = marks.of_count
+    others = [mark for mark in seen.end(store) if mark.told != idle(mark.answer, 0)]
+    return refused, [finding(mark.answer, "", mark.told) for mark in others]
+
+
+def is_idle(answer: Answer, counts: Tally) -> bool:
+    """Whether it is a change of rows that was accepted, and made and closed no version."""
+    is_change = not answer.refusal and answer.command.word in CHANGES and answer.command.word != "table"
+    return is_change and not counts.added[answer.commits] and not counts.closed[answer.commits]
+
+
+def why_idle(answer: Answer, sources: Sources) -> str:
+    if answer.command.word == "load":
+        return "the load has no rows"
+    texts = answer.command.record.fields
+    table = sources.versions[texts[1]]
+    schema = answer.tables[texts[1]]
+    wanted = [(5 + schema.place(texts[place]), texts[place + 1]) for place in where_places(texts)]
+    rows = list(shown(table, answer.commits - 1))
+    for place, value in wanted:
+        values = {row[place] or "" for row in rows}
+        if value not in values:
+            name = schema.names[place - 5]
+            return f"no row has {visible(value) or 'the empty text'} as {name} then{alike(value, sorted(values))}"
+    held = [row for row in rows if all((row[place] or "") == value for place, value in wanted)]
+    if not held:
+        return "no row has all of these values" if wanted else f"{texts[1]} had no row then"
+    times = sorted(f"{row[1]} to {row[2]}" for row in held)
+    more = f", and {len(times) - 3} more" if len(times) > 3 else ""
+    return f"the rows that it names hold at other times: {', '.join(times[:3])}{more}"
+
+
+def shown(table: Table, commit: int) -> Iterator[Sequence[Optional[str]]]:
+    """The versions that a commit shows."""
+    for record in table.records:
+        made, closed = record[MADE], record[CLOSED]
+        if int(made or 0) <= commit and (closed is None or commit < int(closed)):
+            yield record
+
+
+def alike(value: str, others: Sequence[str]) -> str:
+    if not value:
+        return ""
+    folded = fold(value)
+    found = next((other for other in others if other and fold(other) == folded), None)
+    return f", but {visible(found)}, which looks alike" if found else ""

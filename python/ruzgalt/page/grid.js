@@ -1,0 +1,172 @@
+"use strict";
+// Elements, and tables that a reader sorts, filters and saves. No text of the data is read as HTML: elements are made one
+// by one, and what stands in them is text.
+
+const SVG = "http://www.w3.org/2000/svg";
+const collator = new Intl.Collator(undefined, { numeric: true });
+// What can't be seen, or turns the direction of what stands behind it, is shown by its code.
+const UNSEEN = /[\u0000-\u0008\u000b-\u001f\u007f-\u009f\u00ad\u200b\u200e\u200f\u2028-\u202e\u2060-\u2069\ufeff]/g;
+// On paper a table has so many records at most, as page.css says.
+const ON_PAPER = 100;
+
+function blockOf(id) {
+  return JSON.parse(document.getElementById(id).textContent);
+}
+
+const data = blockOf("data");
+
+function make(name, attributes = {}, ...inner) {
+  return filled(document.createElement(name), attributes, inner);
+}
+
+function drawn(name, attributes = {}, ...inner) {
+  return filled(document.createElementNS(SVG, name), attributes, inner);
+}
+
+function filled(element, attributes, inner) {
+  for (const [name, value] of Object.entries(attributes)) {
+    element.setAttribute(name, value);
+  }
+  element.append(...inner.map((one) => (typeof one === "string" ? seen(one) : one)));
+  return element;
+}
+
+function seen(text) {
+  return text.replace(UNSEEN, (one) => `\\u${one.charCodeAt(0).toString(16).padStart(4, "0")}`);
+}
+
+function pressed(text, act) {
+  const button = make("button", { type: "button" }, text);
+  button.addEventListener("click", act);
+  return button;
+}
+
+function grouped(number) {
+  return number.toLocaleString("en");
+}
+
+function counted(count, what) {
+  return `${grouped(count)} ${what}${count === 1 ? "" : "s"}`;
+}
+
+// --- Orders ---
+
+function byNumber(one, other) {
+  if (one === other || one === "" || other === "") {
+    return one === other ? 0 : one === "" ? -1 : 1;
+  }
+  // Long sums are past the numbers that are exact.
+  return Number(one) - Number(other) || (BigInt(one) < BigInt(other) ? -1 : 1);
+}
+
+// The texts of points are in the order of time.
+function byPoint(one, other) {
+  return one < other ? -1 : one > other ? 1 : 0;
+}
+
+function orderOf(kind) {
+  return { int: byNumber, point: byPoint }[kind] || collator.compare;
+}
+
+// --- CSV, as the program prints it ---
+
+function csvField(text, isAlone) {
+  return /[",\r\n]/.test(text) || (isAlone && text === "") ? `"${text.replaceAll('"', '""')}"` : text;
+}
+
+function csvOf(columns, records) {
+  const rows = [columns.map(([name]) => name), ...records];
+  return rows.map((row) => `${row.map((field) => csvField(field, row.length === 1)).join(",")}\n`).join("");
+}
+
+function save(name, text) {
+  const address = URL.createObjectURL(new Blob([text], { type: "text/csv" }));
+  const link = make("a", { href: address, download: name });
+  document.body.append(link);
+  link.click();
+  link.remove();
+  setTimeout(() => URL.revokeObjectURL(address), 60000);
+}
+
+// --- A table ---
+
+// Records under columns of a name and a kind. It is saved as `file`, where that is told. Of `count` records some may not be
+// in the page, and `shown` are shown at first. `look` tells the class of a record's row.
+class Grid {
+  constructor({ label, columns, records, file, shown = data.shown, count = records.length, look = () => "" }) {
+    Object.assign(this, { columns, records, count, look, limit: shown, words: "", sorted: null, isFalling: false });
+    this.body = make("tbody");
+    this.told = make("output", { class: "soft" });
+    this.more = pressed("Show more", () => { this.limit = data.shown; this.refresh(); });
+    this.heads = columns.map(([name, kind], place) => this.headOf(name, kind, place));
+    const table = make("table", {}, make("thead", {}, make("tr", {}, ...this.heads)), this.body);
+    const scroll = make("div", { class: "scroll", tabindex: "0", role: "region", "aria-label": label }, table);
+    this.element = make("div", { class: "table" }, this.toolsFor(label, file), scroll);
+    this.refresh();
+  }
+
+  toolsFor(label, file) {
+    const tools = make("div", { class: "tools" }, this.told, this.more);
+    if (this.count > 5) {
+      const search = make("input", { type: "search", "aria-label": `Filter ${label}`, placeholder: "Filter" });
+      search.addEventListener("input", () => { this.words = search.value.toLowerCase(); this.refresh(); });
+      tools.append(search);
+    }
+    if (file) {
+      const csv = pressed("Save as CSV", () => save(file, csvOf(this.columns, this.records)));
+      csv.setAttribute("aria-label", `Save as CSV: ${label}`);
+      tools.append(csv);
+    }
+    return tools;
+  }
+
+  // A browser doesn't print buttons again at the head of a table's next page, so the name stands there once more.
+  headOf(name, kind, place) {
+    const button = pressed(name, () => this.sortBy(place));
+    return make("th", { scope: "col", class: kind, "aria-sort": "none" }, button, make("span", { class: "on-paper" }, name));
+  }
+
+  // Rising, then falling, then as the records were.
+  sortBy(place) {
+    const isSame = this.sorted === place;
+    this.sorted = isSame && this.isFalling ? null : place;
+    this.isFalling = isSame && !this.isFalling;
+    this.heads.forEach((head, at) => {
+      head.setAttribute("aria-sort", at !== this.sorted ? "none" : this.isFalling ? "descending" : "ascending");
+    });
+    this.refresh();
+  }
+
+  found() {
+    const { words, sorted } = this;
+    const found = this.records.filter((one) => !words || one.some((field) => field.toLowerCase().includes(words)));
+    if (sorted !== null) {
+      const compare = orderOf(this.columns[sorted][1]), sign = this.isFalling ? -1 : 1;
+      found.sort((one, other) => sign * compare(one[sorted], other[sorted]));
+    }
+    return found;
+  }
+
+  refresh() {
+    const found = this.found(), { limit, count, records } = this;
+    this.body.replaceChildren(...found.slice(0, limit).map((record) => this.rowOf(record)));
+    const front = found.length > limit ? `first ${grouped(limit)} of ` : "";
+    const lacking = records.length < count ? `; of ${grouped(count)} the others aren't in this page` : "";
+    this.told.textContent = `${front}${counted(found.length, "record")}${this.words ? " found" : ""}${lacking}`;
+    if (Math.min(found.length, limit) > ON_PAPER) {
+      this.told.append(make("span", { class: "on-paper" }, `; on paper the first ${ON_PAPER}`));
+    }
+    this.more.hidden = limit >= data.shown || found.length <= limit;
+  }
+
+  rowOf(record) {
+    const cells = record.map((field, place) => make("td", { class: this.columns[place][1] }, field));
+    return make("tr", { class: this.look(record) }, ...cells);
+  }
+
+  show(records) {
+    this.records = records;
+    this.count = records.length;
+    this.refresh();
+  }
+}

@@ -1,0 +1,207 @@
+// The parts of the page: what it is of, what is to be looked at first, commits, then and now, questions, tables.
+
+// A table of more columns takes the whole width, on the screen and on paper.
+const WIDEST = 8, WIDEST_ON_PAPER = 5;
+// What stands at these places of a record is another after each change, so it isn't compared.
+const IDS = { rows: [0], at: [0], anti: [0], join: [2, 3] };
+
+function section(id, ...inner) {
+  document.getElementById(id).append(...inner);
+}
+
+function fileTold(file) {
+  return [`${file.name}, ${counted(file.size, "byte")}, SHA-256 `, make("span", { class: "mark" }, file.sha256)];
+}
+
+function answeredTold() {
+  const [command, program] = data.files;
+  if (!data.isOwn) {
+    return ["no program was run: the answers were read from ", ...fileTold(command)];
+  }
+  if (!command) {
+    return ["a program whose file can't be read"];
+  }
+  return program ? [...fileTold(command), ", which runs ", ...fileTold(program)] : fileTold(command);
+}
+
+function againTold() {
+  if (!data.isDoneAgain) {
+    return "No. The program's answers stand here as it printed them.";
+  }
+  return "Yes: the script's changes were done once more in Python, and each answer but a refusal was found from them in "
+    + `another way. All are the same, of ${counted(data.answers, "answer")}.`;
+}
+
+function showHead() {
+  const { name } = data.script;
+  document.title = `Answers to ${name}`;
+  document.getElementById("name").textContent = seen(name);
+  const findings = [[data.refused, "refused"], [data.idle, "touched nothing"], [data.doubtful, "may not be meant"]];
+  const short = findings.map(([found, what]) => `${grouped(found.length)} ${what}`).join(", ");
+  const counts = `${counted(data.commits.length, "commit")}, ${counted(data.questions.length, "question")}; ${short}.`;
+  const facts = [["Script", fileTold(data.script)], ["Answered by", answeredTold()], ["Done again", [againTold()]], ["In short", [counts]]];
+  for (const [what, told] of facts) {
+    document.getElementById("facts").append(make("dt", {}, what), make("dd", {}, ...told));
+  }
+}
+
+function showFindings(title, found, about, none) {
+  section("first", make("h3", {}, `${title}: ${grouped(found.length)}`), make("p", {}, found.length ? about : none));
+  if (found.length) {
+    const isNamed = found.some((one) => one.name);
+    const name = isNamed ? [["refusal", "bad"]] : [];
+    const columns = [["place", "short"], ["command", "code"], ...name, ["reason", "reason"]];
+    const records = found.map((one) => [one.place, one.command, ...(isNamed ? [one.name] : []), [one.reason, ...one.more].join("\n")]);
+    section("first", new Grid({ label: title, columns, records }).element);
+  }
+}
+
+function showFirst() {
+  showFindings("Refused commands", data.refused,
+    "Each changed nothing: none of its rows was taken, and it is no commit.", "No command was refused.");
+  showFindings("Changes that touched nothing", data.idle,
+    "Each is a commit, but no row was made or closed.", "Each change of rows made or closed some.");
+  showFindings("What may not be meant", data.doubtful,
+    "Each was done as it is written. Whether it is meant, its author knows.", "Nothing else was noticed.");
+}
+
+function showCommits() {
+  const hasDays = data.diary !== null;
+  const about = hasDays
+    ? `Days are those of the table ${data.diary}: the first day on which a commit was there.`
+    : "The store has no clock, and no diary was told (--diary TABLE), so commits have numbers and no days.";
+  const all = [
+    ["commit", "int"], ["day", "point"], ["place", "short"], ["command", "code"], ["rows added", "int"], ["rows closed", "int"],
+  ];
+  const withDays = (record) => record.filter((_, place) => hasDays || place !== 1);
+  section("commits", make("p", {}, "Each accepted change, and how many versions of rows it made and closed. ", about));
+  const records = data.commits.map(withDays);
+  section("commits", new Grid({ label: "commits", columns: withDays(all), records, file: "commits.csv" }).element);
+}
+
+// --- Then and now ---
+
+function countsOf(keys) {
+  const counts = new Map();
+  keys.forEach((key) => counts.set(key, (counts.get(key) || 0) + 1));
+  return counts;
+}
+
+// The records, each with nothing before it, or with `only` where there are fewer of its values among the others.
+function marked(word, records, others, only) {
+  const key = (record) => JSON.stringify(record.filter((_, place) => !(IDS[word] || []).includes(place)));
+  const left = countsOf(others.map(key));
+  return records.map((record) => {
+    const count = left.get(key(record)) || 0;
+    left.set(key(record), count - 1);
+    return [count > 0 ? "" : only, ...record];
+  });
+}
+
+function sideOf(when, question, records) {
+  const label = `${when}: ${commitTold(question.commit)}`;
+  const columns = [["said", "short"], ...question.columns];
+  const file = `${when.toLowerCase()}-${question.number}.csv`;
+  const look = ([mark]) => mark.slice(5);
+  const grid = new Grid({ label: `${label}, ${question.command}`, columns, records, look, file });
+  const title = make("h4", {}, label, make("span", { class: "soft" }, ` (${question.place})`));
+  return { element: make("div", {}, title, grid.element), only: (is) => grid.show(records.filter(([mark]) => mark || !is)) };
+}
+
+function pairOf(then, now) {
+  const article = make("article", {}, make("h3", {}, make("code", {}, now.command)));
+  if (!then.hasAll || !now.hasAll) {
+    const command = make("code", {}, `tools/answers changed ${data.script.name} ${then.number} ${now.number}`);
+    article.append(make("p", {}, "Not all records are in this page. What changed is told by ", command, "."));
+    return article;
+  }
+  const before = blockOf(`records-${then.number}`), after = blockOf(`records-${now.number}`);
+  const said = [marked(now.word, before, after, "only then"), marked(now.word, after, before, "only now")];
+  const [gone, come] = said.map((records) => records.filter(([mark]) => mark).length);
+  const both = before.length - gone;
+  const sides = [sideOf("Then", then, said[0]), sideOf("Now", now, said[1])];
+  article.append(make("p", {}, `${counted(both, "record")} said both times, ${gone} only then, ${come} only now.`));
+  if (both && gone + come) {
+    const only = make("input", { type: "checkbox" });
+    const refresh = () => sides.forEach((side) => side.only(only.checked));
+    only.checked = true;
+    only.addEventListener("change", refresh);
+    refresh();
+    article.append(make("div", { class: "tools" }, make("label", { class: "stays" }, only, "Only what differs is shown")));
+  }
+  const width = now.columns.length < WIDEST_ON_PAPER ? "two pair narrow" : now.columns.length < WIDEST ? "two pair" : "";
+  article.append(make("div", { class: `beside ${width}` }, ...sides.map((side) => side.element)));
+  return article;
+}
+
+function showPairs() {
+  const byNumber = new Map(data.questions.map((question) => [question.number, question]));
+  const pairs = data.pairs.map((pair) => pairOf(...pair.map((number) => byNumber.get(number))));
+  const none = make("p", {}, "No question is asked as of a commit (asof,N), and without that of a later one.");
+  section("pairs", ...(pairs.length ? pairs : [none]));
+}
+
+// --- Questions, each with its picture ---
+
+function pictureOf([name, attributes, ...inner]) {
+  return drawn(name, attributes, ...inner.map((one) => (typeof one === "string" ? one : pictureOf(one))));
+}
+
+function figureOf(tree, label) {
+  const picture = pictureOf(tree);
+  picture.setAttribute("role", "img");
+  picture.setAttribute("aria-label", `Picture of ${label}. The table beside it has the same.`);
+  return make("figure", {}, picture);
+}
+
+function questionOf(question) {
+  const { number, command, columns, count, shown, picture } = question;
+  const records = blockOf(`records-${number}`), file = `${number}-${question.word}.csv`;
+  const about = `${question.place}, answer ${number}; it reads ${commitTold(question.commit)}.`;
+  const grid = new Grid({ label: command, columns, records, count, shown, file });
+  const beside = make("div", { class: `beside ${picture && columns.length <= WIDEST ? "two" : ""}` }, grid.element);
+  beside.append(...(picture ? [figureOf(picture, command)] : []));
+  const told = question.told ? [make("p", {}, question.told)] : [];
+  const none = question.noPicture ? [make("p", { class: "soft" }, question.noPicture)] : [];
+  const title = make("h3", { id: `question-${number}` }, make("code", {}, command));
+  return make("article", {}, title, make("p", { class: "soft" }, about), ...told, beside, ...none);
+}
+
+function showQuestions() {
+  const none = make("p", {}, "The script asks nothing.");
+  section("questions", ...(data.questions.length ? data.questions.map(questionOf) : [none]));
+}
+
+// --- Tables, and what the page is ---
+
+function showTables() {
+  const source = data.hasPrinted
+    ? "What is shown here is found in this page from versions that the program printed: behind the script it was asked "
+      + "between,TABLE,0,1000000 for each table."
+    : "What is shown here is found in this page from versions that tools/answers made when it did the script's changes once "
+      + "more. The program wasn't asked for them.";
+  const times = "Two times are told apart: the day for which a row holds, and the commit from which on the store knew it.";
+  section("tables", make("p", {}, source), make("p", {}, times));
+  section("tables", ...(data.tables.length ? data.tables.map(tableOf) : [make("p", {}, "The script makes no table.")]));
+}
+
+function showAbout() {
+  const { name } = data.script;
+  const left = data.leftOut.length ? data.leftOut : ["nothing"];
+  section("about",
+    make("p", {}, "This page was made by tools/answers page. It is one file, and asks no network; the same script and the same "
+      + "answers give the same page, byte by byte. Whoever has the script can have it answered again:"),
+    make("p", {}, make("code", {}, `sha256sum ${name}\ndipq < ${name}`)),
+    make("p", {}, "A period begins with its first point and ends before its second; 9999-12-31 stands for an end that isn't "
+      + "known. Records are sorted and filtered in the page alone. What is saved as CSV has all records of a table that are in "
+      + "the page, in the order of the answer."),
+    make("h3", {}, "Left out of this page"), make("ul", {}, ...left.map((one) => make("li", {}, one))));
+}
+
+showHead();
+showFirst();
+showCommits();
+showPairs();
+showQuestions();
+showTables();
+showAbout();

@@ -1,0 +1,138 @@
+"""Which script a page is of, who answered it, and each version of each of its tables."""
+import hashlib
+from argparse import Namespace
+from collections import Counter
+from pathlib import Path
+from typing import Counter as Counts
+from typing import Dict, List, NamedTuple, Optional, Sequence
+
+from ruzgalt import fitting
+from ruzgalt.again import texts_of
+from ruzgalt.answers import Answer
+from ruzgalt.given import Found, bytes_of, read
+from ruzgalt.commands import commands
+from ruzgalt.errors import Misfit
+from ruzgalt.forms import is_name
+from ruzgalt.questions import commands_of, named, put_behind
+from ruzgalt.reader import Source
+from ruzgalt.records import short
+from ruzgalt.store import Store, behind
+from ruzgalt.tables import PERIOD, Schema, Table, ints, unique
+
+# No commit has a greater number.
+NEWEST = 1_000_000
+# Where the program's own file stands, seen from the command that runs it: in the repository, and installed.
+PROGRAMS = ("crates/dipq/out/dipq", "../libexec/dipq/dipq")
+# The places of these two in a version: the commit that made it, and the one that closed it.
+MADE, CLOSED = 3, 4
+
+
+class Marked(NamedTuple):
+    """A file by its name, without its folder, and by what marks its bytes."""
+
+    name: str
+    size: int
+    sha256: str
+
+
+class Sources(NamedTuple):
+    """What a page is made of. Answers are those to the script and to what was asked behind it by name."""
+
+    script: Marked
+    answers: List[Answer]
+    # What answered: the command and the program that it runs, or the file of the answers.
+    files: List[Marked]
+    is_own: bool
+    is_done_again: bool
+    # The versions of each table, and whether the program printed them: else they are of the changes, done again.
+    versions: Dict[str, Table]
+    has_printed: bool
+
+    @property
+    def tables(self) -> Dict[str, Schema]:
+        return self.answers[-1].tables if self.answers else {}
+
+
+def marked(name: str, data: bytes) -> Marked:
+    shown = "standard input" if name == "-" else Path(name).name
+    return Marked(shown, len(data), hashlib.sha256(data).hexdigest())
+
+
+def files_of(program: str) -> List[Marked]:
+    """The command that was run, and the program's own file where that is another."""
+    command = Path(program).resolve()
+    files = [command, *(command.parent / place for place in PROGRAMS)]
+    return [marked(file.name, file.read_bytes()) for file in files if file.is_file()][:2]
+
+
+def questions_for(script: bytes) -> List[str]:
+    """What is asked behind the script for each version of its tables: nothing, where its end would take the question.
+
+    A table that is refused is asked for too, and that is refused.
+    """
+    made = [command.record.fields for command in commands(Source(script)) if command.word == "table"]
+    names = dict.fromkeys(fields[1] for fields in made if len(fields) > 1 and is_name(fields[1]))
+    asked = [f"between,{name},0,{NEWEST}" for name in names]
+    text, own_lines = put_behind(script, asked)
+    try:
+        commands_of(text, asked, own_lines)
+    except Misfit:
+        return []
+    return asked
+
+
+def ask(options: Namespace) -> Sources:
+    """The sources of a page of this script. Where the program answers, it is asked for versions behind the script, and
+    answers are done again but where that isn't wanted. Raises Misfit where one isn't what the changes give.
+    """
+    script = bytes_of(options.script)
+    asked = [question for _, question in map(named, options.ask)]
+    versions = questions_for(put_behind(script, asked)[0]) if options.answers is None else []
+    options.ask = [*options.ask, *versions]
+    found = read(options, shows_refusals=True, script=script)
+    files = files_of(options.program) if found.is_own else [marked(options.answers, found.output)]
+    is_done_again = not found.is_own or not options.once
+    store = behind(found.answers)
+    if is_done_again:
+        refuse_others(found, store)
+    own = found.answers[:len(found.answers) - len(versions)]
+    printed = {one.command.front[1]: one.table for one in found.answers[len(own):] if not one.refusal}
+    tables = own[-1].tables if own else {}
+    made = {name: printed[name] if name in printed else done_again(store, tables[name]) for name in tables}
+    return Sources(marked(options.script, script), own, files, found.is_own, is_done_again, made, bool(printed))
+
+
+def refuse_others(found: Found, store: Store) -> None:
+    if not found.is_own:
+        fitting.refuse_unfit(found.answers, found.answers)
+        return
+    for answer in found.answers:
+        told = None if answer.refusal else fitting.fault(found.answers, store, answer)
+        if told:
+            text = short(answer.command.text)
+            raise Misfit(f"{answer.place}: {text}: {told}: the program answers otherwise than the changes, done again")
+
+
+def done_again(store: Store, schema: Schema) -> Table:
+    """The versions of a table, as `between` prints them."""
+    records: List[List[Optional[str]]] = []
+    for version in store.versions[schema.name]:
+        row_id, start, end, *values = texts_of(version)
+        closed = None if version.closed is None else str(version.closed)
+        records.append([row_id, start, end, str(version.made), closed, *values])
+    return Table(unique([*ints("row_id"), *PERIOD, *ints("sys_from", "sys_to"), *schema.columns]), records)
+
+
+class Tally(NamedTuple):
+    """How many versions each commit made, and how many it closed."""
+
+    added: Counts[int]
+    closed: Counts[int]
+
+
+def tally(versions: Sequence[Table]) -> Tally:
+    found = Tally(Counter(), Counter())
+    for table in versions:
+        found.added.update(int(record[MADE] or 0) for record in table.records)
+        found.closed.update(int(record[CLOSED] or 0) for record in table.records)
+    return found

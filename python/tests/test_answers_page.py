@@ -1,0 +1,273 @@
+"""The page of `tools/answers page`: its data, what stands round them, and what is left out. No browser is needed."""
+import json
+import math
+import re
+import tempfile
+import unittest
+from argparse import Namespace
+from base64 import b64encode
+from hashlib import sha256
+from pathlib import Path
+from typing import Any, Dict, List, Optional
+from unittest import mock
+
+from ruzgalt.errors import Misfit
+from ruzgalt.page import contents, document, drawings, sources
+from tests.support import TOP, ToolCase, kept, run
+from tests.test_answers import FAKE
+
+BLOCK = re.compile(r'<script type="application/json" id="([a-z]+(?:-\d+)?)">([^<]*)</script>\n')
+HOSTILE = [
+    "<script>alert(1)</script>", "</script><img src=x onerror=alert(1)>", "&quot;&lt;b&gt;", "<!--", "]]>", "{{data}}",
+    "a\u2028b\u2029c", "\u202eevil", "\\u003cb\\u003e", "' onmouseover='alert(1)", '"quoted"', "\U0001f600",
+]
+TIME = "2024-01-01,2024-02-01"
+
+
+def page_of(script: str, told: str, *words: str) -> str:
+    """The page of a script that has these answers. Raises Misfit where there is none."""
+    with kept(script) as name, kept(told) as answers:
+        status, printed, said = run(["tools/answers", "page", name, "--answers", answers, "--go-on", *words])
+    if status:
+        raise Misfit(said)
+    return printed
+
+
+def example(name: str, *words: str) -> str:
+    told = f"examples/{name}.csv.stdout"
+    status, printed, said = run(["tools/answers", "page", f"examples/{name}.csv", "--answers", told, "--go-on", *words])
+    if status:
+        raise Misfit(said)
+    return printed
+
+
+def data_of(page: str) -> Dict[str, Any]:
+    return {name: json.loads(text) for name, text in BLOCK.findall(page)}
+
+
+def quoted(value: str) -> str:
+    return '"' + value.replace('"', '""') + '"'
+
+
+def hostile() -> str:
+    """A page of a table with each of these names."""
+    rows = [f"{TIME},{quoted(value)}" for value in HOSTILE]
+    script = "table,t,name,text\nload,t\n" + "".join(f"row,{row}\n" for row in rows) + "end\nrows,t\n"
+    script += f"{quoted(HOSTILE[1])},x\ndelete,t,{TIME},where,name,{quoted(HOSTILE[0] * 2)}\n"
+    listed = "".join(f"row,{number},{row}\n" for number, row in enumerate(rows, 1))
+    return page_of(script, f"ok,1\nok,2\n{listed}end,{len(rows)}\nerror,{len(rows) + 5},BadCommand\nok,3\n")
+
+
+class Documents(unittest.TestCase):
+    def test_what_stands_round_the_data_is_the_same_for_each_script(self) -> None:
+        round_data = {BLOCK.sub("", page) for page in (hostile(), example("pay"), example("payroll"))}
+        self.assertEqual(len(round_data), 1)
+
+    def test_data_are_ascii_without_a_character_of_html(self) -> None:
+        page = hostile()
+        blocks = BLOCK.findall(page)
+        self.assertEqual(len(blocks), page.count("<script") - 1)
+        for name, text in blocks:
+            with self.subTest(name):
+                self.assertTrue(text.isascii())
+                self.assertFalse(set("<>&") & set(text))
+        self.assertEqual([row[3] for row in data_of(page)["records-3"]], HOSTILE)
+
+    def test_the_policy_lets_one_script_and_one_style_run_and_asks_no_network(self) -> None:
+        page = example("pay")
+        [policy] = re.findall('<meta http-equiv="Content-Security-Policy" content="([^"]*)">', page)
+        rules = dict(rule.strip().split(" ", 1) for rule in policy.split(";"))
+        for name in ("script", "style"):
+            [text] = re.findall(f"<{name}>(.*?)</{name}>", page, re.DOTALL)
+            hashed = b64encode(sha256(text.encode()).digest()).decode()
+            self.assertEqual(rules[f"{name}-src"], f"'sha256-{hashed}'")
+        self.assertEqual((rules["default-src"], rules["form-action"]), ("'none'", "'none'"))
+        self.assertEqual(rules["require-trusted-types-for"], "'script'")
+        self.assertNotRegex(page, r"https?://(?!www\.w3\.org/2000/svg)")
+
+    def test_its_own_files_have_no_end_of_themselves_in_them(self) -> None:
+        for name in ("page.css", *document.SCRIPTS):
+            with self.subTest(name):
+                self.assertNotRegex(document.read(name), r"(?i)</(script|style)|<!--|innerHTML|\{\{")
+
+    def test_the_same_script_gives_the_same_page_wherever_it_stands(self) -> None:
+        script, told = (Path(TOP, "examples", name).read_bytes() for name in ("pay.csv", "pay.csv.stdout"))
+        pages = set()
+        for _ in range(2):
+            with tempfile.TemporaryDirectory() as folder:
+                for name, text in (("pay.csv", script), ("pay.csv.stdout", told)):
+                    Path(folder, name).write_bytes(text)
+                words = ["tools/answers", "page", f"{folder}/pay.csv", "--answers", f"{folder}/pay.csv.stdout"]
+                pages.add(run(words)[1])
+        self.assertEqual(pages, {example("pay")})
+
+    def test_colours_are_told_apart_as_accessible_pages_ask(self) -> None:
+        style = document.read("page.css")
+        light, dark = (dict(re.findall(r"--(\w+): (#\w{6})", part)) for part in style.split("@media screen", 1))
+        for colours in (light, dark):
+            for ink in ("ink", "soft", "accent", "bad"):
+                for paper in ("paper", "head", "then", "now", "notice"):
+                    # Of the marked rows the text is in the page's own ink.
+                    if ink == "ink" or paper in ("paper", "head"):
+                        with self.subTest(f"{ink} on {paper}"):
+                            self.assertGreaterEqual(contrast(colours[ink], colours[paper]), 4.5)
+            self.assertGreaterEqual(contrast(colours["edge"], colours["paper"]), 3)
+
+
+def contrast(one: str, other: str) -> float:
+    """How many times as light the one colour is as the other, as WCAG tells it."""
+    lights = sorted(luminance(colour) + 0.05 for colour in (one, other))
+    return lights[1] / lights[0]
+
+
+def luminance(colour: str) -> float:
+    parts = [int(colour[place:place + 2], 16) / 255 for place in (1, 3, 5)]
+    lights = [part / 12.92 if part <= 0.04045 else math.pow((part + 0.055) / 1.055, 2.4) for part in parts]
+    return sum(share * light for share, light in zip((0.2126, 0.7152, 0.0722), lights))
+
+
+class Contents(ToolCase):
+    def test_the_head_tells_the_script_and_who_answered(self) -> None:
+        data = data_of(example("pay"))["data"]
+        script = Path(TOP, "examples/pay.csv").read_bytes()
+        told = {"name": "pay.csv", "size": len(script), "sha256": sha256(script).hexdigest()}
+        self.assertEqual(data["script"], told)
+        self.assertEqual([file["name"] for file in data["files"]], ["pay.csv.stdout"])
+        self.assertEqual((data["isOwn"], data["isDoneAgain"], data["hasPrinted"]), (False, True, False))
+
+    def test_refusals_have_their_reasons_and_of_a_key_the_rows(self) -> None:
+        data = data_of(example("payroll"))["data"]
+        [refused] = data["refused"]
+        told = [refused[name] for name in ("place", "command", "name")]
+        self.assertEqual(told, ["line 38", "load,pay", "KeyOverlap"])
+        self.assertIn('person "Adeyemi, Folake": both hold from 2024-09-01 to 9999-12-31', refused["more"])
+
+    def test_commits_have_their_counts_and_the_days_of_a_diary(self) -> None:
+        script = Path(TOP, "examples/pay.csv").read_text() + "table,diary,newest,int\nload,diary\n"
+        script += "row,2024-01-02,2024-08-20,2\nrow,2024-08-20,9999-12-31,3\nend\n"
+        told = Path(TOP, "examples/pay.csv.stdout").read_text() + "ok,4\nok,5\n"
+        commits = data_of(page_of(script, told, "--diary", "diary"))["data"]["commits"]
+        self.assertEqual(commits[1], ["2", "2024-01-02", "line 2", "load,pay (2 rows)", "2", "0"])
+        self.assertEqual([commit[1] for commit in commits], ["2024-01-02", "2024-01-02", "2024-08-20", "", ""])
+        self.assertEqual(commits[2][4:], ["2", "1"])
+        words = ["examples/pay.csv", "--answers", "examples/pay.csv.stdout", "--diary", "x"]
+        self.check(["tools/answers", "page", *words], "", 1, "answers: x: no table that is there")
+
+    def test_then_and_now_are_the_questions_that_are_asked_twice(self) -> None:
+        data = data_of(example("payroll"))["data"]
+        commands = {one["number"]: one["command"] for one in data["questions"]}
+        pairs = [[commands[number] for number in pair] for pair in data["pairs"]]
+        self.assertEqual(pairs, [[f"{command},asof,{commit}", command] for command, commit in [
+            ("at,pay,2024-06-28", 4), ("at,pay,2024-07-31", 5), ("agg,pay,sum,euros", 5),
+        ]])
+
+    def test_checks_of_other_parts_are_no_pair(self) -> None:
+        rows = f"table,t\nload,t\nrow,{TIME}\nend\nload,t\nrow,{TIME}\nend\n"
+        then = "check,t,1,2024-01-01,asof,2\npart,1\nend\n"
+        for part, missing, pairs in ((1, 2, [[4, 5]]), (2, 1, [])):
+            page = page_of(
+                f"{rows}{then}check,t,1,2024-01-01\npart,{part}\nend\n",
+                f"ok,1\nok,2\nok,3\nyes\nno,Missing,{missing}\n",
+            )
+            self.assertEqual(data_of(page)["data"]["pairs"], pairs)
+
+    def test_changes_that_touched_nothing_have_a_reason(self) -> None:
+        pay = f'table,pay,person,text,euros,int\nload,pay\nrow,{TIME},"Byron, Ada",5\nrow,{TIME},"Hill, Grace",6\nend\n'
+        for change, reason in [
+            ("load,pay\nend", "the load has no rows"),
+            (f"delete,pay,{TIME},where,person,\"byron, ada\"",
+             "no row has byron, ada as person then, but Byron, Ada, which looks alike"),
+            (f"delete,pay,{TIME},where,person,\"Byron, Ada\",euros,6", "no row has all of these values"),
+            ('update,pay,2024-03-01,2024-04-01,set,euros,7,where,euros,5',
+             "the rows that it names hold at other times: 2024-01-01 to 2024-02-01"),
+            ("delete,pay,2024-03-01,2024-04-01",
+             "the rows that it names hold at other times: 2024-01-01 to 2024-02-01, 2024-01-01 to 2024-02-01"),
+        ]:
+            with self.subTest(change):
+                [idle] = data_of(page_of(f"{pay}{change}\n", "ok,1\nok,2\nok,3\n"))["data"]["idle"]
+                self.assertEqual((idle["place"], idle["reason"]), ("line 6", reason))
+
+    def test_answers_that_the_changes_do_not_give_make_no_page(self) -> None:
+        told = Path(TOP, "examples/pay.csv.stdout").read_text().replace(",5400", ",5401")
+        self.check(["tools/answers", "page", "examples/pay.csv", "--answers", "-"], told, 1, "answers: line 7: at,pay,")
+
+    def test_the_status_is_that_of_a_list(self) -> None:
+        words = ["examples/payroll.csv", "--answers", "examples/payroll.csv.stdout"]
+        self.assertEqual(run(["tools/answers", "page", *words])[0], 1)
+        self.assertEqual(run(["tools/answers", "page", *words, "--go-on"])[0], 0)
+
+
+class Limits(unittest.TestCase):
+    def test_what_has_no_room_is_left_out_and_told(self) -> None:
+        rows = [f"{TIME},{number}" for number in range(1500)]
+        script = "table,t,a,int\nload,t\n" + "".join(f"row,{row}\n" for row in rows) + "end\nrows,t\n"
+        listed = "".join(f"row,{number},{row}\n" for number, row in enumerate(rows, 1))
+        told = f"ok,1\nok,2\n{listed}end,1500\n"
+        whole = data_of(page_of(script, told))
+        self.assertEqual((len(whole["records-3"]), whole["data"]["leftOut"]), (1500, []))
+        with mock.patch.object(contents, "ROOM", 50_000):
+            cut = data_of(page_of(script, told))
+        self.assertEqual((len(cut["records-3"]), "versions-0" in cut), (1000, False))
+        self.assertEqual(cut["data"]["leftOut"], [
+            "of line 1504, rows,t: 500 of 1,500 records", "the 1,500 versions of t, and so what held on each day",
+        ])
+
+    def test_many_questions_share_what_is_shown_at_once(self) -> None:
+        script = "table,t\n" + "rows,t\n" * 1200
+        data = data_of(page_of(script, "ok,1\n" + "end,0\n" * 1200))["data"]
+        self.assertEqual((len(data["questions"]), data["questions"][0]["shown"]), (1000, 100))
+        self.assertEqual(data["leftOut"], ["200 questions behind the first 1,000"])
+
+    def test_a_picture_of_many_records_is_left_to_the_tool(self) -> None:
+        with mock.patch.object(drawings, "MOST", 1):
+            [question, *_] = data_of(example("pay"))["data"]["questions"]
+        self.assertIn("2 records are more than 1", question["noPicture"])
+
+    def test_a_picture_has_no_element_that_could_do_anything(self) -> None:
+        for text in ("<svg><script/></svg>", "<svg onload='x'/>", "<svg><rect fill='url(//a)'/></svg>"):
+            with self.subTest(text), mock.patch("ruzgalt.svg.draw", return_value=text), self.assertRaises(ValueError):
+                example("pay")
+
+
+class Programs(unittest.TestCase):
+    def sources(self, script: str, told: str, ask: Optional[List[str]] = None, once: bool = False) -> sources.Sources:
+        """What a page is made of, where a program answers so."""
+        with tempfile.TemporaryDirectory() as folder, kept(script) as name:
+            program = Path(folder, "dipq")
+            program.write_text(FAKE.format(told))
+            program.chmod(0o700)
+            words = {"answers": None, "program": str(program), "go_on": True, "ask": ask or [], "once": once}
+            return sources.ask(Namespace(script=name, **words))
+
+    def test_versions_are_asked_for_behind_the_script(self) -> None:
+        self.assertEqual(sources.questions_for(b"table,t\ntable,u\ntable,t\ntable,asof\n"), [
+            "between,t,0,1000000", "between,u,0,1000000",
+        ])
+        script = f"table,t,a,int\nload,t\nrow,{TIME},5\nend\nrows,t\n"
+        told = f"ok,1\nok,2\nrow,1,{TIME},5\nend,1\nversion,1,{TIME},2,-,5\nend,1\n"
+        found = self.sources(script, told)
+        self.assertEqual([",".join(record) for record in found.versions["t"].texts()], [f"1,{TIME},2,,5"])
+        self.assertEqual((found.has_printed, len(found.answers), found.files[0].name), (True, 3, "dipq"))
+
+    def test_versions_that_the_changes_do_not_give_make_no_page(self) -> None:
+        script = f"table,t,a,int\nload,t\nrow,{TIME},5\nend\n"
+        told = f"ok,1\nok,2\nversion,1,{TIME},2,-,6\nend,1\n"
+        with self.assertRaisesRegex(Misfit, "the program answers otherwise than the changes, done again"):
+            self.sources(script, told)
+        self.assertFalse(self.sources(script, told, once=True).is_done_again)
+
+    def test_a_table_that_is_refused_has_no_versions(self) -> None:
+        found = self.sources("table,t,a,x\n", "error,1,BadCommand\nerror,2,NoTable\n")
+        self.assertEqual((found.versions, len(found.answers)), ({}, 1))
+
+    def test_a_script_whose_end_is_open_is_asked_nothing_more(self) -> None:
+        found = self.sources("table,t\nload,t\n", "ok,1\nerror,2,Unended\n")
+        self.assertEqual((list(found.versions), found.has_printed, len(found.answers)), (["t"], False, 2))
+
+    def test_a_table_that_a_question_makes_has_versions_too(self) -> None:
+        found = self.sources("table,t\n", "ok,1\nok,2\nend,0\nend,0\n", ask=["table,u"])
+        self.assertEqual((list(found.versions), found.has_printed), (["t", "u"], True))
+
+
+if __name__ == "__main__":
+    unittest.main()

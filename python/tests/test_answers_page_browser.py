@@ -1,0 +1,289 @@
+"""The page of `tools/answers page` in a browser: what it shows, by click and by key, light and dark, and on paper.
+
+Where the environment names a folder in PICTURES, what the pages look like is put there.
+"""
+import os
+import re
+import tempfile
+import unittest
+from pathlib import Path
+from typing import Any, Dict, List, Tuple
+
+from ruzgalt import answers, store
+from tests.browser import MISSING, PROGRAM, Browser
+from tests.support import TOP, run
+from tests.test_answers_page import HOSTILE, TIME, data_of, example, hostile, page_of
+
+# A division, an audit and a payroll.
+EXAMPLES = ("posts", "audit", "payroll")
+# Runs before the page's own script would, to see what is saved: the texts of blobs.
+CATCH = """globalThis.saved = []; URL.createObjectURL = (blob) => { saved.push(blob.text()); return "blob:none"; };
+HTMLAnchorElement.prototype.click = function () { saved.push(this.download); }; true"""
+GRID = "document.querySelectorAll('{} .table')[{}]"
+CELLS = "[...{}.querySelectorAll('tbody tr')].map((row) => [...row.cells].map((cell) => cell.textContent))"
+
+
+@unittest.skipUnless(PROGRAM, MISSING)
+class BrowserCase(unittest.TestCase):
+    browser: Browser
+    folder: "tempfile.TemporaryDirectory[str]"
+
+    @classmethod
+    def setUpClass(cls) -> None:
+        cls.folder = tempfile.TemporaryDirectory()
+        cls.browser = Browser().__enter__()
+        cls.browser.show(1280, "light")
+
+    @classmethod
+    def tearDownClass(cls) -> None:
+        cls.browser.__exit__(None, None, None)
+        cls.folder.cleanup()
+
+    def open(self, page: str) -> None:
+        """Opens the page, on which nothing may go wrong."""
+        file = Path(self.folder.name, "page.html")
+        file.write_text(page, encoding="ascii")
+        self.browser.open(file)
+        self.assertEqual(self.browser.faults(), [])
+
+    def value(self, code: str) -> Any:
+        return self.browser.value(code)
+
+    def cells(self, section: str, place: int = 0) -> List[List[str]]:
+        found: List[List[str]] = self.value(CELLS.format(GRID.format(section, place)))
+        return found
+
+
+class Texts(BrowserCase):
+    def test_no_text_of_the_script_is_read_as_html(self) -> None:
+        self.open(hostile())
+        wanted = [re.sub("[\u2028-\u202e]", lambda one: f"\\u{ord(one[0]):04x}", text) for text in HOSTILE]
+        self.assertEqual([row[3] for row in self.cells("#questions")], wanted)
+        made = "document.querySelectorAll('img, b, script:not([type]):not(:last-of-type)').length"
+        self.assertEqual(self.value(made), 0)
+        self.assertIn(HOSTILE[1], self.value("document.getElementById('first').textContent"))
+        self.assertIn(HOSTILE[0] * 2, self.value("document.getElementById('first').textContent"))
+
+    def test_the_policy_is_kept_by_the_browser(self) -> None:
+        self.open(example("pay"))
+        tried = "try { document.body.innerHTML = '<b>x</b>'; 'let through' } catch (error) { error.name }"
+        self.assertEqual(self.value(tried), "TypeError")
+        self.assertEqual(self.value("fetch('https://example.org/').then(() => 'asked', () => 'refused')"), "refused")
+
+    def test_a_page_without_any_answer_is_shown(self) -> None:
+        self.open(page_of("", ""))
+        self.assertIn("The script asks nothing.", self.value("document.body.textContent"))
+
+    def test_a_table_without_columns_or_rows_is_shown(self) -> None:
+        script = f"table,t\ntable,u\nload,t\nrow,{TIME}\nend\nrows,t\n"
+        self.open(page_of(script, f"ok,1\nok,2\nok,3\nrow,1,{TIME}\nend,1\n"))
+        self.assertEqual(self.cells("#tables"), [["1", *TIME.split(",")]])
+        self.assertIn("No row was ever in it.", self.value("document.body.textContent"))
+
+
+class Grids(BrowserCase):
+    def numbers(self, count: int) -> str:
+        rows = [f"{TIME},{number * 7919 % count},{10 ** 18 + number}" for number in range(count)]
+        script = "table,t,a,int,b,int\nload,t\n" + "".join(f"row,{row}\n" for row in rows) + "end\nrows,t\n"
+        listed = "".join(f"row,{number},{row}\n" for number, row in enumerate(rows, 1))
+        return page_of(script, f"ok,1\nok,2\n{listed}end,{count}\n")
+
+    def test_a_click_on_a_name_sorts_up_then_down_then_not(self) -> None:
+        self.open(self.numbers(12))
+        head = GRID.format("#questions", 0) + ".querySelectorAll('th')[3]"
+        before = [row[3] for row in self.cells("#questions")]
+        rising = sorted(before, key=int)
+        for sort, wanted in (("ascending", rising), ("descending", rising[::-1]), ("none", before)):
+            self.value(f"{head}.querySelector('button').click()")
+            self.assertEqual(self.value(f"{head}.getAttribute('aria-sort')"), sort)
+            self.assertEqual([row[3] for row in self.cells("#questions")], wanted)
+
+    def test_a_key_sorts_too(self) -> None:
+        self.open(self.numbers(12))
+        self.value(GRID.format("#questions", 0) + ".querySelectorAll('th button')[3].focus()")
+        self.browser.press("Enter", 13, "\r")
+        self.assertEqual([row[3] for row in self.cells("#questions")], [str(number) for number in range(12)])
+
+    def test_long_numbers_are_sorted_to_their_last_digit(self) -> None:
+        self.open(self.numbers(12))
+        button = GRID.format("#questions", 0) + ".querySelectorAll('th button')[4]"
+        self.value(f"{button}.click(), {button}.click()")
+        self.assertEqual([int(row[4]) - 10 ** 18 for row in self.cells("#questions")], list(range(11, -1, -1)))
+
+    def test_what_is_typed_filters(self) -> None:
+        self.open(example("payroll"))
+        search = GRID.format("#questions", 0) + ".querySelector('input')"
+        self.value(f"{search}.focus()")
+        for letter in "gupta":
+            self.browser.press(letter, ord(letter.upper()), letter)
+        self.assertEqual([row[3] for row in self.cells("#questions")], ["Gupta, Rohan"])
+        told = self.value(GRID.format("#questions", 0) + ".querySelector('output').textContent")
+        self.assertEqual(told, "1 record found")
+
+    def test_the_first_thousand_are_shown_and_all_are_saved(self) -> None:
+        page = self.numbers(1500)
+        self.open(page)
+        self.assertEqual(len(self.cells("#questions")), 1000)
+        told = self.value(GRID.format("#questions", 0) + ".querySelector('output').textContent")
+        self.assertEqual(told, "first 1,000 of 1,500 records; on paper the first 100")
+        self.value(CATCH)
+        self.value(GRID.format("#questions", 0) + ".querySelector('.tools button:last-child').click()")
+        text, name = self.value("Promise.all(saved)")
+        self.assertEqual((text.count("\n"), name), (1501, "3-rows.csv"))
+
+    def test_what_is_saved_is_what_the_tool_prints(self) -> None:
+        for name in (*EXAMPLES, "insurance"):
+            script = f"examples/{name}.csv"
+            page = example(name)
+            self.open(page)
+            self.value(CATCH)
+            buttons = "[...document.querySelectorAll('#questions .tools button:last-child')]"
+            self.value(f"{buttons}.forEach((one) => one.click())")
+            saved = self.value("Promise.all(saved)")
+            for question, text in zip(data_of(page)["data"]["questions"], saved[::2]):
+                with self.subTest(script, number=question["number"]):
+                    words = [script, str(question["number"]), "--answers", f"{script}.stdout", "--go-on"]
+                    self.assertEqual(text, run(["tools/answers", "csv", *words])[1])
+
+    def test_odd_texts_are_saved_as_the_tool_prints_them(self) -> None:
+        rows = [f'{TIME},"say ""a"", b"', f'{TIME},"two\nlines"', f"{TIME},", f"{TIME}, c "]
+        script = "table,t,a,text\nload,t\n" + "".join(f"row,{row}\n" for row in rows) + "end\nagg,t,count,by,a\n"
+        listed = [f'row,,{TIME},1', f'row," c ",{TIME},1', f'row,"say ""a"", b",{TIME},1', f'row,"two\nlines",{TIME},1']
+        self.open(page_of(script, "ok,1\nok,2\n" + "\n".join(listed) + "\nend,4\n"))
+        self.value(CATCH)
+        self.value(GRID.format("#questions", 0) + ".querySelector('.tools button:last-child').click()")
+        wanted = [one[4:].replace('" c "', " c ") for one in listed]
+        self.assertEqual(self.value("saved[0]"), "a,valid_from,valid_to,count\n" + "\n".join(wanted) + "\n")
+
+
+class Times(BrowserCase):
+    def test_the_sliders_show_what_held_as_each_commit_knew_it(self) -> None:
+        """At each point at which something changes, and at each commit, beside the changes done again."""
+        for name in ("payroll", "pay", "ward", "joins"):
+            script = TOP / f"examples/{name}.csv"
+            found = answers.of(script, script.with_name(f"{name}.csv.stdout"))
+            kept = store.behind(found)
+            self.open(example(name))
+            for place, table in enumerate(kept.versions):
+                for (point, commit), shown in self.moments(place).items():
+                    rows = [row for row in kept.rows(table, commit) if row.row.start <= point < row.row.end]
+                    with self.subTest(name, table=table, point=point, commit=commit):
+                        self.assertEqual(shown, [str(row.row_id) for row in rows])
+
+    def moments(self, place: int) -> Dict[Tuple[str, int], List[str]]:
+        """The ids of the rows that a table shows, where its sliders are moved to each of their places."""
+        code = f"""(() => {{
+          const fields = document.querySelectorAll('#tables article')[{place}].querySelector('fieldset');
+          const [day, commit] = fields.querySelectorAll('input[type=range]');
+          const exact = fields.querySelector('input[type=text]'), told = [];
+          const move = (input, value) => {{ input.value = value; input.dispatchEvent(new Event('input')); }};
+          for (let d = 0; d <= Number(day.max); d += 1) for (let c = 0; c <= Number(commit.max); c += 1) {{
+            move(day, d); move(commit, c);
+            const rows = [...fields.querySelectorAll('tbody tr')];
+            told.push([exact.value, c, rows.map((row) => row.cells[0].textContent)]);
+          }}
+          return told;
+        }})()"""
+        return {(point, commit): ids for point, commit, ids in self.value(code)}
+
+    def test_a_slider_is_moved_by_keys(self) -> None:
+        self.open(example("pay"))
+        self.value("document.querySelectorAll('#tables input[type=range]')[1].focus()")
+        self.browser.press("ArrowLeft", 37)
+        self.assertEqual([row[-1] for row in self.cells("#tables")], ["5000", "4800"])
+        told = self.value("document.querySelectorAll('#tables output')[1].textContent")
+        self.assertEqual(told, "commit 2: load,pay (2 rows)")
+
+    def test_another_day_is_typed(self) -> None:
+        self.open(example("pay"))
+        field = "document.querySelector('#tables input[type=text]')"
+        for text, is_wrong, count in [
+            ("2024-08-15", "false", 2), ("2024-08-15T12:00:00", "false", 2), ("2024-02-30", "true", 2),
+            ("15.8.2024", "true", 2), ("2023-12-31", "false", 0), ("2024-01-01T00:00:00", "false", 1),
+        ]:
+            with self.subTest(text):
+                self.value(f"{field}.value = '{text}', {field}.dispatchEvent(new Event('input'))")
+                self.assertEqual(self.value(f"{field}.getAttribute('aria-invalid')"), is_wrong)
+                self.assertEqual(len(self.cells("#tables")), count)
+
+    def test_the_history_of_a_fact_has_its_versions_and_what_made_them(self) -> None:
+        self.open(example("pay"))
+        rows = self.cells("#tables", 1)
+        self.assertEqual([row[:6] for row in rows], [
+            ["2024-01-01", "2025-01-01", "2", "3", "Byron, Ada", "5000"],
+            ["2024-01-01", "2024-07-01", "3", "", "Byron, Ada", "5000"],
+            ["2024-07-01", "2025-01-01", "3", "", "Byron, Ada", "5400"],
+        ])
+        self.assertTrue(rows[1][7].startswith("line 6: update,pay,"))
+        choice = "document.querySelector('#tables select')"
+        self.value(f"{choice}.selectedIndex = 1, {choice}.dispatchEvent(new Event('change'))")
+        self.assertEqual([row[4] for row in self.cells("#tables", 1)], ["Hill, Grace"])
+
+    def test_then_and_now_are_marked_in_words(self) -> None:
+        self.open(example("payroll"))
+        for place, only in enumerate(("only then", "only now")):
+            rows = self.cells("#pairs", place)
+            self.assertEqual([row[0] for row in rows], [only] * 4)
+        self.value("document.querySelector('#pairs input[type=checkbox]').click()")
+        self.assertEqual([[row[0] for row in self.cells("#pairs", place)].count("") for place in (0, 1)], [9, 9])
+
+
+class Looks(BrowserCase):
+    def keep(self, name: str, data: bytes) -> None:
+        if "PICTURES" in os.environ:
+            Path(os.environ["PICTURES"], name).write_bytes(data)
+
+    def test_nothing_stands_past_the_edge_wide_or_narrow_light_or_dark(self) -> None:
+        for name in EXAMPLES:
+            self.open(example(name))
+            for width in (1280, 400):
+                for scheme, paper in (("light", "rgb(255, 255, 255)"), ("dark", "rgb(20, 24, 29)")):
+                    with self.subTest(name, width=width, scheme=scheme):
+                        self.browser.show(width, scheme)
+                        self.assertEqual(self.value("document.documentElement.scrollWidth"), width)
+                        self.assertEqual(self.value("getComputedStyle(document.body).backgroundColor"), paper)
+                        self.keep(f"{name}-{width}-{scheme}.png", self.browser.picture())
+            self.browser.show(1280, "light")
+
+    def test_it_is_printed_on_a4_without_what_is_pressed(self) -> None:
+        for name in EXAMPLES:
+            with self.subTest(name):
+                self.open(example(name))
+                self.browser.show(1280, "dark")
+                paper = self.browser.paper()
+                self.keep(f"{name}.pdf", paper)
+                boxes = re.findall(rb"/MediaBox ?\[0 0 (\d+)\.?\d* (\d+)\.?\d*\]", paper)
+                self.assertEqual(set(boxes), {(b"594", b"841")} if boxes[0][0] == b"594" else {(b"595", b"842")})
+                self.browser.ask("Emulation.setEmulatedMedia", media="print")
+                shown = "[...document.querySelectorAll('button, input, select, nav')].filter((one) => one.offsetParent)"
+                self.assertEqual(self.value(f"{shown}.length"), 0)
+                self.assertEqual(self.value("getComputedStyle(document.body).backgroundColor"), "rgb(255, 255, 255)")
+                self.browser.show(1280, "light")
+
+    def test_each_part_has_a_name_for_who_hears_the_page(self) -> None:
+        nameless = """[...document.querySelectorAll('button, input, select, svg, [role=region]')].filter((one) =>
+          !(one.getAttribute('aria-label') || one.textContent.trim() || (one.labels && one.labels.length))).length"""
+        for name in EXAMPLES:
+            with self.subTest(name):
+                self.open(example(name))
+                self.assertEqual(self.value(nameless), 0)
+                heads = "[...document.querySelectorAll('h1, h2, h3, h4')]"
+                levels = self.value(f"{heads}.map((one) => Number(one.tagName[1]))")
+                self.assertEqual(levels.count(1), 1)
+                self.assertLessEqual(max(after - before for before, after in zip(levels, levels[1:])), 1)
+                ids = self.value("[...document.querySelectorAll('[id]')].map((one) => one.id)")
+                self.assertEqual(len(ids), len(set(ids)))
+                self.assertEqual(self.value("document.querySelectorAll('th:not([scope])').length"), 0)
+
+    def test_each_question_that_is_drawn_has_its_picture(self) -> None:
+        for name in EXAMPLES:
+            page = example(name)
+            self.open(page)
+            drawn = [one["number"] for one in data_of(page)["data"]["questions"] if one["picture"]]
+            self.assertEqual(self.value("document.querySelectorAll('#questions figure svg').length"), len(drawn))
+            told = self.value("document.querySelectorAll('#questions figure svg rect title').length")
+            self.assertGreater(told, len(drawn))
+
+
+if __name__ == "__main__":
+    unittest.main()
