@@ -161,6 +161,20 @@ class Contents(ToolCase):
             ("at,pay,2024-06-28", 4), ("at,pay,2024-07-31", 5), ("agg,pay,sum,euros", 5),
         ]])
 
+    def test_one_commit_asked_twice_is_no_pair(self) -> None:
+        data = data_of(page_of("table,t\nrows,t,asof,1\nrows,t\n", "ok,1\nend,0\nend,0\n"))["data"]
+        self.assertEqual((len(data["questions"]), data["pairs"]), (2, []))
+
+    def test_a_check_has_its_parts(self) -> None:
+        checks = [one for one in data_of(example("audit"))["data"]["questions"] if one["word"] == "check"]
+        self.assertEqual(checks[0]["parts"][:2], [["0", "1, 10, 17"], ["1", "2, 9, 11, 14"]])
+        self.assertEqual(checks[0]["told"], "no: two rows of one part overlap (Overlap, row id 11, other row id 14).")
+
+    def test_a_question_has_the_name_that_it_was_asked_by(self) -> None:
+        questions = data_of(page_of("table,t\n", "ok,1\nend,0\n", "--ask", "all=rows,t"))["data"]["questions"]
+        told = [(one["name"], one["place"], one["command"]) for one in questions]
+        self.assertEqual(told, [("all", "--ask", "rows,t")])
+
     def test_checks_of_other_parts_are_no_pair(self) -> None:
         rows = f"table,t\nload,t\nrow,{TIME}\nend\nload,t\nrow,{TIME}\nend\n"
         then = "check,t,1,2024-01-01,asof,2\npart,1\nend\n"
@@ -186,6 +200,11 @@ class Contents(ToolCase):
             with self.subTest(change):
                 [idle] = data_of(page_of(f"{pay}{change}\n", "ok,1\nok,2\nok,3\n"))["data"]["idle"]
                 self.assertEqual((idle["place"], idle["reason"]), ("line 6", reason))
+
+    def test_the_rows_of_its_own_commit_tell_why_a_change_touched_nothing(self) -> None:
+        script = f"table,t,a,int\nload,t\nrow,{TIME},1\nend\ndelete,t,{TIME}\ndelete,t,{TIME},where,a,1\n"
+        [idle] = data_of(page_of(script, "ok,1\nok,2\nok,3\nok,4\n"))["data"]["idle"]
+        self.assertEqual((idle["place"], idle["reason"]), ("line 6", "no row has 1 as a then"))
 
     def test_answers_that_the_changes_do_not_give_make_no_page(self) -> None:
         told = Path(TOP, "examples/pay.csv.stdout").read_text().replace(",5400", ",5401")
@@ -217,6 +236,12 @@ class Limits(unittest.TestCase):
         data = data_of(page_of(script, "ok,1\n" + "end,0\n" * 1200))["data"]
         self.assertEqual((len(data["questions"]), data["questions"][0]["shown"]), (1000, 100))
         self.assertEqual(data["leftOut"], ["200 questions behind the first 1,000"])
+
+    def test_many_commits_are_cut(self) -> None:
+        with mock.patch.object(contents, "COMMITS", 2):
+            data = data_of(example("pay"))["data"]
+        self.assertEqual((len(data["commits"]), data["newest"]), (2, 3))
+        self.assertEqual(data["leftOut"], ["1 commits behind the first 2"])
 
     def test_a_picture_of_many_records_is_left_to_the_tool(self) -> None:
         with mock.patch.object(drawings, "MOST", 1):

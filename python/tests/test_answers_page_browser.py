@@ -110,6 +110,15 @@ class Grids(BrowserCase):
         self.value(f"{button}.click(), {button}.click()")
         self.assertEqual([int(row[4]) - 10 ** 18 for row in self.cells("#questions")], list(range(11, -1, -1)))
 
+    def test_empty_fields_stand_before_numbers(self) -> None:
+        page = example("pay")
+        self.open(page)
+        numbers = [question["number"] for question in data_of(page)["data"]["questions"]]
+        grid = GRID.format("#questions", numbers.index(6))
+        for wanted in (["", "", "", "3"], ["3", "", "", ""]):
+            self.value(f"{grid}.querySelectorAll('th button')[4].click()")
+            self.assertEqual([row[4] for row in self.cells("#questions", numbers.index(6))], wanted)
+
     def test_what_is_typed_filters(self) -> None:
         self.open(example("payroll"))
         search = GRID.format("#questions", 0) + ".querySelector('input')"
@@ -191,7 +200,7 @@ class Times(BrowserCase):
         self.value("document.querySelectorAll('#tables input[type=range]')[1].focus()")
         self.browser.press("ArrowLeft", 37)
         self.assertEqual([row[-1] for row in self.cells("#tables")], ["5000", "4800"])
-        told = self.value("document.querySelectorAll('#tables output')[1].textContent")
+        told = self.value("document.querySelectorAll('#tables .slider span')[1].textContent")
         self.assertEqual(told, "commit 2: load,pay (2 rows)")
 
     def test_another_day_is_typed(self) -> None:
@@ -224,8 +233,15 @@ class Times(BrowserCase):
         for place, only in enumerate(("only then", "only now")):
             rows = self.cells("#pairs", place)
             self.assertEqual([row[0] for row in rows], [only] * 4)
+        told = self.value("document.querySelector('#pairs article p').textContent")
+        self.assertEqual(told, "9 records said both times, 4 only then, 4 only now.")
         self.value("document.querySelector('#pairs input[type=checkbox]').click()")
         self.assertEqual([[row[0] for row in self.cells("#pairs", place)].count("") for place in (0, 1)], [9, 9])
+
+    def test_of_two_equal_rows_one_may_be_new(self) -> None:
+        rows = f"table,t\nload,t\nrow,{TIME}\nend\nload,t\nrow,{TIME}\nend\nrows,t,asof,2\nrows,t\n"
+        self.open(page_of(rows, f"ok,1\nok,2\nok,3\nrow,1,{TIME}\nend,1\nrow,1,{TIME}\nrow,2,{TIME}\nend,2\n"))
+        self.assertEqual([row[0] for row in self.cells("#pairs", 1)], ["only now"])
 
 
 class Looks(BrowserCase):

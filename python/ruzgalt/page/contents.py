@@ -12,8 +12,8 @@ from ruzgalt.picks import BARE
 from ruzgalt.records import short
 from ruzgalt.tables import Column, Schema, Table
 
-# So many records of an answer are shown, and so many questions are in the page.
-SHOWN, QUESTIONS = 1_000, 1_000
+# So many records of an answer are shown, and so many questions, commits, and parts of a check are in the page.
+SHOWN, QUESTIONS, COMMITS, PARTS = 1_000, 1_000, 50_000, 1_000
 # All records of answers, and all versions, have so many characters in the page; versions of a table are there whole or
 # not at all.
 ROOM = 14_000_000
@@ -50,6 +50,9 @@ def of(sources: Sources, diary: Optional[str]) -> Contents:
     kept, left_out = asked[:QUESTIONS], []
     if len(asked) > QUESTIONS:
         left_out.append(f"{len(asked) - QUESTIONS:,} questions behind the first {QUESTIONS:,}")
+    commits = list(commits_of(sources, counts, days))
+    if len(commits) > COMMITS:
+        left_out.append(f"{len(commits) - COMMITS:,} commits behind the first {COMMITS:,}")
     lists: List[Tuple[str, str]] = []
     questions = list(questions_of(sources, kept, lists, left_out))
     tables = list(tables_of(sources, lists, left_out))
@@ -62,7 +65,7 @@ def of(sources: Sources, diary: Optional[str]) -> Contents:
         "isOwn": sources.is_own, "isDoneAgain": sources.is_done_again, "hasPrinted": sources.has_printed,
         "answers": len(sources.answers),
         "refused": as_objects(found.refused), "idle": as_objects(found.idle), "doubtful": as_objects(found.doubtful),
-        "diary": diary, "commits": list(commits_of(sources, counts, days)),
+        "diary": diary, "newest": len(commits), "commits": commits[:COMMITS],
         "shown": SHOWN, "questions": questions, "pairs": list(pairs_of(kept)), "tables": tables,
         "leftOut": left_out,
     }, lists)
@@ -115,7 +118,8 @@ def questions_of(
             "number": answer.number, "place": answer.place, "command": short(answer.command.text),
             "word": answer.command.word, "commit": answer.commit, "isThen": answer.command.as_of is not None,
             "columns": columns_of(answer.table.columns), "count": count, "hasAll": has_all, "shown": shown,
-            "told": told_of(answer), "picture": drawing.tree, "noPicture": drawing.why,
+            "name": sources.names.get(answer.number, ""), "told": told_of(answer), "parts": parts_of(answer),
+            "picture": drawing.tree, "noPicture": drawing.why,
         }
 
 
@@ -137,6 +141,13 @@ def told_of(answer: Answer) -> str:
         told = ", ".join(f"{what.replace('_', ' ')} {number}" for what, number in places if number)
         return f"{verdict}: {WHY[name]} ({name}, {told})." if name else "yes: the division is right, and least."
     return ""
+
+
+def parts_of(answer: Answer) -> List[List[str]]:
+    """The first parts that a check asks about, each with its rows."""
+    if answer.command.word != "check":
+        return []
+    return [[str(place), ", ".join(part.fields[1:])] for place, part in enumerate(islice(answer.command.rows, PARTS))]
 
 
 def division_told(table: Table) -> str:

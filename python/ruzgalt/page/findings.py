@@ -10,8 +10,8 @@ from ruzgalt.records import short, visible
 from ruzgalt.store import Store
 from ruzgalt.tables import Table
 
-# So many findings of each kind are told.
-TOLD = 1_000
+# So many findings of each kind are told, and of so many changes that touched nothing the rows are looked at.
+TOLD, LOOKED_AT = 1_000, 100
 
 
 class Finding(NamedTuple):
@@ -35,7 +35,9 @@ class Findings(NamedTuple):
 def of(sources: Sources, counts: Tally) -> Findings:
     """All findings, each kind by the order of the script."""
     refused, doubtful = refused_and_doubtful(sources.answers)
-    idle = [finding(one, "", why_idle(one, sources)) for one in sources.answers if is_idle(one, counts)]
+    changes = [answer for answer in sources.answers if is_idle(answer, counts)]
+    idle = [finding(one, "", why_idle(one, sources)) for one in changes[:LOOKED_AT]]
+    idle.extend(finding(one, "", "no row that it names holds in that time") for one in changes[LOOKED_AT:])
     kinds = refused, idle, doubtful
     untold = sum(max(len(kind) - TOLD, 0) for kind in kinds)
     return Findings(refused[:TOLD], idle[:TOLD], doubtful[:TOLD], untold)
@@ -48,11 +50,12 @@ def finding(answer: Answer, name: str, reason: str, more: Sequence[str] = ()) ->
 def refused_and_doubtful(found: Sequence[Answer]) -> Tuple[List[Finding], List[Finding]]:
     """What was refused, a key's refusal with the rows; and what is marked, but for changes that touched nothing."""
     seen, store = marks.Marks(found), Store()
-    refused = []
+    refused: List[Finding] = []
     for answer, store in marks.walk(found):
         seen.look(answer, store)
         if answer.refusal:
-            more = overlaps.explained(store, answer) if answer.refusal.name == "KeyOverlap" else []
+            is_explained = answer.refusal.name == "KeyOverlap" and len(refused) < LOOKED_AT
+            more = overlaps.explained(store, answer) if is_explained else []
             told = finding(answer, answer.refusal.name, refusals.reason(answer), more)
             refused.append(told._replace(place=answer.refusal.record.place))
     idle = marks.of_count

@@ -28,8 +28,9 @@ function againTold() {
   if (!data.isDoneAgain) {
     return "No. The program's answers stand here as it printed them.";
   }
-  return "Yes: the script's changes were done once more in Python, and each answer but a refusal was found from them in "
-    + `another way. All are the same, of ${counted(data.answers, "answer")}.`;
+  const refused = data.refused.length ? " but the refusals" : "";
+  return `Yes: the script's changes were done once more in Python, and each of ${counted(data.answers, "answer")}${refused} was `
+    + "compared with what they give, computed in another way. All are the same.";
 }
 
 function showHead() {
@@ -38,7 +39,7 @@ function showHead() {
   document.getElementById("name").textContent = seen(name);
   const findings = [[data.refused, "refused"], [data.idle, "touched nothing"], [data.doubtful, "may not be meant"]];
   const short = findings.map(([found, what]) => `${grouped(found.length)} ${what}`).join(", ");
-  const counts = `${counted(data.commits.length, "commit")}, ${counted(data.questions.length, "question")}; ${short}.`;
+  const counts = `${counted(data.newest, "commit")}, ${counted(data.questions.length, "question")}; ${short}.`;
   const facts = [["Script", fileTold(data.script)], ["Answered by", answeredTold()], ["Done again", [againTold()]], ["In short", [counts]]];
   for (const [what, told] of facts) {
     document.getElementById("facts").append(make("dt", {}, what), make("dd", {}, ...told));
@@ -75,8 +76,8 @@ function showCommits() {
   ];
   const withDays = (record) => record.filter((_, place) => hasDays || place !== 1);
   section("commits", make("p", {}, "Each accepted change, and how many versions of rows it made and closed. ", about));
-  const records = data.commits.map(withDays);
-  section("commits", new Grid({ label: "commits", columns: withDays(all), records, file: "commits.csv" }).element);
+  const records = data.commits.map(withDays), count = data.newest;
+  section("commits", new Grid({ label: "commits", columns: withDays(all), records, count, file: "commits.csv" }).element);
 }
 
 // --- Then and now ---
@@ -137,7 +138,7 @@ function pairOf(then, now) {
 function showPairs() {
   const byNumber = new Map(data.questions.map((question) => [question.number, question]));
   const pairs = data.pairs.map((pair) => pairOf(...pair.map((number) => byNumber.get(number))));
-  const none = make("p", {}, "No question is asked as of a commit (asof,N), and without that of a later one.");
+  const none = make("p", {}, "No question is asked twice: as of a commit (asof,N), and of a later one.");
   section("pairs", ...(pairs.length ? pairs : [none]));
 }
 
@@ -163,13 +164,32 @@ function questionOf(question) {
   beside.append(...(picture ? [figureOf(picture, command)] : []));
   const told = question.told ? [make("p", {}, question.told)] : [];
   const none = question.noPicture ? [make("p", { class: "soft" }, question.noPicture)] : [];
-  const title = make("h3", { id: `question-${number}` }, make("code", {}, command));
-  return make("article", {}, title, make("p", { class: "soft" }, about), ...told, beside, ...none);
+  const name = question.name ? [`${question.name}: `] : [];
+  const title = make("h3", { id: `question-${number}` }, ...name, make("code", {}, command));
+  return make("article", {}, title, make("p", { class: "soft" }, about), ...told, beside, ...none, ...partsOf(question));
+}
+
+function partsOf({ number, command, parts }) {
+  const columns = [["part", "int"], ["rows", "text"]];
+  const label = `the parts of ${command}`;
+  return parts.length ? [make("p", {}, "The parts that were checked:"), new Grid({ label, columns, records: parts }).element] : [];
+}
+
+function listOf(questions) {
+  const links = questions.map(({ number, name, place, command, count }) => {
+    const link = make("a", { href: `#question-${number}` }, make("code", {}, name || command));
+    return make("li", {}, link, make("span", { class: "soft" }, ` ${place}, ${counted(count, "record")}`));
+  });
+  return make("ul", { class: "list" }, ...links);
 }
 
 function showQuestions() {
-  const none = make("p", {}, "The script asks nothing.");
-  section("questions", ...(data.questions.length ? data.questions.map(questionOf) : [none]));
+  if (!data.questions.length) {
+    section("questions", make("p", {}, "The script asks nothing."));
+    return;
+  }
+  section("questions", make("p", { class: "soft unprinted" }, "A click on a column's name sorts by it."));
+  section("questions", listOf(data.questions), ...data.questions.map(questionOf));
 }
 
 // --- Tables, and what the page is ---

@@ -47,6 +47,8 @@ class Sources(NamedTuple):
     # The versions of each table, and whether the program printed them: else they are of the changes, done again.
     versions: Dict[str, Table]
     has_printed: bool
+    # The names of questions that were asked with one, by their answers' numbers.
+    names: Dict[int, str]
 
     @property
     def tables(self) -> Dict[str, Schema]:
@@ -99,7 +101,8 @@ def ask(options: Namespace) -> Sources:
     printed = {one.command.front[1]: one.table for one in found.answers[len(own):] if not one.refusal}
     tables = own[-1].tables if own else {}
     made = {name: printed[name] if name in printed else done_again(store, tables[name]) for name in tables}
-    return Sources(marked(options.script, script), own, files, found.is_own, is_done_again, made, bool(printed))
+    script_mark = marked(options.script, script)
+    return Sources(script_mark, own, files, found.is_own, is_done_again, made, bool(printed), found.names)
 
 
 def refuse_others(found: Found, store: Store) -> None:

@@ -52,7 +52,7 @@ class Square {
 
   lanes() {
     return this.commits.flatMap((commit, place) => {
-      const next = this.commits[place + 1] ?? data.commits.length + 1, top = TOP + place * LANE;
+      const next = this.commits[place + 1] ?? data.newest + 1, top = TOP + place * LANE;
       const told = next > commit + 1 ? `commits ${commit}-${next - 1}` : `commit ${commit}`;
       return [
         drawn("text", { x: LEFT - 8, y: top + LANE - 8, "text-anchor": "end" }, told),

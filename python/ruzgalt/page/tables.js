@@ -3,8 +3,13 @@
 const POINT = /^\d{4}-\d\d-\d\d(T\d\d:\d\d:\d\d)?$/;
 let sliders = 0;
 
+// A commit's number, day, place and command; of one that isn't in the page the number alone.
+function commitOf(number) {
+  return data.commits[number - 1] || [String(number), "", "", ""];
+}
+
 function commitTold(number) {
-  const day = number > 0 ? data.commits[number - 1][1] : "";
+  const [, day] = commitOf(number);
   return number === 0 ? "commit 0, the empty store" : `commit ${number}${day ? `, entered ${day}` : ""}`;
 }
 
@@ -31,7 +36,7 @@ function slider(label, most, value) {
   sliders += 1;
   const id = `slider-${sliders}`;
   const input = make("input", { type: "range", id, min: 0, max: most, step: 1, value });
-  const told = make("output", { for: id });
+  const told = make("span", { class: "soft" });
   return { input, told, element: make("div", { class: "slider" }, make("label", { for: id }, label), input, told) };
 }
 
@@ -42,7 +47,7 @@ class Moment {
     this.points = [...new Set(versions.flatMap((version) => [version[FROM], version[TO]]))].sort();
     this.point = versions.map((version) => version[FROM]).reduce((one, other) => (one < other ? other : one));
     this.day = slider("Day", this.points.length - 1, this.points.indexOf(this.point));
-    this.commit = slider("Commit", data.commits.length, data.commits.length);
+    this.commit = slider("Commit", data.newest, data.newest);
     this.exact = make("input", { type: "text", value: this.point, autocomplete: "off" });
     this.told = make("output", { "aria-live": "polite" });
     const label = `what held of ${table.name}`;
@@ -81,7 +86,7 @@ class Moment {
     const next = this.points.find((one) => one > point);
     this.day.told.textContent = `${point}${next ? `; nothing starts or ends before ${next}` : ""}`;
     this.day.input.setAttribute("aria-valuetext", point);
-    this.commit.told.textContent = commitTold(commit) + (commit ? `: ${seen(data.commits[commit - 1][3])}` : "");
+    this.commit.told.textContent = `${commitTold(commit)}: ${seen(commitOf(commit)[3])}`.replace(/: $/, "");
     this.commit.input.setAttribute("aria-valuetext", commitTold(commit));
     const told = `On ${point}, as the store stood at commit ${commit}, ${counted(found.length, "row")} held. The program is asked so: `;
     this.told.replaceChildren(told, make("code", {}, `at,${table.name},${point},asof,${commit}`));
@@ -167,7 +172,7 @@ class Fact {
 }
 
 function madeBy(version) {
-  const [, , place, command] = data.commits[Number(version[MADE]) - 1];
+  const [, , place, command] = commitOf(Number(version[MADE]));
   return `${place}: ${command}`;
 }
 
