@@ -237,6 +237,18 @@ class Limits(unittest.TestCase):
         self.assertEqual((len(data["questions"]), data["questions"][0]["shown"]), (1000, 100))
         self.assertEqual(data["leftOut"], ["200 questions behind the first 1,000"])
 
+    def test_what_is_shown_at_once_is_there_without_room(self) -> None:
+        with mock.patch.object(contents, "ROOM", 0):
+            data = data_of(example("pay"))
+        left_out = ["the 4 versions of pay, and so what held on each day"]
+        self.assertEqual((len(data["records-6"]), data["data"]["leftOut"]), (4, left_out))
+
+    def test_many_pictures_are_cut(self) -> None:
+        with mock.patch.object(contents, "PICTURES", 1):
+            data = data_of(example("audit"))["data"]
+        self.assertEqual(sum(question["picture"] is not None for question in data["questions"]), 1)
+        self.assertIn("stand before", data["questions"][-1]["noPicture"])
+
     def test_many_commits_are_cut(self) -> None:
         with mock.patch.object(contents, "COMMITS", 2):
             data = data_of(example("pay"))["data"]
@@ -249,9 +261,14 @@ class Limits(unittest.TestCase):
         self.assertIn("2 records are more than 1", question["noPicture"])
 
     def test_a_picture_has_no_element_that_could_do_anything(self) -> None:
-        for text in ("<svg><script/></svg>", "<svg onload='x'/>", "<svg><rect fill='url(//a)'/></svg>"):
-            with self.subTest(text), mock.patch("ruzgalt.svg.draw", return_value=text), self.assertRaises(ValueError):
-                example("pay")
+        for text, tree in [
+            ("<svg><script>x</script><g/></svg>", ["svg", {}, ["g", {}]]), ("<svg onload='x'/>", ["svg", {}]),
+            ("<svg><rect x='1' fill='url(//a)'/></svg>", ["svg", {}, ["rect", {"x": "1"}]]),
+            ("<svg><rect id='a' fill='url(#b)'/></svg>", ["svg", {}, ["rect", {"id": "p4-a", "fill": "url(#p4-b)"}]]),
+        ]:
+            with self.subTest(text), mock.patch("ruzgalt.svg.draw", return_value=text):
+                [question, *_] = data_of(example("pay"))["data"]["questions"]
+                self.assertEqual(question["picture"], tree)
 
 
 class Programs(unittest.TestCase):

@@ -1,7 +1,7 @@
 """All that the page shows, as plain data: what it is of, what is to be looked at first, commits, questions, tables."""
 import json
 from itertools import islice
-from typing import Any, Dict, Iterator, List, NamedTuple, Optional, Sequence, Tuple
+from typing import Any, Dict, Iterator, List, NamedTuple, Optional, Sequence, Tuple, TypeVar
 
 from ruzgalt import history
 from ruzgalt.answers import CHANGES, Answer
@@ -12,8 +12,9 @@ from ruzgalt.picks import BARE
 from ruzgalt.records import short
 from ruzgalt.tables import Column, Schema, Table
 
-# So many records of an answer are shown, and so many questions, commits, and parts of a check are in the page.
-SHOWN, QUESTIONS, COMMITS, PARTS = 1_000, 1_000, 50_000, 1_000
+# So many records of a table are shown; so many questions, pictures, commits, and parts of a check are there at most.
+SHOWN, QUESTIONS, PICTURES, COMMITS, PARTS = 1_000, 1_000, 200, 50_000, 1_000
+NO_ROOM = drawings.Drawing(None, f"No picture: {PICTURES} stand before.")
 # All records of answers, and all versions, have so many characters in the page; versions of a table are there whole or
 # not at all.
 ROOM = 14_000_000
@@ -45,30 +46,81 @@ class Room:
 def of(sources: Sources, diary: Optional[str]) -> Contents:
     """The contents. With a diary the commits have its days."""
     counts = tally(list(sources.versions.values()))
-    days = days_of(sources, diary)
+    parts = Parts(sources)
     asked = [answer for answer in sources.answers if not answer.refusal and answer.command.word not in BARE]
-    kept, left_out = asked[:QUESTIONS], []
-    if len(asked) > QUESTIONS:
-        left_out.append(f"{len(asked) - QUESTIONS:,} questions behind the first {QUESTIONS:,}")
-    commits = list(commits_of(sources, counts, days))
-    if len(commits) > COMMITS:
-        left_out.append(f"{len(commits) - COMMITS:,} commits behind the first {COMMITS:,}")
-    lists: List[Tuple[str, str]] = []
-    questions = list(questions_of(sources, kept, lists, left_out))
-    tables = list(tables_of(sources, lists, left_out))
+    kept = parts.first(asked, QUESTIONS, "questions")
+    commits = list(commits_of(sources, counts, days_of(sources, diary)))
     found = findings.of(sources, counts)
-    if found.untold:
-        left_out.append(f"{found.untold:,} findings: `tools/answers refusals` tells all")
-    return Contents({
-        "script": as_object(sources.script),
-        "files": [as_object(file) for file in sources.files],
+    data = {
+        "script": as_object(sources.script), "files": [as_object(file) for file in sources.files],
         "isOwn": sources.is_own, "isDoneAgain": sources.is_done_again, "hasPrinted": sources.has_printed,
         "answers": len(sources.answers),
         "refused": as_objects(found.refused), "idle": as_objects(found.idle), "doubtful": as_objects(found.doubtful),
-        "diary": diary, "newest": len(commits), "commits": commits[:COMMITS],
-        "shown": SHOWN, "questions": questions, "pairs": list(pairs_of(kept)), "tables": tables,
-        "leftOut": left_out,
-    }, lists)
+        "diary": diary, "newest": len(commits), "commits": parts.first(commits, COMMITS, "commits"),
+        "shown": SHOWN, "questions": list(parts.questions(kept)), "pairs": list(pairs_of(kept)),
+        "tables": list(parts.tables()),
+    }
+    if found.untold:
+        parts.left_out.append(f"{found.untold:,} findings: `tools/answers refusals` tells all")
+    return Contents({**data, "leftOut": parts.left_out}, parts.lists)
+
+
+Thing = TypeVar("Thing")
+
+
+class Parts:
+    """Lists of records that the page has, and what is left out of it for want of room."""
+
+    def __init__(self, sources: Sources) -> None:
+        self.sources = sources
+        self.lists: List[Tuple[str, str]] = []
+        self.left_out: List[str] = []
+
+    def first(self, things: List[Thing], most: int, what: str) -> List[Thing]:
+        """So many of them at most."""
+        if len(things) > most:
+            self.left_out.append(f"{len(things) - most:,} {what} behind the first {most:,}")
+        return things[:most]
+
+    def questions(self, kept: Sequence[Answer]) -> Iterator[Data]:
+        room, shown, drawn = Room(ROOM), min(SHOWN, AT_ONCE // max(len(kept), 1)), 0
+        for answer in kept:
+            has_all = self.add_records(answer, room, shown)
+            is_past = drawn == PICTURES and answer.command.word in drawings.DRAWN
+            drawing = NO_ROOM if is_past else drawings.of(self.sources.answers, answer)
+            drawn += drawing.tree is not None
+            yield {
+                "number": answer.number, "place": answer.place, "command": short(answer.command.text),
+                "word": answer.command.word, "commit": answer.commit, "columns": columns_of(answer.table.columns),
+                "count": len(answer.table.records), "hasAll": has_all, "shown": shown,
+                "name": self.sources.names.get(answer.number, ""), "told": told_of(answer), "parts": parts_of(answer),
+                "picture": drawing.tree, "noPicture": drawing.why,
+            }
+
+    def add_records(self, answer: Answer, room: Room, shown: int) -> bool:
+        """Takes the answer's records, or those that are shown at once. Whether all are taken."""
+        count, text = len(answer.table.records), as_json(answer.table)
+        has_all = room.take(text) or count <= shown
+        if not has_all:
+            text = as_json(answer.table, shown)
+            told = f"{count - shown:,} of {count:,} records"
+            self.left_out.append(f"of {answer.place}, {short(answer.command.text)}: {told}")
+        self.lists.append((f"records-{answer.number}", text))
+        return has_all
+
+    def tables(self) -> Iterator[Data]:
+        room = Room(ROOM)
+        for number, (name, table) in enumerate(self.sources.versions.items()):
+            text, count = as_json(table), len(table.records)
+            is_there = room.take(text)
+            if is_there:
+                self.lists.append((f"versions-{number}", text))
+            else:
+                self.left_out.append(f"the {count:,} versions of {name}, and so what held on each day")
+            yield {
+                "name": name, "columns": columns_of(table.columns), "key": key_of(self.sources.tables[name]),
+                "count": count, "isThere": is_there, "number": number,
+            }
 
 
 def as_object(file: Marked) -> Data:
@@ -100,27 +152,6 @@ def commits_of(sources: Sources, counts: Tally, days: Sequence[Tuple[str, int]])
                 str(number), history.day_of(days, number) or "", answer.place, short(command.text) + more,
                 str(counts.added[number]), str(counts.closed[number]),
             ]
-
-
-def questions_of(
-    sources: Sources, kept: Sequence[Answer], lists: List[Tuple[str, str]], left_out: List[str],
-) -> Iterator[Data]:
-    room, shown = Room(ROOM), max(min(SHOWN, AT_ONCE // max(len(kept), 1)), 20)
-    for answer in kept:
-        count, text = len(answer.table.records), as_json(answer.table)
-        has_all = room.take(text)
-        if not has_all:
-            text = as_json(answer.table, SHOWN)
-            left_out.append(f"of {answer.place}, {short(answer.command.text)}: {count - SHOWN:,} of {count:,} records")
-        lists.append((f"records-{answer.number}", text))
-        drawing = drawings.of(sources.answers, answer)
-        yield {
-            "number": answer.number, "place": answer.place, "command": short(answer.command.text),
-            "word": answer.command.word, "commit": answer.commit, "isThen": answer.command.as_of is not None,
-            "columns": columns_of(answer.table.columns), "count": count, "hasAll": has_all, "shown": shown,
-            "name": sources.names.get(answer.number, ""), "told": told_of(answer), "parts": parts_of(answer),
-            "picture": drawing.tree, "noPicture": drawing.why,
-        }
 
 
 def as_json(table: Table, most: Optional[int] = None) -> str:
@@ -178,21 +209,6 @@ def pairs_of(kept: Sequence[Answer]) -> Iterator[List[int]]:
 def question_of(answer: Answer) -> Tuple[Tuple[str, ...], ...]:
     """What is asked, whatever the commit: the command, and of a check its parts."""
     return (tuple(answer.command.front), *(tuple(record.fields) for record in answer.command.rows))
-
-
-def tables_of(sources: Sources, lists: List[Tuple[str, str]], left_out: List[str]) -> Iterator[Data]:
-    room = Room(ROOM)
-    for number, (name, table) in enumerate(sources.versions.items()):
-        text = as_json(table)
-        is_there = room.take(text)
-        if is_there:
-            lists.append((f"versions-{number}", text))
-        else:
-            left_out.append(f"the {len(table.records):,} versions of {name}, and so what held on each day")
-        yield {
-            "name": name, "columns": columns_of(table.columns), "key": key_of(sources.tables[name]),
-            "count": len(table.records), "isThere": is_there, "number": number,
-        }
 
 
 def key_of(schema: Schema) -> List[str]:

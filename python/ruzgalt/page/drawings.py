@@ -11,7 +11,7 @@ from ruzgalt.errors import Misfit
 # Of more records the table alone is shown, and a picture has so many pixels across.
 MOST, WIDTH = 400, 640
 DRAWN = ("dip", "rows", "at", "anti", "join", "agg", "between", "fromto")
-# What a drawing is made of. Nothing else is let through, so none can have a script or ask a network.
+# What a drawing is made of. All else is left out, so none can have a script or ask a network.
 ELEMENTS = {
     "svg", "g", "defs", "pattern", "clipPath", "title", "desc", "text", "tspan", "line", "rect", "path", "circle",
     "polygon", "polyline",
@@ -21,7 +21,7 @@ ATTRIBUTES = re.compile(
     r"|dominant-baseline|pattern(?:Units|Transform|ContentUnits)|fill(?:-opacity)?|font-(?:family|size|style|weight)"
     r"|stroke(?:-(?:width|dasharray|opacity|linecap|linejoin))?"
 )
-NOWHERE = re.compile(r"url\((?!#)|:")
+ELSEWHERE = re.compile(r"url\((?!#)|:")
 
 
 class Drawing(NamedTuple):
@@ -41,30 +41,36 @@ def of(found: Sequence[Answer], answer: Answer) -> Drawing:
         told = f"No picture: {count:,} records are more than {MOST}. `tools/answers picture` draws some of them."
         return Drawing(None, told)
     try:
-        text = svg.draw(pictures.of(found, answer, pictures.Wish()), WIDTH)
+        text = svg.draw(pictures.of(of_one_table(found, answer), answer, pictures.Wish()), WIDTH)
     except Misfit:
         return Drawing(None, "No picture of several facts in one: each has its own under Tables over time.")
     prefix = f"p{answer.number}-"
     return Drawing(tree_of(xml.etree.ElementTree.fromstring(text), prefix))
 
 
+def of_one_table(found: Sequence[Answer], answer: Answer) -> List[Answer]:
+    """The answers on the table of a division, whose rows need no others."""
+    return [one for one in found if one.command.record.fields[1:2] == answer.command.front[1:2]]
+
+
 def tree_of(element: Element, prefix: str) -> List[Any]:
     """The name of the element, its attributes, and its texts and elements. Ids have a prefix of their picture."""
-    name = element.tag.rpartition("}")[2]
-    if name not in ELEMENTS:
-        raise ValueError(f"a picture has no {name}")
     inner: List[Any] = [element.text] if element.text and element.text.strip() else []
     for child in element:
-        inner.append(tree_of(child, prefix))
+        if name_of(child) in ELEMENTS:
+            inner.append(tree_of(child, prefix))
         if child.tail and child.tail.strip():
             inner.append(child.tail)
-    return [name, attributes_of(element, prefix), *inner]
+    return [name_of(element), attributes_of(element, prefix), *inner]
+
+
+def name_of(element: Element) -> str:
+    return element.tag.rpartition("}")[2]
 
 
 def attributes_of(element: Element, prefix: str) -> Dict[str, str]:
     kept = {}
     for name, value in element.attrib.items():
-        if not ATTRIBUTES.fullmatch(name) or NOWHERE.search(value):
-            raise ValueError(f"a picture has no {name}={value!r}")
-        kept[name] = prefix + value if name == "id" else value.replace("url(#", f"url(#{prefix}")
+        if ATTRIBUTES.fullmatch(name) and not ELSEWHERE.search(value):
+            kept[name] = prefix + value if name == "id" else value.replace("url(#", f"url(#{prefix}")
     return kept
