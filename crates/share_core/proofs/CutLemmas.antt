@@ -7,6 +7,7 @@ use Rattle.std.specs.Ordering.{is_gt, is_lt, ordering_reverse}
 use Rattle.std.proofs.lemmas.Cmp.{tied_itself, upto}
 use Rattle.std.proofs.lemmas.List.Elements.{All-append}
 use Rattle.std.proofs.lemmas.List.Quantifiers.{all_pairs_push}
+use Rattle.std.proofs.lemmas.List.Sums.{sum_by_push}
 use Rattle.share_core.specs.Ranges.{is_from}
 use Rattle.share_core.specs.Shares.{IsCutBefore, IsCutUpto}
 use Rattle.share_core.specs.declared.shares.Cut.{Cut}
@@ -30,6 +31,7 @@ module _ {T : Type 0} (cmp : T → T → Ordering) where
     cut = so.cut;
     upto = so.upto;
     enough = omega (arith, so.enough, fewer);
+    shared = so.shared;
     within = so.within;
   }
 
@@ -63,6 +65,7 @@ module _ {T : Type 0} (cmp : T → T → Ordering) (total : IsTotalOrder cmp) wh
         (λ k d within. from_on (slice_index_or cuts k d).at last cut.at (so.upto k d within) next)
         (λ k d within. at_one (λ (c : Cut T). is_from cmp c.at cut.at ≡ true) cut k d within (itself cut.at));
     enough = omega (arith, so.enough, enough);
+    shared = omega (arith, so.shared, so.enough, enough, sum_by_push (λ (c : Cut T). c.workers) cuts cut);
     within = omega (arith, so.within);
   }
     where

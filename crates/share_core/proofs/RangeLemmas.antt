@@ -1,9 +1,11 @@
 -- A range without an end, cut at a value that it has.
-use Rattle.std.proofs.Common.{◌≡◌, Bool, true, false, not, ◌&&◌, List, [], ◌∷◌, ◌++◌, Option, Some, None, refl, sym, ap, filter, cond, AllPairs, All, arith, suc}
+use Rattle.std.proofs.Common.{◌≡◌, Bool, true, false, not, ◌&&◌, List, [], ◌∷◌, ◌++◌, Option, Some, None, refl, sym, ap, filter, cond, AllPairs, All, arith, suc, zero, ℕ, ◌≤◌, length}
 use Rattle.std.specs.declared.cmp.Ordering.{Ordering}
 use Rattle.std.specs.Cmp.{IsTotalOrder}
 use Rattle.share_core.proofs.CutLemmas.{from_on}
 use Rattle.share_core.specs.Ranges.{has, has_begun, is_from, range}
+use Rattle.share_core.specs.Shares.{HaveEach, range_at}
+use Rattle.share_core.specs.declared.shares.Cut.{Cut}
 
 -- of both parts
 low_test : (b t : Bool) → b && not t ≡ (b && true) && not t
@@ -33,6 +35,37 @@ module _ {T : Type 0} (cmp : T → T → Ordering) (total : IsTotalOrder cmp) wh
       → has cmp (range (Some at) None) x ≡ has cmp (range from None) x && is_from cmp at x
   high_has from at x begun =
       high_test (has_begun cmp from x) (is_from cmp at x) (begun_on from at x begun)
+
+-- a value that has begun lies in a range from there on: in the first one, or in one behind its end
+in_first : (b t : Bool) → b ≡ true → t ≡ false → b && not t ≡ true
+in_first true false begun early = refl
+in_first true true begun early = cc
+in_first false t begun early = cc
+
+which : {T : Type 0} (cmp : T → T → Ordering) (from : Option T) (c : Cut T) (cs : List (Cut T)) (x : T)
+    → has_begun cmp from x ≡ true → (late : Bool) → is_from cmp c.at x ≡ late
+    → (is_from cmp c.at x ≡ true → (i : ℕ) × (i ≤ length cs) × (has cmp (range_at (Some c.at) cs i) x ≡ true))
+    → (i : ℕ) × (i ≤ length (c ∷ cs)) × (has cmp (range_at from (c ∷ cs) i) x ≡ true)
+which cmp from c cs x begun true late behind =
+    let (i, within, lies) = behind late in
+    (suc i, omega (arith, within), behind_first i lies)
+  where
+    behind_first : (i : ℕ) → has cmp (range_at (Some c.at) cs i) x ≡ true
+        → has cmp (range_at from (c ∷ cs) (suc i)) x ≡ true
+    behind_first zero lies = lies
+    behind_first (suc i) lies = lies
+which cmp from c cs x begun false early behind =
+    (0, omega arith, in_first (has_begun cmp from x) (is_from cmp c.at x) begun early)
+
+lies_from : {T : Type 0} (cmp : T → T → Ordering) (from : Option T) (cuts : List (Cut T)) (x : T)
+    → has_begun cmp from x ≡ true → (i : ℕ) × (i ≤ length cuts) × (has cmp (range_at from cuts i) x ≡ true)
+lies_from cmp from [] x begun = (0, omega arith, in_first (has_begun cmp from x) false begun refl)
+lies_from cmp from (c ∷ cs) x begun =
+    which cmp from c cs x begun (is_from cmp c.at x) refl (λ late. lies_from cmp (Some c.at) cs x late)
+
+-- wherever they are cut, ranges have each value
+pub have_each : {T : Type 0} (cmp : T → T → Ordering) (cuts : List (Cut T)) → HaveEach cmp cuts
+have_each cmp cuts = λ x. lies_from cmp None cuts x refl
 
 -- one more item of a list that is parted
 more_parted : {X : Type 0} (a l : Bool) (x : X) (xs early late : List X) → xs ≡ early ++ late → (l ≡ true → early ≡ [])

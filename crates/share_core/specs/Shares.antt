@@ -1,7 +1,7 @@
 -- Shares: ranges that follow one another.
-use Rattle.std.specs.Prelude.{◌≡◌, ℕ, zero, suc, ◌+◌, ◌<◌, ◌≤◌, List, [], ◌∷◌, Option, Some, None, Result, Ok, true, All, AllPairs}
+use Rattle.std.specs.Prelude.{◌≡◌, ℕ, zero, suc, ◌+◌, ◌<◌, ◌≤◌, List, [], ◌∷◌, Option, Some, None, Result, Ok, true, All, AllPairs, length, sum_by}
 use Rattle.std.specs.declared.cmp.Ordering.{Ordering}
-use Rattle.share_core.specs.Ranges.{has_begun, is_from, range}
+use Rattle.share_core.specs.Ranges.{has, has_begun, is_from, range}
 use Rattle.share_core.specs.declared.range.Range.{Range}
 use Rattle.share_core.specs.declared.shares.Cut.{Cut}
 
@@ -42,6 +42,14 @@ GivesFrom cmp gives from [] (x ∷ (y ∷ ys)) = ⊥
 GivesFrom cmp gives from (cut ∷ cuts) (x ∷ xs) =
     (has_begun cmp from cut.at ≡ true) × gives (range from (Some cut.at)) x × GivesFrom cmp gives (Some cut.at) cuts xs
 
+-- all workers of the ranges that end at cuts
+abbrev pub workers_in : {T : Type 0} → List (Cut T) → ℕ
+workers_in {T} cuts = sum_by (λ (c : Cut T). c.workers) cuts
+
+-- each value lies in a range, one of those that the cuts part
+abbrev pub HaveEach : {T : Type 0} → (T → T → Ordering) → List (Cut T) → Type 0
+HaveEach {T} cmp cuts = (x : T) → (i : ℕ) × (i ≤ length cuts) × (has cmp (range_at None cuts i) x ≡ true)
+
 -- cuts that come up to a last value; some of the workers that are left are for the next range, and each part that is left
 -- has one
 pub record IsCutUpto {T : Type 0} (cmp : T → T → Ordering) (workers parts : ℕ) (cuts : List (Cut T)) (last : T) (some left : ℕ)
@@ -49,4 +57,5 @@ pub record IsCutUpto {T : Type 0} (cmp : T → T → Ordering) (workers parts : 
   pub cut : AreCuts cmp cuts workers
   pub upto : All (λ (c : Cut T). is_from cmp c.at last ≡ true) cuts
   pub enough : some + parts < left
+  pub shared : workers_in cuts + left ≡ workers
   pub within : left ≤ workers

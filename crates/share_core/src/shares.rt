@@ -2,7 +2,7 @@
 
 ghost use Rattle.std.specs.Prelude.{◌≡◌, ◌+◌, ℕ, ◌<◌, ◌≤◌, None, length, IfOk, IfSome, true};
 ghost use Rattle.share_core.specs.Ranges.{is_from};
-ghost use Rattle.share_core.specs.Shares.{AreCuts, end_at, range_at};
+ghost use Rattle.share_core.specs.Shares.{AreCuts, HaveEach, end_at, range_at, workers_in};
 
 use crate::range::Range;
 use std::alloc::{AllocError, Global};
@@ -27,6 +27,7 @@ pub struct Shares<T: Ord> {
     pub workers: u32,
     pub ghost rise: { AreCuts T.cmp cuts.items workers },
     pub ghost some: { (0 < last) × (last ≤ workers) },
+    pub ghost shared: { workers_in cuts.items + last ≡ workers },
 }
 
 /// A worker with fewer items to look at would be over before another had started.
@@ -50,7 +51,10 @@ impl<T: Ord + Copy> Shares<T> {
     ) -> Result<Shares<T>, AllocError>
         requires some { 0 < workers }
         requires values { (i : ℕ) → i < count → F.pre value_at.now i }
-        ensures { IfOk result (λ shares. shares.workers ≡ workers) }
+        ensures workers { IfOk result (λ shares. shares.workers ≡ workers) }
+        ensures shared { IfOk result (λ shares.
+            workers_in shares.cuts.items + shares.last ≡ workers) }
+        ensures each { IfOk result (λ shares. HaveEach T.cmp shares.cuts.items) }
     {
         let parts = parts_for(count, workers);
         let sample = sample_of(alloc, count, parts, value_at)?;
