@@ -1,10 +1,10 @@
 -- The last ends of the parts, and how they change with the parts.
-use Rattle.std.proofs.Common.{◌≡◌, ◌≢◌, ◌==◌, ℕ, suc, ◌+◌, ◌<◌, ◌≤◌, ℤ, ◌≤ℤ◌, ◌<ℤ◌, Bool, true, false, cond, List, [], ◌∷◌, ◌++◌, length, get_or, set, Some, arith, refl, sym, ap, ◌∙◌, inl, inr, subst, length-append, eq-eqb}
+use Rattle.std.proofs.Common.{◌≡◌, ◌≢◌, ◌==◌, ℕ, suc, ◌+◌, ◌<◌, ◌≤◌, ℤ, ◌<ℤ◌, Bool, true, false, cond, List, [], ◌∷◌, ◌++◌, length, get_or, set, Some, arith, refl, sym, ap, ◌∙◌, inl, inr, subst, length-append, eq-eqb}
 use Rattle.std.specs.Prelude.{All, Contains, IsPermutation, count_by}
 use Rattle.std.specs.List.{HoldsAt}
 use Rattle.std.proofs.lemmas.Bool.{cases_lt, cases_eq, eqb-true, false_from_ne_true}
 use Rattle.std.proofs.lemmas.Int.{ints}
-use Rattle.std.proofs.lemmas.List.Elements.{All-cons, All-head, All-tail, All-push, All-contains, at_read}
+use Rattle.std.proofs.lemmas.List.Elements.{All-cons, All-head, All-tail, All-push, All-contains}
 use Rattle.std.proofs.lemmas.List.Sums.{sum_by-cons, sum_by_push, get_or-le-sum_by}
 use Rattle.std.proofs.lemmas.List.Sorted.{All-permutation, sum_by-IsPermutation, length_permutation}
 use Rattle.dip_core.specs.declared.item.Item.{Item}
@@ -214,7 +214,7 @@ none-over parts ends start none hold = λ j f ends_j.
     subst (λ z. start <ℤ z) e_end (All-contains (λ (y : Ending). start <ℤ y.end) ends e none member)
 
 -- where the first one goes on, all do
-none-first : (ends : List Ending) (start : ℤ) → HoldsAt (λ e. start <ℤ e.end) ends 0 → IsHeap ends
+pub none-first : (ends : List Ending) (start : ℤ) → HoldsAt (λ e. start <ℤ e.end) ends 0 → IsHeap ends
     → All (λ e. start <ℤ e.end) ends
 none-first ends start first heap = λ k d within.
     let later : start <ℤ (get_or ends 0 d).end = first d in
@@ -222,21 +222,6 @@ none-first ends start first heap = λ k d within.
       | inl less ↦ omega (arith, ints)
       | inr same ↦ let s : (get_or ends 0 d).end ≡ (get_or ends k d).end = same.0 in omega (arith, ints)
     ]
-
--- what the first one says of all
-pub over-from_first : (ends : List Ending) (start : ℤ) (x : Ending) → 0 < length ends → x ≡ get_or ends 0 x
-    → IsHeap ends → x.end ≤ℤ start → IsFirstOver ends start x.number
-over-from_first ends start x some is heap over = record {
-  some = some;
-  first = λ j d within. top ends d j heap within;
-  number = at_read ends (λ (e : Ending). e.number ≡ x.number) 0 x some is refl;
-  over = at_read ends (λ (e : Ending). e.end ≤ℤ start) 0 x some is over;
-}
-
-pub none-from_first : (ends : List Ending) (start : ℤ) (x : Ending) → 0 < length ends → x ≡ get_or ends 0 x
-    → IsHeap ends → start <ℤ x.end → All (λ e. start <ℤ e.end) ends
-none-from_first ends start x some is heap later =
-    none-first ends start (at_read ends (λ (e : Ending). start <ℤ e.end) 0 x some is later) heap
 
 -- the first one's number is a part's
 pub first-within : (parts : List (List Item)) (ends : List Ending) (k : ℕ) → 0 < length ends

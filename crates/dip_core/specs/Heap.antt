@@ -10,7 +10,7 @@ pub record Ending : Type 0 where
   pub end : ℤ
   pub number : ℕ
 
--- what contracts see of last ends: their list, and how many looks at one the placements took that are done
+-- what contracts see of last ends: their list, and how many looks at them were taken
 pub record Endings : Type 0 where
   pub ends : List Ending
   pub looks : ℕ
@@ -18,6 +18,10 @@ pub record Endings : Type 0 where
 -- x comes no later than y: it ends before y, or with y and its part's number is no higher
 abbrev pub ComesFirst : Ending → Ending → Type 0
 ComesFirst x y = (x.end <ℤ y.end) ⊎ ((x.end ≡ y.end) × (x.number ≤ y.number))
+
+-- the one at place i comes no later than that at place j
+abbrev pub ComesFirstAt : List Ending → ℕ → ℕ → Type 0
+ComesFirstAt ends i j = (d : Ending) → ComesFirst (slice_index_or ends i d) (slice_index_or ends j d)
 
 -- each one comes no later than those at the two places below its own
 abbrev pub IsHeap : List Ending → Type 0

@@ -4,7 +4,7 @@ use Rattle.dip_core.specs.declared.item.Item.{Item}
 use Rattle.dip_core.specs.Item.{crowd, IsChain, HasDistinctIds, item_limit}
 use Rattle.dip_core.specs.Division.{all_of, part_at, IsPlaced}
 use Rattle.dip_core.specs.Placing.{IsGreatest}
-use Rattle.dip_core.specs.Heap.{Endings, HoldLastEnds}
+use Rattle.dip_core.specs.Heap.{Endings, HoldLastEnds, IsHeap}
 
 -- the last part's first item, by which that part was opened; d where there is none
 abbrev pub opener : List (List Item) → Item → Item
@@ -25,6 +25,7 @@ pub record ArePlaced (parts : List (List Item)) : Type 0 where
 -- what a placer keeps; an item takes at most 40 looks, since there are no more parts than 20 binary digits write
 pub record IsPlacing (parts : List (List Item)) (heap : Endings) (last : Option Item) (len : ℕ) : Type 0 where
   pub are_placed : ArePlaced parts
+  pub ordered : IsHeap heap.ends
   pub last_ends : HoldLastEnds parts heap.ends
   pub greatest : IsGreatest parts last
   pub counted : len ≡ length (all_of parts)

@@ -68,8 +68,7 @@ impl Division {
         }
     }
 
-    /// The least instant that as many items hold as there are parts, whichever items they divide; None
-    /// exactly without parts.
+    /// The least instant that as many of its items hold as there are parts; None exactly without parts.
     pub fn instant(&self) -> Option<Point>
         ensures { IsInstantOf self.now result }
     {

@@ -6,10 +6,13 @@
 mod division;
 mod ids;
 mod item;
+mod last_end;
 mod last_ends;
 mod laws;
 mod part;
 mod part_items;
+mod parts;
+mod placement;
 mod placer;
 
 pub use division::{Division, create_dip};

@@ -7,8 +7,9 @@ ghost use Rattle.dip_core.specs.Division.{all_of, IsDip, IsLeastDivision};
 ghost use Rattle.dip_core.specs.Placing.{IsGreatest, IsPlaceFor, added};
 ghost use Rattle.dip_core.specs.Digits.{HasBinaryDigits};
 
-use crate::last_ends::{LastEnds, place_item};
-use crate::part_items::PartItems;
+use crate::last_ends::LastEnds;
+use crate::parts::Parts;
+use crate::placement::place_item;
 use crate::{Division, Item, NoMemory};
 use std::alloc::Global;
 use std::marker::Model;
@@ -18,7 +19,7 @@ use std::marker::Model;
 #[derive(Drop)]
 pub struct Placer {
     alloc: Global,
-    parts: Vec<PartItems>,
+    parts: Parts,
     ends: LastEnds,
     last: Option<Item>,
     len: u64,
@@ -30,9 +31,9 @@ impl Model for Placer {
 
     ghost Value = { Placing };
 
-    ghost view = { λ p. record { parts = p.parts.items; last = p.last; looks = p.ends.looks } };
+    ghost view = { λ p. record { parts = p.parts; last = p.last; looks = p.ends.looks } };
 
-    ghost invariant = { λ p. IsPlacing p.parts.items p.ends p.last p.len };
+    ghost invariant = { λ p. IsPlacing p.parts p.ends p.last p.len };
 }
 
 impl Placer {
@@ -42,7 +43,7 @@ impl Placer {
     {
         Placer {
             alloc,
-            parts: Vec::new(alloc),
+            parts: Parts::new(alloc),
             ends: LastEnds::new(alloc),
             last: None,
             len: 0,
@@ -108,6 +109,6 @@ impl Placer {
             last: _,
             len: _,
         } = self;
-        Division::from_parts(parts)
+        Division::from_parts(parts.finish())
     }
 }

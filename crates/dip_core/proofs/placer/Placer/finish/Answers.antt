@@ -23,12 +23,12 @@ dip_of kept parts result were is placed distinct = record {
 
 pub returns-clause-least : goal.returns-clause-least
 returns-clause-least c =
-    least_of c.self.inside.parts.items c.args.self.parts c.from_parts.result
+    least_of c.self.inside.parts c.args.self.parts c.from_parts.result
     (ap (λ (p : Placing). p.parts) c.self.view_is)
-    c.from_parts.ensures c.self.invariant.are_placed
+    (c.from_parts.ensures ∙ c.finish.ensures) c.self.invariant.are_placed
 
 pub returns-clause-dip : goal.returns-clause-dip
 returns-clause-dip c =
-    dip_of c.self.inside.parts.items c.args.self.parts c.from_parts.result
+    dip_of c.self.inside.parts c.args.self.parts c.from_parts.result
     (ap (λ (p : Placing). p.parts) c.self.view_is)
-    c.from_parts.ensures c.self.invariant.are_placed
+    (c.from_parts.ensures ∙ c.finish.ensures) c.self.invariant.are_placed

@@ -1,5 +1,4 @@
 use Rattle.std.proofs.Common.{rules, arith, ◌≡◌, ◌<◌, ◌+◌, ◌*◌, ◌^◌, ◌≤◌, length, subst, sym, ap, Some, List, Option}
-use Rattle.std.specs.Prelude.{vec_len}
 use Rattle.std.specs.Option.{ForSome}
 use Rattle.dip_core.specs.declared.item.Item.{Item}
 use Rattle.dip_core.specs.Item.{IsBelow, item_limit}
@@ -12,11 +11,19 @@ use Rattle.dip_core.proofs.DigitsLemmas.{some_digits}
 use Rattle.dip_core.proofs.StepLemmas.{ArePlaced-added, IsGreatest-added, place-within}
 use Rattle.dip_core.proofs.placer.Placer.place.Goals as goal
 
+pub place_item-requires-clause-room : goal.place_item-requires-clause-room
+place_item-requires-clause-room c =
+    let few = length-le-all_of c.self.inside.parts c.self.invariant.are_placed.filled in
+    let counted = c.self.invariant.counted in
+    let small = c.self.invariant.small in
+    let few_looks = c.self.invariant.few_looks in
+    omega (arith, few, counted, small, few_looks)
+
 pub overflow_cast-result : goal.overflow_cast-result
 overflow_cast-result c =
-    let few = length-le-all_of c.self.inside.parts.items c.self.invariant.are_placed.filled in
+    let few = length-le-all_of c.self.inside.parts c.self.invariant.are_placed.filled in
     let within =
-    place-within c.self.inside.parts.items c.args.item.period.from c.in_ok-number.number
+    place-within c.self.inside.parts c.args.item.period.from c.in_ok-number.number
     c.in_ok-number.ensures.place in
     let small = c.self.invariant.small in
     let counted = c.self.invariant.counted in
@@ -24,7 +31,7 @@ overflow_cast-result c =
 
 pub invariant_of-self-2 : goal.invariant_of-self-2
 invariant_of-self-2 c =
-    let parts = c.self.inside.parts.items in
+    let parts = c.self.inside.parts in
     let number = c.in_ok-number.number in
     let item = c.args.item in
     let was : c.self.inside.last ≡ c.args.self.now.last = ap (λ (p : Placing). p.last) c.self.view_is in
@@ -37,15 +44,15 @@ invariant_of-self-2 c =
     let longer = length-all_of-added parts number item in
     let counted = c.self.invariant.counted in
     let few = length-le-all_of parts c.self.invariant.are_placed.filled in
-    let as_many : vec_len c.self.inside.parts ≡ length parts = search rules in
     let looks : c.place_item.new.ends.looks ≤ c.self.inside.ends.looks + 2 * 20 =
-    c.in_ok-number.ensures.few 20 (omega (arith, as_many, few, room)) in
+    c.in_ok-number.ensures.few 20 (omega (arith, few, room)) in
     let few_looks = c.self.invariant.few_looks in
     subst (λ (ps : List (List Item)). IsPlacing ps c.place_item.new.ends (Some item) (c.self.inside.len + 1)) (sym grown)
     (record {
       are_placed =
           ArePlaced-added parts c.self.inside.last number item c.self.invariant.are_placed c.self.invariant.greatest
           above c.in_ok-number.ensures.place;
+      ordered = c.in_ok-number.ensures.heap;
       last_ends = subst (λ (ps : List (List Item)). HoldLastEnds ps c.place_item.new.ends.ends) grown
           c.in_ok-number.ensures.last_ends;
       greatest = IsGreatest-added parts c.self.inside.last number item c.self.invariant.greatest above;
@@ -56,17 +63,16 @@ invariant_of-self-2 c =
 
 pub returns-clause-place : goal.returns-clause-place
 returns-clause-place c =
-    let parts_were : c.self.inside.parts.items ≡ c.args.self.now.parts = ap (λ (p : Placing). p.parts) c.self.view_is in
+    let parts_were : c.self.inside.parts ≡ c.args.self.now.parts = ap (λ (p : Placing). p.parts) c.self.view_is in
     subst (λ (parts : List
     (List Item)). IsPlaceFor parts c.args.item.period.from c.in_ok-number.number) parts_were
     c.in_ok-number.ensures.place
 
 pub returns-clause-few_looks : goal.returns-clause-few_looks
 returns-clause-few_looks c =
-    let parts = c.self.inside.parts.items in
+    let parts = c.self.inside.parts in
     let parts_were : parts ≡ c.args.self.now.parts = ap (λ (p : Placing). p.parts) c.self.view_is in
     let looks_were : c.self.inside.ends.looks ≡ c.args.self.now.looks = ap (λ (p : Placing). p.looks) c.self.view_is in
-    let as_many : vec_len c.self.inside.parts ≡ length parts = search rules in
     let same : length parts ≡ length c.args.self.now.parts = ap length parts_were in
     let few = length-le-all_of parts c.self.invariant.are_placed.filled in
     let counted = c.self.invariant.counted in
@@ -74,5 +80,5 @@ returns-clause-few_looks c =
     let short : length c.args.self.now.parts < 2 ^ 20 = omega (arith, same, few, counted, small) in
     let (digits, has) = some_digits (length c.args.self.now.parts) 20 short in
     let enough = has.enough in
-    let looks = c.in_ok-number.ensures.few digits (omega (arith, as_many, same, enough)) in
+    let looks = c.in_ok-number.ensures.few digits (omega (arith, same, enough)) in
     (digits, has, omega (arith, looks, looks_were))

@@ -1,11 +1,11 @@
-use Rattle.std.proofs.Common.{arith, ◌-◌, ◌/◌, ◌<◌, length, get_or}
-use Rattle.std.proofs.lemmas.List.Elements.{pair_read}
+use Rattle.std.proofs.Common.{arith, ◌≡◌, ◌∙◌, ◌-◌, ◌/◌, ◌<◌, length, ap, subst}
+use Rattle.std.specs.List.{SwappedAt}
+use Rattle.std.specs.Prelude.{IsPermutation}
 use Rattle.std.proofs.lemmas.List.Sorted.{IsPermutation-trans}
-use Rattle.dip_core.specs.Heap.{Ending}
-use Rattle.dip_core.specs.Heap.{ComesFirst}
+use Rattle.dip_core.specs.Heap.{ComesFirstAt}
 use Rattle.dip_core.proofs.DigitsLemmas.{half-power}
 use Rattle.dip_core.proofs.HeapLemmas.{up-goes}
-use Rattle.dip_core.proofs.last_ends.sift_up.Goals as goal
+use Rattle.dip_core.proofs.placement.sift_up.Goals as goal
 
 pub returns-then-comes_first-clause-few : goal.returns-then-comes_first-clause-few
 returns-then-comes_first-clause-few c = λ digits short.
@@ -16,23 +16,24 @@ returns-then-comes_first-clause-few c = λ digits short.
 
 pub loop-place-preserved : goal.loop-place-preserved
 loop-place-preserved c =
-    let xs = c.loop-place.ends in
-    let ys = c.swap.new.self in
+    let xs = c.loop-place.ends.ends in
+    let ys = c.swap.new.self.ends in
     let place = c.loop-place.place in
     let above = (place - 1) / 2 in
     let was = c.loop-place.invariant in
     let more : 0 < place = omega arith in
-    let inside : above < length xs = omega arith in
-    let before : (d : Ending) → ComesFirst (get_or xs place d) (get_or xs above d) =
-    pair_read xs ComesFirst place above c.index-ends-place.result c.index-ends-above.result was.within inside
-    c.index-ends-place.is c.index-ends-above.is c.if-comes_first.ensures in
+    let looked : c.comes_first.new.self.ends ≡ xs = c.comes_first.ensures.ends in
+    let swapped : SwappedAt xs ys above place =
+    subst (λ zs. SwappedAt zs ys above place) looked c.swap.ensures.by_index in
+    let moved : IsPermutation xs ys = subst (λ zs. IsPermutation zs ys) looked c.swap.ensures.same in
+    let before : ComesFirstAt xs place above = c.if-comes_first.ensures.first in
+    let long : length ys ≡ length xs = c.swap.ensures.long ∙ ap length looked in
     record {
-      long = omega arith;
+      long = long ∙ was.long;
       within = omega arith;
-      heap =
-          up-goes xs ys above place c.swap.ensures.by_index c.swap.ensures.len (omega arith) (omega arith) was.within
-          before was.heap;
-      same = IsPermutation-trans c.args.ends.now xs ys was.same c.swap.ensures.permutation;
+      heap = up-goes xs ys above place swapped long (omega arith) (omega arith) was.within before was.heap;
+      same = IsPermutation-trans c.args.ends.now.ends xs ys was.same moved;
+      more = omega arith;
       room = omega arith;
       levels = λ digits short.
           let (levels, power, few) = was.levels digits (omega arith) in

@@ -1,0 +1,214 @@
+//! The placement of one item: last ends in a binary heap, with that of the part that ends first at its root.
+
+ghost use Rattle.std.specs.Prelude.{◌≡◌, ℕ, ◌+◌, ◌-◌, ◌*◌, ◌^◌, ◌<◌, ◌≤◌, ◌<ℤ◌, MatchOption, IfOk, OnErr, OnOk, All, length, IsPermutation};
+ghost use Rattle.std.specs.List.{HoldsAt};
+ghost use Rattle.dip_core.specs.Placing.{IsPlaceFor, added};
+ghost use Rattle.dip_core.specs.Heap.{ComesFirstBelow, HoldLastEnds, IsFirstOver, IsHeap, IsHeapButAbove, IsHeapButBelow};
+
+use crate::last_ends::LastEnds;
+use crate::parts::Parts;
+use crate::{Item, NoMemory};
+use period_core::Point;
+use std::alloc::Global;
+
+/// Adds the item where the placing rule says, and answers the number of that part. On NoMemory nothing is changed, and
+/// no look counts.
+pub(crate) fn place_item(
+    alloc: Global,
+    parts: &mut Parts,
+    ends: &mut LastEnds,
+    item: &Item,
+) -> Result<usize, NoMemory>
+    requires heap { IsHeap ends.old.ends }
+    requires last_ends { HoldLastEnds parts.old ends.old.ends }
+    requires room { ends.old.looks + 2 * length parts.old + 2 < 2 ^ 64 }
+    ensures place { IfOk result (IsPlaceFor parts.old item.now.period.from) }
+    ensures added { IfOk result (λ k. parts.new ≡ added parts.old k item.now) }
+    ensures heap { OnOk result (IsHeap ends.new.ends) }
+    ensures last_ends { OnOk result (HoldLastEnds parts.new ends.new.ends) }
+    ensures looked { OnOk result (0 < length parts.old → ends.old.looks < ends.new.looks) }
+    ensures few { OnOk result ((digits : ℕ) → length parts.old < 2 ^ digits
+        → ends.new.looks ≤ ends.old.looks + 2 * digits) }
+    ensures parts_err { OnErr result (parts.new ≡ parts.old) }
+    ensures ends_err { OnErr result (ends.new ≡ ends.old) }
+{
+    let before = ends.looks();
+    let placed = join_or_open(alloc, parts, ends, item);
+    ends.settle(before, &placed);
+    placed
+}
+
+/// The same, but for a refused placement's look, which still counts.
+fn join_or_open(
+    alloc: Global,
+    parts: &mut Parts,
+    ends: &mut LastEnds,
+    item: &Item,
+) -> Result<usize, NoMemory>
+    requires heap { IsHeap ends.old.ends }
+    requires last_ends { HoldLastEnds parts.old ends.old.ends }
+    requires room { ends.old.looks + 2 * length parts.old + 2 < 2 ^ 64 }
+    ensures place { IfOk result (IsPlaceFor parts.old item.now.period.from) }
+    ensures added { IfOk result (λ k. parts.new ≡ added parts.old k item.now) }
+    ensures heap { OnOk result (IsHeap ends.new.ends) }
+    ensures last_ends { OnOk result (HoldLastEnds parts.new ends.new.ends) }
+    ensures looked { OnOk result (0 < length parts.old → ends.old.looks < ends.new.looks) }
+    ensures few { OnOk result ((digits : ℕ) → length parts.old < 2 ^ digits
+        → ends.new.looks ≤ ends.old.looks + 2 * digits) }
+    ensures parts_err { OnErr result (parts.new ≡ parts.old) }
+    ensures ends_err { OnErr result (ends.new.ends ≡ ends.old.ends) }
+    ensures more { ends.old.looks ≤ ends.new.looks }
+{
+    match first_over(ends, item.period.from) {
+        Some(number) => join_part(parts, ends, number, item),
+        None => open_part(alloc, parts, ends, item),
+    }
+}
+
+/// The number of the part that ends first, where that part has ended by the start; where it goes on, all do. Only the
+/// root is looked at, where there is one.
+fn first_over(ends: &mut LastEnds, start: Point) -> Option<usize>
+    requires heap { IsHeap ends.old.ends }
+    requires room { ends.old.looks + 1 < 2 ^ 64 }
+    ensures first { MatchOption result (All (λ e. start <ℤ e.end) ends.old.ends)
+        (IsFirstOver ends.old.ends start) }
+    ensures same { ends.new.ends ≡ ends.old.ends }
+    ensures looked { 0 < length ends.old.ends → ends.new.looks ≡ ends.old.looks + 1 }
+    ensures none { length ends.old.ends ≡ 0 → ends.new.looks ≡ ends.old.looks }
+{
+    if ends.len() == 0 {
+        return None;
+    }
+    if ends.is_over(0, start) {
+        Some(ends.number(0))
+    } else {
+        None
+    }
+}
+
+/// Adds the item to the part of that number, which ends first, and answers the number as `open_part` does.
+fn join_part(
+    parts: &mut Parts,
+    ends: &mut LastEnds,
+    number: usize,
+    item: &Item,
+) -> Result<usize, NoMemory>
+    requires some { 0 < length ends.old.ends }
+    requires heap { IsHeap ends.old.ends }
+    requires first { HoldsAt (λ e. e.number ≡ number) ends.old.ends 0 }
+    requires last_ends { HoldLastEnds parts.old ends.old.ends }
+    requires room { ends.old.looks + 2 * length ends.old.ends < 2 ^ 64 }
+    ensures number { IfOk result (λ k. k ≡ number) }
+    ensures added { OnOk result (parts.new ≡ added parts.old number item.now) }
+    ensures heap { OnOk result (IsHeap ends.new.ends) }
+    ensures last_ends { OnOk result (HoldLastEnds parts.new ends.new.ends) }
+    ensures more { OnOk result (ends.old.looks ≤ ends.new.looks) }
+    ensures few { OnOk result ((digits : ℕ) → length ends.old.ends < 2 ^ digits
+        → ends.new.looks + 2 ≤ ends.old.looks + 2 * digits) }
+    ensures parts_err { OnErr result (parts.new ≡ parts.old) }
+    ensures ends_err { OnErr result (ends.new ≡ ends.old) }
+{
+    parts.push(number, item)?;
+    ends.replace_first(item.period.to, number);
+    sift_down(ends);
+    Ok(number)
+}
+
+/// Adds the item as a new last part, so that the others keep their numbers, and answers the new part's.
+fn open_part(
+    alloc: Global,
+    parts: &mut Parts,
+    ends: &mut LastEnds,
+    item: &Item,
+) -> Result<usize, NoMemory>
+    requires heap { IsHeap ends.old.ends }
+    requires last_ends { HoldLastEnds parts.old ends.old.ends }
+    requires room { ends.old.looks + length ends.old.ends + 1 < 2 ^ 64 }
+    ensures number { IfOk result (λ k. k ≡ length parts.old) }
+    ensures added { OnOk result (parts.new ≡ added parts.old (length parts.old) item.now) }
+    ensures heap { OnOk result (IsHeap ends.new.ends) }
+    ensures last_ends { OnOk result (HoldLastEnds parts.new ends.new.ends) }
+    ensures more { OnOk result (ends.old.looks ≤ ends.new.looks) }
+    ensures few { OnOk result ((digits : ℕ) → length ends.old.ends < 2 ^ digits
+        → ends.new.looks ≤ ends.old.looks + digits) }
+    ensures parts_err { OnErr result (parts.new ≡ parts.old) }
+    ensures ends_err { OnErr result (ends.new ≡ ends.old) }
+{
+    let number = parts.len();
+    ends.push(item.period.to, number)?;
+    if let Err(refused) = parts.open(alloc, item) {
+        ends.pop();
+        return Err(refused);
+    }
+    sift_up(ends);
+    Ok(number)
+}
+
+/// Of the two places below a place, that of the one that comes first, by one look at most.
+fn first_below(ends: &mut LastEnds, place: usize) -> usize
+    requires within { place * 2 + 1 < length ends.old.ends }
+    requires room { ends.old.looks + 1 < 2 ^ 64 }
+    ensures from { place * 2 + 1 ≤ result }
+    ensures to { result ≤ place * 2 + 2 }
+    ensures within { result < length ends.old.ends }
+    ensures first { ComesFirstBelow ends.old.ends place result }
+    ensures same { ends.new.ends ≡ ends.old.ends }
+    ensures more { ends.old.looks ≤ ends.new.looks }
+    ensures few { ends.new.looks ≤ ends.old.looks + 1 }
+{
+    let many = ends.len();
+    let left = place * 2 + 1;
+    let right = left + 1;
+    if right == many {
+        return left;
+    }
+    if ends.comes_first(right, left) {
+        right
+    } else {
+        left
+    }
+}
+
+/// Makes a heap of one whose first may come after others: it moves down past them, by two looks a level.
+fn sift_down(ends: &mut LastEnds)
+    requires some { 0 < length ends.old.ends }
+    requires heap { IsHeapButBelow ends.old.ends 0 }
+    requires room { ends.old.looks + 2 * length ends.old.ends < 2 ^ 64 }
+    ensures heap { IsHeap ends.new.ends }
+    ensures same { IsPermutation ends.old.ends ends.new.ends }
+    ensures more { ends.old.looks ≤ ends.new.looks }
+    ensures few { (digits : ℕ) → length ends.old.ends < 2 ^ digits
+        → ends.new.looks + 2 ≤ ends.old.looks + 2 * digits }
+{
+    let mut place = 0;
+    while place < ends.len() / 2 {
+        let below = first_below(ends, place);
+        if ends.comes_first(place, below) {
+            return;
+        }
+        ends.swap(place, below);
+        place = below;
+    }
+}
+
+/// Makes a heap of one whose last may come before others: it moves up past them, by one look a level.
+fn sift_up(ends: &mut LastEnds)
+    requires some { 0 < length ends.old.ends }
+    requires heap { IsHeapButAbove ends.old.ends (length ends.old.ends - 1) }
+    requires room { ends.old.looks + length ends.old.ends < 2 ^ 64 }
+    ensures heap { IsHeap ends.new.ends }
+    ensures same { IsPermutation ends.old.ends ends.new.ends }
+    ensures more { ends.old.looks ≤ ends.new.looks }
+    ensures few { (digits : ℕ) → length ends.old.ends ≤ 2 ^ digits
+        → ends.new.looks ≤ ends.old.looks + digits }
+{
+    let mut place = ends.len() - 1;
+    while place > 0 {
+        let above = (place - 1) / 2;
+        if ends.comes_first(above, place) {
+            return;
+        }
+        ends.swap(above, place);
+        place = above;
+    }
+}
