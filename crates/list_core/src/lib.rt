@@ -4,15 +4,15 @@
 //! that is wanted, in order.
 
 mod chunked;
-mod chunks;
 mod copy;
 mod cut;
 mod list;
+mod lists;
 mod room;
 
 pub use chunked::ChunkedList;
-pub use chunks::in_one_list;
 pub use copy::{DeepCopy, copy_each};
 pub use cut::start_at;
 pub use list::List;
+pub use lists::in_one_list;
 pub use room::room_for_half;

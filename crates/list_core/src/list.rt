@@ -3,8 +3,8 @@
 ghost use Rattle.std.specs.Prelude.{◌≡◌, ◌++◌, ◌==◌, [], ◌∷◌, length, IfOk, OnOk, OnErr, slice_get};
 ghost use Rattle.std.specs.Option.{option_copied};
 
-use crate::chunks::append;
 use crate::copy::{DeepCopy, copy_each};
+use crate::lists::append;
 use std::alloc::{AllocError, Global};
 use std::marker::Model;
 

@@ -1,6 +1,6 @@
 use Rattle.std.proofs.Common.{◌≡◌}
 use Rattle.list_core.specs.Chunks.{all_in}
-use Rattle.list_core.proofs.chunks.in_one_list.Given as goal
+use Rattle.list_core.proofs.lists.in_one_list.Given as goal
 
 -- those of the lists so far are there
 abbrev pub invariant-loop-list : goal.invariant-loop-list
