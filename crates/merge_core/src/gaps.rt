@@ -66,9 +66,8 @@ fn gaps_of(x: &Item, right: &mut Cursor, gaps: &mut Vec<Gap>) -> Result<u64, NoM
     Ok(passed)
 }
 
-/// Adds the gaps of the left part against the right one by rising start, and answers how often a cursor
-/// advanced: once for each left item, and once for each right item that ends at or before the end of some left
-/// one.
+/// Adds the gaps of the left part against the right one by rising start, and answers how many items were passed:
+/// each left item, and each right item that ends at or before the end of some left one.
 ///
 /// # Errors
 ///
