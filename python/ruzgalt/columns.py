@@ -1,12 +1,12 @@
 """The columns of a CSV file that is loaded: what each value becomes, what is wrong with it, what may not be meant."""
 import re
 from argparse import Namespace
-from typing import Callable, Dict, List, Optional, Sequence
+from typing import Callable, Dict, Optional, Sequence
 
 from ruzgalt import dates
 from ruzgalt.dates import NO_END
 from ruzgalt.decimals import SPACES, Scale
-from ruzgalt.doubts import PLAIN_LINES, Doubt, LookAlikes, doubt_of
+from ruzgalt.doubts import Doubt, LookAlikes, are_plain, doubt_of
 from ruzgalt.errors import Misfit
 from ruzgalt.forms import TEXT_LIMIT, is_integer, is_short
 from ruzgalt.records import Printer, visible
@@ -19,6 +19,8 @@ TO_SPACE = str.maketrans(SPACES, " " * len(SPACES))
 FEW = 64
 # What stands in quotes in a record.
 MARKED = re.compile('[,"\r\n]')
+# Whole numbers, a line each, that surely are some of the store.
+INTEGERS = re.compile(r"(?:(?:0|-?[1-9][0-9]{0,17})\n)+")
 
 
 class Column(Dict[str, Optional[str]]):
@@ -31,13 +33,13 @@ class Column(Dict[str, Optional[str]]):
         self.doubts: Dict[str, Doubt] = {}
         self.printer, self.is_varied = Printer(), False
 
-    def made(self, values: Sequence[str]) -> List[Optional[str]]:
+    def made(self, values: Sequence[str]) -> Sequence[Optional[str]]:
         """The field of each value. New ones are made at once, where all are of a simple form, or else one by one."""
         if self.is_varied:
-            # Numbers that are nearly all new ones aren't looked for, since that takes longer than to make them.
-            numbers = Column.made_at_once(self, values)
-            if numbers:
-                return [*numbers]
+            # What is nearly always new isn't looked for, since that takes longer than to make it.
+            made = self.made_at_once(values)
+            if made:
+                return made
         found = list(map(self.get, values))
         if None not in found:
             return found
@@ -47,9 +49,9 @@ class Column(Dict[str, Optional[str]]):
             self.update(zip(new, self.made_at_once(new)))
         return list(map(self.__getitem__, values))
 
-    def made_at_once(self, new: Sequence[str]) -> Sequence[str]:
-        """What new values become, if all are of a simple form; nothing else."""
-        made: Sequence[str] = self.convert.at_once(new) if isinstance(self.convert, Scale) else []
+    def made_at_once(self, values: Sequence[str]) -> Sequence[str]:
+        """What values become, if all are of a simple form; nothing else."""
+        made: Sequence[str] = self.convert.at_once(values) if isinstance(self.convert, Scale) else []
         return made
 
     def __missing__(self, value: str) -> Optional[str]:
@@ -121,12 +123,14 @@ class Text(Column):
         self.kind, self.is_key = kind, is_key
         self.look_alikes = LookAlikes()
 
-    def made_at_once(self, new: Sequence[str]) -> Sequence[str]:
-        """Plain texts of ASCII, none of which looks like another one, in quotes where they need them."""
-        joined = "\n".join(new)
-        if self.kind is Kind.INT or not PLAIN_LINES.fullmatch(joined) or max(map(len, new)) > TEXT_LIMIT:
+    def made_at_once(self, values: Sequence[str]) -> Sequence[str]:
+        """Plain texts, none of which looks like another one, in quotes where they need them; or whole numbers."""
+        if self.kind is Kind.INT:
+            return values if INTEGERS.fullmatch("\n".join([*values, ""])) else []
+        if not are_plain(values) or max(map(len, values)) > TEXT_LIMIT // 2 or not self.look_alikes.are_apart(values):
             return []
-        return self.printer.text([value] for value in new).splitlines() if self.look_alikes.are_apart(new) else []
+        # Of what stands in quotes they have commas alone.
+        return [f'"{value}"' if "," in value else value for value in values]
 
     def value(self, text: str) -> str:
         made = text.translate(TO_SPACE) if self.has_plain_spaces else text

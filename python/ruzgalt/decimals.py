@@ -68,12 +68,14 @@ class Scale:
 
     def at_once(self, texts: Sequence[str]) -> List[str]:
         """What numbers become that all have just these decimals, and can't be read in two ways; nothing of others."""
-        form = rf"(?:\d{{1,12}}{re.escape(self.marks.mark)}\d{{{self.digits}}}(?:\n(?!$)|$))+"
-        joined = "\n".join(texts)
-        if self.digits in (0, 3) or self.digits > 6 or not re.fullmatch(form, joined, re.ASCII):
+        form = rf"(?:\d{{1,12}}{re.escape(self.marks.mark)}\d{{{self.digits}}}\n)+"
+        lines = "\n".join([*texts, ""])
+        if self.digits in (0, 3) or self.digits > 6 or not re.fullmatch(form, lines, re.ASCII):
             return []
         self.marks.is_settled, self.longest = True, max(self.longest, self.digits)
-        return list(map(str, map(int, joined.replace(self.marks.mark, "").split("\n"))))
+        digits = lines.replace(self.marks.mark, "")
+        has_zeros = digits.startswith("0") or "\n0" in digits
+        return list(map(str, map(int, digits.split()))) if has_zeros else digits.split()
 
     def read(self, text: str) -> str:
         told = number_in(text, self.marks.mark)

@@ -3,18 +3,30 @@ import re
 import unicodedata
 from array import array
 from collections import Counter
-from typing import Dict, Iterator, NamedTuple, Optional, Sequence, Tuple
+from itertools import chain
+from operator import eq
+from typing import Counter as Counts
+from typing import Dict, Iterator, List, NamedTuple, Optional, Sequence, Tuple
 
 from ruzgalt.dates import is_far_off, is_month_end, shifted
 from ruzgalt.decimals import SPACES, number_in
 from ruzgalt.records import visible
 
 NO_BREAK = re.compile(f"[{SPACES[1:]}]")
-# A text that looks like itself: words of ASCII with single spaces between them.
-PLAIN = re.compile(r"[!-<>-~][!-~]*(?: [!-~]+)*")
-# Several of them, a line each, that end with a letter, and so are no numbers.
-PLAIN_LINES = re.compile(r"(?:[!-<>-~][!-~]*(?: [!-~]+)*(?<=[A-Za-z])(?:\n(?!$)|$))+")
+# Letters of Europe that are one character, and that no other character stands for.
+LETTER = "A-Za-z\u00c0-\u00d6\u00d8-\u00f6\u00f8-\u0131\u0134-\u013e\u0141-\u0148\u014a-\u017e"
+# A text that looks like itself: words with single spaces between them, and no formula.
+PLAIN = re.compile(f"(?!=)[!-~{LETTER}]+(?: [!-~{LETTER}]+)*")
+# Several of them, a line each, but for single spaces: no numbers, or whole ones, and without quotes.
+LINES = re.compile(f"(?:(?:[{LETTER}][ !#-~{LETTER}]*|[0-9][ !#-~{LETTER}]*(?<=[{LETTER}])|0|[1-9][0-9]*)\n)+")
 ROUNDED = re.compile(r"-?\d+(?:[.,]\d+)?[eE][+-]?\d+", re.ASCII)
+
+
+def are_plain(texts: Sequence[str]) -> bool:
+    """Whether all of the texts look like themselves, at once; some that do are left out."""
+    lines = "\n".join([*texts, ""])
+    is_right = lines.count("\n") == len(texts) and "  " not in lines and " \n" not in lines
+    return is_right and bool(LINES.fullmatch(lines))
 
 
 def doubt_of(value: str, mark: str) -> Optional[str]:
@@ -61,13 +73,9 @@ class LookAlikes:
         self.by_fold: Dict[str, str] = {}
 
     def are_apart(self, values: Sequence[str]) -> bool:
-        """Whether of texts of ASCII without spaces too many none looks like another one, or like one before."""
-        folds = "\n".join(values).lower().split("\n")
-        found = dict(zip(folds, values))
-        if len(found) < len(values) or not self.by_fold.keys().isdisjoint(found):
-            return False
-        self.by_fold.update(found)
-        return True
+        """Whether of plain texts none looks like another one, or like one before."""
+        folds = "\n".join(values).casefold().split("\n")
+        return all(map(eq, map(self.by_fold.setdefault, folds, values), values))
 
     def other(self, value: str) -> Optional[str]:
         found = self.by_fold.setdefault(fold(value), value)
@@ -125,63 +133,38 @@ class Ends:
     """Whether ends look like last days where they are taken for the days behind, or the other way round.
 
     Of rows with one key some start on the end of another, and some on the day behind it; ends are last days of months
-    or first ones. What is kept of a row is a number for its key and its point, since there may be a million.
+    or first ones. What is kept of a row are numbers for its key and a point, since there may be a million, and they are
+    looked at when all are there.
     """
 
     def __init__(self, name: str, key: str, is_last_day: bool) -> None:
         self.name, self.key, self.is_last_day = name, key, is_last_day
-        self.starts: Dict[int, int] = {}
-        self.lines = array("l")
-        # Of each row the key with its end as the file has it, and with the day behind.
-        self.same, self.behind = array("q"), array("q")
-        self.month_ends = self.month_starts = 0
-        self.example = ""
-        # What is found of a day, since days repeat.
+        self.lines: List[Sequence[int]] = []
+        # Of each row the key with its start, with its end as the file has it, and with the day behind.
+        self.starts, self.same, self.behind = array("q"), array("q"), array("q")
+        # The days behind, or before, and how often each end is there, since days repeat.
         self.days = Days(-1 if is_last_day else 1)
-        self.of_months: Dict[str, bool] = {}
+        self.counts: Counts[str] = Counter()
 
     def add(self, lines: Sequence[int], keys: Sequence[object], starts: Sequence[str], ends: Sequence[str]) -> None:
         """Adds rows with their points as they are loaded."""
         others = list(map(self.days.__getitem__, ends))
         told, behind = (others, ends) if self.is_last_day else (ends, others)
-        self.starts.update(zip(map(hash, zip(keys, starts)), lines))
-        self.lines.extend(lines)
-        self.same.extend(map(hash, zip(keys, told)))
-        self.behind.extend(map(hash, zip(keys, behind)))
-        self.count_months(told)
-
-    def count_months(self, days: Sequence[str]) -> None:
-        for day, count in Counter(days).items():
-            if day >= "9999" or is_far_off(day):
-                continue
-            if day.endswith("-01"):
-                self.month_starts += count
-                self.example = self.example or (day if self.is_last_day else "")
-            elif self.is_month_end(day):
-                self.month_ends += count
-                self.example = self.example or ("" if self.is_last_day else day)
-
-    def is_month_end(self, day: str) -> bool:
-        found = self.of_months.get(day)
-        if found is None:
-            found = self.of_months[day] = is_month_end(day)
-        return found
+        self.lines.append(lines)
+        for numbers, points in ((self.starts, starts), (self.same, told), (self.behind, behind)):
+            numbers.extend(map(hash, zip(keys, points)))
+        self.counts.update(told)
 
     def told(self) -> Iterator[str]:
-        on_end, on_next = self.meetings(self.same), self.meetings(self.behind)
+        starts = set(self.starts)
+        # How many rows another one of their key meets.
+        on_end, on_next = (sum(map(starts.__contains__, ends)) for ends in (self.same, self.behind))
         if on_end or on_next:
             is_odd = on_end >= on_next if self.is_last_day else on_next >= on_end
             if is_odd or (on_end and on_next):
                 yield self.told_of_meetings(on_end, on_next, is_odd)
                 return
-        seldom, often = sorted((self.month_ends, self.month_starts))
-        is_odd = (self.month_starts if self.is_last_day else self.month_ends) == often
-        if often > 4 * seldom and is_odd and often > 10 * (on_next if self.is_last_day else on_end):
-            yield self.told_of_months()
-
-    def meetings(self, ends: "array[int]") -> int:
-        """How many rows another one of their key meets at these points."""
-        return sum(map(self.starts.__contains__, ends))
+        yield from self.told_of_months(on_next if self.is_last_day else on_end)
 
     def told_of_meetings(self, on_end: int, on_next: int, is_odd: bool) -> str:
         told = " and ".join(
@@ -192,41 +175,42 @@ class Ends:
         return f"{self.name}: of rows that follow one of the same {self.key}, {told}: {remedy}"
 
     def example_of(self, ends: "array[int]") -> str:
-        line, end = next(pair for pair in zip(self.lines, ends) if pair[1] in self.starts)
-        return f"line {self.starts[end]} after line {line}"
+        starts = dict(zip(self.starts, chain(*self.lines)))
+        line, end = next(pair for pair in zip(chain(*self.lines), ends) if pair[1] in starts)
+        return f"line {starts[end]} after line {line}"
 
     def remedy(self) -> str:
         if self.is_last_day:
             return "--last-day takes it for the last day of a row; without it, the day before is the last"
         return "a row doesn't hold on that day any more; --last-day takes it for the last one"
 
-    def told_of_months(self) -> str:
-        of_all = f"{self.month_ends} ends are last days of a month, and {self.month_starts} first ones"
-        return f"{self.name} is {self.example}: {self.remedy()} ({of_all})"
+    def told_of_months(self, meeting: int) -> Iterator[str]:
+        """Tells where nearly all ends are days of a month that look otherwise, and few rows meet as they are told."""
+        known = [day for day in self.counts if day < "9999" and not is_far_off(day)]
+        last_days, first_days = [day for day in known if is_month_end(day)], [day for day in known if day[8:] == "01"]
+        ends, starts = (sum(map(self.counts.__getitem__, days)) for days in (last_days, first_days))
+        odd, others, days = (starts, ends, first_days) if self.is_last_day else (ends, starts, last_days)
+        if odd > 4 * others and odd > 10 * meeting:
+            of_all = f"{ends} ends are last days of a month, and {starts} first ones"
+            yield f"{self.name} is {days[0]}: {self.remedy()} ({of_all})"
 
 
 class Twins:
-    """Tells a row that is equal to one before it."""
+    """Tells a row that is equal to one before it. Of a row a number is kept, which is looked at when all are there."""
 
     def __init__(self) -> None:
-        self.lines: Dict[int, int] = {}
-        self.first: Optional[Tuple[int, int]] = None
-        self.count = 0
+        self.lines: List[Sequence[int]] = []
+        self.rows = array("q")
 
     def add(self, lines: Sequence[int], rows: Sequence[str]) -> None:
-        hashes = list(map(hash, rows))
-        found = dict(zip(hashes, lines))
-        if len(found) == len(rows) and self.lines.keys().isdisjoint(found):
-            self.lines.update(found)
-            return
-        for number, line in zip(hashes, lines):
-            before = self.lines.setdefault(number, line)
-            if before != line:
-                self.count += 1
-                self.first = self.first or (line, before)
+        self.lines.append(lines)
+        self.rows.extend(map(hash, rows))
 
     def told(self) -> Iterator[str]:
-        if self.first:
-            line, before = self.first
-            more = f"; {self.count - 1} more rows are so" if self.count > 1 else ""
+        count = len(self.rows) - len(set(self.rows))
+        if count:
+            firsts: Dict[int, int] = {}
+            pairs = ((line, firsts.setdefault(row, line)) for line, row in zip(chain(*self.lines), self.rows))
+            line, before = next(pair for pair in pairs if pair[0] != pair[1])
+            more = f"; {count - 1} more rows are so" if count > 1 else ""
             yield f"line {line} makes the same row as line {before}, and both are loaded{more}"

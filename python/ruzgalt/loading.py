@@ -77,7 +77,7 @@ class Load:
         self.rows += len(piece.records)
         if self.count_of_faults:
             return b""
-        columns = cast(List[List[str]], found)
+        columns = cast(List[Sequence[str]], found)
         texts = self.records_of(columns)
         self.twins.add(piece.lines, texts)
         if self.options.part:
@@ -108,9 +108,11 @@ class Load:
         return crc32("\0".join(row[2 + place] for place in self.keys).encode()) % parts == part - 1
 
     def look_at(
-        self, lines: Sequence[int], values: List[Sequence[str]], found: List[List[Optional[str]]],
+        self, lines: Sequence[int], values: List[Sequence[str]], found: List[Sequence[Optional[str]]],
     ) -> None:
-        faulty = {row for made in found if None in made for row, one in enumerate(made) if one is None}
+        # A column without faults has none in this piece.
+        looked = [made for column, made in zip(self.columns, found) if column.faults]
+        faulty = {row for made in looked for row, one in enumerate(made) if one is None}
         for row in sorted(faulty):
             for column, texts, made in zip(self.columns, values, found):
                 if made[row] is None:
@@ -123,11 +125,11 @@ class Load:
             self.either_line = lines[values[self.names.index(name)].index(text)]
         if not faulty:
             # None is at fault, so each is a text.
-            starts, ends, *others = cast(List[List[str]], found)
+            starts, ends, *others = cast(List[Sequence[str]], found)
             self.refuse_empty_periods(lines, starts, ends)
             self.ends.add(lines, self.keys_of(others) or [""] * len(lines), starts, ends)
 
-    def refuse_empty_periods(self, lines: Sequence[int], starts: List[str], ends: List[str]) -> None:
+    def refuse_empty_periods(self, lines: Sequence[int], starts: Sequence[str], ends: Sequence[str]) -> None:
         # The texts of points are in the order of time.
         if not any(map(ge, starts, ends)):
             return
@@ -138,9 +140,9 @@ class Load:
                 self.add_fault(f"line {line}: {told}")
 
     def keys_of(self, values: Sequence[Sequence[str]]) -> Sequence[object]:
-        keys = [values[place] for place in self.keys]
-        joined: List[Tuple[str, ...]] = list(zip(*keys))
-        return keys[0] if len(keys) == 1 else joined
+        if len(self.keys) == 1:
+            return values[self.keys[0]]
+        return list(zip(*(values[place] for place in self.keys)))
 
     def refuse_either(self) -> None:
         if self.marks.either and not self.marks.is_settled:
@@ -164,7 +166,7 @@ class Load:
             raise Misfit(f"{visible(wrong[0])} is no name of a table's column: --table tells the table's")
         return names
 
-    def records_of(self, columns: List[List[str]]) -> List[str]:
+    def records_of(self, columns: List[Sequence[str]]) -> List[str]:
         """The records of a load, or else an update for each row. Fields stand in quotes already that need them."""
         made = map(self.update_of, zip(*columns)) if self.options.update else zip(repeat("row"), *columns)
         return list(map(",".join, made))

@@ -11,7 +11,7 @@ from typing import Iterator, List, NamedTuple, Optional, Sequence
 from ruzgalt.errors import Misfit
 
 # Records are worked on by so many at once, a column after another.
-PIECE = 1 << 13
+PIECE = 1 << 9
 SEPARATOR = re.compile(r'"?sep=(.)"?')
 
 
@@ -86,7 +86,8 @@ class Sheet:
         if wrong:
             raise Misfit(f"line {self.line}: {wrong}")
         # A spreadsheet may have lines of empty fields before the header, and behind the last row.
-        if all(record and record[0] and not record[0].isspace() for record in records):
+        firsts = [record[0] for record in records if record]
+        if len(firsts) == len(records) and all(map(str.strip, firsts)):
             return Piece(lines, records) if records else None
         kept = [(line, record) for line, record in zip(lines, records) if any(map(str.strip, record))]
         return Piece([line for line, _ in kept], [record for _, record in kept])

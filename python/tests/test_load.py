@@ -1,8 +1,11 @@
 """What tools/csv-to-load makes of a file, what it refuses, and what it notes."""
+import csv
+import io
 import tempfile
 import unittest
+from decimal import Decimal
 from pathlib import Path
-from typing import List, Tuple, Union
+from typing import List, Sequence, Tuple, Union
 from unittest import mock
 
 from ruzgalt import load_cli, loading
@@ -119,6 +122,44 @@ class LookAlikeTexts(Case):
 
     def test_a_zero_byte_is_refused_with_its_line(self) -> None:
         self.refused("line 2: a zero byte, of 1 in the file", rows("A\0,1,2024-01-01,2024-02-05"))
+
+
+class ManyValues(Case):
+    """Values of which many are new are made at once, where they are of a simple form."""
+
+    def made(self, names: Sequence[str], *words: str) -> List[List[str]]:
+        """The values of the rows, each with another number."""
+        text = io.StringIO(newline="")
+        csv.writer(text).writerows([name, number, "2024-01-01", "2024-03-05"] for number, name in enumerate(names))
+        printed, told = load(HEADER + text.getvalue(), *WORDS, *words)
+        self.assertEqual(told, [])
+        return [row[3:] for row in csv.reader(io.StringIO(printed, newline="")) if row[0] == "row"]
+
+    def test_each_row_keeps_its_value(self) -> None:
+        forms = ["Person {}, A", "Özgür {} Şahin", "K-{}", "{}", "{} Müller", "e{}", 'Łódź "{}"', "Ω {}", "a\nb {} c"]
+        for form in forms:
+            names = [form.format(number) for number in range(1, 300)]
+            names.extend(reversed(names))
+            with self.subTest(form):
+                wanted = [[name, str(number)] for number, name in enumerate(names)]
+                self.assertEqual(self.made(names, "--line-breaks"), wanted)
+
+    def test_a_text_that_looks_like_one_of_many_is_told_with_both(self) -> None:
+        for form, other in [("Person {}", "PERSON 250"), ("Öz {} Straße", "öz 250 STRASSE"), ("{}", "0250")]:
+            names = [*map(form.format, range(1, 300)), other]
+            with self.subTest(form):
+                text = rows(*(f"{name},1,2024-01-01,2024-03-05" for name in names))
+                self.told(f"Name is '{other}', and is loaded so: it is another text than '{form.format(250)}'", text)
+
+    def test_numbers_of_many_forms_become_whole(self) -> None:
+        for form in ("{}.25", "0.{:02}", "{}", "-{}.5", "1,{:03}.00"):
+            texts = [form.format(number) for number in range(10, 100)]
+            text = rows(*(f'{place},"{one}",2024-01-01,2024-03-05' for place, one in enumerate([*texts, "0.1"])))
+            with self.subTest(form):
+                printed, told = load(text, *WORDS, "--decimals", "Pay=2")
+                wanted = [str(int(Decimal(one.replace(",", "")) * 100)) for one in [*texts, "0.1"]]
+                found = [row[4] for row in csv.reader(io.StringIO(printed)) if row[0] == "row"]
+                self.assertEqual((found, told), (wanted, []))
 
 
 class Tables(Case):
