@@ -10,7 +10,7 @@ from ruzgalt.commands import Command
 from ruzgalt.errors import Misfit
 from ruzgalt.forms import is_count, is_printed, printed
 from ruzgalt.progress import Progress
-from ruzgalt.reader import Block, Place, Reader, Row, Rows, Source
+from ruzgalt.reader import PIECE, Block, Place, Reader, Row, Rows, Source
 from ruzgalt.records import Record, short
 from ruzgalt.tables import Column, Schema, Table
 
@@ -63,8 +63,8 @@ def of(script: Given, output: Given) -> List[Answer]:
     return of_commands(commands.commands(Source(bytes_of(script))), bytes_of(output))
 
 
-def of_commands(script: Iterable[Command], output: bytes) -> List[Answer]:
-    return list(Reading(Source(output)).answers(script))
+def of_commands(script: Iterable[Command], output: bytes, is_own: bool = False) -> List[Answer]:
+    return list(Reading(Source(output), is_own).answers(script))
 
 
 def bytes_of(source: Given) -> bytes:
@@ -74,8 +74,9 @@ def bytes_of(source: Given) -> bytes:
 class Reading:
     """The answers' records, of which some first ones are read, and the tables and commits of the store by then."""
 
-    def __init__(self, output: Source):
-        self.source, self.output = output, Reader(output)
+    def __init__(self, output: Source, is_own: bool):
+        """Of answers that the program gave just now the long lists are passed over."""
+        self.source, self.output, self.is_own = output, Reader(output), is_own
         self.place = self.output.place
         self.progress = Progress(called.ANSWERS_SAY)
         self.tables: Dict[str, Schema] = {}
@@ -170,6 +171,10 @@ class Reading:
                     raise checks.fault(Reader(self.source, place), first)
                 count += len(piece)
                 self.progress.tell(self.output.number)
+                behind = self.output.at_list_end(first) if self.is_own and len(piece) == PIECE else None
+                if behind:
+                    self.output, count = behind, behind.number - first.number
+                    break
             record = self.take(command, "the list's end")
         if list(record.fields) != ["end", str(count)]:
             names = ",".join(column.name for column in columns)

@@ -145,7 +145,7 @@ def do_front(options: Namespace) -> int:
     script, kept = bytes_of(options.script), bytes_of(options.kept)
     lines = list(front.edits(bytes_of(options.before), script)) if options.before else []
     output = program.output(options.program, script)
-    reading = answers.Reading(Source(output))
+    reading = answers.Reading(Source(output), True)
     found, places = [], []
     for answer in reading.answers(commands.commands(Source(script))):
         found.append(answer)

@@ -41,7 +41,7 @@ def read(options: Namespace, shows_refusals: bool = False, script: Optional[byte
             running.stop()
         raise
     output = running.output() if running else bytes_of(options.answers)
-    found = answers.of_commands(begun, output)
+    found = answers.of_commands(begun, output, running is not None)
     refused = [answer for answer in found if answer.refusal and not shows_refusals]
     if refused and not options.go_on:
         more = f"{len(refused)} refused; `{called.ANSWERS} refusals` explains, --go-on goes on"

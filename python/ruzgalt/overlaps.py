@@ -99,14 +99,13 @@ def explained(store: Store, answer: Answer) -> List[str]:
 def collisions(store: Store, name: str, change: Change, key: Sequence[int]) -> Iterator[Pair[Held]]:
     """The pairs of rows of one key that a change would leave, of which one at least is new."""
     closed = {version.row_id for version in change.closed}
-    stay = [version for row_id, version in store.open[name].by_id.items() if row_id not in closed]
     by_key: Dict[object, List[Held]] = defaultdict(list)
     key_of = itemgetter(*key)
     for row in change.added:
         by_key[key_of(row.values)].append(row)
-    for version in stay:
+    for row_id, version in store.open[name].by_id.items():
         values = key_of(version.row.values)
-        if values in by_key:
+        if values in by_key and row_id not in closed:
             by_key[values].append(version)
     for things in by_key.values():
         yield from pairs((row_in(thing).start, row_in(thing).end, thing) for thing in things)

@@ -16,6 +16,7 @@ csv.field_size_limit(1 << 27)
 END = ["end"]
 # Records of one form are looked at by so many at once.
 PIECE = 1 << 13
+LIST_END = re.compile(rb"\nend,(\d{1,9})\n")
 BYTE_ORDER_MARK = b"\xef\xbb\xbf"
 # Python 3.9's csv takes no zero byte, so one is put in its place that no decoded text has.
 ZERO, STAND_IN = "\0", "\ud800"
@@ -153,6 +154,20 @@ class Reader:
             self.number += count + len(piece) - 1
         if piece:
             yield piece
+
+    def at_list_end(self, first: Record) -> Optional["Reader"]:
+        """A reader at the `end,N` of a list as dipq prints it, of which pieces were read; None where there is none.
+
+        Where an even number of quotes stands before it, it stands in no field.
+        """
+        data, begun = self.source.data, self.source.byte_of(self.first_line + self.csv.line_num)
+        for found in LIST_END.finditer(data, begun - 1):
+            byte = found.start() + 1
+            if data.count(b'"', begun, byte) % 2 == 0:
+                ends = [data.count(end, begun, byte) for end in (b"\n", b"\r", b"\r\n")]
+                line = self.first_line + self.csv.line_num + ends[0] + ends[1] - ends[2]
+                return Reader(self.source, Place(line, first.number + int(found[1])))
+        return None
 
 
 def breaks_in(field: str) -> int:

@@ -5,7 +5,8 @@ texts are in the order of time; of two values the texts are equal exactly where 
 """
 from collections import defaultdict
 from dataclasses import dataclass, field
-from itertools import islice
+from itertools import count, islice, repeat
+from operator import attrgetter
 from typing import Dict, Iterable, Iterator, List, NamedTuple, Optional, Sequence, Tuple
 
 from ruzgalt import fields
@@ -64,10 +65,11 @@ class OpenRows:
         self.by_id: Dict[int, Version] = {}
         self.by_value: Dict[int, Dict[str, Dict[int, Version]]] = {}
 
-    def add(self, version: Version) -> None:
-        self.by_id[version.row_id] = version
-        for place, versions in self.by_value.items():
-            versions[version.row.values[place]][version.row_id] = version
+    def add(self, versions: Sequence[Version]) -> None:
+        self.by_id.update(zip(map(attrgetter("row_id"), versions), versions))
+        for place, by_value in self.by_value.items():
+            for version in versions:
+                by_value[version.row.values[place]][version.row_id] = version
 
     def close(self, version: Version) -> None:
         del self.by_id[version.row_id]
@@ -110,10 +112,9 @@ class Store:
         for version in change.closed:
             version.closed = answer.commits
             self.open[name].close(version)
-        for row in change.added:
-            version = Version(len(self.versions[name]) + 1, row, answer.commits)
-            self.versions[name].append(version)
-            self.open[name].add(version)
+        versions = list(map(Version, count(len(self.versions[name]) + 1), change.added, repeat(answer.commits)))
+        self.versions[name].extend(versions)
+        self.open[name].add(versions)
 
     def change(self, answer: Answer) -> Change:
         """What a load, an update or a delete does to the rows that are there, or would have done."""

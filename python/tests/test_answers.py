@@ -5,10 +5,11 @@ import sys
 import tempfile
 import unittest
 from pathlib import Path
-from typing import List, Tuple
+from typing import Iterator, List, Tuple
 from unittest import mock
 
-from ruzgalt import cli
+from ruzgalt import answers as of_answers
+from ruzgalt import cli, reader
 from ruzgalt.progress import Progress
 
 PAY = "table,pay,person,text,euros,int\nload,pay\nrow,2024-01-01,2024-03-01,A,5\nrow,2024-04-01,2024-06-01,A,6\nend\n"
@@ -140,6 +141,31 @@ class Tables(unittest.TestCase):
         words = f"sqlite $S :memory: --answers $A --ask a=rows,pay --query={query}"
         _, _, said = answers(words, PAY, f"ok,1\nok,2\n{ROWS}")
         self.assertIn("a record doesn't hold at its valid_to, which `between` includes", said)
+
+
+@contextlib.contextmanager
+def pieces_of(size: int) -> Iterator[None]:
+    with mock.patch.object(reader, "PIECE", size), mock.patch.object(of_answers, "PIECE", size):
+        yield
+
+
+class LongLists(unittest.TestCase):
+    def test_an_end_in_a_text_is_no_end_of_the_list(self) -> None:
+        text = '"A\nend,9\n"'
+        script = PAY.replace("A,6", f"{text},6") + "rows,pay\nlog\n"
+        rows = ROWS.replace("A,6", f"{text},6")
+        told = f"ok,1\nok,2\n{rows}commit,1,1,table,pay,0,0\ncommit,2,1,load,pay,2,0\nend,2\n"
+        for size in (1, 2, 3):
+            with self.subTest(size), pieces_of(size):
+                status, printed, _ = answers("csv $S --program $P 3", script, told)
+                self.assertEqual((status, printed.partition("\n")[2]), (0, rows.replace("row,", "")[:-len("end,2\n")]))
+                status, printed, _ = answers("csv $S --program $P 4", script, told)
+                self.assertEqual((status, printed.count("\n")), (0, 3))
+
+    def test_a_list_without_its_end_is_told(self) -> None:
+        with pieces_of(1):
+            status, _, said = answers("csv $S --program $P", PAY + "rows,pay\n", "ok,1\nok,2\n" + ROWS[:-6])
+        self.assertEqual((status, "the answers end before the list's end" in said), (1, True))
 
 
 class Terminals(unittest.TestCase):
