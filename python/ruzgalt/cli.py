@@ -10,7 +10,7 @@ from typing import Callable, Dict, Iterable, NamedTuple, Optional, Sequence
 
 from ruzgalt import (
     answers, called, changes, commands, export, fitting, front, history, marks, overlaps, picks, picture_cli, program,
-    records, refusals, single,
+    records, refusals, single, which,
 )
 from ruzgalt.errors import Misfit
 from ruzgalt.forms import read_point
@@ -311,7 +311,7 @@ def parser_of(name: str, tool: Tool) -> ArgumentParser:
     parser.add_argument("script", metavar="SCRIPT", help="a file, or - for standard input")
     tool.words(parser)
     parser.add_argument(
-        "--program", default=program.default(), metavar="PROGRAM",
+        "--program", default=which.program(), metavar="PROGRAM",
         help=f"what answers the script, in place of {called.PROGRAM}",
     )
     if tool.has_answers:

@@ -1,10 +1,6 @@
 """Asks the program: of a script for its answers, and for all faulty rows of its loads."""
-import os
-import shutil
 import subprocess
-import sys
 import tempfile
-from pathlib import Path
 from typing import Iterator, List, Sequence, Tuple
 
 from ruzgalt import answers, commands, records
@@ -12,17 +8,6 @@ from ruzgalt.answers import Answer
 from ruzgalt.errors import Misfit
 from ruzgalt.reader import Source
 from ruzgalt.refusals import reason
-
-
-def default() -> str:
-    """The program that DIPQ names in the environment, or ./dipq of the repository whose tool was called, or `dipq`.
-
-    The tool may be called by a link that stands elsewhere, or be copied to where no repository is.
-    """
-    called, package = Path(os.path.abspath(sys.argv[0])), Path(__file__).resolve()
-    places = [called.parent.parent / "dipq", package.parents[2] / "dipq"]
-    beside = next((str(place) for place in places if place.is_file()), None)
-    return os.environ.get("DIPQ") or beside or shutil.which("dipq") or str(places[0])
 
 
 class Running:

@@ -1,6 +1,7 @@
 """The words of tools/answers, beside scripts and answers that are told here: no program is run."""
 import contextlib
 import io
+import os
 import sys
 import tempfile
 import unittest
@@ -9,7 +10,7 @@ from typing import Iterator, List, Tuple
 from unittest import mock
 
 from ruzgalt import answers as of_answers
-from ruzgalt import cli, reader
+from ruzgalt import cli, reader, which
 from ruzgalt.progress import Progress
 
 PAY = "table,pay,person,text,euros,int\nload,pay\nrow,2024-01-01,2024-03-01,A,5\nrow,2024-04-01,2024-06-01,A,6\nend\n"
@@ -217,6 +218,21 @@ class Hints(unittest.TestCase):
         script = PAY + "agg,pay,count,by,person,euros\n"
         _, printed, _ = answers("refusals $S --answers $A", script, "ok,1\nok,2\nerror,6,BadCommand\n")
         self.assertIn("behind `by` stands one column", printed)
+
+    def test_the_program_is_named_or_beside_the_package_or_on_the_path(self) -> None:
+        with tempfile.TemporaryDirectory() as name:
+            folder = Path(name)
+            for place in (folder, folder / "bin"):
+                place.mkdir(exist_ok=True)
+                (place / "dipq").write_text("#!/bin/sh\n")
+                (place / "dipq").chmod(0o700)
+            with mock.patch.dict(os.environ, {"PATH": f"{folder}/bin"}), mock.patch.object(which, "TOP", folder):
+                os.environ.pop("DIPQ", None)
+                self.assertEqual(which.program(), f"{folder}/dipq")
+                (folder / "dipq").unlink()
+                self.assertEqual(which.program(), f"{folder}/bin/dipq")
+                os.environ["DIPQ"] = "/another"
+                self.assertEqual(which.program(), "/another")
 
     def test_a_program_that_is_missing_is_told_with_its_name_in_the_environment(self) -> None:
         status, _, said = answers("csv $S --program /none/dipq", PAY, "")

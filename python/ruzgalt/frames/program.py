@@ -7,30 +7,23 @@ import shutil
 import signal
 import subprocess
 import tempfile
-from pathlib import Path
 from typing import Iterable, Iterator, List
 
 import numpy as np
 
+from ruzgalt import which
 from ruzgalt.frames.arrays import Bytes
 from ruzgalt.frames.errors import Refused, Stopped
 from ruzgalt.frames.script import LIMIT
 
 # What a write to a file takes at once: less than 2 GiB.
 SLICE = 1 << 26
-# The folder that has python/: a clone, or what `make install` made.
-TOP = Path(__file__).resolve().parents[3]
-
-
-def program() -> str:
-    """The program that DIPQ names in the environment, or dipq beside the folder python/, or on the PATH."""
-    beside = TOP / "dipq"
-    return os.environ.get("DIPQ") or (str(beside) if beside.is_file() else "dipq")
 
 
 def refuse_unbuilt(command: str) -> None:
     """A clone's ./dipq would build the program first, in silence and for many minutes."""
-    if command == str(TOP / "dipq") and (TOP / "crates").is_dir() and not (TOP / "crates/dipq/out/dipq").exists():
+    top = which.TOP
+    if command == str(top / "dipq") and (top / "crates").is_dir() and not (top / "crates/dipq/out/dipq").exists():
         raise Stopped(f"{command}: the program isn't built yet; `{command} </dev/null` does it, in many minutes")
 
 
@@ -87,7 +80,7 @@ def slices(pieces: Iterable[bytes]) -> Iterator[memoryview]:
 
 
 def run(given: int, told: int, workers: int) -> None:
-    command = program()
+    command = which.program()
     refuse_unbuilt(command)
     if shutil.which(command) is None:
         raise Stopped(f"{command}: no such program; `make install` makes one, and the variable DIPQ names another")

@@ -11,7 +11,7 @@ import numpy as np
 import pandas as pd
 
 import ruzgalt
-from ruzgalt.frames import program
+from ruzgalt import which
 
 try:
     import dask
@@ -56,7 +56,7 @@ class KilledWorker(unittest.TestCase):
         # A program that takes so long that it is killed in its midst.
         folder = tempfile.TemporaryDirectory(prefix="frames-")
         self.addCleanup(folder.cleanup)
-        slow, real = Path(folder.name) / "slow-dipq", program.program()
+        slow, real = Path(folder.name) / "slow-dipq", which.program()
         slow.write_text(f'#!/bin/sh\nsleep 0.3\nexec {real} "$@"\n')
         slow.chmod(slow.stat().st_mode | stat.S_IXUSR)
         before = os.environ.get("DIPQ")

@@ -15,6 +15,7 @@ import pandas as pd
 
 import ruzgalt
 from processes import children, is_running, wait_for
+from ruzgalt import which
 from ruzgalt.frames import program
 
 FRAME = pd.DataFrame({"from": pd.to_datetime(["2024-01-01"]), "to": pd.to_datetime(["2024-02-01"]), "k": [1]})
@@ -68,7 +69,7 @@ class Program(unittest.TestCase):
         self.assertEqual((ran.returncode, ran.stdout), (3, b""))
 
     def test_threads_that_end_end_no_other_thread_s_program(self):
-        real = program.program()
+        real = which.program()
         self.command(f'sleep 0.2\nexec {real} "$@"')
         found = []
         asked = lambda: found.append(len(ruzgalt.join(FRAME, FRAME, on="k")))  # noqa: E731
@@ -105,9 +106,9 @@ class Program(unittest.TestCase):
     def test_a_clone_that_is_not_built_is_told(self):
         (self.folder / "crates").mkdir()
         path = self.command("exit 3")
-        with mock.patch.dict(os.environ), mock.patch.object(program, "TOP", self.folder):
+        with mock.patch.dict(os.environ), mock.patch.object(which, "TOP", self.folder):
             del os.environ["DIPQ"]
-            self.assertEqual(program.program(), str(path))
+            self.assertEqual(which.program(), str(path))
             self.says("isn't built yet")
 
     def test_without_setpriv_the_program_runs_as_it_is(self):
