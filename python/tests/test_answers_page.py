@@ -190,7 +190,7 @@ class Contents(ToolCase):
         for change, reason in [
             ("load,pay\nend", "the load has no rows"),
             (f"delete,pay,{TIME},where,person,\"byron, ada\"",
-             "no row has byron, ada as person then, but Byron, Ada, which looks alike"),
+             'no row has "byron, ada" as person then, but "Byron, Ada", which looks alike'),
             (f"delete,pay,{TIME},where,person,\"Byron, Ada\",euros,6", "no row has all of these values"),
             ('update,pay,2024-03-01,2024-04-01,set,euros,7,where,euros,5',
              "the rows that it names hold at other times: 2024-01-01 to 2024-02-01"),
@@ -297,6 +297,16 @@ class Programs(unittest.TestCase):
         with self.assertRaisesRegex(Misfit, "the program answers otherwise than the changes, done again"):
             self.sources(script, told)
         self.assertFalse(self.sources(script, told, once=True).is_done_again)
+
+    def test_the_program_that_a_command_runs_is_told_beside_it(self) -> None:
+        with tempfile.TemporaryDirectory() as folder:
+            files = [Path(folder, "dipq"), Path(folder, sources.PROGRAMS[0])]
+            for file in files:
+                file.parent.mkdir(parents=True, exist_ok=True)
+                file.write_text(file.name * len(file.parts))
+            marks = [sources.marked(str(file), file.read_bytes()) for file in files]
+            self.assertEqual(sources.files_of(str(files[0])), marks)
+            self.assertEqual(sources.files_of(str(files[1])), marks[1:])
 
     def test_a_table_that_is_refused_has_no_versions(self) -> None:
         found = self.sources("table,t,a,x\n", "error,1,BadCommand\nerror,2,NoTable\n")

@@ -224,9 +224,22 @@ class Times(BrowserCase):
             ["2024-07-01", "2025-01-01", "3", "", "Byron, Ada", "5400"],
         ])
         self.assertTrue(rows[1][7].startswith("line 6: update,pay,"))
-        choice = "document.querySelector('#tables select')"
-        self.value(f"{choice}.selectedIndex = 1, {choice}.dispatchEvent(new Event('change'))")
+        self.choose(1, 1)
         self.assertEqual([row[4] for row in self.cells("#tables", 1)], ["Hill, Grace"])
+
+    def choose(self, place: int, option: int) -> None:
+        """What a select of the tables is changed to."""
+        select = f"document.querySelectorAll('#tables select')[{place}]"
+        self.value(f"{select}.selectedIndex = {option}, {select}.dispatchEvent(new Event('change'))")
+
+    def test_a_fact_is_told_by_the_key_or_another_column(self) -> None:
+        self.open(example("audit"))
+        self.assertEqual({row[4] for row in self.cells("#tables", 1)}, {"D05"})
+        self.choose(0, 1)
+        self.assertEqual({row[5] for row in self.cells("#tables", 1)}, {"Nowak, Marta"})
+        self.open(example("payroll"))
+        kinds = self.value("[...document.querySelector('#tables select').options].map((one) => one.textContent)")
+        self.assertEqual(kinds, ["person", "dept", "grade", "euros"])
 
     def test_then_and_now_are_marked_in_words(self) -> None:
         self.open(example("payroll"))

@@ -6,7 +6,7 @@ from ruzgalt.answers import CHANGES, Answer
 from ruzgalt.doubts import fold
 from ruzgalt.fields import where_places
 from ruzgalt.page.sources import CLOSED, MADE, Sources, Tally
-from ruzgalt.records import short, visible
+from ruzgalt.records import short, to_record, visible
 from ruzgalt.store import Store
 from ruzgalt.tables import Table
 
@@ -56,8 +56,8 @@ def refused_and_doubtful(found: Sequence[Answer]) -> Tuple[List[Finding], List[F
         if answer.refusal:
             is_explained = answer.refusal.name == "KeyOverlap" and len(refused) < LOOKED_AT
             more = overlaps.explained(store, answer) if is_explained else []
-            told = finding(answer, answer.refusal.name, refusals.reason(answer), more)
-            refused.append(told._replace(place=answer.refusal.record.place))
+            one = finding(answer, answer.refusal.name, refusals.reason(answer), more)
+            refused.append(one._replace(place=answer.refusal.record.place))
     idle = marks.of_count
     others = [mark for mark in seen.end(store) if mark.told != idle(mark.answer, 0)]
     return refused, [finding(mark.answer, "", mark.told) for mark in others]
@@ -81,7 +81,7 @@ def why_idle(answer: Answer, sources: Sources) -> str:
         values = {row[place] or "" for row in rows}
         if value not in values:
             name = schema.names[place - 5]
-            return f"no row has {visible(value) or 'the empty text'} as {name} then{alike(value, sorted(values))}"
+            return f"no row has {told(value)} as {name} then{alike(value, sorted(values))}"
     held = [row for row in rows if all((row[place] or "") == value for place, value in wanted)]
     if not held:
         return "no row has all of these values" if wanted else f"{texts[1]} had no row then"
@@ -103,4 +103,8 @@ def alike(value: str, others: Sequence[str]) -> str:
         return ""
     folded = fold(value)
     found = next((other for other in others if other and fold(other) == folded), None)
-    return f", but {visible(found)}, which looks alike" if found else ""
+    return f", but {told(found)}, which looks alike" if found else ""
+
+
+def told(value: str) -> str:
+    return visible(to_record([value]))

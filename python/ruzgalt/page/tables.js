@@ -95,19 +95,16 @@ class Moment {
   }
 }
 
-// The versions of one fact: of the key's values, or else of the first column's.
+// The versions of one fact: of values of the key, or of a column that is chosen.
 class Fact {
   constructor(table, versions) {
-    const names = table.columns.map(([name]) => name);
-    const key = table.key.map((name) => names.indexOf(name, VALUES));
-    this.table = table;
-    this.places = key.length ? key : names.length > VALUES ? [VALUES] : [];
-    this.what = this.places.length ? this.places.map((place) => names[place]).join(", ") : "all rows";
-    this.facts = this.grouped(versions);
-    this.sorted = [...this.facts.values()].sort((one, other) => collator.compare(one.label, other.label));
+    Object.assign(this, { table, versions });
+    this.kinds = this.kindsOf(table);
+    this.kind = make("select", { "aria-label": `What a fact of ${table.name} is told by` },
+      ...this.kinds.map(({ name }, place) => make("option", { value: place }, name)));
     this.about = make("p", { class: "soft" });
     this.figure = make("figure", { class: "square" });
-    this.choice = make("select", {});
+    this.choice = make("select", { "aria-label": `Fact of ${table.name}` });
     this.search = make("input", { type: "search", placeholder: "Find", "aria-label": `Find a fact of ${table.name}` });
     this.picked = make("span", { class: "on-paper" });
     const columns = [...table.columns.slice(FROM), table.columns[0], ["made by", "code"]];
@@ -115,13 +112,35 @@ class Fact {
     this.grid = new Grid({ label, columns, records: [], file: `${table.name}-history.csv` });
     this.choice.addEventListener("change", () => this.refresh());
     this.search.addEventListener("input", () => this.offer());
+    this.kind.addEventListener("change", () => this.group());
+    this.group();
+  }
+
+  // The columns by whose values facts are told apart: those of the key, or each alone.
+  kindsOf(table) {
+    const names = table.columns.map(([name]) => name);
+    const key = table.key.map((name) => names.indexOf(name, VALUES));
+    const single = names.map((_, place) => [place]).slice(VALUES);
+    const others = single.filter(([place]) => key.length !== 1 || place !== key[0]);
+    const kinds = [...(key.length ? [key] : []), ...others].map((places) => {
+      return { places, name: places.map((place) => names[place]).join(", ") };
+    });
+    return kinds.length ? kinds : [{ places: [], name: "all rows" }];
+  }
+
+  group() {
+    this.told = this.kinds[Number(this.kind.value)];
+    this.facts = this.grouped(this.told.places);
+    this.sorted = [...this.facts.values()].sort((one, other) => collator.compare(one.label, other.label));
+    this.search.hidden = this.sorted.length <= 20;
+    this.search.value = "";
     this.offer();
   }
 
-  grouped(versions) {
+  grouped(places) {
     const facts = new Map();
-    for (const version of versions) {
-      const values = this.places.map((place) => version[place]), key = JSON.stringify(values);
+    for (const version of this.versions) {
+      const values = places.map((place) => version[place]), key = JSON.stringify(values);
       if (!facts.has(key)) {
         facts.set(key, { key, label: values.join(", ") || "(the empty text)", versions: [] });
       }
@@ -132,8 +151,8 @@ class Fact {
 
   get element() {
     const choose = make("div", { class: "tools" });
-    if (this.places.length) {
-      choose.append(...(this.sorted.length > 20 ? [this.search] : []), make("label", {}, `${this.what} `, this.choice), this.picked);
+    if (this.table.columns.length > VALUES) {
+      choose.append(this.kind, this.search, this.choice, this.picked);
     }
     return make("fieldset", {}, make("legend", {}, `History of one fact of ${this.table.name}`), choose, this.about,
       this.figure, this.grid.element);
@@ -153,7 +172,7 @@ class Fact {
   refresh() {
     const { label, versions } = this.facts.get(this.choice.value);
     const found = [...versions].sort((one, other) => Number(one[MADE]) - Number(other[MADE]) || byPoint(one[FROM], other[FROM]));
-    this.picked.textContent = `${this.what} ${label}`;
+    this.picked.textContent = `${this.told.name} ${seen(label)}`;
     this.about.textContent = `${counted(found.length, "version")}. Each is shown by the commits from sys_from on and before sys_to; `
       + "where that is empty, by the newest too.";
     this.grid.show(found.map((version) => [...version.slice(FROM), version[0], madeBy(version)]));
