@@ -1,6 +1,7 @@
 pub mod CellOrder
 pub mod CellValues
 pub mod ItemIds
+pub mod LotLemmas
 pub mod MadeCells
 pub mod Matching
 pub mod RankLemmas

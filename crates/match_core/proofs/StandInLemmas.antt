@@ -1,9 +1,11 @@
 -- Rows that stand for others match as these do, and are ordered as they are.
-use Rattle.std.proofs.Common.{◌≡◌, ◌⊎◌, ◌<◌, ℕ, List, inl, inr, sym, ap, ◌∙◌, arith}
+use Rattle.std.proofs.Common.{◌≡◌, ◌⊎◌, ◌<◌, ℕ, List, map, inl, inr, sym, ap, subst, ◌∙◌, arith}
 use Rattle.std.specs.Prelude.{Contains}
 use Rattle.std.specs.Ordering.{nat_cmp}
 use Rattle.std.specs.declared.cmp.Ordering.TheVariants.{Less, Equal, Greater}
 use Rattle.std.proofs.lemmas.Bool.Decides.{nat_tests}
+use Rattle.list_core.specs.Wanted.{IsListOf}
+use Rattle.list_core.proofs.MadeLemmas.{AllPairs-map, Contains-map, Contains-map_source}
 use Rattle.row_core.specs.Name.{NamePair}
 use Rattle.row_core.specs.declared.row.Row.{Row}
 use Rattle.row_core.specs.declared.schema.Column.{Column}
@@ -40,18 +42,32 @@ risen_cmp f rises m n = elim (nat_order m n) [
     same_cmp k l e =
         ap (λ v. nat_cmp (f k) (f v)) (sym e) ∙ tied (f k) ∙ sym (tied k) ∙ ap (λ v. nat_cmp k v) e
 
+-- the list of what is wanted here gives that of what is wanted there, where each wanted thing gives one of there, each of
+-- there comes of one, and what it gives is ordered alike
+pub answers_there : {X : Type 0} (Before : X → X → Type 0) (Here There : X → Type 0) (f : X → X) (xs : List X)
+    → ((a b : X) → Before a b → Before (f a) (f b)) → ((x : X) → Here x → There (f x))
+    → ((y : X) → There y → (x : X) × Here x × (f x ≡ y)) → IsListOf Before Here xs → IsListOf Before There (map f xs)
+answers_there Before Here There f xs alike there here is = record {
+  ordered = AllPairs-map Before Before f xs (λ a b b_in before. alike a b before) is.ordered;
+  exactly = λ y. (
+    λ h. (let (x, x_in, same) = Contains-map_source f xs y h in subst There same (there x ((is.exactly x).0 x_in))),
+    λ w. (let (x, x_is, same) = here y w in
+        subst (Contains (map f xs)) same (Contains-map f xs x ((is.exactly x).1 x_is))),
+  );
+}
+
 module _ (left_here right_here left_there right_there : List Column) (on_here on_there : List NamePair)
     (left right : List Row) (left_of right_of : Row → Row) (left_id right_id : ℕ → ℕ)
     (lefts : StandFor (left_values left_here on_here) (left_values left_there on_there) left_of left_id left)
     (rights : StandFor (right_values right_here on_here) (right_values right_there on_there) right_of right_id right) where
-  -- what stands for rows that match matches
-  pub match_here : (x y : Row) → Contains left x → Contains right y
-      → MatchesOn left_there right_there on_there (left_of x) (right_of y) → MatchesOn left_here right_here on_here x y
-  match_here x y x_in y_in matches =
+  -- rows match where those that they stand for do
+  pub match_here : (x y v w : Row) → Contains left x → Contains right y → left_of x ≡ v → right_of y ≡ w
+      → MatchesOn left_there right_there on_there v w → MatchesOn left_here right_here on_here x y
+  match_here x y v w x_in y_in x_is y_is matches =
       (rows_match_by_values left_here right_here on_here x y).1
-      (sym (lefts.values_are x x_in)
-      ∙ (rows_match_by_values left_there right_there on_there (left_of x) (right_of y)).0 matches
-      ∙ rights.values_are y y_in)
+      (sym (lefts.values_are x x_in) ∙ ap (left_values left_there on_there) x_is
+      ∙ (rows_match_by_values left_there right_there on_there v w).0 matches
+      ∙ sym (ap (right_values right_there on_there) y_is) ∙ rights.values_are y y_in)
 
   -- and the other way round
   pub match_there : (x y : Row) → Contains left x → Contains right y → MatchesOn left_here right_here on_here x y
