@@ -4,8 +4,8 @@ use Rattle.std.specs.Prelude.{slice_get}
 use Rattle.std.specs.List.Sorted.{IsPartitionPoint}
 use Rattle.std.proofs.lemmas.Bool.{leb-false, ltb-false, ltb-true}
 use Rattle.std.proofs.lemmas.List.{get_or-take, get_or-drop, length-drop, length-take, take_all, take-append-drop}
-use Rattle.std.proofs.lemmas.List.Sorted.{IsNonDecreasingBy-drop, IsNonDecreasingBy-take}
-use Rattle.std.proofs.Math.Seq.{drop-append_seam, take-append_seam}
+use Rattle.std.proofs.lemmas.List.Sorted.{IsNonDecreasingBy-drop}
+use Rattle.std.proofs.Math.Seq.{drop-append_seam}
 use Rattle.dip_core.specs.declared.item.Item.{Item}
 use Rattle.dip_core.specs.Item.{HasDistinctIds}
 use Rattle.dip_core.proofs.PartedLemmas.{distinct-earlier, distinct-later}
@@ -82,23 +82,13 @@ module _ (class : ℕ) (items low high : List Item) (parted : ArePartedAt class 
   pub high-distinct : HasDistinctIds items → HasDistinctIds high
   high-distinct distinct = distinct-later low high (subst HasDistinctIds parted.whole distinct)
 
-  -- neither are more than all
-  pub low-few : length low ≤ length items
-  low-few =
-      let whole : length items ≡ length (low ++ high) = ap length parted.whole in
-      omega (arith, whole, length-append low high)
-
+  -- those of higher classes are no more than all
   pub high-few : length high ≤ length items
   high-few =
       let whole : length items ≡ length (low ++ high) = ap length parted.whole in
       omega (arith, whole, length-append low high)
 
-  -- the classes of each still rise
-  pub low-rise : ClassesRise items → ClassesRise low
-  low-rise rise =
-      subst ClassesRise (ap (take (length low)) parted.whole ∙ take-append_seam low high)
-      (IsNonDecreasingBy-take (λ (x : Item). x.class) (length low) items rise)
-
+  -- and their classes still rise
   pub high-rise : ClassesRise items → ClassesRise high
   high-rise rise =
       subst ClassesRise (ap (drop (length low)) parted.whole ∙ drop-append_seam low high)

@@ -301,10 +301,6 @@ found-parted class left low_left high_left right low_right high_right lefts righ
 add_zero : (n : ℕ) → n + 0 ≡ n
 add_zero n = omega arith
 
--- sums of three
-add_again : (a b c : ℕ) → a + (b + c) ≡ (a + b) + c
-add_again a b c = omega arith
-
 -- advances with none
 made-alone : (made : Advances) → both_made made (record { made = 0; left_parts = 0; right_parts = 0 }) ≡ made
 made-alone made = rw (add_zero made.made, add_zero made.left_parts, add_zero made.right_parts) refl
@@ -364,42 +360,10 @@ is_found left right all found rows made is =
 
 -- ---- one behind another
 
--- advances with some and with others
-made-again : (one other more : Advances) → both_made one (both_made other more) ≡ both_made (both_made one other) more
-made-again one other more =
-    rw (
-      add_again one.made other.made more.made,
-      add_again one.left_parts other.left_parts more.left_parts,
-      add_again one.right_parts other.right_parts more.right_parts,
-    ) refl
-
 -- what was found of some, and what is left
 pub record IsFoundSoFar (all left : List FoundRows) (rows : List JoinRow) (made : Advances) : Type 0 where
   pub rows_are : all_rows all ≡ rows ++ all_rows left
   pub made_are : all_made all ≡ both_made made (all_made left)
-
-pub one_more_found : (all : List FoundRows) (x : FoundRows) (left : List FoundRows) (rows new : List JoinRow)
-    (made more : Advances) → IsFoundSoFar all (x ∷ left) rows made → new ≡ rows ++ x.rows.items
-    → more ≡ both_made made x.advances → IsFoundSoFar all left new more
-one_more_found all x left rows new made more is e f = record {
-  rows_are = is.rows_are
-      ∙ (sym (append_assoc rows x.rows.items (all_rows left)) ∙ ap (λ l. l ++ all_rows left) (sym e));
-  made_are = is.made_are
-      ∙ (made-again made x.advances (all_made left) ∙ ap (λ (m : Advances). both_made m (all_made left)) (sym f));
-}
-
--- one more fits a number
-pub one_more_fits : (all : List FoundRows) (x : FoundRows) (left : List FoundRows) (rows : List JoinRow) (made : Advances)
-    → IsFoundSoFar all (x ∷ left) rows made → FitAll all → FitTogether made x.advances
-one_more_fits all x left rows made is fit =
-    let a = ap (λ (m : Advances). m.made) is.made_are in
-    let b = ap (λ (m : Advances). m.left_parts) is.made_are in
-    let d = ap (λ (m : Advances). m.right_parts) is.made_are in
-    record {
-      made = omega (arith, a, fit.made);
-      lefts = omega (arith, b, fit.lefts);
-      rights = omega (arith, d, fit.rights);
-    }
 
 -- ---- bundle by bundle
 

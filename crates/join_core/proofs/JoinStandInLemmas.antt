@@ -1,19 +1,18 @@
 -- The join of rows that stand for others.
 use Rattle.std.proofs.Common.{◌≡◌, ℕ, List, map, refl, sym, ap, subst, ◌∙◌}
-use Rattle.std.specs.Prelude.{Contains}
 use Rattle.std.specs.Ordering.{int_cmp, ordering_then}
 use Rattle.period_core.specs.declared.period.Period.{Period}
 use Rattle.row_core.specs.Name.{NamePair}
 use Rattle.row_core.specs.declared.row.Row.{Row}
 use Rattle.row_core.specs.declared.schema.Column.{Column}
-use Rattle.list_core.proofs.MadeLemmas.{AllPairs-map, Contains-map, Contains-map_source}
+use Rattle.list_core.proofs.MadeLemmas.{Contains-map, Contains-map_source}
 use Rattle.match_core.specs.Columns.{MatchesOn}
 use Rattle.match_core.specs.Lots.{left_values, right_values}
 use Rattle.match_core.specs.StandIns.{StandFor}
-use Rattle.match_core.proofs.StandInLemmas.{match_here, match_there, risen_cmp}
+use Rattle.match_core.proofs.StandInLemmas.{answers_there, match_here, match_there, risen_cmp}
 use Rattle.merge_core.specs.Hits.{IsShared}
 use Rattle.join_core.specs.declared.rows.JoinRow.{JoinRow}
-use Rattle.join_core.specs.Join.{IsJoin, IsJoinRow, RowBefore, join_cmp}
+use Rattle.join_core.specs.Join.{IsJoinRow, RowBefore, join_cmp}
 use Rattle.join_core.specs.JoinStandIns.{JoinIsOfStandIns, join_row_of}
 use Rattle.join_core.proofs.OrderLemmas.{JoinRow-same_fields}
 
@@ -55,10 +54,7 @@ module _ (left_here right_here left_there right_there : List Column) (on_here on
   row_here row is =
       let (x, x_in, x_is) = Contains-map_source left_of left is.x is.x_in in
       let (y, y_in, y_is) = Contains-map_source right_of right is.y is.y_in in
-      let some : JoinRow = record { period = row.period; left = x.id; right = y.id } in
-      let matches : MatchesOn left_there right_there on_there (left_of x) (right_of y) =
-      subst (λ (v : Row). MatchesOn left_there right_there on_there v (right_of y)) (sym x_is)
-      (subst (λ (v : Row). MatchesOn left_there right_there on_there is.x v) (sym y_is) is.matches) in (
+      let some : JoinRow = record { period = row.period; left = x.id; right = y.id } in (
         some,
         record {
           x = x;
@@ -68,7 +64,7 @@ module _ (left_here right_here left_there right_there : List Column) (on_here on
           left_id = refl;
           right_id = refl;
           matches = match_here left_here right_here left_there right_there on_here on_there left right left_of right_of
-              left_id right_id lefts rights x y x_in y_in matches;
+              left_id right_id lefts rights x y is.x is.y x_in y_in x_is y_is is.matches;
           shared = shared_alike is.x.period is.y.period x.period y.period row.period
               (ap (λ (v : Row). v.period) (sym x_is) ∙ lefts.period_is x x_in)
               (ap (λ (v : Row). v.period) (sym y_is) ∙ rights.period_is y y_in) is.shared;
@@ -84,24 +80,16 @@ module _ (left_here right_here left_there right_there : List Column) (on_here on
       λ i. ordering_then (ordering_then (int_cmp a.period.from b.period.from) (int_cmp a.period.to b.period.to))
       (ordering_then (risen_cmp left_id lefts.rises a.left b.left i) (risen_cmp right_id rights.rises a.right b.right i))
 
-  join_there : (rows : List JoinRow) → IsJoin (MatchesOn left_here right_here on_here) left right rows
-      → IsJoin (MatchesOn left_there right_there on_there) (map left_of left) (map right_of right)
-      (map (join_row_of left_id right_id) rows)
-  join_there rows is = record {
-    ordered = AllPairs-map RowBefore RowBefore (join_row_of left_id right_id) rows
-        (λ a b b_in before. rows_alike a b ∙ before) is.ordered;
-    exactly = λ row. (
-      λ h. (let (some, some_in, same) = Contains-map_source (join_row_of left_id right_id) rows row h in
-          subst IsRowThere same (row_there some ((is.exactly some).0 some_in))),
-      λ w. (let (some, some_is, same) = row_here row w in
-          subst (Contains (map (join_row_of left_id right_id) rows)) same
-          (Contains-map (join_row_of left_id right_id) rows some ((is.exactly some).1 some_is))),
-    );
-  }
-
 -- whatever the columns
 pub join_is_of_stand_ins : JoinIsOfStandIns
 join_is_of_stand_ins left_here right_here left_there right_there on_here on_there left right left_of right_of left_id
-    right_id rows lefts rights is =
-    join_there left_here right_here left_there right_there on_here on_there left right left_of right_of left_id right_id
-    lefts rights rows is
+    right_id rows lefts rights =
+    answers_there RowBefore (IsJoinRow (MatchesOn left_here right_here on_here) left right)
+    (IsJoinRow (MatchesOn left_there right_there on_there) (map left_of left) (map right_of right))
+    (join_row_of left_id right_id) rows
+    (λ a b before. rows_alike left_here right_here left_there right_there on_here on_there left right left_of right_of
+    left_id right_id lefts rights a b ∙ before)
+    (row_there left_here right_here left_there right_there on_here on_there left right left_of right_of left_id right_id
+    lefts rights)
+    (row_here left_here right_here left_there right_there on_here on_there left right left_of right_of left_id right_id
+    lefts rights)

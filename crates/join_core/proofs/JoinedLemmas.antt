@@ -10,7 +10,7 @@ use Rattle.dip_core.specs.Division.{all_of, part_at}
 use Rattle.dip_core.proofs.DivisionLemmas.{HasDistinctIds-permutation}
 use Rattle.dip_core.proofs.StepLemmas.{contains-all_of}
 use Rattle.dip_core.proofs.PartedLemmas.{one_item}
-use Rattle.join_core.specs.declared.pairs.JoinOut.{JoinOut}
+use Rattle.join_core.specs.declared.join_pairs.JoinOut.{JoinOut}
 use Rattle.join_core.specs.declared.rows.JoinRow.{JoinRow}
 use Rattle.join_core.specs.Join.{join_cmp}
 use Rattle.join_core.specs.ItemJoin.{IsItemsJoinRow, AreItemsRows, IsItemsJoin}

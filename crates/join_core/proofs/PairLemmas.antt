@@ -9,7 +9,7 @@ use Rattle.dip_core.specs.Division.{all_of, part_at}
 use Rattle.dip_core.proofs.StepLemmas.{contains-all_of}
 use Rattle.dip_core.proofs.PartedLemmas.{one_item}
 use Rattle.merge_core.specs.Meets.{IdsTell}
-use Rattle.join_core.specs.declared.pairs.JoinOut.{JoinOut}
+use Rattle.join_core.specs.declared.join_pairs.JoinOut.{JoinOut}
 use Rattle.join_core.specs.declared.rows.JoinRow.{JoinRow}
 use Rattle.join_core.specs.ItemJoin.{AreItemsRows}
 use Rattle.join_core.specs.PairValues.{IsPairValue, AreFirstValues, row_of_hit}

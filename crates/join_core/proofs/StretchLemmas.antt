@@ -7,7 +7,7 @@ use Rattle.dip_core.specs.Item.{item_limit}
 use Rattle.dip_core.specs.Division.{all_of, part_at}
 use Rattle.dip_core.proofs.PartedLemmas.{length-part_at}
 use Rattle.work_core.specs.Limits.{pair_limit}
-use Rattle.join_core.specs.declared.pairs.JoinOut.{JoinOut}
+use Rattle.join_core.specs.declared.join_pairs.JoinOut.{JoinOut}
 use Rattle.join_core.specs.declared.rows.JoinRow.{JoinRow}
 use Rattle.join_core.specs.PairValues.{IsPairValue, AreFirstValues, AreOfFirstPairs, AddsFirstPairs, row_of_hit, rows_in, turns_in}
 use Rattle.join_core.proofs.ListLemmas.{slice_get-append_cases}

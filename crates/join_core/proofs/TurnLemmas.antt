@@ -11,7 +11,7 @@ use Rattle.dip_core.specs.declared.item.Item.{Item}
 use Rattle.dip_core.specs.Item.{item_limit}
 use Rattle.dip_core.specs.Division.{all_of, part_at}
 use Rattle.merge_core.specs.Hits.{AreAdvances}
-use Rattle.join_core.specs.declared.pairs.JoinOut.{JoinOut}
+use Rattle.join_core.specs.declared.join_pairs.JoinOut.{JoinOut}
 use Rattle.join_core.specs.declared.rows.JoinRow.{JoinRow}
 use Rattle.join_core.specs.Join.{IsWithin}
 use Rattle.join_core.specs.PairValues.{IsPairValue, AreFirstValues, row_of_hit, turns_in}

@@ -14,7 +14,7 @@ use Rattle.list_core.specs.Wanted.{IsListOf}
 use Rattle.merge_core.specs.declared.hit.Hit.{Hit}
 use Rattle.merge_core.specs.Hits.{AreAdvances, HitStartsBefore, IsHit, IsShared}
 use Rattle.merge_core.specs.Meets.{IdsTell}
-use Rattle.join_core.specs.declared.pairs.JoinOut.{JoinOut}
+use Rattle.join_core.specs.declared.join_pairs.JoinOut.{JoinOut}
 use Rattle.join_core.specs.declared.rows.JoinRow.{JoinRow}
 use Rattle.join_core.specs.contracts.rows.JoinRowPartialEq.TheImpl.{eq-value}
 use Rattle.join_core.specs.ItemJoin.{AreItemsRows, IsItemsJoinRow}

@@ -5,7 +5,7 @@ use Rattle.dip_core.specs.Division.{part_at}
 use Rattle.list_core.specs.Wanted.{IsListOf}
 use Rattle.merge_core.specs.declared.hit.Hit.{Hit}
 use Rattle.merge_core.specs.Hits.{IsHit, HitStartsBefore, AreAdvances}
-use Rattle.join_core.specs.declared.pairs.JoinOut.{JoinOut}
+use Rattle.join_core.specs.declared.join_pairs.JoinOut.{JoinOut}
 use Rattle.join_core.specs.declared.rows.JoinRow.{JoinRow}
 
 -- what is made of each hit of both parts, by rising start of the hits, and the advances by which they are found

@@ -14,7 +14,7 @@ use period_core::NoMemory;
 use std::thread::Threads;
 use work_core::Crew;
 
-/// How often cursors advanced over the parts of some items, and how many parts either side has.
+/// The advances over the parts of some items, and how many parts either side has.
 #[derive(Clone, Copy)]
 pub(crate) struct Advances {
     pub made: u64,

@@ -1,10 +1,11 @@
 //! What is found of a join: its rows in any order, and the advances by which they were found.
 
-ghost use Rattle.std.specs.Prelude.{◌≡◌, ◌++◌, IfOk};
-ghost use Rattle.join_core.specs.Found.{FitAll, FitTogether, all_made, all_rows, both_made};
+ghost use Rattle.std.specs.Prelude.{◌≡◌, IfOk};
+ghost use Rattle.join_core.specs.Found.{FitAll, all_made, all_rows};
 
 use crate::advances::Advances;
 use crate::rows::JoinRow;
+use list_core::in_one_list;
 use period_core::NoMemory;
 use std::alloc::Global;
 
@@ -22,39 +23,15 @@ impl FoundRows {
         ensures { IfOk result (λ found. (found.rows.items ≡ all_rows all.items)
             × (found.advances ≡ all_made all.items)) }
     {
-        let mut found = FoundRows {
-            rows: Vec::new(alloc),
-            advances: Advances::none(),
-        };
-        for more in all {
-            found = found.followed_by(more)?;
+        let mut lists = Vec::with_capacity(alloc, all.len())?;
+        let mut advances = Advances::none();
+        for found in all {
+            lists.push(found.rows)?;
+            advances = advances.plus(found.advances);
         }
-        Ok(found)
-    }
-
-    /// These, and behind them those of other items.
-    fn followed_by(self, more: FoundRows) -> Result<FoundRows, NoMemory>
-        requires { FitTogether self.advances more.advances }
-        ensures { IfOk result (λ both. (both.rows.items ≡ self.rows.items ++ more.rows.items)
-            × (both.advances ≡ both_made self.advances more.advances)) }
-    {
         Ok(FoundRows {
-            rows: one_behind_other(self.rows, more.rows)?,
-            advances: self.advances.plus(more.advances),
+            rows: in_one_list(alloc, lists)?,
+            advances,
         })
     }
-}
-
-/// Some rows, and behind them others, which aren't moved where there are none before them.
-fn one_behind_other(
-    mut some: Vec<JoinRow>,
-    mut others: Vec<JoinRow>,
-) -> Result<Vec<JoinRow>, NoMemory>
-    ensures { IfOk result (λ both. both.items ≡ some.items ++ others.items) }
-{
-    if some.is_empty() {
-        return Ok(others);
-    }
-    some.append(&mut others)?;
-    Ok(some)
 }

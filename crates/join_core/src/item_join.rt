@@ -9,7 +9,7 @@ ghost use Rattle.join_core.specs.ItemJoin.{AreItemsRows, IsItemsJoin};
 ghost use Rattle.join_core.specs.Join.{IsWithin};
 
 use crate::advances::turns_answered;
-use crate::bundles::rows_of_classes;
+use crate::bundle_joins::rows_of_classes;
 use crate::found::FoundRows;
 use crate::rows::{JoinRow, JoinRows};
 use dip_core::Item;
@@ -24,8 +24,8 @@ use work_core::{Crew, Gate};
 pub struct JoinAnswer {
     /// The rows, by start, end, left id and right id.
     pub rows: JoinRows,
-    /// How often the cursors of the parts advanced in all, or how many pairs of parts there would be if each side were
-    /// divided as a whole, whichever is more.
+    /// Advances: at least as many as there would be pairs of parts if each side were divided as a whole. Where the cursors
+    /// of the parts that were read made more, which a test shows, it is those.
     pub turns: u64,
 }
 

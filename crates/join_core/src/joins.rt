@@ -21,9 +21,9 @@ use work_core::{Crew, Gate};
 /// workers. Both sides are divided, some values of the columns at a time, and the gate is called before and after each
 /// pair of parts, which tests show.
 ///
-/// The advances that are answered are those that the cursors of these parts made, or k * m, whichever is more, for k
-/// and m, the least numbers of parts of all left and of all right rows. With a left rows and b right rows they are at
-/// most m * a + k * b.
+/// The advances that are answered are at least k * m, for k and m, the least numbers of parts of all left and of all right
+/// rows, and with a left rows and b right rows at most m * a + k * b. They are those that the cursors of these parts made,
+/// where these are more than k * m, which a test shows.
 ///
 /// # Errors
 ///

@@ -4,19 +4,19 @@
 //! one is merged with each part of the other, by many workers.
 
 mod advances;
-mod bundles;
+mod bundle_joins;
 mod crowds;
 mod found;
 mod item_join;
+mod join_pairs;
 mod joins;
 mod laws;
-mod pairs;
 mod rows;
 mod stretches;
 mod tiles;
 
 pub use item_join::JoinAnswer;
+pub use join_pairs::{JoinOut, JoinPairs, JoinWork};
 pub use joins::join;
 pub use laws::{join_has_one_list, join_is_that_of_its_lots, join_is_that_of_stand_ins};
-pub use pairs::{JoinOut, JoinPairs, JoinWork};
 pub use rows::{JoinRow, JoinRows};

@@ -3,7 +3,7 @@
 ghost use Rattle.std.specs.Prelude.{◌≡◌, ◌<◌, ◌^◌, ◌++◌, OnOk};
 ghost use Rattle.join_core.specs.PairValues.{row_of_hit, rows_in, turns_in};
 
-use crate::pairs::JoinOut;
+use crate::join_pairs::JoinOut;
 use list_core::List;
 use merge_core::{FromHit, Hit};
 use period_core::{NoMemory, Period};

@@ -3,14 +3,14 @@
 ghost use Rattle.std.specs.Prelude.{◌≡◌, ◌<◌, ◌≤◌, ◌*◌, length, IfOk};
 ghost use Rattle.join_core.specs.PairValues.{AddsFirstPairs};
 
-use crate::pairs::RowPairs;
+use crate::join_pairs::RowPairs;
 use crate::rows::{JoinRow, add_rows, turns_of};
 use grid_core::stretch_len;
 use period_core::NoMemory;
 use std::thread::Threads;
 use work_core::{Crew, Gate, PairWork, run_stretch};
 
-/// Adds the rows of all pairs, pair by pair, and returns how often a cursor advanced for them.
+/// Adds the rows of all pairs, pair by pair, and returns the advances for them.
 pub(crate) fn add_rows_of_pairs<R: Threads + Sync, G: Gate>(
     crew: &Crew<'_, R, G>,
     pairs: &RowPairs<'_>,

@@ -22,7 +22,7 @@ pub(crate) struct Tile {
 
 /// What a side has between two cuts.
 #[derive(Clone, Copy)]
-struct Span<'a> {
+struct Between<'a> {
     /// What started before the first of them, and may hold later.
     earlier: &'a [Item],
     /// What starts from the first on and before the second.
@@ -110,7 +110,7 @@ fn cut_at(cut: Point, items: &[Item]) -> (&[Item], &[Item])
 }
 
 /// Some items, and behind them others.
-fn joined(alloc: Global, some: &[Item], others: &[Item]) -> Result<Vec<Item>, NoMemory>
+fn one_behind_other(alloc: Global, some: &[Item], others: &[Item]) -> Result<Vec<Item>, NoMemory>
     ensures { IfOk result (λ all. all.items ≡ some.now ++ others.now) }
 {
     let mut all = Vec::from_slice(alloc, some)?;
@@ -132,8 +132,8 @@ fn keep_holding(earlier: &mut Vec<Item>, started: &[Item], cut: Point) -> Result
 /// beside the left ones that started before.
 fn push_tiles(
     alloc: Global,
-    left: Span<'_>,
-    right: Span<'_>,
+    left: Between<'_>,
+    right: Between<'_>,
     tiles: &mut Vec<Tile>,
 ) -> Result<(), NoMemory>
     ensures { OnOk result (AddsTiles left.entry.earlier.now left.entry.started.now
@@ -141,7 +141,7 @@ fn push_tiles(
 {
     tiles.push(Tile {
         left: Vec::from_slice(alloc, left.started)?,
-        right: joined(alloc, right.earlier, right.started)?,
+        right: one_behind_other(alloc, right.earlier, right.started)?,
     })?;
     tiles.push(Tile {
         left: Vec::from_slice(alloc, left.earlier)?,
@@ -173,29 +173,29 @@ fn tiles_at(
     for cut in cuts {
         let (started_lefts, later_lefts) = cut_at(*cut, lefts);
         let (started_rights, later_rights) = cut_at(*cut, rights);
-        let left_span = Span {
+        let left_between = Between {
             earlier: &early_lefts,
             started: started_lefts,
         };
-        let right_span = Span {
+        let right_between = Between {
             earlier: &early_rights,
             started: started_rights,
         };
-        push_tiles(alloc, left_span, right_span, &mut tiles)?;
+        push_tiles(alloc, left_between, right_between, &mut tiles)?;
         keep_holding(&mut early_lefts, started_lefts, *cut)?;
         keep_holding(&mut early_rights, started_rights, *cut)?;
         lefts = later_lefts;
         rights = later_rights;
     }
-    let left_span = Span {
+    let left_between = Between {
         earlier: &early_lefts,
         started: lefts,
     };
-    let right_span = Span {
+    let right_between = Between {
         earlier: &early_rights,
         started: rights,
     };
-    push_tiles(alloc, left_span, right_span, &mut tiles)?;
+    push_tiles(alloc, left_between, right_between, &mut tiles)?;
     Ok(tiles)
 }
 

@@ -1,5 +1,6 @@
+use Rattle.list_core.specs.Chunks.{all_in}
 use Rattle.join_core.proofs.FoundLemmas.{IsFoundSoFar}
 use Rattle.join_core.proofs.found.FoundRows.of_all.Given as goal
 
-abbrev pub invariant-loop-more : goal.invariant-loop-more
-invariant-loop-more l = IsFoundSoFar l.fn.all.items l.more-iterator.rest.items l.found.rows.items l.found.advances
+abbrev pub invariant-loop-found : goal.invariant-loop-found
+invariant-loop-found l = IsFoundSoFar l.fn.all.items l.found-iterator.rest.items (all_in l.lists.items) l.advances

@@ -3,7 +3,7 @@ use Rattle.std.proofs.lemmas.Fn.{always_returns_same}
 use Rattle.std.proofs.lemmas.List.Sorted.{IsPartitionedBy-ltb}
 use Rattle.dip_core.specs.declared.item.Item.{Item}
 use Rattle.grid_core.proofs.RangeItems.{before_filter, filter_all}
-use Rattle.grid_core.proofs.bundles.items_before.Goals as goal
+use Rattle.grid_core.proofs.class_items.items_before.Goals as goal
 
 pub returns-in-None : goal.returns-in-None
 returns-in-None c =

@@ -3,7 +3,7 @@ use Rattle.std.proofs.lemmas.Fn.{always_returns_same}
 use Rattle.std.proofs.lemmas.List.Sorted.{IsPartitionedBy-ltb}
 use Rattle.dip_core.specs.declared.item.Item.{Item}
 use Rattle.grid_core.proofs.BundleLemmas.{from-point}
-use Rattle.grid_core.proofs.bundles.items_from.Goals as goal
+use Rattle.grid_core.proofs.class_items.items_from.Goals as goal
 
 pub returns : goal.returns
 returns c =

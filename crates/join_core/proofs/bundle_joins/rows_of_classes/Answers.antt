@@ -7,7 +7,7 @@ use Rattle.grid_core.specs.Bundles.{items_in}
 use Rattle.join_core.specs.declared.found.FoundRows.{FoundRows}
 use Rattle.join_core.specs.Found.{IsFound}
 use Rattle.join_core.proofs.FoundLemmas.{all_found, fits_all, is_found}
-use Rattle.join_core.proofs.bundles.rows_of_classes.Goals as goal
+use Rattle.join_core.proofs.bundle_joins.rows_of_classes.Goals as goal
 
 pub of_all-requires : goal.of_all-requires
 of_all-requires g c =

@@ -5,8 +5,8 @@ use Rattle.join_core.proofs.FoundLemmas.{AddsItemsRows-one, AreMade-within, made
 use Rattle.join_core.proofs.StretchLemmas.{AddsFirstPairs-of}
 use Rattle.join_core.proofs.TileLemmas.{AreTiles-divisible, are_found}
 use Rattle.join_core.proofs.TileRowLemmas.{AddsItemsRows-tiles, apart-rows}
-use Rattle.join_core.proofs.bundles.add_rows_of_bundle.Goals as goal
-use Rattle.join_core.proofs.bundles.add_rows_of_bundle.Goals.{in-Some+in_ok-made-in-Some, in-None+in_ok-made-in-None}
+use Rattle.join_core.proofs.bundle_joins.add_rows_of_bundle.Goals as goal
+use Rattle.join_core.proofs.bundle_joins.add_rows_of_bundle.Goals.{in-Some+in_ok-made-in-Some, in-None+in_ok-made-in-None}
 
 pub add_rows_of_tiles-requires-clause-tiles : goal.add_rows_of_tiles-requires-clause-tiles
 add_rows_of_tiles-requires-clause-tiles g c κs within =

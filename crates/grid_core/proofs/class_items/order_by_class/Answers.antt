@@ -1,7 +1,7 @@
 use Rattle.std.proofs.Common.{rules}
 use Rattle.std.proofs.lemmas.List.Sorted.{IsNonDecreasingBy-from_sort_by_key}
 use Rattle.dip_core.specs.declared.item.Item.{Item}
-use Rattle.grid_core.proofs.bundles.order_by_class.Goals as goal
+use Rattle.grid_core.proofs.class_items.order_by_class.Goals as goal
 
 pub returns-clause-sorted : goal.returns-clause-sorted
 returns-clause-sorted g c =

@@ -1,7 +1,7 @@
 use Rattle.std.proofs.Common.{refl, sym, true}
 use Rattle.dip_core.specs.declared.item.Item.{Item}
 use Rattle.grid_core.proofs.RangeItems.{filter_all, from_filter}
-use Rattle.grid_core.proofs.bundles.items_behind.Goals as goal
+use Rattle.grid_core.proofs.class_items.items_behind.Goals as goal
 
 pub returns-in-None : goal.returns-in-None
 returns-in-None c =

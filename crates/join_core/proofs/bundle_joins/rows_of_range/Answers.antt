@@ -3,7 +3,7 @@ use Rattle.dip_core.specs.declared.item.Item.{Item}
 use Rattle.dip_core.specs.Item.{HasDistinctIds, item_limit}
 use Rattle.grid_core.specs.Bundles.{ClassesRise}
 use Rattle.grid_core.proofs.RangeItems.{in-distinct, in-few, in-rise}
-use Rattle.join_core.proofs.bundles.rows_of_range.Goals as goal
+use Rattle.join_core.proofs.bundle_joins.rows_of_range.Goals as goal
 
 pub rows_of_bundles-requires-clause-left_few : goal.rows_of_bundles-requires-clause-left_few
 rows_of_bundles-requires-clause-left_few g c = λ κs outlives.

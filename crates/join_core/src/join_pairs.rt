@@ -15,7 +15,7 @@ use std::marker::PhantomData;
 pub struct JoinOut<T = Hit> {
     /// What the items of the two parts share, by rising start.
     pub hits: Vec<T>,
-    /// How often a cursor advanced.
+    /// The advances for them: at least as many as the shorter part has items, and at most as many as both have.
     pub turns: u64,
 }
 

@@ -2,7 +2,7 @@ use Rattle.std.proofs.Common.{sym}
 use Rattle.std.proofs.lemmas.Result.{IfOk-weaker}
 use Rattle.join_core.proofs.FoundLemmas.{AddsItemsRows-one, made-fewer}
 use Rattle.join_core.proofs.StretchLemmas.{AddsFirstPairs-of}
-use Rattle.join_core.proofs.bundles.add_rows_of_tile.Goals as goal
+use Rattle.join_core.proofs.bundle_joins.add_rows_of_tile.Goals as goal
 
 pub returns-clause-rows : goal.returns-clause-rows
 returns-clause-rows g c =

@@ -1,6 +1,6 @@
 use Rattle.std.proofs.Common.{◌+◌}
 use Rattle.join_core.proofs.FoundLemmas.{finding_end, finding_more, finding_start, finding-fits, front-ids, last-fits, rest-ids}
-use Rattle.join_core.proofs.bundles.rows_of_bundles.Goals as goal
+use Rattle.join_core.proofs.bundle_joins.rows_of_bundles.Goals as goal
 
 pub bundles-init : goal.bundles-init
 bundles-init g c =

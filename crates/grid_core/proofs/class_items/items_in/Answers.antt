@@ -5,7 +5,7 @@ use Rattle.dip_core.specs.declared.item.Item.{Item}
 use Rattle.share_core.specs.Ranges.{has_begun, has_ended}
 use Rattle.grid_core.specs.Bundles.{ClassesRise}
 use Rattle.grid_core.proofs.RangeItems.{filter_both}
-use Rattle.grid_core.proofs.bundles.items_in.Goals as goal
+use Rattle.grid_core.proofs.class_items.items_in.Goals as goal
 
 pub items_before-requires : goal.items_before-requires
 items_before-requires c =

@@ -1,6 +1,6 @@
 use Rattle.std.proofs.Common.{◌≤◌, take}
 use Rattle.join_core.specs.Tiles.{AddsTilesRows, reads_in}
-use Rattle.join_core.proofs.bundles.add_rows_of_tiles.Given as goal
+use Rattle.join_core.proofs.bundle_joins.add_rows_of_tiles.Given as goal
 
 abbrev pub invariant-loop-tile : goal.invariant-loop-tile
 invariant-loop-tile g l =

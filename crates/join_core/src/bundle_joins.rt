@@ -11,7 +11,7 @@ ghost use Rattle.join_core.specs.Tiles.{AddsTilesRows, HaveNoRow, IsDivisible, r
 
 use crate::advances::Advances;
 use crate::found::FoundRows;
-use crate::pairs::RowPairs;
+use crate::join_pairs::RowPairs;
 use crate::rows::JoinRow;
 use crate::stretches::add_rows_of_pairs;
 use crate::tiles::{Tile, tiles_of};

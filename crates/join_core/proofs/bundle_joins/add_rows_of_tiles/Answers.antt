@@ -1,7 +1,7 @@
 use Rattle.std.proofs.Common.{◌+◌, ◌*◌, ◌^◌, ◌<◌, ◌≤◌, length, take, arith}
 use Rattle.join_core.specs.Tiles.{reads_in}
 use Rattle.join_core.proofs.TileRowLemmas.{AddsTilesRows-more, AddsTilesRows-none, reads_in-more, reads_in-take}
-use Rattle.join_core.proofs.bundles.add_rows_of_tiles.Goals as goal
+use Rattle.join_core.proofs.bundle_joins.add_rows_of_tiles.Goals as goal
 
 pub loop-tile-init : goal.loop-tile-init
 loop-tile-init g c = (AddsTilesRows-none c.args.rows.now.items, omega arith)
