@@ -9,7 +9,7 @@ use std::process::Abort;
 use std::sync::atomic::{AtomicU64, Ordering};
 use std::test::Fail;
 use std::thread::Threads;
-use work_core::{Gate, PairName};
+use work_core::{Gate, OpenGate, PairName};
 
 // Counts the pairs of parts that are run.
 #[derive(Drop)]
@@ -158,5 +158,40 @@ fn joins_a_value_of_different_days(rt: HostRuntime) {
         }
         assert!(rt; answer.turns == 641_601);
         assert!(rt; gate.run.load(Ordering::SeqCst) < 2_000);
+    }
+}
+
+// Adds so many rows of those days, all of one number.
+fn push_rows(rt: &impl Abort, from: u8, to: u8, count: u32, rows: &mut Vec<(u8, u8, i64)>) {
+    for _ in 0..count {
+        rows.push((from, to, 7)).expect(rt, "memory");
+    }
+}
+
+// 260 rows of those days, and 180 of each of three others.
+fn of_own_and_common_days(
+    rt: &(impl Abort + Alloc<A = Global>),
+    from: u8,
+    to: u8,
+) -> Vec<(u8, u8, i64)> {
+    let mut rows = Vec::new(rt.alloc());
+    push_rows(rt, from, to, 260, &mut rows);
+    push_rows(rt, 10, 11, 180, &mut rows);
+    push_rows(rt, 12, 13, 180, &mut rows);
+    push_rows(rt, 14, 15, 180, &mut rows);
+    rows
+}
+
+// Either side has 260 parts, so there are 67,600 pairs of them. The rows of a common day are read, each against each by
+// one advance, and no others: these advances are more, and are answered.
+#[test]
+fn answers_the_advances_that_were_made(rt: HostRuntime) {
+    let lefts = of_own_and_common_days(&rt, 3, 4);
+    let rights = of_own_and_common_days(&rt, 20, 21);
+    let pair = number_pair(&rt, &lefts, &rights);
+    for workers in [1, 2, 7] {
+        let answer = joined(&rt, &pair, workers, &OpenGate);
+        assert!(rt; answer.rows.len() == 97_200, "with {workers} workers");
+        assert!(rt; answer.turns == 97_200);
     }
 }
