@@ -1,17 +1,16 @@
 -- The aggregates of rows that are sent to lots, and the aggregate of all.
-use Rattle.std.proofs.Common.{◌≡◌, ◌↔◌, ℕ, ℤ, Bool, true, false, cond, List, [], ◌∷◌, Option, refl, sym, ap, subst, ◌∙◌}
-use Rattle.std.specs.Prelude.{Contains, filter, ◌==◌}
+use Rattle.std.proofs.Common.{◌≡◌, ◌↔◌, ℕ, ℤ, true, List, Option, refl, sym, ap, subst, ◌∙◌}
+use Rattle.std.specs.Prelude.{Contains, ◌==◌}
 use Rattle.std.proofs.lemmas.Bool.Decides.{Decides-eqb}
 use Rattle.row_core.specs.ValueOrder.{same_maybe}
 use Rattle.row_core.specs.declared.row.Row.{Row}
 use Rattle.row_core.specs.declared.value.Value.{Value}
 use Rattle.row_core.proofs.ValueLemmas.{maybe_decides}
 use Rattle.list_core.specs.Wanted.{IsListOf}
-use Rattle.list_core.proofs.RisingLemmas.{Contains-cons, Contains-head, IsListOf-unique}
-use Rattle.list_core.proofs.WantedLemmas.{IsListOf-same}
 use Rattle.list_core.proofs.OrderedLemmas.{before-asym}
 use Rattle.match_core.specs.Lots.{IsInSome, rows_sent}
-use Rattle.match_core.proofs.SentLemmas.{IsListOf-filter, contained-list_any, list_any-contains, sent-in, sent-there, sent-to}
+use Rattle.match_core.proofs.LotLemmas.{lot_of_whole, whole_of_lots}
+use Rattle.match_core.proofs.SentLemmas.{contained-list_any, list_any-contains, sent-in, sent-there, sent-to}
 use Rattle.merge_core.specs.Gaps.{IsMaximal}
 use Rattle.round_core.specs.declared.measure.Measure.{Measure}
 use Rattle.agg_core.specs.declared.rows.AggRow.{AggRow}
@@ -20,24 +19,7 @@ use Rattle.agg_core.specs.AggLots.{LotAggIsOfWhole, LotAggsAreApart, SendsGroups
 use Rattle.agg_core.specs.Groups.{AggRowBefore, agg_row_cmp, rows_of_group}
 use Rattle.agg_core.proofs.OrderLemmas.{agg_row_total}
 use Rattle.agg_core.proofs.PlateauLemmas.{row_of_group}
-
--- a test that each thing passes that passes another may go before that one
-filter-filter : {X : Type 0} (before after : X → Bool) (xs : List X)
-    → ((x : X) → Contains xs x → after x ≡ true → before x ≡ true) → filter after (filter before xs) ≡ filter after xs
-filter-filter before after [] passes = refl
-filter-filter before after (x ∷ xs) passes =
-    by_tests (before x) (after x) refl refl (passes x (Contains-head x xs))
-    (filter-filter before after xs (λ y h. passes y (Contains-cons x xs y h)))
-  where
-    by_tests : (b c : Bool) → before x ≡ b → after x ≡ c → (after x ≡ true → before x ≡ true)
-        → filter after (filter before xs) ≡ filter after xs
-        → filter after (cond b (x ∷ filter before xs) (filter before xs))
-        ≡ cond c (x ∷ filter after xs) (filter after xs)
-    by_tests true c e f goes rest =
-        ap (λ t. cond t (x ∷ filter after (filter before xs)) (filter after (filter before xs))) f
-        ∙ ap (λ l. cond c (x ∷ l) l) rest
-    by_tests false true e f goes rest = absurd (let bad : true ≡ false = sym (goes f) ∙ e in cc)
-    by_tests false false e f goes rest = rest
+use Rattle.agg_core.proofs.ShareLemmas.{keep_all}
 
 -- a group that a row is of is told
 has_group-there : (group_of : Row → Option Value) (rows : List Row) (row : Row) (group : Option Value) → Contains rows row
@@ -60,7 +42,7 @@ module _ (measure : Measure) (amount_of : Row → ℤ) (group_of : Row → Optio
       → rows_of_group group_of group (rows_sent lot_of lot rows) ≡ rows_of_group group_of group rows
   group_sent lot group row h e =
       let row_in : Contains rows row = sent-in lot_of lot rows row h in
-      filter-filter (λ (r : Row). lot_of r == lot) (λ (r : Row). same_maybe (group_of r) group) rows
+      keep_all (λ (r : Row). lot_of r == lot) (λ (r : Row). same_maybe (group_of r) group) rows
       (λ x x_in passes.
       let same : group_of row ≡ group_of x = e ∙ sym ((maybe_decides (group_of x) group).0 passes) in
       (Decides-eqb (lot_of x) lot).1
@@ -110,33 +92,23 @@ module _ (measure : Measure) (amount_of : Row → ℤ) (group_of : Row → Optio
       → answer ≡ agg_rows_sent group_of lot_of rows lot whole
   lot_agg lot whole answer is is' =
       let sent : List Row = rows_sent lot_of lot rows in
-      IsListOf-unique AggRowBefore (IsLotRow lot) answer (agg_rows_sent group_of lot_of rows lot whole)
-      (before-asym agg_row_cmp agg_row_total) is'
-      (IsListOf-filter AggRowBefore (IsAggRow measure amount_of group_of rows) (IsLotRow lot)
-      (λ (row : AggRow). has_group group_of sent row.group) whole is
+      lot_of_whole AggRowBefore (IsAggRow measure amount_of group_of rows) (IsLotRow lot)
+      (λ (row : AggRow). has_group group_of sent row.group) whole answer (before-asym agg_row_cmp agg_row_total)
       (λ row p. (
         whole_row lot row p,
         (let (r, h, e) = row_sent lot row p in has_group-there group_of sent r row.group h e),
       ))
-      (λ row w told. let (r, h, e) = row_of_told group_of sent row.group told in lot_row lot row r h e w))
+      (λ row w told. let (r, h, e) = row_of_told group_of sent row.group told in lot_row lot row r h e w) is is'
 
   -- the aggregate of all is what stands in those of the lots
   whole_agg : (answer_of : ℕ → List AggRow) (whole : List AggRow)
       → ((lot : ℕ) → AreAggRows measure amount_of group_of (rows_sent lot_of lot rows) (answer_of lot))
       → AreAggRows measure amount_of group_of rows whole ↔ IsListOf AggRowBefore (IsInSome answer_of) whole
-  whole_agg answer_of whole each = (
-    IsListOf-same AggRowBefore (IsAggRow measure amount_of group_of rows) (IsInSome answer_of) whole to back,
-    IsListOf-same AggRowBefore (IsInSome answer_of) (IsAggRow measure amount_of group_of rows) whole back to,
-  )
-    where
-      to : (row : AggRow) → IsAggRow measure amount_of group_of rows row → IsInSome answer_of row
-      to row is =
-          let (r, h, e) = row_of_group measure amount_of group_of rows row is in
-          let sent = sent-there lot_of (lot_of r) rows r h refl in
-          (lot_of r, ((each (lot_of r)).exactly row).1 (lot_row (lot_of r) row r sent e is))
-
-      back : (row : AggRow) → IsInSome answer_of row → IsAggRow measure amount_of group_of rows row
-      back row (lot, h) = whole_row lot row (((each lot).exactly row).0 h)
+  whole_agg answer_of whole =
+      whole_of_lots AggRowBefore (IsAggRow measure amount_of group_of rows) IsLotRow answer_of whole whole_row
+      (λ row is.
+      let (r, h, e) = row_of_group measure amount_of group_of rows row is in
+      (lot_of r, lot_row (lot_of r) row r (sent-there lot_of (lot_of r) rows r h refl) e is))
 
 -- so it is of a table's rows
 pub lot_agg_is_of_whole : LotAggIsOfWhole

@@ -50,13 +50,6 @@ pub rows-alone : (shares : List AggShare) (share : AggShare) → shares ≡ shar
     → rows_in_shares shares ≡ rows_in share
 rows-alone shares share e = ap (λ l. rows_in_shares l) e ∙ append-nil (rows_in share)
 
--- the shares of two lists
-pub rows-append : (all front back : List AggShare) (one other : List AggRow) → all ≡ front ++ back
-    → rows_in_shares front ≡ one → rows_in_shares back ≡ other → rows_in_shares all ≡ one ++ other
-rows-append all front back one other e f b =
-    ap (λ l. rows_in_shares l) e ∙ flat_map-append rows_in front back
-    ∙ ap (λ (l : List AggRow). l ++ rows_in_shares back) f ∙ ap (λ (l : List AggRow). one ++ l) b
-
 -- the rows of another share
 pub rows-next : (shares : List AggShare) (i : ℕ) (share : AggShare) (old new : List AggRow) → i < length shares
     → share ≡ get_or shares i share → old ≡ rows_in_shares (take i shares) → new ≡ old ++ rows_in share

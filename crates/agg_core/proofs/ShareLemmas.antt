@@ -1,6 +1,6 @@
 -- What rows come to, from what two shares of them come to that have no group in common.
 use Rattle.std.proofs.Common.{◌≡◌, ◌⊎◌, ℕ, ℤ, Bool, true, false, cond, not, ◌&&◌, List, [], ◌∷◌, ◌++◌, map, Option, None, Some, Result, Ok, inl, inr, refl, sym, ap, subst, ◌∙◌, append-nil}
-use Rattle.std.specs.Prelude.{filter, flat_map, option_map, Contains}
+use Rattle.std.specs.Prelude.{filter, option_map, Contains}
 use Rattle.std.specs.declared.cmp.Ordering.{Ordering}
 use Rattle.std.specs.declared.cmp.Ordering.TheVariants.{Less, Equal, Greater}
 use Rattle.std.specs.Ordering.{int_cmp, is_lt, ordering_then}
@@ -32,6 +32,8 @@ use Rattle.agg_core.specs.Groups.{AggRowBefore, rows_of_group}
 use Rattle.agg_core.specs.Entries.{AreEntries, AreEntriesSorted, AreInGroups, entry_row, value_at_place}
 use Rattle.agg_core.specs.Grouping.{AreItemsByGroup, ArePlateauRows, GroupBefore}
 use Rattle.agg_core.specs.KeyRanges.{group_of_key, in_range, rows_in_range}
+use Rattle.agg_core.specs.Shares.{rows_in, rows_in_shares}
+use Rattle.agg_core.specs.declared.rows.AggShare.{AggShare}
 use Rattle.agg_core.proofs.EntryLemmas.{grouped_entries, rows_in_entries}
 use Rattle.agg_core.proofs.GroupLemmas.{grouping_of}
 use Rattle.agg_core.proofs.OrderLemmas.{key_cmp-value, not_after}
@@ -195,7 +197,7 @@ before_from a b c less from = elim (not_after b c (denied (is_lt (maybe_cmp c b)
 -- ---- shares by value
 
 -- what passes one test passes another that lets nothing else pass
-keep_all : {A : Type 0} (p t : A → Bool) (xs : List A) → ((x : A) → Contains xs x → t x ≡ true → p x ≡ true)
+pub keep_all : {A : Type 0} (p t : A → Bool) (xs : List A) → ((x : A) → Contains xs x → t x ≡ true → p x ≡ true)
     → filter t (filter p xs) ≡ filter t xs
 keep_all p t [] all = refl
 keep_all p t (x ∷ xs) all = split (p x) (t x) refl refl (keep_all p t xs (λ y h. all y (Contains-cons x xs y h)))
@@ -335,25 +337,24 @@ rows_in_range-all group_of (row ∷ rows) = ap (λ l. row ∷ l) (rows_in_range-
 
 -- what the rows of each range come to, one behind another, is what all rows come to
 pub rows-all : (measure : Measure) (amount_of : Row → ℤ) (group_of : Row → Option Value) (rows : List Row)
-    (post : Range Key → ℕ → Result (List AggRow) AllocError → Type 0) (cuts : List (Cut Key))
-    (lists : List (List AggRow))
-    → ((keys : Range Key) (n : ℕ) (some : List AggRow) → post keys n (Ok some)
-    → AreAggRows measure amount_of group_of (rows_in_range group_of keys rows) some)
-    → GivesFrom ghosts.cmp (Gives post) None cuts lists
-    → AreAggRows measure amount_of group_of rows (flat_map (λ some. some) lists)
-rows-all measure amount_of group_of rows post cuts lists told given =
-    subst (λ (l : List Row). AreAggRows measure amount_of group_of l (flat_map (λ some. some) lists))
+    (post : Range Key → ℕ → Result AggShare AllocError → Type 0) (cuts : List (Cut Key)) (shares : List AggShare)
+    → ((keys : Range Key) (n : ℕ) (share : AggShare) → post keys n (Ok share)
+    → AreAggRows measure amount_of group_of (rows_in_range group_of keys rows) (rows_in share))
+    → GivesFrom ghosts.cmp (Gives post) None cuts shares
+    → AreAggRows measure amount_of group_of rows (rows_in_shares shares)
+rows-all measure amount_of group_of rows post cuts shares told given =
+    subst (λ (l : List Row). AreAggRows measure amount_of group_of l (rows_in_shares shares))
     (rows_in_range-all group_of rows)
     (all_come ghosts.cmp (Gives post)
-    (λ (keys : Range Key) (all : List (List AggRow)).
-    AreAggRows measure amount_of group_of (rows_in_range group_of keys rows) (flat_map (λ some. some) all))
-    (λ keys some own.
-    subst (AreAggRows measure amount_of group_of (rows_in_range group_of keys rows)) (sym (append-nil some))
-    (told keys own.0 some own.1))
-    (λ from at some more begun one others.
-    AreAggRows-ranges measure amount_of group_of from at rows some (flat_map (λ list. list) more) begun
-    (told (range from (Some at)) one.0 some one.1) others)
-    None cuts lists given)
+    (λ (keys : Range Key) (all : List AggShare).
+    AreAggRows measure amount_of group_of (rows_in_range group_of keys rows) (rows_in_shares all))
+    (λ keys share own.
+    subst (AreAggRows measure amount_of group_of (rows_in_range group_of keys rows)) (sym (append-nil (rows_in share)))
+    (told keys own.0 share own.1))
+    (λ from at share more begun one others.
+    AreAggRows-ranges measure amount_of group_of from at rows (rows_in share) (rows_in_shares more) begun
+    (told (range from (Some at)) one.0 share one.1) others)
+    None cuts shares given)
 
 -- ---- what listed rows come to
 

@@ -69,5 +69,7 @@ pub(crate) fn rows_of_one_group<R: Threads + Sync, G: Gate>(
     let plateaus = plateaus_of(crew, asked.measure, &items)?;
     let mut groups = Vec::new(crew.alloc);
     groups.push(None)?;
-    AggRows::of(crew.alloc, AggShare { groups, plateaus })
+    let mut shares = Vec::new(crew.alloc);
+    shares.push(AggShare { groups, plateaus })?;
+    AggRows::of_shares(shares)
 }

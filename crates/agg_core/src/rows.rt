@@ -1,6 +1,6 @@
 //! The rows of an aggregate.
 
-ghost use Rattle.std.specs.Prelude.{◌≡◌, ◌≤◌, ◌++◌, AllPairs, IfOk, OnOk, flat_map, length, map, option_map, slice_get};
+ghost use Rattle.std.specs.Prelude.{◌≡◌, ◌≤◌, ◌++◌, AllPairs, IfOk, IfSome, OnOk, length, map, option_map, slice_get};
 ghost use Rattle.std.specs.Option.{option_copied};
 ghost use Rattle.dip_core.specs.Item.{item_limit};
 ghost use Rattle.agg_core.specs.Grouping.{ArePlateauRows, agg_row_of, groups_of};
@@ -96,13 +96,13 @@ impl Model for AggRows {
 }
 
 impl AggRows {
-    /// The rows of one share.
-    pub(crate) fn of(alloc: Global, share: AggShare) -> Result<AggRows, NoMemory>
-        ensures { IfOk result (λ rows. rows ≡ rows_in share) }
+    /// The rows of some shares.
+    pub(crate) fn of_shares(shares: Vec<AggShare>) -> Result<AggRows, NoMemory>
+        ensures { IfOk result (λ rows. rows ≡ rows_in_shares shares.items) }
     {
-        let len = share.plateaus.len();
-        let mut shares = Vec::new(alloc);
-        shares.push(share)?;
+        let Some(len) = count_rows(&shares) else {
+            return Err(AllocError);
+        };
         Ok(AggRows { shares, len })
     }
 
@@ -127,33 +127,6 @@ impl AggRows {
         &self.shares
     }
 
-    /// The rows of all lists, one list behind another.
-    pub(crate) fn of_all(alloc: Global, lists: Vec<AggRows>) -> Result<AggRows, NoMemory>
-        ensures { IfOk result (λ rows. rows ≡ flat_map (λ some. some) lists.items) }
-    {
-        let mut all = AggRows {
-            shares: Vec::new(alloc),
-            len: 0,
-        };
-        for list in lists {
-            all = all.followed_by(list)?;
-        }
-        Ok(all)
-    }
-
-    /// These, and others behind them.
-    fn followed_by(self, later: AggRows) -> Result<AggRows, NoMemory>
-        ensures { IfOk result (λ rows. rows ≡ self ++ later) }
-    {
-        let mut shares = self.shares;
-        let mut others = later.shares;
-        let Some(len) = self.len.checked_add(later.len) else {
-            return Err(AllocError);
-        };
-        shares.append(&mut others)?;
-        Ok(AggRows { shares, len })
-    }
-
     /// All rows, each with a value of its group of its own.
     ///
     /// # Errors
@@ -168,6 +141,17 @@ impl AggRows {
         }
         Ok(rows)
     }
+}
+
+/// How many rows the shares have, where a number tells.
+fn count_rows(shares: &[AggShare]) -> Option<usize>
+    ensures { IfSome result (λ len. len ≡ length (rows_in_shares shares.now)) }
+{
+    let mut len = 0usize;
+    for share in shares {
+        len = len.checked_add(share.plateaus.len())?;
+    }
+    Some(len)
 }
 
 /// The row at that place of all shares.
@@ -215,20 +199,20 @@ fn push_chunk(
     Ok(())
 }
 
-/// The rows of grouped rows: one for each plateau of their items.
-pub(crate) fn rows_of_groups<R: Threads + Sync, G: Gate>(
+/// The share of grouped rows: a row for each plateau of their items.
+pub(crate) fn share_of_groups<R: Threads + Sync, G: Gate>(
     crew: &Crew<'_, R, G>,
     measure: Measure,
     grouped: &GroupedRows<'_>,
-) -> Result<AggRows, NoMemory>
+) -> Result<AggShare, NoMemory>
     requires few { length grouped.now.items.items ≤ item_limit }
     requires classes { AllPairs (λ a b. a.class ≤ b.class) grouped.now.items.items }
-    ensures { IfOk result (λ rows. ArePlateauRows measure grouped.now.items.items
-        (groups_of grouped.now.groups.items) rows) }
+    ensures { IfOk result (λ share. ArePlateauRows measure grouped.now.items.items
+        (groups_of grouped.now.groups.items) (rows_in share)) }
 {
     let plateaus = plateaus_of(crew, measure, &grouped.items)?;
     let groups = copy_groups(crew.alloc, &grouped.groups)?;
-    AggRows::of(crew.alloc, AggShare { groups, plateaus })
+    Ok(AggShare { groups, plateaus })
 }
 
 /// The groups, each with a value of its own.

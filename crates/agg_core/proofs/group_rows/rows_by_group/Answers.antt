@@ -1,4 +1,4 @@
-use Rattle.std.proofs.Common.{IfOk, List, Result, Some, subst, sym, ℕ}
+use Rattle.std.proofs.Common.{IfOk, Result, Some, subst, sym, ℕ}
 use Rattle.std.specs.declared.alloc.AllocError.{AllocError}
 use Rattle.std.proofs.lemmas.Result.{IfOk-weaker}
 use Rattle.share_core.specs.declared.range.Range.{Range}
@@ -6,7 +6,8 @@ use Rattle.agg_core.specs.Agg.{AreAggRows}
 use Rattle.agg_core.specs.Entries.{amount_at, value_at_place}
 use Rattle.agg_core.specs.KeyRanges.{rows_in_range}
 use Rattle.agg_core.specs.declared.keys.Key.{Key}
-use Rattle.agg_core.specs.declared.rows.AggRow.{AggRow}
+use Rattle.agg_core.specs.Shares.{rows_in}
+use Rattle.agg_core.specs.declared.rows.AggShare.{AggShare}
 use Rattle.agg_core.proofs.ShareLemmas.{rows-all}
 use Rattle.agg_core.proofs.group_rows.rows_by_group.Goals as goal
 
@@ -16,12 +17,12 @@ returns g c =
     let measure = c.args.asked.measure in
     let amount_of = amount_at c.args.asked.amount in
     let group_of = value_at_place (Some c.args.place) in
-    let post : Range Key → ℕ → Result (List AggRow) AllocError → Type 0 =
+    let post : Range Key → ℕ → Result AggShare AllocError → Type 0 =
     λ keys n answer. Range Key
-    × IfOk answer (λ (some : List AggRow). AreAggRows measure amount_of group_of (rows_in_range group_of keys rows) some) in
-    IfOk-weaker c.of_all.result _ _
+    × IfOk answer (λ (share : AggShare). AreAggRows measure amount_of group_of (rows_in_range group_of keys rows) (rows_in share)) in
+    IfOk-weaker c.of_shares.result _ _
     (λ answer e.
     subst (AreAggRows measure amount_of group_of rows) (sym e)
-    (rows-all measure amount_of group_of rows post c.in_ok-shares.shares.cuts.items c.in_ok-lists.lists.items
-    (λ keys n some given. given.1) c.in_ok-lists.ensures))
-    c.of_all.ensures
+    (rows-all measure amount_of group_of rows post c.in_ok-shares.shares.cuts.items c.in_ok-found.found.items
+    (λ keys n share given. given.1) c.in_ok-found.ensures))
+    c.of_shares.ensures

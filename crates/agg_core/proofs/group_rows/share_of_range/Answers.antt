@@ -8,9 +8,10 @@ use Rattle.row_core.specs.declared.row.Row.{Row}
 use Rattle.agg_core.specs.Entries.{AreRising, amount_at, value_at_place}
 use Rattle.agg_core.specs.Grouping.{AreItemsByGroup, IsNumberedItem, groups_of}
 use Rattle.agg_core.specs.KeyRanges.{in_range, rows_in_range}
+use Rattle.agg_core.specs.Shares.{rows_in}
 use Rattle.agg_core.proofs.EntryLemmas.{keyed_entries, length-entries}
 use Rattle.agg_core.proofs.ShareLemmas.{answer_of_entries}
-use Rattle.agg_core.proofs.group_rows.rows_of_range.Goals as goal
+use Rattle.agg_core.proofs.group_rows.share_of_range.Goals as goal
 
 pub sorted-requires-after_bounds : goal.sorted-requires-after_bounds
 sorted-requires-after_bounds g c κs within =
@@ -20,8 +21,8 @@ sorted-requires-after_bounds g c κs within =
 pub group_entries-requires : goal.group_entries-requires
 group_entries-requires g c = subst AreRising (sym c.deref.ensures.value) c.in_ok-entries-2.ensures.rise
 
-pub rows_of_groups-requires-clause-few : goal.rows_of_groups-requires-clause-few
-rows_of_groups-requires-clause-few g c κs within =
+pub share_of_groups-requires-clause-few : goal.share_of_groups-requires-clause-few
+share_of_groups-requires-clause-few g c κs within =
     let rows = rows_in_range (value_at_place (Some c.args.place)) c.args.range.now c.args.rows.now in
     let items = c.in_ok-grouped.grouped.items.items in
     let few : length c.args.rows.now ≤ item_limit = c.requires.few in
@@ -42,10 +43,10 @@ returns g c =
     let rows = rows_in_range (value_at_place (Some c.args.place)) c.args.range.now c.args.rows.now in
     let items = c.in_ok-grouped.grouped.items.items in
     let groups = groups_of c.in_ok-grouped.grouped.groups.items in
-    IfOk-weaker c.rows_of_groups.result _ _
-    (λ answer made.
+    IfOk-weaker c.share_of_groups.result _ _
+    (λ share made.
     answer_of_entries c.args.asked.measure (amount_at c.args.asked.amount) c.args.place rows c.in_ok-entries.entries.items
-    c.in_ok-entries-2.entries.items items groups answer c.in_ok-entries.ensures c.in_ok-entries-2.ensures
+    c.in_ok-entries-2.entries.items items groups (rows_in share) c.in_ok-entries.ensures c.in_ok-entries-2.ensures
     (subst (λ l. AreItemsByGroup (amount_at c.args.asked.amount) l items groups) c.deref.ensures.value c.in_ok-grouped.ensures)
     made)
-    c.rows_of_groups.ensures
+    c.share_of_groups.ensures
