@@ -1,12 +1,13 @@
 -- The lists of shares of the items, one behind another.
-use Rattle.std.proofs.Common.{Global, ◌≤◌, ℕ, List, [], ◌∷◌, ◌++◌, Option, Some, None, Result, Ok, length, take, drop, AllPairs, inl, inr, sym, subst, arith, append-nil}
+use Rattle.std.proofs.Common.{◌≤◌, ℕ, List, [], ◌∷◌, ◌++◌, Option, Some, None, Result, Ok, take, drop, AllPairs, inl, inr, sym, subst, arith, append-nil}
 use Rattle.std.specs.Ordering.{nat_cmp}
 use Rattle.std.specs.declared.alloc.AllocError.{AllocError}
-use Rattle.std.specs.declared.collections.VecDeque.{VecDeque}
+use Rattle.std.specs.Global.{Vec}
 use Rattle.std.specs.Prelude.{Contains}
-use Rattle.std.proofs.lemmas.List.{length-drop, length-take, take-append-drop}
+use Rattle.std.proofs.lemmas.List.{take-append-drop}
 use Rattle.std.proofs.lemmas.List.Elements.{Contains-append_left, Contains-append_right}
 use Rattle.dip_core.specs.declared.item.Item.{Item}
+use Rattle.list_core.specs.Chunks.{all_in}
 use Rattle.list_core.proofs.RisingLemmas.{AllPairs-head, AllPairs-tail, Contains-cons_cases, Contains-none}
 use Rattle.list_core.proofs.WantedLemmas.{AllPairs-before}
 use Rattle.round_core.specs.declared.class_steps.ClassSteps.{ClassSteps}
@@ -17,7 +18,7 @@ use Rattle.share_core.specs.declared.range.Range.{Range}
 use Rattle.share_core.specs.declared.shares.Cut.{Cut}
 use Rattle.share_core.proofs.PieceLemmas.{piece_cut}
 use Rattle.share_core.proofs.ShareLemmas.{all_come}
-use Rattle.round_core.specs.ClassLists.{AreOfItems, AreStepLists, RisesFrom, lists_of}
+use Rattle.round_core.specs.ClassLists.{AreOfItems, AreStepLists, RisesFrom}
 use Rattle.round_core.proofs.RunLemmas.{AllPairs-behind, stand_more, of_items_more}
 
 -- no item is of a higher class than a later one
@@ -77,21 +78,6 @@ piece_rises places items rise = behind places.from (piece_before places.before i
     behind None xs h = h
     behind (Some n) xs h = AllPairs-behind (take n xs) (drop n xs) (subst Rise (sym (take-append-drop n xs)) h)
 
--- they are no more than all
-pub piece_few : (places : Range ℕ) (items : List Item) → length (piece places items) ≤ length items
-piece_few places items =
-    let one = behind places.from (piece_before places.before items) in
-    let other = front places.before items in
-    omega (arith, one, other)
-  where
-    front : (end : Option ℕ) (xs : List Item) → length (piece_before end xs) ≤ length xs
-    front None xs = omega arith
-    front (Some n) xs = omega (arith, length-take n xs)
-
-    behind : (start : Option ℕ) (xs : List Item) → length (piece_from start xs) ≤ length xs
-    behind None xs = omega arith
-    behind (Some n) xs = omega (arith, length-drop n xs)
-
 -- lists of steps of items, and of others that stand behind them
 lists_more : (xs ys : List Item) (ls ms : List ClassSteps) → Rise (xs ++ ys) → AreStepLists xs ls → AreStepLists ys ms
     → AreStepLists (xs ++ ys) (ls ++ ms)
@@ -103,18 +89,18 @@ lists_more xs ys ls ms grouped one other = record {
 }
 
 -- what each share of the items gives, one behind another, is what all give
-pub shares-lists : (items : List Item) (post : Range ℕ → ℕ → Result (VecDeque ClassSteps Global) AllocError → Type 0)
-    (cuts : List (Cut ℕ)) (shares : List (VecDeque ClassSteps Global)) → Rise items
-    → ((places : Range ℕ) (n : ℕ) (lists : VecDeque ClassSteps Global) → post places n (Ok lists)
+pub shares-lists : (items : List Item) (post : Range ℕ → ℕ → Result (Vec ClassSteps) AllocError → Type 0)
+    (cuts : List (Cut ℕ)) (shares : List (Vec ClassSteps)) → Rise items
+    → ((places : Range ℕ) (n : ℕ) (lists : Vec ClassSteps) → post places n (Ok lists)
     → AreStepLists (piece places items) lists.items) → GivesFrom nat_cmp (Gives post) None cuts shares
-    → AreStepLists items (lists_of shares)
+    → AreStepLists items (all_in shares)
 shares-lists items post cuts shares rise told given =
     all_come nat_cmp (Gives post)
-    (λ (places : Range ℕ) (some : List (VecDeque ClassSteps Global)). AreStepLists (piece places items) (lists_of some))
+    (λ (places : Range ℕ) (some : List (Vec ClassSteps)). AreStepLists (piece places items) (all_in some))
     (λ places lists own. subst (AreStepLists (piece places items)) (sym (append-nil lists.items)) (told places own.0 lists own.1))
     (λ from at lists more begun one others.
     let whole = piece_cut from at items begun in
-    subst (λ (xs : List Item). AreStepLists xs (lists.items ++ lists_of more)) (sym whole)
-    (lists_more (piece (range from (Some at)) items) (piece (range (Some at) None) items) lists.items (lists_of more)
+    subst (λ (xs : List Item). AreStepLists xs (lists.items ++ all_in more)) (sym whole)
+    (lists_more (piece (range from (Some at)) items) (piece (range (Some at) None) items) lists.items (all_in more)
     (subst Rise whole (piece_rises (range from None) items rise)) (told (range from (Some at)) one.0 lists one.1) others))
     None cuts shares given

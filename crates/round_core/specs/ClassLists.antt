@@ -1,7 +1,5 @@
 -- Lists of steps of classes, and what those of one class come to together.
-use Rattle.std.specs.Prelude.{◌≡◌, ◌≢◌, ◌==◌, ◌+◌, ◌≤◌, ◌++◌, ℕ, if◌then◌else◌, Option, None, List, [], ◌∷◌, length, ℤ, Contains, flat_map}
-use Rattle.std.specs.Global.{Global}
-use Rattle.std.specs.declared.collections.VecDeque.{VecDeque}
+use Rattle.std.specs.Prelude.{◌≡◌, ◌≢◌, ◌==◌, ◌+◌, ◌≤◌, ◌++◌, ℕ, if◌then◌else◌, Option, None, List, [], ◌∷◌, length, ℤ, Contains}
 use Rattle.dip_core.specs.declared.item.Item.{Item}
 use Rattle.merge_core.specs.declared.tally.Tally.{Tally}
 use Rattle.merge_core.specs.Tallies.{IsTallyAt, both}
@@ -83,7 +81,3 @@ pub record AreStepLists (items : List Item) (lists : List ClassSteps) : Type 0 w
   pub stand : StandForAll items lists
   pub rise : RisesFrom 0 lists
   pub classes : AreOfItems items lists
-
--- the lists of all shares, one behind another
-abbrev pub lists_of : List (VecDeque ClassSteps Global) → List ClassSteps
-lists_of shares = flat_map (λ (share : VecDeque ClassSteps Global). share.items) shares

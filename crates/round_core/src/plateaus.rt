@@ -17,6 +17,7 @@ use dip_core::Item;
 use grid_core::{class_shares, items_in};
 use period_core::NoMemory;
 use share_core::{Range, shared_out};
+use std::collections::VecDeque;
 use std::thread::Threads;
 use work_core::{Crew, Gate};
 
@@ -31,14 +32,14 @@ pub(crate) fn plateaus_by_rounds<R: Threads + Sync, G: Gate>(
     ensures { IfOk result (λ plateaus. ArePlateaus measure items.now plateaus) }
 {
     let lists = shared_lists(crew, items)?;
-    let all = combine_all(crew, lists)?;
+    let all = combine_all(crew, VecDeque::from_vec(lists))?;
     let plateaus = plateaus_in(crew.alloc, measure, all)?;
     Plateaus::of(crew.alloc, plateaus)
 }
 
 /// The plateaus of all classes, by class and start: the same for every number of workers. The items of a class
 /// stand together, by rising class. The gate is called before and after each two lists of steps that are taken
-/// together.
+/// together, which tests show.
 ///
 /// Workers share the classes out, where there are enough items of several.
 ///
@@ -72,7 +73,7 @@ pub fn plateaus_of<R: Threads + Sync, G: Gate>(
                 ArePlateaus measure (items_in classes items.entry.now) plateaus) }
         {
             let own = items_in(classes, items);
-            plateaus_of_spans(rt, alloc, measure, own, CUTS, workers, gate)
+            plateaus_of_spans(&Crew::new(rt, alloc, workers, gate), measure, own, CUTS)
         },
     )?;
     Plateaus::of_all(alloc, lists)

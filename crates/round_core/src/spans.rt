@@ -80,44 +80,42 @@ fn middle_instant(
 /// The plateaus of what items of one class hold in a span.
 #[cycle(spans)]
 fn plateaus_within<R: Threads + Sync, G: Gate>(
-    rt: &R,
-    alloc: Global,
+    crew: &Crew<'_, R, G>,
     measure: Measure,
     items: &[Item],
     span: &Range<Point>,
     cuts: u32,
-    workers: u32,
-    gate: &G,
 ) -> Result<Plateaus, NoMemory>
-    requires workers { (0 < workers) × (workers ≤ worker_limit) }
     requires few { length items.now ≤ item_limit }
     requires class { AreOfOneClass items.now }
     ensures { IfOk result (λ plateaus. ArePlateausWithin span.now measure items.now plateaus) }
 {
-    let cut = items_within(alloc, items, span)?;
-    plateaus_of_spans(rt, alloc, measure, &cut, cuts, workers, gate)
+    let cut = items_within(crew.alloc, items, span)?;
+    plateaus_of_spans(crew, measure, &cut, cuts)
 }
 
 /// The plateaus of all classes. Where all items are of one class, and many, they are cut at an instant, and half of the
 /// workers find those before it; they may be cut so often.
 #[cycle(spans)]
 pub(crate) fn plateaus_of_spans<R: Threads + Sync, G: Gate>(
-    rt: &R,
-    alloc: Global,
+    crew: &Crew<'_, R, G>,
     measure: Measure,
     items: &[Item],
     cuts: u32,
-    workers: u32,
-    gate: &G,
 ) -> Result<Plateaus, NoMemory>
-    requires workers { (0 < workers) × (workers ≤ worker_limit) }
     requires few { length items.now ≤ item_limit }
     requires rise { ClassesRise items.now }
     ensures { IfOk result (λ plateaus. ArePlateaus measure items.now plateaus) }
 {
+    let Crew {
+        rt,
+        alloc,
+        workers,
+        gate,
+        ..
+    } = *crew;
     let Some(at) = middle_instant(alloc, items, cuts, workers)? else {
-        let crew = Crew::new(rt, alloc, workers, gate);
-        return plateaus_by_rounds(&crew, measure, items);
+        return plateaus_by_rounds(crew, measure, items);
     };
     let cuts = cuts - 1;
     let before = Range {
@@ -129,8 +127,8 @@ pub(crate) fn plateaus_of_spans<R: Threads + Sync, G: Gate>(
         before: None,
     };
     if workers < 2 {
-        let early = plateaus_within(rt, alloc, measure, items, &before, cuts, workers, gate);
-        let late = plateaus_within(rt, alloc, measure, items, &behind, cuts, workers, gate);
+        let early = plateaus_within(crew, measure, items, &before, cuts);
+        let late = plateaus_within(crew, measure, items, &behind, cuts);
         return both_spliced(early, late);
     }
     let few = workers / 2;
@@ -142,13 +140,29 @@ pub(crate) fn plateaus_of_spans<R: Threads + Sync, G: Gate>(
                 × (length items.now ≤ item_limit) × AreOfOneClass items.now }
             ensures { IfOk result (λ plateaus.
                 ArePlateausWithin before measure items.entry.now plateaus) }
-        { plateaus_within(rt, alloc, measure, items, &before, cuts, few, gate) },
+        {
+            plateaus_within(
+                &Crew::new(rt, alloc, few, gate),
+                measure,
+                items,
+                &before,
+                cuts,
+            )
+        },
         || -> Result<Plateaus, NoMemory>
             requires { IsSync R.row × IsSync G.row × (0 < others) × (others ≤ worker_limit)
                 × (length items.now ≤ item_limit) × AreOfOneClass items.now }
             ensures { IfOk result (λ plateaus.
                 ArePlateausWithin behind measure items.entry.now plateaus) }
-        { plateaus_within(rt, alloc, measure, items, &behind, cuts, others, gate) },
+        {
+            plateaus_within(
+                &Crew::new(rt, alloc, others, gate),
+                measure,
+                items,
+                &behind,
+                cuts,
+            )
+        },
     );
     both_spliced(early, late)
 }

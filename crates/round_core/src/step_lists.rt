@@ -5,30 +5,32 @@ ghost use Rattle.std.specs.Thread.{IsSync};
 ghost use Rattle.dip_core.specs.Item.{item_limit};
 ghost use Rattle.dip_core.specs.Division.{all_of};
 ghost use Rattle.share_core.specs.Pieces.{piece};
-ghost use Rattle.round_core.specs.ClassLists.{AddsSteps, AreStepLists, lists_of};
+ghost use Rattle.work_core.specs.Limits.{worker_limit};
+ghost use Rattle.round_core.specs.ClassLists.{AddsSteps, AreStepLists};
 
 use crate::class_steps::ClassSteps;
-use dip_core::{Division, Item, Part, create_dip};
+use dip_core::{Division, Item, Part};
+use grid_core::divided;
+use list_core::in_one_list;
 use merge_core::Steps;
 use period_core::NoMemory;
 use share_core::{Range, Shares, piece, shared_out};
 use std::alloc::Global;
-use std::collections::VecDeque;
 use std::thread::Threads;
-use work_core::Crew;
+use work_core::{Crew, Gate};
 
 /// Adds the steps of a part.
 fn push_part(
     alloc: Global,
     class: u64,
     part: Part<'_>,
-    lists: &mut VecDeque<ClassSteps>,
+    lists: &mut Vec<ClassSteps>,
 ) -> Result<(), NoMemory>
     requires { 0 < length part.items.now }
     ensures { OnOk result (AddsSteps class part.entry.items.now lists.old.items lists.new.items) }
 {
     let steps = Steps::of_part(alloc, part)?;
-    lists.push_back(ClassSteps { class, steps })?;
+    lists.push(ClassSteps { class, steps })?;
     Ok(())
 }
 
@@ -37,7 +39,7 @@ fn push_parts(
     alloc: Global,
     class: u64,
     division: &Division,
-    lists: &mut VecDeque<ClassSteps>,
+    lists: &mut Vec<ClassSteps>,
 ) -> Result<(), NoMemory>
     ensures { OnOk result (AddsSteps class (all_of division.now) lists.old.items lists.new.items) }
 {
@@ -48,25 +50,21 @@ fn push_parts(
 }
 
 /// Adds the steps of the items of a class, which are divided unless they are a part as they are.
-fn push_run<R: Threads + Sync>(
-    rt: &R,
-    alloc: Global,
+fn push_run<R: Threads + Sync, G>(
+    crew: &Crew<'_, R, G>,
     class: u64,
     items: &[Item],
-    workers: u32,
-    lists: &mut VecDeque<ClassSteps>,
+    lists: &mut Vec<ClassSteps>,
 ) -> Result<(), NoMemory>
     requires some { 0 < length items.now }
     requires few { length items.now ≤ item_limit }
     ensures { OnOk result (AddsSteps class items.now lists.old.items lists.new.items) }
 {
     if let Some(part) = Part::new(items) {
-        return push_part(alloc, class, part, lists);
+        return push_part(crew.alloc, class, part, lists);
     }
-    let own = Vec::from_slice(alloc, items)?;
-    let division = create_dip(rt, alloc, own, workers)?;
-    push_parts(alloc, class, &division, lists)?;
-    Ok(())
+    let division = divided(crew, items)?;
+    push_parts(crew.alloc, class, &division, lists)
 }
 
 /// How many of the items, from the first on, are of the class.
@@ -82,64 +80,54 @@ fn run_len(class: u64, items: &[Item]) -> usize
 }
 
 /// Lists of steps for the items of each class, by rising class.
-fn class_lists<R: Threads + Sync>(
-    rt: &R,
-    alloc: Global,
+fn class_lists<R: Threads + Sync, G>(
+    crew: &Crew<'_, R, G>,
     items: &[Item],
-    workers: u32,
-) -> Result<VecDeque<ClassSteps>, NoMemory>
+) -> Result<Vec<ClassSteps>, NoMemory>
     requires few { length items.now ≤ item_limit }
     requires grouped { AllPairs (λ a b. a.class ≤ b.class) items.now }
     ensures { IfOk result (λ lists. AreStepLists items.now lists.items) }
 {
-    let mut lists = VecDeque::new(alloc);
+    let mut lists = Vec::new(crew.alloc);
     let mut left = items;
     'runs: while let Some((first, later)) = left.split_first() {
         let class = first.class;
         let len = 1 + run_len(class, later);
         let (run, rest) = left.split_at(len);
-        push_run(rt, alloc, class, run, workers, &mut lists)?;
+        push_run(crew, class, run, &mut lists)?;
         left = rest;
-    }
-    Ok(lists)
-}
-
-/// The lists, one behind another.
-fn in_one(
-    alloc: Global,
-    shares: Vec<VecDeque<ClassSteps>>,
-) -> Result<VecDeque<ClassSteps>, NoMemory>
-    ensures { IfOk result (λ lists. lists.items ≡ lists_of shares.items) }
-{
-    let mut lists = VecDeque::new(alloc);
-    for mut share in shares {
-        lists.append(&mut share)?;
     }
     Ok(lists)
 }
 
 /// Lists of steps for the items of each class, by rising class. Workers share the items out by their places; the items of
 /// a class may then be divided in several shares.
-pub(crate) fn shared_lists<R: Threads + Sync, G>(
+pub(crate) fn shared_lists<R: Threads + Sync, G: Gate>(
     crew: &Crew<'_, R, G>,
     items: &[Item],
-) -> Result<VecDeque<ClassSteps>, NoMemory>
+) -> Result<Vec<ClassSteps>, NoMemory>
     requires few { length items.now ≤ item_limit }
     requires grouped { AllPairs (λ a b. a.class ≤ b.class) items.now }
     ensures { IfOk result (λ lists. AreStepLists items.now lists.items) }
 {
-    let Crew { rt, alloc, .. } = *crew;
+    let Crew {
+        rt,
+        alloc,
+        gate,
+        ..
+    } = *crew;
     let shares = Shares::of(alloc, items.len(), crew.workers, &|place: usize| place)?;
     let lists = shared_out(
         rt,
         alloc,
         &shares,
-        &|range: Range<usize>, workers: u32| -> Result<VecDeque<ClassSteps>, NoMemory>
-            requires { IsSync R.row × (length items.now ≤ item_limit)
+        &|range: Range<usize>, workers: u32| -> Result<Vec<ClassSteps>, NoMemory>
+            requires { IsSync R.row × IsSync G.row × (0 < workers) × (workers ≤ worker_limit)
+                × (length items.now ≤ item_limit)
                 × AllPairs (λ a b. a.class ≤ b.class) items.now }
             ensures { IfOk result (λ lists.
                 AreStepLists (piece range items.entry.now) lists.items) }
-        { class_lists(rt, alloc, piece(range, items), workers) },
+        { class_lists(&Crew::new(rt, alloc, workers, gate), piece(range, items)) },
     )?;
-    in_one(alloc, lists)
+    in_one_list(alloc, lists)
 }

@@ -1,6 +1,6 @@
-use Rattle.std.proofs.Common.{Global, IfOk, Result, subst, sym, ℕ}
+use Rattle.std.proofs.Common.{IfOk, Result, subst, sym, ℕ}
+use Rattle.std.specs.Global.{Vec}
 use Rattle.std.specs.declared.alloc.AllocError.{AllocError}
-use Rattle.std.specs.declared.collections.VecDeque.{VecDeque}
 use Rattle.std.proofs.lemmas.Result.{IfOk-weaker}
 use Rattle.share_core.specs.Pieces.{piece}
 use Rattle.share_core.specs.declared.range.Range.{Range}
@@ -12,11 +12,11 @@ use Rattle.round_core.proofs.step_lists.shared_lists.Goals as goal
 pub returns : goal.returns
 returns g c =
     let items = c.args.items.now in
-    let post : Range ℕ → ℕ → Result (VecDeque ClassSteps Global) AllocError → Type 0 =
-    λ places n lists. Range ℕ × IfOk lists (λ (some : VecDeque ClassSteps Global). AreStepLists (piece places items) some.items) in
-    IfOk-weaker c.in_one.result _ _
+    let post : Range ℕ → ℕ → Result (Vec ClassSteps) AllocError → Type 0 =
+    λ places n lists. Range ℕ × IfOk lists (λ (some : Vec ClassSteps). AreStepLists (piece places items) some.items) in
+    IfOk-weaker c.in_one_list.result _ _
     (λ lists e.
     subst (AreStepLists items) (sym e)
     (shares-lists items post c.in_ok-shares.shares.cuts.items c.in_ok-lists.lists.items c.requires.grouped
     (λ places n lists given. given.1) c.in_ok-lists.ensures))
-    c.in_one.ensures
+    c.in_one_list.ensures
