@@ -7,15 +7,15 @@ use Rattle.period_core.specs.Period.{Holds}
 use Rattle.row_core.specs.Name.{NamePair}
 use Rattle.row_core.specs.declared.row.Row.{Row}
 use Rattle.row_core.specs.declared.schema.Column.{Column}
-use Rattle.list_core.proofs.MadeLemmas.{AllPairs-map, Contains-map, Contains-map_source}
+use Rattle.list_core.proofs.MadeLemmas.{Contains-map, Contains-map_source}
 use Rattle.match_core.specs.Columns.{MatchesOn}
 use Rattle.match_core.specs.Lots.{left_values, right_values}
 use Rattle.match_core.specs.StandIns.{StandFor}
-use Rattle.match_core.proofs.StandInLemmas.{match_here, match_there, risen_cmp}
+use Rattle.match_core.proofs.StandInLemmas.{answers_there, match_here, match_there, risen_cmp}
 use Rattle.merge_core.specs.Gaps.{IsMaximal}
 use Rattle.merge_core.proofs.SweepLemmas.{IsMaximal-same}
 use Rattle.anti_core.specs.declared.rows.AntiRow.{AntiRow}
-use Rattle.anti_core.specs.Anti.{AntiRowBefore, IsAnti, IsAntiRow, IsMet, IsUnmet, anti_cmp}
+use Rattle.anti_core.specs.Anti.{AntiRowBefore, IsAntiRow, IsMet, IsUnmet, anti_cmp}
 use Rattle.anti_core.specs.AntiStandIns.{AntiIsOfStandIns, anti_row_of}
 use Rattle.anti_core.proofs.OrderLemmas.{AntiRow-same_fields}
 
@@ -56,14 +56,12 @@ module _ (left_here right_here left_there right_there : List Column) (on_here on
         → IsMet (MatchesOn left_here right_here on_here) right x t
     met_here t m =
         let (y, y_in, y_is) = Contains-map_source right_of right m.by m.by_in in
-        let matches : MatchesOn left_there right_there on_there (left_of x) (right_of y) =
-        subst (λ (v : Row). MatchesOn left_there right_there on_there (left_of x) v) (sym y_is) m.matches in
         let held : Holds (right_of y).period t = subst (λ (v : Row). Holds v.period t) (sym y_is) m.holds in
         record {
           by = y;
           by_in = y_in;
           matches = match_here left_here right_here left_there right_there on_here on_there left right left_of right_of
-              left_id right_id lefts rights x y x_in y_in matches;
+              left_id right_id lefts rights x y (left_of x) m.by x_in y_in refl y_is m.matches;
           holds = subst (λ (p : Period). Holds p t) (rights.period_is y y_in) held;
         }
 
@@ -117,24 +115,16 @@ module _ (left_here right_here left_there right_there : List Column) (on_here on
       λ i. ordering_then (risen_cmp left_id lefts.rises a.id b.id i)
       (ordering_then (int_cmp a.period.from b.period.from) (int_cmp a.period.to b.period.to))
 
-  anti_there : (rows : List AntiRow) → IsAnti (MatchesOn left_here right_here on_here) left right rows
-      → IsAnti (MatchesOn left_there right_there on_there) (map left_of left) (map right_of right)
-      (map (anti_row_of left_id) rows)
-  anti_there rows is = record {
-    ordered = AllPairs-map AntiRowBefore AntiRowBefore (anti_row_of left_id) rows
-        (λ a b b_in before. rows_alike a b ∙ before) is.ordered;
-    exactly = λ row. (
-      λ h. (let (some, some_in, same) = Contains-map_source (anti_row_of left_id) rows row h in
-          subst IsRowThere same (row_there some ((is.exactly some).0 some_in))),
-      λ w. (let (some, some_is, same) = row_here row w in
-          subst (Contains (map (anti_row_of left_id) rows)) same
-          (Contains-map (anti_row_of left_id) rows some ((is.exactly some).1 some_is))),
-    );
-  }
-
 -- whatever the columns
 pub anti_is_of_stand_ins : AntiIsOfStandIns
 anti_is_of_stand_ins left_here right_here left_there right_there on_here on_there left right left_of right_of left_id
-    right_id rows lefts rights is =
-    anti_there left_here right_here left_there right_there on_here on_there left right left_of right_of left_id right_id
-    lefts rights rows is
+    right_id rows lefts rights =
+    answers_there AntiRowBefore (IsAntiRow (MatchesOn left_here right_here on_here) left right)
+    (IsAntiRow (MatchesOn left_there right_there on_there) (map left_of left) (map right_of right))
+    (anti_row_of left_id) rows
+    (λ a b before. rows_alike left_here right_here left_there right_there on_here on_there left right left_of right_of
+    left_id right_id lefts rights a b ∙ before)
+    (row_there left_here right_here left_there right_there on_here on_there left right left_of right_of left_id right_id
+    lefts rights)
+    (row_here left_here right_here left_there right_there on_here on_there left right left_of right_of left_id right_id
+    lefts rights)

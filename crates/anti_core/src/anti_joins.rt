@@ -20,7 +20,7 @@ use work_core::{Crew, Gate};
 /// left row and each such period that is as long as can be, by id and start, the same rows for every number of
 /// workers. Without names each right row matches. The periods of right rows that are equal in the named columns are
 /// united, then both sides are divided, the rows of some values of the columns at a time, and the gate is called before
-/// and after each pair of parts. Pairs are numbered anew in each such bundle.
+/// and after each pair of parts, which tests show. Pairs are numbered anew in each such bundle.
 ///
 /// # Errors
 ///

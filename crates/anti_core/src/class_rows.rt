@@ -9,7 +9,7 @@ ghost use Rattle.match_core.specs.Items.{items_in_range, items_with};
 ghost use Rattle.work_core.specs.Limits.{worker_limit};
 ghost use Rattle.anti_core.specs.ItemAnti.{AreItemsRows, IsItemsAnti};
 
-use crate::bundles::rows_by_class;
+use crate::bundle_gaps::rows_by_class;
 use crate::classed_rows::ClassedRows;
 use crate::ordering::ordered;
 use crate::rows::{AntiRow, AntiRows};

@@ -13,7 +13,7 @@ ghost use Rattle.work_core.specs.Limits.{worker_limit};
 ghost use Rattle.anti_core.specs.ItemAnti.{AreItemsRows, row_of_gap};
 ghost use Rattle.anti_core.specs.PairGaps.{AreGapsFrom};
 
-use crate::pairs::GapPairs;
+use crate::gap_pairs::GapPairs;
 use crate::part_gaps::{add_rows_of_pair, gaps_of_part};
 use crate::rows::{AntiRow, add_rows};
 use crate::supply::Supply;

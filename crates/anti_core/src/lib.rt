@@ -5,13 +5,13 @@
 //! workers, and those of one left part are met.
 
 mod anti_joins;
-mod bundles;
+mod bundle_gaps;
 mod class_rows;
 mod classed_rows;
+mod gap_pairs;
 mod item_rows;
 mod laws;
 mod ordering;
-mod pairs;
 mod part_gaps;
 mod rows;
 mod side_items;
@@ -19,9 +19,9 @@ mod supply;
 mod united;
 
 pub use anti_joins::anti;
+pub use gap_pairs::{GapPairs, GapWork};
 pub use laws::{
     anti_has_one_list, anti_is_that_of_its_lots, anti_is_that_of_stand_ins,
     unmet_periods_are_bordered,
 };
-pub use pairs::{GapPairs, GapWork};
 pub use rows::{AntiRow, AntiRows};

@@ -10,7 +10,7 @@ ghost use Rattle.merge_core.specs.Meets.{IdsTell};
 ghost use Rattle.anti_core.specs.ItemAnti.{row_of_gap};
 ghost use Rattle.anti_core.specs.PairGaps.{AreGapsFrom, AreGapsAgainst};
 
-use crate::pairs::GapPairs;
+use crate::gap_pairs::GapPairs;
 use crate::rows::{AntiRow, add_rows};
 use crate::supply::{Supply, supply_at};
 use dip_core::Part;

@@ -4,7 +4,7 @@ ghost use Rattle.std.specs.Prelude.{◌<◌, ◌≤◌, ◌+◌, ◌*◌, length
 ghost use Rattle.std.specs.Option.{ForSome};
 ghost use Rattle.anti_core.specs.PairGaps.{AreGapsFrom};
 
-use crate::pairs::GapPairs;
+use crate::gap_pairs::GapPairs;
 use grid_core::stretch_len;
 use merge_core::Gaps;
 use period_core::NoMemory;

@@ -95,7 +95,7 @@ fn unite(items: &mut Vec<Item>)
     let mut count = 0;
     for i in 1..items.len() {
         let item = items[i];
-        if let Some(both) = joined(&last, &item) {
+        if let Some(both) = merged(&last, &item) {
             last = both;
         } else {
             items[count] = last;
@@ -120,7 +120,7 @@ fn plain(item: &Item) -> Item
 }
 
 /// Both as one, where the second is of the first one's class and starts no later than it ends. It may end sooner.
-fn joined(last: &Item, next: &Item) -> Option<Item>
+fn merged(last: &Item, next: &Item) -> Option<Item>
     ensures { MatchOption result (RunsInto last.now next.now → ⊥)
         (λ both. RunsInto last.now next.now × IsMerged last.now next.now both) }
 {

@@ -4,7 +4,7 @@ use Rattle.anti_core.specs.United.{IsUnion}
 use Rattle.anti_core.proofs.InPlaceLemmas.{placed_cut, placed_end, placed_joined, placed_start}
 use Rattle.anti_core.proofs.UnitedLemmas.{IsUniting}
 use Rattle.anti_core.proofs.united.unite.Goals as goal
-use Rattle.anti_core.proofs.united.unite.Goals.{in-Some-joined, in_default-joined}
+use Rattle.anti_core.proofs.united.unite.Goals.{in-Some-merged, in_default-merged}
 
 pub loop-i-init : goal.loop-i-init
 loop-i-init c =
@@ -27,22 +27,22 @@ loop-i-preserved c =
     let test = c.loop-i-test.true in
     let inside : i < length now = omega (arith, test, len) in
     let sweep : IsUniting items (drop i now) last (take count now) = c.loop-i.invariant.3 in
-    elim c.match-joined.branch [
-      | in-Some-joined w ↦
+    elim c.match-merged.branch [
+      | in-Some-merged w ↦
           rw (w.items-is, w.last-is, w.count-is) (
             len,
             omega (arith, before),
             omega (arith, test),
-            placed_joined items now i count last c.index.result.now w.in-Some-joined.both inside c.index.ensures
-                w.in-Some-joined.ensures.0 w.in-Some-joined.ensures.1 sweep,
+            placed_joined items now i count last c.index.result.now w.in-Some-merged.both inside c.index.ensures
+                w.in-Some-merged.ensures.0 w.in-Some-merged.ensures.1 sweep,
           )
-      | in_default-joined w ↦
+      | in_default-merged w ↦
           rw (w.items-is, w.last-is, w.count-is) (
             len ∙ sym (length-set now count last),
             omega (arith, before),
             omega (arith, test),
-            placed_cut items now i count last c.index.result.now w.plain-last-in_default-joined.result before inside c.index.ensures
-                w.in_default-joined.ensures w.plain-last-in_default-joined.ensures sweep,
+            placed_cut items now i count last c.index.result.now w.plain-last-in_default-merged.result before inside c.index.ensures
+                w.in_default-merged.ensures w.plain-last-in_default-merged.ensures sweep,
           )
     ]
 

@@ -1,7 +1,7 @@
 use Rattle.std.proofs.Common.{◌≤◌, length, arith}
 use Rattle.dip_core.specs.Item.{item_limit}
 use Rattle.grid_core.proofs.RangeItems.{in-distinct, in-few, in-rise}
-use Rattle.anti_core.proofs.bundles.fn.rows_by_class.shared_out.Goals as goal
+use Rattle.anti_core.proofs.bundle_gaps.fn.rows_by_class.shared_out.Goals as goal
 
 pub rows_of_bundles-requires-clause-left_few : goal.rows_of_bundles-requires-clause-left_few
 rows_of_bundles-requires-clause-left_few g c = λ κs outlives.

@@ -2,7 +2,7 @@ use Rattle.std.proofs.Common.{subst, sym}
 use Rattle.std.proofs.lemmas.Result.{IfOk-weaker}
 use Rattle.anti_core.specs.ItemAnti.{AreItemsRows}
 use Rattle.anti_core.proofs.RangeLemmas.{ranges-rows}
-use Rattle.anti_core.proofs.bundles.rows_by_class.Goals as goal
+use Rattle.anti_core.proofs.bundle_gaps.rows_by_class.Goals as goal
 
 pub returns : goal.returns
 returns g c =

@@ -4,7 +4,7 @@ use Rattle.anti_core.proofs.BundleLemmas.{bundling_start, bundling_from, bundlin
 use Rattle.std.proofs.Common.{length, ap, arith}
 use Rattle.std.proofs.lemmas.List.{length-append}
 use Rattle.anti_core.proofs.BundleLemmas.{fewer_behind}
-use Rattle.anti_core.proofs.bundles.rows_of_bundles.Goals as goal
+use Rattle.anti_core.proofs.bundle_gaps.rows_of_bundles.Goals as goal
 
 pub bundles-init : goal.bundles-init
 bundles-init g c =
