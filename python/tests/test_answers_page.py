@@ -135,6 +135,13 @@ class Contents(ToolCase):
         self.assertEqual([file["name"] for file in data["files"]], ["pay.csv.stdout"])
         self.assertEqual((data["isOwn"], data["isDoneAgain"], data["hasPrinted"]), (False, True, False))
 
+    def test_the_words_that_make_it_are_told(self) -> None:
+        page = page_of("table,t,newest,int\n", "ok,1\nend,0\n", "--ask", "a=rows,t", "--diary", "t")
+        wanted = r"tools/answers page \S+ --answers \S+ --diary t --ask a=rows,t"
+        self.assertRegex(data_of(page)["data"]["command"], f"^{wanted}$")
+        told = data_of(example("pay"))["data"]["command"]
+        self.assertEqual(told, "tools/answers page pay.csv --answers pay.csv.stdout")
+
     def test_refusals_have_their_reasons_and_of_a_key_the_rows(self) -> None:
         data = data_of(example("payroll"))["data"]
         [refused] = data["refused"]
@@ -278,8 +285,8 @@ class Programs(unittest.TestCase):
             program = Path(folder, "dipq")
             program.write_text(FAKE.format(told))
             program.chmod(0o700)
-            words = {"answers": None, "program": str(program), "go_on": True, "ask": ask or [], "once": once}
-            return sources.ask(Namespace(script=name, **words))
+            words = {"program": str(program), "go_on": True, "ask": ask or [], "once": once}
+            return sources.ask(Namespace(script=name, answers=None, diary=None, **words))
 
     def test_versions_are_asked_for_behind_the_script(self) -> None:
         self.assertEqual(sources.questions_for(b"table,t\ntable,u\ntable,t\ntable,asof\n"), [

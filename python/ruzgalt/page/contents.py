@@ -52,7 +52,8 @@ def of(sources: Sources, diary: Optional[str]) -> Contents:
     commits = list(commits_of(sources, counts, days_of(sources, diary)))
     found = findings.of(sources, counts)
     data = {
-        "script": as_object(sources.script), "files": [as_object(file) for file in sources.files],
+        "script": as_object(sources.script), "command": sources.command,
+        "files": [as_object(file) for file in sources.files],
         "isOwn": sources.is_own, "isDoneAgain": sources.is_done_again, "hasPrinted": sources.has_printed,
         "answers": len(sources.answers),
         "refused": as_objects(found.refused), "idle": as_objects(found.idle), "doubtful": as_objects(found.doubtful),

@@ -8,6 +8,8 @@ const collator = new Intl.Collator(undefined, { numeric: true });
 const UNSEEN = /[\u0000-\u0008\u000b-\u001f\u007f-\u009f\u00ad\u200b\u200e\u200f\u2028-\u202e\u2060-\u2069\ufeff]/g;
 // On paper a table has so many records at most, as page.css says.
 const ON_PAPER = 100;
+// A text of so many characters at most stays in one line, where there is room.
+const BRIEF = 24;
 
 function blockOf(id) {
   return JSON.parse(document.getElementById(id).textContent);
@@ -160,7 +162,8 @@ class Grid {
   }
 
   rowOf(record) {
-    const cells = record.map((field, place) => make("td", { class: this.columns[place][1] }, field));
+    const kinds = record.map((field, place) => `${this.columns[place][1]}${field.length <= BRIEF ? " brief" : ""}`);
+    const cells = record.map((field, place) => make("td", { class: kinds[place] }, field));
     return make("tr", { class: this.look(record) }, ...cells);
   }
 

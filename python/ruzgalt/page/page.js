@@ -209,9 +209,9 @@ function showAbout() {
   const { name } = data.script;
   const left = data.leftOut.length ? data.leftOut : ["nothing"];
   section("about",
-    make("p", {}, "This page was made by tools/answers page. It is one file, and asks no network; the same script and the same "
-      + "answers give the same page, byte by byte. Whoever has the script can have it answered again:"),
-    make("p", {}, make("code", {}, `sha256sum ${name}\ndipq < ${name}`)),
+    make("p", {}, "This page is one file, and asks no network. The same script and the same program, or answers, give the same "
+      + "page, byte by byte. So whoever has them makes it once more, and compares:"),
+    make("p", {}, make("code", {}, `sha256sum ${name}\n${data.command} > again.html\ncmp again.html PAGE`)),
     make("p", {}, "A period begins with its first point and ends before its second; 9999-12-31 stands for an end that isn't "
       + "known. Records are sorted and filtered in the page alone. What is saved as CSV has all records of a table that are in "
       + "the page, in the order of the answer."),

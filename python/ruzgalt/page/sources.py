@@ -1,5 +1,6 @@
 """Which script a page is of, who answered it, and each version of each of its tables."""
 import hashlib
+import shlex
 from argparse import Namespace
 from collections import Counter
 from pathlib import Path
@@ -39,6 +40,8 @@ class Sources(NamedTuple):
     """What a page is made of. Answers are those to the script and to what was asked behind it by name."""
 
     script: Marked
+    # The words that make the page once more, beside the files.
+    command: str
     answers: List[Answer]
     # What answered: the command and the program that it runs, or the file of the answers.
     files: List[Marked]
@@ -88,7 +91,8 @@ def ask(options: Namespace) -> Sources:
     answers are done again but where that isn't wanted. Raises Misfit where one isn't what the changes give.
     """
     script = bytes_of(options.script)
-    asked = [question for _, question in map(named, options.ask)]
+    words = list(options.ask)
+    asked = [question for _, question in map(named, words)]
     versions = questions_for(put_behind(script, asked)[0]) if options.answers is None else []
     options.ask = [*options.ask, *versions]
     found = read(options, shows_refusals=True, script=script)
@@ -101,8 +105,16 @@ def ask(options: Namespace) -> Sources:
     printed = {one.command.front[1]: one.table for one in found.answers[len(own):] if not one.refusal}
     tables = own[-1].tables if own else {}
     made = {name: printed[name] if name in printed else done_again(store, tables[name]) for name in tables}
-    script_mark = marked(options.script, script)
-    return Sources(script_mark, own, files, found.is_own, is_done_again, made, bool(printed), found.names)
+    script_mark, command = marked(options.script, script), command_of(options, words)
+    return Sources(script_mark, command, own, files, found.is_own, is_done_again, made, bool(printed), found.names)
+
+
+def command_of(options: Namespace, asked: Sequence[str]) -> str:
+    files = [options.script, *(["--answers", options.answers] if options.answers else [])]
+    words = ["tools/answers", "page", *(Path(word).name if word != "-" else word for word in files)]
+    words.extend(["--diary", options.diary] if options.diary else [])
+    words.extend(word for question in asked for word in ("--ask", question))
+    return shlex.join([*words, *(["--once"] if options.once else [])])
 
 
 def refuse_others(found: Found, store: Store) -> None:
