@@ -7,7 +7,7 @@ from ruzgalt import history
 from ruzgalt.answers import CHANGES, Answer
 from ruzgalt.errors import Misfit
 from ruzgalt.page import drawings, findings
-from ruzgalt.page.sources import CLOSED, MADE, Marked, Sources, Tally, tally
+from ruzgalt.page.sources import CLOSED, MADE, VALUES, Marked, Sources, Tally, tally
 from ruzgalt.picks import BARE
 from ruzgalt.records import short
 from ruzgalt.tables import Column, Schema, Table
@@ -139,7 +139,7 @@ def days_of(sources: Sources, diary: Optional[str]) -> List[Tuple[str, int]]:
     if diary not in sources.tables:
         raise Misfit(f"{diary}: no table that is there")
     open_rows = (record for record in sources.versions[diary].texts() if not record[CLOSED])
-    return history.days_of(sources.tables[diary], ([*row[1:MADE], *row[CLOSED + 1:]] for row in open_rows))
+    return history.days_of(sources.tables[diary], ([*row[1:MADE], *row[VALUES:]] for row in open_rows))
 
 
 def commits_of(sources: Sources, counts: Tally, days: Sequence[Tuple[str, int]]) -> Iterator[List[str]]:

@@ -5,7 +5,7 @@ from ruzgalt import marks, overlaps, refusals
 from ruzgalt.answers import CHANGES, Answer
 from ruzgalt.doubts import fold
 from ruzgalt.fields import where_places
-from ruzgalt.page.sources import CLOSED, MADE, Sources, Tally
+from ruzgalt.page.sources import CLOSED, MADE, VALUES, Sources, Tally
 from ruzgalt.records import short, to_record, visible
 from ruzgalt.store import Store
 from ruzgalt.tables import Table
@@ -28,7 +28,7 @@ class Findings(NamedTuple):
     refused: List[Finding]
     idle: List[Finding]
     doubtful: List[Finding]
-    # The places of all of them that aren't told.
+    # How many of them aren't told.
     untold: int
 
 
@@ -58,8 +58,7 @@ def refused_and_doubtful(found: Sequence[Answer]) -> Tuple[List[Finding], List[F
             more = overlaps.explained(store, answer) if is_explained else []
             one = finding(answer, answer.refusal.name, refusals.reason(answer), more)
             refused.append(one._replace(place=answer.refusal.record.place))
-    idle = marks.of_count
-    others = [mark for mark in seen.end(store) if mark.told != idle(mark.answer, 0)]
+    others = [mark for mark in seen.end(store) if mark.told != marks.of_count(mark.answer, 0)]
     return refused, [finding(mark.answer, "", mark.told) for mark in others]
 
 
@@ -75,12 +74,12 @@ def why_idle(answer: Answer, sources: Sources) -> str:
     texts = answer.command.record.fields
     table = sources.versions[texts[1]]
     schema = answer.tables[texts[1]]
-    wanted = [(5 + schema.place(texts[place]), texts[place + 1]) for place in where_places(texts)]
+    wanted = [(VALUES + schema.place(texts[place]), texts[place + 1]) for place in where_places(texts)]
     rows = list(shown(table, answer.commits - 1))
     for place, value in wanted:
         values = {row[place] or "" for row in rows}
         if value not in values:
-            name = schema.names[place - 5]
+            name = schema.names[place - VALUES]
             return f"no row has {told(value)} as {name} then{alike(value, sorted(values))}"
     held = [row for row in rows if all((row[place] or "") == value for place, value in wanted)]
     if not held:

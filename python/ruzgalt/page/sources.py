@@ -24,8 +24,8 @@ from ruzgalt.tables import PERIOD, Schema, Table, ints, unique
 NEWEST = 1_000_000
 # Where the program's own file stands, seen from the command that runs it: in the repository, and installed.
 PROGRAMS = ("crates/dipq/out/dipq", "../libexec/dipq/dipq")
-# The places of these two in a version: the commit that made it, and the one that closed it.
-MADE, CLOSED = 3, 4
+# The places in a version of the commit that made it, of the one that closed it, and of the first of its values.
+MADE, CLOSED, VALUES = 3, 4, 5
 
 
 class Marked(NamedTuple):
