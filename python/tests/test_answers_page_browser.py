@@ -129,6 +129,18 @@ class Grids(BrowserCase):
         told = self.value(GRID.format("#questions", 0) + ".querySelector('output').textContent")
         self.assertEqual(told, "1 record found")
 
+    def test_a_click_on_a_field_finds_what_has_it_and_another_shows_all_again(self) -> None:
+        self.open(example("payroll"))
+        grid = GRID.format("#questions", 0)
+        self.value(f"{grid}.querySelectorAll('th button')[4].click()")
+        self.value(f"{grid}.querySelectorAll('tbody tr')[0].cells[4].click()")
+        self.assertEqual({row[4] for row in self.cells("#questions")}, {"bindery"})
+        button = f"{grid}.querySelector('.tools button')"
+        self.assertEqual(self.value(f"{button}.textContent"), "dept: bindery \u00d7")
+        self.value(f"{button}.click()")
+        self.assertEqual(len(self.cells("#questions")), 13)
+        self.assertEqual(self.value(f"{button}.offsetParent"), None)
+
     def test_the_first_thousand_are_shown_and_all_are_saved(self) -> None:
         page = self.numbers(1500)
         self.open(page)

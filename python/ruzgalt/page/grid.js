@@ -96,8 +96,10 @@ function save(name, text) {
 // in the page, and `shown` are shown at first. `look` tells the class of a record's row.
 class Grid {
   constructor({ label, columns, records, file, shown = data.shown, count = records.length, look = () => "" }) {
-    Object.assign(this, { columns, records, count, look, limit: shown, words: "", sorted: null, isFalling: false });
+    Object.assign(this, { columns, records, count, look, limit: shown, words: "", only: null, sorted: null, isFalling: false });
     this.body = make("tbody");
+    this.body.addEventListener("click", (event) => this.pick(event.target.closest("td")));
+    this.all = pressed("", () => { this.only = null; this.refresh(); });
     this.told = make("output", { class: "soft" });
     this.more = pressed("Show more", () => { this.limit = data.shown; this.refresh(); });
     this.heads = columns.map(([name, kind], place) => this.headOf(name, kind, place));
@@ -108,7 +110,7 @@ class Grid {
   }
 
   toolsFor(label, file) {
-    const tools = make("div", { class: "tools" }, this.told, this.more);
+    const tools = make("div", { class: "tools" }, this.told, this.all, this.more);
     if (this.count > 5) {
       const search = make("input", { type: "search", "aria-label": `Filter ${label}`, placeholder: "Filter" });
       search.addEventListener("input", () => { this.words = search.value.toLowerCase(); this.refresh(); });
@@ -139,9 +141,20 @@ class Grid {
     this.refresh();
   }
 
+  // Of a field that is clicked, the records that have it in that column. Who marks a text to copy it clicks too.
+  pick(cell) {
+    if (cell && getSelection().isCollapsed) {
+      const record = this.visible[cell.parentNode.sectionRowIndex];
+      this.only = { place: cell.cellIndex, field: record[cell.cellIndex] };
+      this.refresh();
+    }
+  }
+
   found() {
-    const { words, sorted } = this;
-    const found = this.records.filter((one) => !words || one.some((field) => field.toLowerCase().includes(words)));
+    const { words, sorted, only } = this;
+    const isWanted = (record) => (!only || record[only.place] === only.field)
+      && (!words || record.some((field) => field.toLowerCase().includes(words)));
+    const found = this.records.filter(isWanted);
     if (sorted !== null) {
       const compare = orderOf(this.columns[sorted][1]), sign = this.isFalling ? -1 : 1;
       found.sort((one, other) => sign * compare(one[sorted], other[sorted]));
@@ -150,14 +163,18 @@ class Grid {
   }
 
   refresh() {
-    const found = this.found(), { limit, count, records } = this;
-    this.body.replaceChildren(...found.slice(0, limit).map((record) => this.rowOf(record)));
+    const found = this.found(), { limit, count, records, only } = this;
+    this.visible = found.slice(0, limit);
+    this.body.replaceChildren(...this.visible.map((record) => this.rowOf(record)));
     const front = found.length > limit ? `first ${grouped(limit)} of ` : "";
     const lacking = records.length < count ? `; of ${grouped(count)} the others aren't in this page` : "";
-    this.told.textContent = `${front}${counted(found.length, "record")}${this.words ? " found" : ""}${lacking}`;
+    this.told.textContent = `${front}${counted(found.length, "record")}${this.words || only ? " found" : ""}${lacking}`;
     if (Math.min(found.length, limit) > ON_PAPER) {
       this.told.append(make("span", { class: "on-paper" }, `; on paper the first ${ON_PAPER}`));
     }
+    this.all.hidden = only === null;
+    this.all.textContent = only ? `${this.columns[only.place][0]}: ${seen(only.field) || "empty"} \u00d7` : "";
+    this.all.setAttribute("aria-label", "Show all records again");
     this.more.hidden = limit >= data.shown || found.length <= limit;
   }
 

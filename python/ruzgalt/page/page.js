@@ -188,7 +188,8 @@ function showQuestions() {
     section("questions", make("p", {}, "The script asks nothing."));
     return;
   }
-  section("questions", make("p", { class: "soft unprinted" }, "A click on a column's name sorts by it."));
+  section("questions", make("p", { class: "soft unprinted" }, "A click on a column's name sorts by it; one on a field finds the "
+    + "records that have it there."));
   section("questions", listOf(data.questions), ...data.questions.map(questionOf));
 }
 
