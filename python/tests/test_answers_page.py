@@ -241,8 +241,14 @@ class Limits(unittest.TestCase):
     def test_many_questions_share_what_is_shown_at_once(self) -> None:
         script = "table,t\n" + "rows,t\n" * 1200
         data = data_of(page_of(script, "ok,1\n" + "end,0\n" * 1200))["data"]
-        self.assertEqual((len(data["questions"]), data["questions"][0]["shown"]), (1000, 100))
+        self.assertEqual((len(data["questions"]), data["questions"][0]["shown"]), (1000, 1000))
         self.assertEqual(data["leftOut"], ["200 questions behind the first 1,000"])
+        with mock.patch.object(contents, "AT_ONCE", 22):
+            [question, *others] = data_of(example("pay"))["data"]["questions"]
+            self.assertEqual(question["shown"], 1000)
+        with mock.patch.object(contents, "AT_ONCE", 10):
+            [question, *others] = data_of(example("pay"))["data"]["questions"]
+            self.assertEqual((question["shown"], len(others)), (2, 3))
 
     def test_what_is_shown_at_once_is_there_without_room(self) -> None:
         with mock.patch.object(contents, "ROOM", 0):

@@ -18,8 +18,8 @@ NO_ROOM = drawings.Drawing(None, f"No picture: {PICTURES} stand before.")
 # All records of answers, and all versions, have so many characters in the page; versions of a table are there whole or
 # not at all.
 ROOM = 14_000_000
-# So many records of all questions are shown before one asks for more: each has its part.
-AT_ONCE = 100_000
+# So many records of all questions are shown before one asks for more; where they have more, each has its part.
+AT_ONCE = 30_000
 
 Data = Dict[str, Any]
 
@@ -84,7 +84,7 @@ class Parts:
         return things[:most]
 
     def questions(self, kept: Sequence[Answer]) -> Iterator[Data]:
-        room, shown, drawn = Room(ROOM), min(SHOWN, AT_ONCE // max(len(kept), 1)), 0
+        room, shown, drawn = Room(ROOM), shown_at_once(kept), 0
         for answer in kept:
             has_all = self.add_records(answer, room, shown)
             is_past = drawn == PICTURES and answer.command.word in drawings.DRAWN
@@ -153,6 +153,12 @@ def commits_of(sources: Sources, counts: Tally, days: Sequence[Tuple[str, int]])
                 str(number), history.day_of(days, number) or "", answer.place, short(command.text) + more,
                 str(counts.added[number]), str(counts.closed[number]),
             ]
+
+
+def shown_at_once(kept: Sequence[Answer]) -> int:
+    """How many records are shown of each answer before one asks for more."""
+    most = sum(min(len(answer.table.records), SHOWN) for answer in kept)
+    return SHOWN if most <= AT_ONCE else min(SHOWN, AT_ONCE // len(kept))
 
 
 def as_json(table: Table, most: Optional[int] = None) -> str:
