@@ -17,6 +17,10 @@ length-versions_of [] spans same = same
 length-versions_of (r ∷ rs) [] same = absurd (omega (arith, same))
 length-versions_of (r ∷ rs) (s ∷ ss) same = ap suc (length-versions_of rs ss (omega (arith, same)))
 
+pub length-rows : (rows : List Row) (spans : List Span) (vs : List Version) → length rows ≡ length spans
+    → versions_of rows spans ≡ vs → length rows ≡ length vs
+length-rows rows spans vs same e = same ∙ sym (length-versions_of rows spans same) ∙ ap length e
+
 -- a place of a list
 pub slice_get-inside : {X : Type 0} (xs : List X) (place : ℕ) (x : X) → slice_get xs place ≡ Some x
     → place < length xs
@@ -34,6 +38,23 @@ slice_get-versions_of (r ∷ rs) (s ∷ ss) zero row span same e f =
     ap (λ x. Some (version_of x span)) one ∙ ap (λ x. Some (version_of r x)) f
 slice_get-versions_of (r ∷ rs) (s ∷ ss) (suc place) row span same e f =
     slice_get-versions_of rs ss place row span (omega (arith, same)) e f
+
+-- a version, by its row and what stands beside it
+pub get_or-versions_of : (rows : List Row) (spans : List Span) (place : ℕ) (row : Row) (other : Span)
+    (vs : List Version) → length rows ≡ length spans → place < length rows → row ≡ get_or rows place row
+    → versions_of rows spans ≡ vs
+    → version_of row (get_or spans place other) ≡ get_or vs place (version_of row (get_or spans place other))
+get_or-versions_of rows spans place row other vs same inside r e =
+    here rows spans place (get_or spans place other) same inside r refl
+    ∙ ap (λ l. get_or l place (version_of row (get_or spans place other))) e where
+  here : (rows : List Row) (spans : List Span) (place : ℕ) (span : Span) → length rows ≡ length spans
+      → place < length rows → row ≡ get_or rows place row → span ≡ get_or spans place other
+      → version_of row span ≡ get_or (versions_of rows spans) place (version_of row span)
+  here [] spans place span same inside r s = absurd (omega (arith, inside))
+  here (x ∷ xs) [] place span same inside r s = absurd (omega (arith, same))
+  here (x ∷ xs) (y ∷ ys) zero span same inside r s = ap (λ z. version_of z span) r ∙ ap (version_of x) s
+  here (x ∷ xs) (y ∷ ys) (suc place) span same inside r s =
+      here xs ys place span (omega (arith, same)) (omega (arith, inside)) r s
 
 pub slice_get-past : (rows : List Row) (spans : List Span) (place : ℕ) → length rows ≡ length spans
     → slice_get rows place ≡ None → slice_get (versions_of rows spans) place ≡ None

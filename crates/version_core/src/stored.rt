@@ -3,6 +3,7 @@
 ghost use Rattle.std.specs.Prelude.{◌≡◌, ◌<◌, ◌++◌, [], length, get_or, map, option_map, replicate, slice_get, IfOk, OnErr, OnOk, None};
 ghost use Rattle.version_core.specs.Made.{made};
 ghost use Rattle.version_core.specs.OpenVersions.{closed_at};
+ghost use Rattle.version_core.specs.Stored.{versions_of};
 ghost use Rattle.version_core.specs.StoredRef.{version_at};
 
 use crate::shared_rows::SharedRows;
@@ -95,6 +96,16 @@ impl StoredVersions {
             }),
             None => None,
         }
+    }
+
+    /// The rows, and at the same places the commits that show each, so that a pass over many fetches
+    /// either list once.
+    #[inline(always)]
+    pub(crate) fn as_slices(&self) -> (&[Row], &[Span])
+        ensures versions { versions_of result.0.now result.1.now ≡ self.now }
+        ensures even { length result.0.now ≡ length result.1.now }
+    {
+        (self.rows.as_slice(), &self.spans)
     }
 
     /// All rows, which are not copied.

@@ -17,7 +17,7 @@ ghost use Rattle.version_core.specs.OpenVersions.{closed_at, current, is_taken, 
 ghost use Rattle.version_core.specs.Plans.{IsPlanOf};
 ghost use Rattle.version_core.specs.Rows.{conds_of, drafts_of, numbered, parts_of_all, removes, unnumbered};
 ghost use Rattle.version_core.specs.Shown.{shown, versions_as_of};
-ghost use Rattle.version_core.specs.StoredRef.{version_at};
+ghost use Rattle.version_core.specs.Stored.{version_of};
 ghost use Rattle.version_core.specs.declared.change.Change.{Change};
 
 use crate::change::Change;
@@ -31,7 +31,7 @@ use crate::making::{NewRows, rows_of};
 use crate::places::Places;
 use crate::portion::{SOUGHT_LIMIT, columns_sought, count_of, is_removed, push_parts, reaches};
 use crate::shared_rows::SharedRows;
-use crate::stored::{StoredVersions, VersionRef};
+use crate::stored::{Span, StoredVersions};
 use crate::version::{VersionList, rows_holding, rows_shown, versions_seen};
 use list_core::DeepCopy;
 use period_core::Point;
@@ -435,10 +435,11 @@ fn plan_portion(
     let mut new = NewRows::new(alloc, versions.len());
     let mut taken = Vec::new(alloc);
     let columns = columns_sought(schema, change);
+    let (rows, spans) = versions.as_slices();
     for place in places {
-        let version = versions.at(*place as usize);
-        if is_taken(schema, change, &columns, &version) {
-            push_parts(alloc, &mut new, schema, change, version.row)?;
+        let row = &rows[*place as usize];
+        if is_taken(schema, change, &columns, row, &spans[*place as usize]) {
+            push_parts(alloc, &mut new, schema, change, row)?;
             taken.push(*place)?;
         }
     }
@@ -456,30 +457,32 @@ fn count_parts(schema: &Schema, versions: &StoredVersions, places: &[u32], chang
 {
     let mut count = 0;
     let columns = columns_sought(schema, change);
+    let (rows, spans) = versions.as_slices();
     for place in places {
-        let version = versions.at(*place as usize);
-        if is_taken(schema, change, &columns, &version) {
-            count += count_of(change, version.row);
+        let row = &rows[*place as usize];
+        if is_taken(schema, change, &columns, row, &spans[*place as usize]) {
+            count += count_of(change, row);
         }
     }
     count
 }
 
-/// Whether the version is open, and the change takes out its row. The period is tested first: it
-/// tells of most versions that they stay.
+/// Whether a version is open, and the change takes out its row. The period is tested first: it tells
+/// of most versions that they stay, and of those no commits are read.
 #[inline(always)]
 fn is_taken(
     schema: &Schema,
     change: &Change,
     columns: &[Option<u32>; SOUGHT_LIMIT],
-    version: &VersionRef<'_>,
+    row: &Row,
+    span: &Span,
 ) -> bool
     requires { AreSought schema.now (conds_of change.now) columns.now }
-    ensures { result ≡ is_taken change.now schema.now (version_at version.now) }
+    ensures { result ≡ is_taken change.now schema.now (version_of row.now span.now) }
 {
-    reaches(change, &version.row.period)
-        && version.span.to.is_none()
-        && is_removed(schema, change, columns, version.row)
+    reaches(change, &row.period)
+        && span.to.is_none()
+        && is_removed(schema, change, columns, row)
 }
 
 /// Adds the versions from that place on to all indexes. Those at the places, which are closed, stay in

@@ -1,38 +1,56 @@
-use Rattle.std.proofs.Common.{◌<◌, ◌++◌, ◌∷◌, [], ◌∙◌, ap, sym, refl, length, get_or, arith, length-append, take}
+use Rattle.std.proofs.Common.{◌<◌, ◌++◌, ◌∷◌, [], ◌∙◌, ap, sym, refl, length, get_or, None, arith, length-append, take}
 use Rattle.std.specs.Prelude.{filter}
 use Rattle.std.proofs.lemmas.List.{take_all}
 use Rattle.version_core.specs.Finding.{passes}
 use Rattle.version_core.specs.OpenVersions.{is_taken}
 use Rattle.version_core.specs.Rows.{parts_of}
-use Rattle.version_core.specs.StoredRef.{version_at}
+use Rattle.version_core.specs.Stored.{version_of}
+use Rattle.version_core.proofs.StoredLemmas.{get_or-versions_of, length-rows}
 use Rattle.version_core.proofs.OpenLemmas.{parts_at, parts_at-push, parts_at-taken, place-no, place-yes}
 use Rattle.version_core.proofs.versions.count_parts.Goals as goal
 use Rattle.version_core.proofs.versions.count_parts.Goals.{then-is_taken, else-is_taken}
 
-pub at-version-requires : goal.at-version-requires
-at-version-requires c = c.requires.places.inside c.loop-place.place-index 0 c.loop-place-test.true
+pub bounds-rows-place : goal.bounds-rows-place
+bounds-rows-place c =
+    let inside = c.requires.places.inside c.loop-place.place-index 0 c.loop-place-test.true in
+    omega (arith, inside, length-rows
+    c.as_slices.result.0.now c.as_slices.result.1.now c.args.versions.now c.as_slices.ensures.even
+    c.as_slices.ensures.versions)
+
+pub bounds-spans-place : goal.bounds-spans-place
+bounds-spans-place c =
+    let inside = c.requires.places.inside c.loop-place.place-index 0 c.loop-place-test.true in
+    omega (arith, inside, c.as_slices.ensures.even, length-rows
+    c.as_slices.result.0.now c.as_slices.result.1.now c.args.versions.now c.as_slices.ensures.even
+    c.as_slices.ensures.versions)
 
 pub loop-place-preserved : goal.loop-place-preserved
 loop-place-preserved c =
     let vs = c.args.versions.now in
     let places = c.args.places.now in
     let i = c.loop-place.place-index in
-    let version = (version_at c.at-version.result) in
+    let span = get_or c.as_slices.result.1.now (get_or places i 0) (record { from = 0; to = None }) in
+    let version = version_of c.index-rows-place.result span in
     let taken = is_taken c.args.change.now c.args.schema.now in
     let so_far = filter (passes vs taken) (take i places) in
     let inside : get_or places i 0 < length vs = c.requires.places.inside i 0 c.loop-place-test.true in
+    let found = get_or-versions_of
+    c.as_slices.result.0.now c.as_slices.result.1.now (get_or places i 0) c.index-rows-place.result
+    (record { from = 0; to = None }) vs c.as_slices.ensures.even
+    (omega (arith, inside, length-rows c.as_slices.result.0.now c.as_slices.result.1.now vs
+    c.as_slices.ensures.even c.as_slices.ensures.versions)) c.index-rows-place.is c.as_slices.ensures.versions in
     let counted = c.loop-place.invariant.counted in
     let few = c.loop-place.invariant.few in
     elim c.if-is_taken.branch [
       | then-is_taken w ↦
           let test = sym c.is_taken.ensures ∙ w.if-is_taken.true in
           let more = place-yes vs taken places i version so_far
-          (so_far ++ get_or places i 0 ∷ []) c.loop-place-test.true inside c.at-version.ensures test refl refl
+          (so_far ++ get_or places i 0 ∷ []) c.loop-place-test.true inside found test refl refl
           in
           let grown = ap length
           (ap (parts_at c.args.change.now c.args.schema.now vs) (sym more)
           ∙ parts_at-push c.args.change.now c.args.schema.now vs so_far
-          (get_or places i 0) version inside c.at-version.ensures) in
+          (get_or places i 0) version inside found) in
           let parts = w.count_of-count.ensures.parts c.args.schema.now in
           let three = w.count_of-count.ensures.few in
           let sum = w.count-is in
@@ -52,7 +70,7 @@ loop-place-preserved c =
       | else-is_taken w ↦
           let test = sym c.is_taken.ensures ∙ w.if-is_taken.false in
           let same = place-no vs taken places i version so_far so_far c.loop-place-test.true inside
-          c.at-version.ensures test refl refl in
+          found test refl refl in
           let kept = w.count-is in
           record {
             counted = kept ∙ counted ∙ ap (λ l. length (parts_at c.args.change.now c.args.schema.now vs l)) same;

@@ -1,24 +1,42 @@
-use Rattle.std.proofs.Common.{◌≡◌, ◌<◌, ◌∙◌, ap, sym, length, get_or, arith}
+use Rattle.std.proofs.Common.{◌≡◌, ◌<◌, ◌∙◌, ap, sym, length, get_or, None, arith}
 use Rattle.std.specs.Prelude.{filter}
 use Rattle.std.proofs.lemmas.List.{take_all}
 use Rattle.version_core.specs.Finding.{passes}
 use Rattle.version_core.specs.OpenVersions.{is_taken, places_from}
-use Rattle.version_core.specs.StoredRef.{version_at}
+use Rattle.version_core.specs.Stored.{version_of}
+use Rattle.version_core.proofs.StoredLemmas.{get_or-versions_of, length-rows}
 use Rattle.version_core.proofs.OpenLemmas.{made-all, made-push, made_so_far, place-no, place-yes}
 use Rattle.version_core.proofs.versions.plan_portion.Goals as goal
 use Rattle.version_core.proofs.versions.plan_portion.Goals.{then-is_taken+in_ok-push_parts+in_ok-push, else-is_taken}
 
-pub at-version-requires : goal.at-version-requires
-at-version-requires c = c.requires.places.inside c.loop-place.place-index 0 c.loop-place-test.true
+pub bounds-rows-place : goal.bounds-rows-place
+bounds-rows-place c =
+    let inside = c.requires.places.inside c.loop-place.place-index 0 c.loop-place-test.true in
+    omega (arith, inside, length-rows
+    c.as_slices.result.0.now c.as_slices.result.1.now c.args.versions.now c.as_slices.ensures.even
+    c.as_slices.ensures.versions)
+
+pub bounds-spans-place : goal.bounds-spans-place
+bounds-spans-place c =
+    let inside = c.requires.places.inside c.loop-place.place-index 0 c.loop-place-test.true in
+    omega (arith, inside, c.as_slices.ensures.even, length-rows
+    c.as_slices.result.0.now c.as_slices.result.1.now c.args.versions.now c.as_slices.ensures.even
+    c.as_slices.ensures.versions)
 
 pub loop-place-preserved : goal.loop-place-preserved
 loop-place-preserved c =
     let vs = c.args.versions.now in
     let places = c.args.places.now in
     let i = c.loop-place.place-index in
-    let version = (version_at c.at-version.result) in
+    let span = get_or c.as_slices.result.1.now (get_or places i 0) (record { from = 0; to = None }) in
+    let version = version_of c.index-rows-place.result span in
     let taken = is_taken c.args.change.now c.args.schema.now in
     let inside : get_or places i 0 < length vs = c.requires.places.inside i 0 c.loop-place-test.true in
+    let found = get_or-versions_of
+    c.as_slices.result.0.now c.as_slices.result.1.now (get_or places i 0) c.index-rows-place.result
+    (record { from = 0; to = None }) vs c.as_slices.ensures.even
+    (omega (arith, inside, length-rows c.as_slices.result.0.now c.as_slices.result.1.now vs
+    c.as_slices.ensures.even c.as_slices.ensures.versions)) c.index-rows-place.is c.as_slices.ensures.versions in
     elim c.if-is_taken.branch [
       | then-is_taken+in_ok-push_parts+in_ok-push w ↦
           let test = sym c.is_taken.ensures ∙ w.if-is_taken.true in
@@ -27,10 +45,10 @@ loop-place-preserved c =
             made = made-push
                 (length vs) c.args.change.now c.args.schema.now vs c.loop-place.taken.items
                 c.if-is_taken.taken.items
-                (get_or places i 0) version c.loop-place.new c.if-is_taken.new inside c.at-version.ensures
+                (get_or places i 0) version c.loop-place.new c.if-is_taken.new inside found
                 c.loop-place.invariant.made (w.new-is ∙ w.in_ok-push_parts.ensures) grown;
             taken = place-yes vs taken places i version c.loop-place.taken.items c.if-is_taken.taken.items
-                c.loop-place-test.true inside c.at-version.ensures test c.loop-place.invariant.taken grown;
+                c.loop-place-test.true inside found test c.loop-place.invariant.taken grown;
           }
       | else-is_taken w ↦
           let test = sym c.is_taken.ensures ∙ w.if-is_taken.false in
@@ -39,7 +57,7 @@ loop-place-preserved c =
             made = w.new-is ∙ c.loop-place.invariant.made
                 ∙ ap (made_so_far (length vs) c.args.change.now c.args.schema.now vs) (sym same);
             taken = place-no vs taken places i version c.loop-place.taken.items c.if-is_taken.taken.items
-                c.loop-place-test.true inside c.at-version.ensures test c.loop-place.invariant.taken same;
+                c.loop-place-test.true inside found test c.loop-place.invariant.taken same;
           }
     ]
 
