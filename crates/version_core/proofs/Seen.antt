@@ -4,7 +4,7 @@ use Rattle.std.specs.List.{cons_option, filter}
 use Rattle.std.proofs.lemmas.List.{append-nil, take_more}
 use Rattle.std.proofs.lemmas.List.Elements.{filter-append, filter_map-append}
 use Rattle.row_core.specs.declared.row.Row.{Row}
-use Rattle.version_core.specs.Shown.{shows, row_shown, shown, is_behind, end_at, version_as_of, versions_as_of}
+use Rattle.version_core.specs.Shown.{holds_where, shows, row_shown, shown, is_behind, end_at, version_as_of, versions_as_of}
 use Rattle.version_core.specs.declared.version.Version.{Version}
 
 versions_as_of-take_more : (at m last i : ℕ) (vs : List Version) (v : Version) → i < length vs → v ≡ get_or vs i v
@@ -40,20 +40,6 @@ shown-take_more n i vs v h e =
     ap (shown n) (take_more vs i v h) ∙ filter_map-append (row_shown n) (take i vs) (get_or vs i v ∷ [])
     ∙ ap (λ u. shown n (take i vs) ++ cons_option (row_shown n u) []) (sym e)
 
--- a version that is shown adds its row
-pub shown-more : (n i : ℕ) (vs : List Version) (v : Version) (rows : List Row) → i < length vs → v ≡ get_or vs i v
-    → shows n v ≡ true → rows ≡ shown n (take i vs) → rows ++ v.row ∷ [] ≡ shown n (take (i + 1) vs)
-shown-more n i vs v rows h e t k =
-    ap (λ l. l ++ v.row ∷ []) k
-    ∙ sym (shown-take_more n i vs v h e ∙ ap (λ b. shown n (take i vs) ++ cons_option (cond b (Some v.row) None) []) t)
-
--- one that is not adds none
-pub shown-same : (n i : ℕ) (vs : List Version) (v : Version) (rows : List Row) → i < length vs → v ≡ get_or vs i v
-    → shows n v ≡ false → rows ≡ shown n (take i vs) → rows ≡ shown n (take (i + 1) vs)
-shown-same n i vs v rows h e t k =
-    k ∙ sym (shown-take_more n i vs v h e
-    ∙ ap (λ b. shown n (take i vs) ++ cons_option (cond b (Some v.row) None) []) t ∙ append-nil _)
-
 -- the row of one version, where it is shown and passes
 held-one : (test : Row → Bool) (row : Row) (is_shown : Bool)
     → filter test (cons_option (cond is_shown (Some row) None) []) ≡ cond (is_shown && test row) (row ∷ []) []
@@ -84,3 +70,8 @@ pub held-same : (n i : ℕ) (test : Row → Bool) (vs : List Version) (v : Versi
 held-same n i test vs v rows h e t k =
     k ∙ sym (held-take_more n i test vs v h e
     ∙ ap (λ b. filter test (shown n (take i vs)) ++ cond b (v.row ∷ []) []) t ∙ append-nil _)
+
+-- all rows hold where no point is told
+pub all-held : (rows : List Row) → filter (holds_where None) rows ≡ rows
+all-held [] = refl
+all-held (row ∷ rows) = ap (λ l. row ∷ l) (all-held rows)

@@ -1,11 +1,12 @@
 -- Rows, and beside each the commits that show it.
-use Rattle.std.proofs.Common.{◌≡◌, ℕ, ◌<◌, ◌≤◌, List, [], ◌∷◌, ◌++◌, Bool, true, false, cond, Some, None, length, map, get_or, set, length-set, zero, suc, replicate, refl, ap, sym, ◌∙◌, arith}
-use Rattle.std.specs.Prelude.{option_map, slice_get, slice_set, unwrap_or}
+use Rattle.std.proofs.Common.{◌≡◌, ℕ, ◌<◌, ◌≤◌, List, [], ◌∷◌, ◌++◌, ◌+◌, Bool, true, false, ◌&&◌, leb, cond, Some, None, length, map, get_or, set, length-set, zero, suc, replicate, refl, ap, sym, ◌∙◌, arith}
+use Rattle.std.specs.Prelude.{count_by, option_map, slice_get, slice_set, unwrap_or}
 use Rattle.std.specs.List.{cons_option}
+use Rattle.list_core.proofs.MadeLemmas.{count-cons}
 use Rattle.row_core.specs.declared.row.Row.{Row}
 use Rattle.version_core.specs.Made.{made}
 use Rattle.version_core.specs.OpenVersions.{closed_at}
-use Rattle.version_core.specs.Shown.{shown, shows}
+use Rattle.version_core.specs.Shown.{is_behind, shown, shows}
 use Rattle.version_core.specs.Stored.{version_of, versions_of}
 use Rattle.version_core.specs.declared.stored.Span.{Span}
 use Rattle.version_core.specs.declared.version.Version.{Version}
@@ -16,10 +17,6 @@ pub length-versions_of : (rows : List Row) (spans : List Span) → length rows �
 length-versions_of [] spans same = same
 length-versions_of (r ∷ rs) [] same = absurd (omega (arith, same))
 length-versions_of (r ∷ rs) (s ∷ ss) same = ap suc (length-versions_of rs ss (omega (arith, same)))
-
-pub length-rows : (rows : List Row) (spans : List Span) (vs : List Version) → length rows ≡ length spans
-    → versions_of rows spans ≡ vs → length rows ≡ length vs
-length-rows rows spans vs same e = same ∙ sym (length-versions_of rows spans same) ∙ ap length e
 
 -- a place of a list
 pub slice_get-inside : {X : Type 0} (xs : List X) (place : ℕ) (x : X) → slice_get xs place ≡ Some x
@@ -40,21 +37,17 @@ slice_get-versions_of (r ∷ rs) (s ∷ ss) (suc place) row span same e f =
     slice_get-versions_of rs ss place row span (omega (arith, same)) e f
 
 -- a version, by its row and what stands beside it
-pub get_or-versions_of : (rows : List Row) (spans : List Span) (place : ℕ) (row : Row) (other : Span)
-    (vs : List Version) → length rows ≡ length spans → place < length rows → row ≡ get_or rows place row
-    → versions_of rows spans ≡ vs
-    → version_of row (get_or spans place other) ≡ get_or vs place (version_of row (get_or spans place other))
-get_or-versions_of rows spans place row other vs same inside r e =
-    here rows spans place (get_or spans place other) same inside r refl
-    ∙ ap (λ l. get_or l place (version_of row (get_or spans place other))) e where
-  here : (rows : List Row) (spans : List Span) (place : ℕ) (span : Span) → length rows ≡ length spans
-      → place < length rows → row ≡ get_or rows place row → span ≡ get_or spans place other
-      → version_of row span ≡ get_or (versions_of rows spans) place (version_of row span)
-  here [] spans place span same inside r s = absurd (omega (arith, inside))
-  here (x ∷ xs) [] place span same inside r s = absurd (omega (arith, same))
-  here (x ∷ xs) (y ∷ ys) zero span same inside r s = ap (λ z. version_of z span) r ∙ ap (version_of x) s
-  here (x ∷ xs) (y ∷ ys) (suc place) span same inside r s =
-      here xs ys place span (omega (arith, same)) (omega (arith, inside)) r s
+pub get_or-versions_of : (rows : List Row) (spans : List Span) (place : ℕ) (row : Row) (span : Span)
+    (vs : List Version) → versions_of rows spans ≡ vs → place < length rows → place < length spans
+    → row ≡ get_or rows place row → span ≡ get_or spans place span
+    → version_of row span ≡ get_or vs place (version_of row span)
+get_or-versions_of [] spans place row span vs e inside beside r s = absurd (omega (arith, inside))
+get_or-versions_of (x ∷ xs) [] place row span vs e inside beside r s = absurd (omega (arith, beside))
+get_or-versions_of (x ∷ xs) (y ∷ ys) zero row span vs e inside beside r s =
+    ap (λ z. version_of z span) r ∙ ap (version_of x) s ∙ ap (λ l. get_or l zero (version_of row span)) e
+get_or-versions_of (x ∷ xs) (y ∷ ys) (suc place) row span vs e inside beside r s =
+    get_or-versions_of xs ys place row span (versions_of xs ys) refl (omega (arith, inside)) (omega (arith, beside)) r s
+    ∙ ap (λ l. get_or l (suc place) (version_of row span)) e
 
 pub slice_get-past : (rows : List Row) (spans : List Span) (place : ℕ) → length rows ≡ length spans
     → slice_get rows place ≡ None → slice_get (versions_of rows spans) place ≡ None
@@ -150,3 +143,20 @@ shown-all n (v ∷ vs) = by_test (length-shown n vs) (shown-all n vs) (shows n v
       → v.row ∷ map (λ (v : Version). v.row) vs ≡ cons_option (cond b (Some v.row) None) (shown n vs)
   by_test few rest true same = ap (λ l. v.row ∷ l) (rest (omega (arith, same)))
   by_test few rest false same = absurd (omega (arith, few, same))
+
+-- how many of them are shown
+pub length-shown_of : (n : ℕ) (rows : List Row) (spans : List Span) (vs : List Version) → versions_of rows spans ≡ vs
+    → length rows ≡ length spans
+    → count_by (λ (span : Span). leb span.from n && is_behind span.to n) spans ≡ length (shown n vs)
+length-shown_of n [] [] vs e same = ap (λ l. length (shown n l)) e
+length-shown_of n [] (s ∷ ss) vs e same = absurd (omega (arith, same))
+length-shown_of n (r ∷ rs) [] vs e same = absurd (omega (arith, same))
+length-shown_of n (r ∷ rs) (s ∷ ss) vs e same =
+    count-cons (λ (span : Span). leb span.from n && is_behind span.to n) s ss
+    ∙ by_test (length-shown_of n rs ss (versions_of rs ss) refl (omega (arith, same))) (shows n (version_of r s))
+    ∙ ap (λ l. length (shown n l)) e where
+      by_test : count_by (λ (span : Span). leb span.from n && is_behind span.to n) ss ≡ length (shown n (versions_of rs ss))
+          → (b : Bool) → cond b 1 0 + count_by (λ (span : Span). leb span.from n && is_behind span.to n) ss
+          ≡ length (cons_option (cond b (Some r) None) (shown n (versions_of rs ss)))
+      by_test rest true = omega (arith, rest)
+      by_test rest false = omega (arith, rest)

@@ -1,6 +1,8 @@
 -- What a commit shows of versions, and the first commits of those of a range.
-use Rattle.std.specs.Prelude.{ℕ, List, Bool, true, ◌&&◌, if◌then◌else◌, Option, Some, None, nat_le, nat_lt}
+use Rattle.std.specs.Prelude.{ℕ, ℤ, List, Bool, true, ◌&&◌, if◌then◌else◌, Option, Some, None, nat_le, nat_lt}
 use Rattle.std.specs.List.{filter_map}
+use Rattle.std.specs.Option.{option_map_or}
+use Rattle.period_core.specs.Period.{holds_at}
 use Rattle.row_core.specs.declared.row.Row.{Row}
 use Rattle.version_core.specs.declared.version.Version.{Version}
 
@@ -20,6 +22,10 @@ row_shown n v = if shows n v then Some v.row else None
 -- the rows that commit n shows
 abbrev pub shown : ℕ → List Version → List Row
 shown n versions = filter_map (row_shown n) versions
+
+-- the row holds at the point, if one is told
+abbrev pub holds_where : Option ℤ → Row → Bool
+holds_where point row = option_map_or (λ at. holds_at at row.period) point true
 
 -- an end that the first commits show, and none where it is past them
 abbrev pub end_at : ℕ → Option ℕ → Option ℕ

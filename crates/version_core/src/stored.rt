@@ -103,7 +103,8 @@ impl StoredVersions {
     #[inline(always)]
     pub(crate) fn as_slices(&self) -> (&[Row], &[Span])
         ensures versions { versions_of result.0.now result.1.now ≡ self.now }
-        ensures even { length result.0.now ≡ length result.1.now }
+        ensures rows { length result.0.now ≡ length self.now }
+        ensures spans { length result.1.now ≡ length self.now }
     {
         (self.rows.as_slice(), &self.spans)
     }

@@ -1,14 +1,13 @@
 //! Versions of rows, and those that a commit or a range of commits shows.
 
-ghost use Rattle.std.specs.Prelude.{◌≡◌, ◌&&◌, ◌==◌, IfOk, filter, length, slice_get, nat_le};
-ghost use Rattle.std.specs.Option.{option_copied};
+ghost use Rattle.std.specs.Prelude.{◌≡◌, ◌&&◌, ◌==◌, IfOk, count_by, filter, nat_le};
 ghost use Rattle.period_core.specs.Period.{holds_at};
 ghost use Rattle.row_core.specs.declared.row.Row.{Row};
-ghost use Rattle.version_core.specs.Shown.{shows, shown, versions_as_of, end_at, is_behind};
-ghost use Rattle.version_core.specs.StoredRef.{version_at};
+ghost use Rattle.version_core.specs.Shown.{holds_where, shows, shown, versions_as_of, end_at, is_behind};
+ghost use Rattle.version_core.specs.Stored.{version_of};
 
 use crate::shared_rows::SharedRows;
-use crate::stored::{Span, StoredVersions, VersionRef};
+use crate::stored::{Span, StoredVersions};
 use list_core::{DeepCopy, List};
 use period_core::Point;
 use row_core::{NoMemory, Row, RowList};
@@ -23,9 +22,9 @@ pub struct Version {
     pub systo: Option<u64>,
 }
 
-/// Whether commit n shows the version.
-fn is_shown(span: Span, n: u64) -> bool
-    ensures { result ≡ (nat_le span.from n && is_behind span.to n) }
+/// Whether commit n shows a version.
+fn is_shown(span: &Span, n: u64) -> bool
+    ensures { result ≡ (nat_le span.now.from n && is_behind span.now.to n) }
 {
     span.from as u64 <= n && span.to.is_none_or(|to| n < to as u64)
 }
@@ -38,52 +37,20 @@ pub(crate) fn rows_shown(
 ) -> Result<SharedRows, NoMemory>
     ensures { IfOk result (λ rows. rows ≡ shown n versions.now) }
 {
-    let count = count_shown(versions, n);
-    if count == versions.len() {
+    let (_, spans) = versions.as_slices();
+    let count = count_shown(spans, n);
+    if count == spans.len() {
         versions.rows()
     } else {
-        SharedRows::of(alloc, rows_copied(alloc, versions, n, count)?)
+        SharedRows::of(alloc, rows_copied(alloc, versions, n, None, count)?)
     }
 }
 
 /// How many versions commit n shows.
-fn count_shown(versions: &StoredVersions, n: u64) -> usize
-    ensures { result ≡ length (shown n versions.now) }
+fn count_shown(spans: &[Span], n: u64) -> usize
+    ensures { result ≡ count_by (λ span. nat_le span.from n && is_behind span.to n) spans.now }
 {
-    let mut count = 0;
-    for place in 0..versions.len() {
-        if is_shown(versions.at(place).span, n) {
-            count += 1;
-        }
-    }
-    count
-}
-
-/// Copies of the rows that commit n shows, which are so many: so no memory is asked for again as
-/// they grow.
-fn rows_copied(
-    alloc: Global,
-    versions: &StoredVersions,
-    n: u64,
-    count: usize,
-) -> Result<RowList, NoMemory>
-    ensures { IfOk result (λ rows. rows ≡ shown n versions.now) }
-{
-    let mut rows = Vec::with_capacity(alloc, count)?;
-    for place in 0..versions.len() {
-        let version = versions.at(place);
-        if is_shown(version.span, n) {
-            rows.push(version.row.copy(alloc)?)?;
-        }
-    }
-    Ok(RowList::from(rows))
-}
-
-/// Whether commit n shows the version, and its row holds at the point.
-fn is_shown_holding(version: &VersionRef<'_>, n: u64, point: Point) -> bool
-    ensures { result ≡ (shows n (version_at version.now) && holds_at point version.now.row.now.period) }
-{
-    version.row.period.holds(point) && is_shown(version.span, n)
+    spans.iter().filter(|span| is_shown(span, n)).count()
 }
 
 /// The rows that commit n shows and that hold at the point. No other row is copied.
@@ -95,14 +62,36 @@ pub(crate) fn rows_holding(
 ) -> Result<SharedRows, NoMemory>
     ensures { IfOk result (λ rows. rows ≡ filter (λ row. holds_at point row.period) (shown n versions.now)) }
 {
-    let mut rows = RowList::new(alloc);
-    for place in 0..versions.len() {
-        let version = versions.at(place);
-        if is_shown_holding(&version, n, point) {
-            rows.push(version.row.copy(alloc)?)?;
+    SharedRows::of(alloc, rows_copied(alloc, versions, n, Some(point), 0)?)
+}
+
+/// Copies of the rows that commit n shows, where a point is told of those that hold at it. There is
+/// room for so many, so that no memory is asked for again as they grow to them.
+fn rows_copied(
+    alloc: Global,
+    versions: &StoredVersions,
+    n: u64,
+    point: Option<Point>,
+    room: usize,
+) -> Result<RowList, NoMemory>
+    ensures { IfOk result (λ rows. rows ≡ filter (holds_where point) (shown n versions.now)) }
+{
+    let (rows, spans) = versions.as_slices();
+    let mut copies = Vec::with_capacity(alloc, room)?;
+    for i in 0..rows.len() {
+        let row = &rows[i];
+        if is_copied(row, &spans[i], n, point) {
+            copies.push(row.copy(alloc)?)?;
         }
     }
-    SharedRows::of(alloc, rows)
+    Ok(RowList::from(copies))
+}
+
+/// Whether commit n shows the version, and its row holds at the point, if one is told.
+fn is_copied(row: &Row, span: &Span, n: u64, point: Option<Point>) -> bool
+    ensures { result ≡ (shows n (version_of row.now span.now) && holds_where point row.now) }
+{
+    point.is_none_or(|point| row.period.holds(point)) && is_shown(span, n)
 }
 
 /// Versions of one table, by rising id.
@@ -118,15 +107,16 @@ pub(crate) fn versions_seen(
 ) -> Result<VersionList, NoMemory>
     ensures { IfOk result (λ list. list ≡ versions_as_of at m last versions.now) }
 {
+    let (rows, spans) = versions.as_slices();
     let mut seen = VersionList::new(alloc);
-    for place in 0..versions.len() {
-        let VersionRef { row, span } = versions.at(place);
-        let sysfrom = span.from as u64;
+    for i in 0..rows.len() {
+        let row = &rows[i];
+        let span = &spans[i];
         let end = end_at(at, span.to);
-        if is_seen(sysfrom, end, at, m, last) {
+        if is_seen(span.from as u64, end, at, m, last) {
             seen.push(Version {
                 row: row.copy(alloc)?,
-                sysfrom,
+                sysfrom: span.from as u64,
                 systo: end,
             })?;
         }

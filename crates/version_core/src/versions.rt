@@ -480,9 +480,7 @@ fn is_taken(
     requires { AreSought schema.now (conds_of change.now) columns.now }
     ensures { result ≡ is_taken change.now schema.now (version_of row.now span.now) }
 {
-    reaches(change, &row.period)
-        && span.to.is_none()
-        && is_removed(schema, change, columns, row)
+    reaches(change, &row.period) && span.to.is_none() && is_removed(schema, change, columns, row)
 }
 
 /// Adds the versions from that place on to all indexes. Those at the places, which are closed, stay in

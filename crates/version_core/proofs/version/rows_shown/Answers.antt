@@ -1,10 +1,20 @@
 use Rattle.std.proofs.Common.{◌∙◌, sym}
 use Rattle.std.proofs.lemmas.Result.{IfOk-weaker}
-use Rattle.version_core.proofs.StoredLemmas.{shown-all}
+use Rattle.version_core.specs.Shown.{shown}
+use Rattle.version_core.proofs.Seen.{all-held}
+use Rattle.version_core.proofs.StoredLemmas.{length-shown_of, shown-all}
 use Rattle.version_core.proofs.version.rows_shown.Goals as goal
 
-pub returns-then-count-len : goal.returns-then-count-len
-returns-then-count-len c =
+pub returns-then-count-spans : goal.returns-then-count-spans
+returns-then-count-spans c =
+    let slices = c.as_slices.ensures in
+    let counted = length-shown_of c.args.n c.as_slices.result.0.now c.as_slices.result.1.now c.args.versions.now
+    slices.versions (slices.rows ∙ sym slices.spans) in
     IfOk-weaker c.rows.result _ _
     (λ rows e. e ∙ shown-all c.args.n c.args.versions.now
-    (sym c.count_shown-count.ensures ∙ c.if-count-len.true ∙ c.len.ensures)) c.rows.ensures
+    (sym counted ∙ sym c.count_shown-count.ensures ∙ c.if-count-spans.true ∙ slices.spans)) c.rows.ensures
+
+pub returns-in_ok-rows_copied : goal.returns-in_ok-rows_copied
+returns-in_ok-rows_copied c =
+    IfOk-weaker c.of.result _ _
+    (λ rows e. e ∙ c.in_ok-rows_copied.ensures ∙ all-held (shown c.args.n c.args.versions.now)) c.of.ensures

@@ -1,28 +1,43 @@
-use Rattle.std.proofs.Common.{◌<◌, length, arith, sym, ◌∙◌, ap, ◌++◌, ◌∷◌, [], ◌&&◌, leb}
-use Rattle.version_core.specs.Shown.{is_behind}
-use Rattle.version_core.specs.StoredRef.{version_at}
+use Rattle.std.proofs.Common.{◌<◌, length, None, get_or, arith, sym, ◌∙◌, ap, ◌++◌, ◌∷◌, [], ◌&&◌, leb}
+use Rattle.std.proofs.lemmas.List.{get_or_default, take_all}
+use Rattle.version_core.specs.Shown.{is_behind, versions_as_of}
+use Rattle.version_core.specs.Stored.{version_of}
+use Rattle.version_core.proofs.StoredLemmas.{get_or-versions_of}
 use Rattle.version_core.proofs.Seen.{versions_as_of-more, versions_as_of-same}
 use Rattle.version_core.proofs.version.versions_seen.Goals as goal
 use Rattle.version_core.proofs.version.versions_seen.Goals.{then-is_seen+in_ok-copy+in_ok-push, else-is_seen}
 
-pub loop-place-preserved : goal.loop-place-preserved
-loop-place-preserved c =
-    let v = version_at c.at.result in
-    let inside : c.loop-place.place < length c.args.versions.now =
-    omega (arith, c.loop-place-test.true, c.len-place-end.ensures) in
+pub loop-i-preserved : goal.loop-i-preserved
+loop-i-preserved c =
+    let vs = c.args.versions.now in
+    let i = c.loop-i.i in
+    let rows = c.as_slices.result.0.now in
+    let spans = c.as_slices.result.1.now in
+    let inside : i < length vs = omega (arith, c.loop-i-test.true, c.as_slices.ensures.rows) in
+    let beside : i < length spans = omega (arith, inside, c.as_slices.ensures.spans) in
+    let span = get_or spans i (record { from = 0; to = None }) in
+    let v = version_of c.index-rows-i.result span in
+    let found = get_or-versions_of rows spans i c.index-rows-i.result span vs c.as_slices.ensures.versions
+    (omega (arith, c.loop-i-test.true)) beside c.index-rows-i.is (get_or_default spans i _ span beside) in
     let test = ap (λ end. leb v.sysfrom c.args.at && (leb v.sysfrom c.args.last && is_behind end c.args.m))
     (sym c.end_at-end.ensures) ∙ sym c.is_seen.ensures in
     elim c.if-is_seen.branch [
       | then-is_seen+in_ok-copy+in_ok-push w ↦
           w.seen-is ∙ w.in_ok-push.ensures.ok
-          ∙ ap (λ row. c.loop-place.seen ++ record { row = row; sysfrom = v.sysfrom; systo = c.end_at-end.result } ∷ [])
+          ∙ ap (λ row. c.loop-i.seen ++ record { row = row; sysfrom = v.sysfrom; systo = c.end_at-end.result } ∷ [])
           w.in_ok-copy.ensures
-          ∙ ap (λ end. c.loop-place.seen ++ record { row = v.row; sysfrom = v.sysfrom; systo = end } ∷ [])
+          ∙ ap (λ end. c.loop-i.seen ++ record { row = v.row; sysfrom = v.sysfrom; systo = end } ∷ [])
           c.end_at-end.ensures
-          ∙ versions_as_of-more c.args.at c.args.m c.args.last c.loop-place.place c.args.versions.now v
-          c.loop-place.seen inside c.at.ensures (test ∙ w.if-is_seen.true) c.loop-place.invariant
+          ∙ versions_as_of-more c.args.at c.args.m c.args.last i vs v
+          c.loop-i.seen inside found (test ∙ w.if-is_seen.true) c.loop-i.invariant
       | else-is_seen w ↦
           w.seen-is
-          ∙ versions_as_of-same c.args.at c.args.m c.args.last c.loop-place.place c.args.versions.now v
-          c.loop-place.seen inside c.at.ensures (test ∙ w.if-is_seen.false) c.loop-place.invariant
+          ∙ versions_as_of-same c.args.at c.args.m c.args.last i vs v
+          c.loop-i.seen inside found (test ∙ w.if-is_seen.false) c.loop-i.invariant
     ]
+
+pub returns : goal.returns
+returns c =
+    c.loop-i.invariant
+    ∙ ap (versions_as_of c.args.at c.args.m c.args.last)
+    (take_all c.loop-i.i c.args.versions.now (omega (arith, c.loop-i-test.false, c.as_slices.ensures.rows)))

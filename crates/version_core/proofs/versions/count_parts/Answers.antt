@@ -1,11 +1,11 @@
 use Rattle.std.proofs.Common.{◌<◌, ◌++◌, ◌∷◌, [], ◌∙◌, ap, sym, refl, length, get_or, None, arith, length-append, take}
 use Rattle.std.specs.Prelude.{filter}
-use Rattle.std.proofs.lemmas.List.{take_all}
+use Rattle.std.proofs.lemmas.List.{get_or_default, take_all}
 use Rattle.version_core.specs.Finding.{passes}
 use Rattle.version_core.specs.OpenVersions.{is_taken}
 use Rattle.version_core.specs.Rows.{parts_of}
 use Rattle.version_core.specs.Stored.{version_of}
-use Rattle.version_core.proofs.StoredLemmas.{get_or-versions_of, length-rows}
+use Rattle.version_core.proofs.StoredLemmas.{get_or-versions_of}
 use Rattle.version_core.proofs.OpenLemmas.{parts_at, parts_at-push, parts_at-taken, place-no, place-yes}
 use Rattle.version_core.proofs.versions.count_parts.Goals as goal
 use Rattle.version_core.proofs.versions.count_parts.Goals.{then-is_taken, else-is_taken}
@@ -13,16 +13,12 @@ use Rattle.version_core.proofs.versions.count_parts.Goals.{then-is_taken, else-i
 pub bounds-rows-place : goal.bounds-rows-place
 bounds-rows-place c =
     let inside = c.requires.places.inside c.loop-place.place-index 0 c.loop-place-test.true in
-    omega (arith, inside, length-rows
-    c.as_slices.result.0.now c.as_slices.result.1.now c.args.versions.now c.as_slices.ensures.even
-    c.as_slices.ensures.versions)
+    omega (arith, inside, c.as_slices.ensures.rows)
 
 pub bounds-spans-place : goal.bounds-spans-place
 bounds-spans-place c =
     let inside = c.requires.places.inside c.loop-place.place-index 0 c.loop-place-test.true in
-    omega (arith, inside, c.as_slices.ensures.even, length-rows
-    c.as_slices.result.0.now c.as_slices.result.1.now c.args.versions.now c.as_slices.ensures.even
-    c.as_slices.ensures.versions)
+    omega (arith, inside, c.as_slices.ensures.spans)
 
 pub loop-place-preserved : goal.loop-place-preserved
 loop-place-preserved c =
@@ -34,11 +30,12 @@ loop-place-preserved c =
     let taken = is_taken c.args.change.now c.args.schema.now in
     let so_far = filter (passes vs taken) (take i places) in
     let inside : get_or places i 0 < length vs = c.requires.places.inside i 0 c.loop-place-test.true in
+    let beside : get_or places i 0 < length c.as_slices.result.1.now =
+    omega (arith, inside, c.as_slices.ensures.spans) in
     let found = get_or-versions_of
-    c.as_slices.result.0.now c.as_slices.result.1.now (get_or places i 0) c.index-rows-place.result
-    (record { from = 0; to = None }) vs c.as_slices.ensures.even
-    (omega (arith, inside, length-rows c.as_slices.result.0.now c.as_slices.result.1.now vs
-    c.as_slices.ensures.even c.as_slices.ensures.versions)) c.index-rows-place.is c.as_slices.ensures.versions in
+    c.as_slices.result.0.now c.as_slices.result.1.now (get_or places i 0) c.index-rows-place.result span vs
+    c.as_slices.ensures.versions (omega (arith, inside, c.as_slices.ensures.rows)) beside
+    c.index-rows-place.is (get_or_default c.as_slices.result.1.now (get_or places i 0) _ span beside) in
     let counted = c.loop-place.invariant.counted in
     let few = c.loop-place.invariant.few in
     elim c.if-is_taken.branch [

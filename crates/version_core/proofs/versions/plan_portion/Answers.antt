@@ -1,10 +1,10 @@
 use Rattle.std.proofs.Common.{◌≡◌, ◌<◌, ◌∙◌, ap, sym, length, get_or, None, arith}
 use Rattle.std.specs.Prelude.{filter}
-use Rattle.std.proofs.lemmas.List.{take_all}
+use Rattle.std.proofs.lemmas.List.{get_or_default, take_all}
 use Rattle.version_core.specs.Finding.{passes}
 use Rattle.version_core.specs.OpenVersions.{is_taken, places_from}
 use Rattle.version_core.specs.Stored.{version_of}
-use Rattle.version_core.proofs.StoredLemmas.{get_or-versions_of, length-rows}
+use Rattle.version_core.proofs.StoredLemmas.{get_or-versions_of}
 use Rattle.version_core.proofs.OpenLemmas.{made-all, made-push, made_so_far, place-no, place-yes}
 use Rattle.version_core.proofs.versions.plan_portion.Goals as goal
 use Rattle.version_core.proofs.versions.plan_portion.Goals.{then-is_taken+in_ok-push_parts+in_ok-push, else-is_taken}
@@ -12,16 +12,12 @@ use Rattle.version_core.proofs.versions.plan_portion.Goals.{then-is_taken+in_ok-
 pub bounds-rows-place : goal.bounds-rows-place
 bounds-rows-place c =
     let inside = c.requires.places.inside c.loop-place.place-index 0 c.loop-place-test.true in
-    omega (arith, inside, length-rows
-    c.as_slices.result.0.now c.as_slices.result.1.now c.args.versions.now c.as_slices.ensures.even
-    c.as_slices.ensures.versions)
+    omega (arith, inside, c.as_slices.ensures.rows)
 
 pub bounds-spans-place : goal.bounds-spans-place
 bounds-spans-place c =
     let inside = c.requires.places.inside c.loop-place.place-index 0 c.loop-place-test.true in
-    omega (arith, inside, c.as_slices.ensures.even, length-rows
-    c.as_slices.result.0.now c.as_slices.result.1.now c.args.versions.now c.as_slices.ensures.even
-    c.as_slices.ensures.versions)
+    omega (arith, inside, c.as_slices.ensures.spans)
 
 pub loop-place-preserved : goal.loop-place-preserved
 loop-place-preserved c =
@@ -32,11 +28,12 @@ loop-place-preserved c =
     let version = version_of c.index-rows-place.result span in
     let taken = is_taken c.args.change.now c.args.schema.now in
     let inside : get_or places i 0 < length vs = c.requires.places.inside i 0 c.loop-place-test.true in
+    let beside : get_or places i 0 < length c.as_slices.result.1.now =
+    omega (arith, inside, c.as_slices.ensures.spans) in
     let found = get_or-versions_of
-    c.as_slices.result.0.now c.as_slices.result.1.now (get_or places i 0) c.index-rows-place.result
-    (record { from = 0; to = None }) vs c.as_slices.ensures.even
-    (omega (arith, inside, length-rows c.as_slices.result.0.now c.as_slices.result.1.now vs
-    c.as_slices.ensures.even c.as_slices.ensures.versions)) c.index-rows-place.is c.as_slices.ensures.versions in
+    c.as_slices.result.0.now c.as_slices.result.1.now (get_or places i 0) c.index-rows-place.result span vs
+    c.as_slices.ensures.versions (omega (arith, inside, c.as_slices.ensures.rows)) beside
+    c.index-rows-place.is (get_or_default c.as_slices.result.1.now (get_or places i 0) _ span beside) in
     elim c.if-is_taken.branch [
       | then-is_taken+in_ok-push_parts+in_ok-push w ↦
           let test = sym c.is_taken.ensures ∙ w.if-is_taken.true in

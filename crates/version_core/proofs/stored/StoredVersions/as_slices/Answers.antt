@@ -1,0 +1,15 @@
+use Rattle.std.proofs.Common.{◌∙◌, ap, sym, length}
+use Rattle.version_core.proofs.StoredLemmas.{length-versions_of}
+use Rattle.version_core.proofs.stored.StoredVersions.as_slices.Goals as goal
+
+pub returns-clause-rows : goal.returns-clause-rows
+returns-clause-rows c =
+    ap length c.as_slice.ensures ∙ c.self.invariant
+    ∙ sym (length-versions_of c.self.inside.rows c.self.inside.spans.items c.self.invariant)
+    ∙ ap length c.self.view_is
+
+pub returns-clause-spans : goal.returns-clause-spans
+returns-clause-spans c =
+    ap length c.deref.ensures.value
+    ∙ sym (length-versions_of c.self.inside.rows c.self.inside.spans.items c.self.invariant)
+    ∙ ap length c.self.view_is
