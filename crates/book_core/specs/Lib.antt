@@ -4,3 +4,4 @@ pub mod State
 pub mod StoredHistory
 pub mod StoredTables
 pub mod Versions
+pub mod Words

@@ -1,9 +1,10 @@
 //! The log: what each commit did, and by whom.
 
-ghost use Rattle.std.specs.Prelude.{◌≡◌, ◌+◌, ◌<◌};
+ghost use Rattle.std.specs.Prelude.{◌≡◌, ◌+◌, ◌<◌, Some};
 ghost use Rattle.book_core.specs.Limits.{commit_limit};
 ghost use Rattle.book_core.specs.State.{table_named};
 ghost use Rattle.book_core.specs.Versions.{change_kind};
+ghost use Rattle.book_core.specs.Words.{word_of};
 
 use list_core::List;
 use row_core::Name;
@@ -19,15 +20,26 @@ pub enum ChangeKind {
     Delete,
 }
 
-/// The word that stands in a printed log.
-impl fmt::Display for ChangeKind {
-    fn fmt<W: fmt::Write>(&self, f: &mut fmt::Formatter<W>) -> fmt::Result {
-        f.write_str(match self {
+impl ChangeKind {
+    /// The word that stands in a printed log.
+    pub fn word(self) -> &'static str
+        ensures { result.now ≡ word_of self }
+    {
+        match self {
             ChangeKind::Make => "table",
             ChangeKind::Load => "load",
             ChangeKind::Update => "update",
             ChangeKind::Delete => "delete",
-        })
+        }
+    }
+}
+
+/// Its word.
+impl fmt::Display for ChangeKind {
+    ghost output = { λ kind. Some (word_of kind) };
+
+    fn fmt<W: fmt::Write>(&self, f: &mut fmt::Formatter<W>) -> fmt::Result {
+        f.write_str(self.word())
     }
 }
 
