@@ -104,7 +104,8 @@ impl Shelf {
     }
 
     /// Makes a change of the pass with the number `by`, and answers the commit's number, from 1 on. Where a
-    /// snapshot shares the book a copy is changed, unless the change is refused; else nothing is copied.
+    /// snapshot shares the book a copy is changed, unless the change is refused; else rows alone are copied, where
+    /// a list shares them and the change adds more.
     ///
     /// # Errors
     ///

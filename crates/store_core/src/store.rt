@@ -70,7 +70,8 @@ impl Store {
     }
 
     /// Commits a change, and answers the commit's number, from 1 on. Where a snapshot shares the book a copy is
-    /// changed, unless the change is refused; else nothing is copied.
+    /// changed, unless the change is refused; else rows alone are copied, where a list shares them and the change
+    /// adds more.
     ///
     /// # Errors
     ///
