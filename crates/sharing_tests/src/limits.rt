@@ -62,6 +62,19 @@ fn check_no_snapshot(
     assert_eq!(rt; refused, Some(Failure::Refused(want)));
 }
 
+// Each of the three calls that count is refused, since the pass is spent.
+fn check_spent(rt: &(impl Abort + Alloc<A = Global> + Wait), store: &Store, pass: &mut Pass)
+    requires { IsPassOf store.now pass.old }
+    ensures { IsPassOf store.now pass.new }
+{
+    check_make(rt, store, pass, b"u", Err(StoreRefused::PassSpent));
+    check_load(rt, store, pass, Err(StoreRefused::PassSpent));
+    check_no_snapshot(rt, store, pass, None, SnapshotRefused::PassSpent);
+    check_no_snapshot(rt, store, pass, Some(9), SnapshotRefused::PassSpent);
+    let spent = store.log(rt, pass).err();
+    assert!(rt; spent == Some(Failure::Refused(PassSpent)));
+}
+
 #[test]
 fn counts_each_call(rt: HostRuntime) -> Result<(), Fail> {
     let (store, mut pass) = one_pass(rt.alloc(), 4)?;
@@ -76,32 +89,17 @@ fn counts_each_call(rt: HostRuntime) -> Result<(), Fail> {
     Ok(())
 }
 
+// However often a spent pass calls, it is refused, before all other refusals, and what it has seen can still be told.
 #[test]
-fn refuses_calls_of_a_pass_that_is_spent(rt: HostRuntime) -> Result<(), Fail> {
-    let (store, mut pass) = one_pass(rt.alloc(), 1)?;
-    check_make(&rt, &store, &mut pass, b"t", Ok(1));
-    check_make(&rt, &store, &mut pass, b"u", Err(StoreRefused::PassSpent));
-    check_no_snapshot(&rt, &store, &mut pass, None, SnapshotRefused::PassSpent);
-    let spent = store.log(&rt, &mut pass).err();
-    assert!(rt; spent == Some(Failure::Refused(PassSpent)));
-    let note = store.note(&mut pass);
-    store.hear(&mut pass, note);
-    assert!(rt; pass.left() == 0);
-    Ok(())
-}
-
-// However often a spent pass calls, it is refused, and what it has seen can still be told.
-#[test]
-fn refuses_each_call_past_the_last(rt: HostRuntime) -> Result<(), Fail> {
+fn refuses_each_call_of_a_pass_that_is_spent(rt: HostRuntime) -> Result<(), Fail> {
     let (store, mut pass) = one_pass(rt.alloc(), 2)?;
     check_make(&rt, &store, &mut pass, b"t", Ok(1));
     check_load(&rt, &store, &mut pass, Ok(2));
     assert!(rt; pass.left() == 0);
-    check_load(&rt, &store, &mut pass, Err(StoreRefused::PassSpent));
-    check_make(&rt, &store, &mut pass, b"t", Err(StoreRefused::PassSpent));
-    check_load(&rt, &store, &mut pass, Err(StoreRefused::PassSpent));
+    check_spent(&rt, &store, &mut pass);
     let note = store.note(&mut pass);
     store.hear(&mut pass, note);
+    check_spent(&rt, &store, &mut pass);
     assert!(rt; pass.left() == 0);
     Ok(())
 }

@@ -4,6 +4,7 @@ ghost use Rattle.std.specs.Prelude.{IfOk};
 ghost use Rattle.store_core.specs.Passes.{IsPassOf};
 
 use crate::changes::{load, make};
+use crate::limits::one_pass;
 use crate::meetings::two_passes;
 use period_core::{Period, Point};
 use query_core::{JoinAnswer, JoinRow, Side, at, join};
@@ -204,16 +205,18 @@ fn is_day(period: Period) -> bool {
     }
 }
 
-// Checks that each of the two rows was joined with each.
-fn check_pairs(rt: &impl Abort, joined: Option<JoinAnswer>) {
+// The pairs of a join of two rows of one day with themselves.
+const PAIRS: [(u64, u64); 4] = [(1, 1), (1, 2), (2, 1), (2, 2)];
+
+// Checks that these are the ids of the rows that were joined.
+fn check_pairs(rt: &impl Abort, joined: Option<JoinAnswer>, pairs: &[(u64, u64)]) {
     let rows = joined.expect(rt, "a join").rows;
-    let pairs = [(1, 1), (1, 2), (2, 1), (2, 2)];
     assert!(rt; rows.len() == pairs.len());
     assert!(rt;
         rows.as_slice()
             .iter()
             .zip(pairs)
-            .all(|(row, pair)| is_pair(row, pair))
+            .all(|(row, pair)| is_pair(row, *pair))
     );
 }
 
@@ -233,8 +236,75 @@ fn a_join_holds_no_query_of_other_snapshots_up(rt: HostRuntime) -> Result<(), Fa
         || query_two(&rt, alloc, &early, &late, &gate),
     );
     assert!(rt; gate.failed.load(Ordering::SeqCst) == 0);
-    check_pairs(&rt, joined);
+    check_pairs(&rt, joined, &PAIRS);
     check_rows(&rt, of_early, 1);
     check_rows(&rt, of_late, 2);
+    Ok(())
+}
+
+// What holds two joins, of an earlier snapshot and of a later one.
+#[derive(Drop)]
+struct TwoHolds {
+    early: Holds,
+    late: Holds,
+}
+
+// Joins the tables of two snapshots with themselves, at once.
+fn join_two<R: Threads + Sync>(
+    rt: &R,
+    alloc: Global,
+    early: &Snapshot,
+    late: &Snapshot,
+    gates: &TwoHolds,
+) -> (Option<JoinAnswer>, Option<JoinAnswer>) {
+    thread::join(
+        rt,
+        || join_itself(rt, alloc, early, &gates.early),
+        || join_itself(rt, alloc, late, &gates.late),
+    )
+}
+
+// Once both joins are held, commits a load and takes a snapshot, and only then lets them go on: the snapshot's number,
+// and how many rows it shows.
+fn commit_beside<R: Wait>(
+    rt: &R,
+    alloc: Global,
+    store: &Store,
+    pass: Pass,
+    gates: &TwoHolds,
+) -> Option<(u64, usize)>
+    requires { IsPassOf store.now pass }
+{
+    if !comes(&gates.early.entered) {
+        return None;
+    }
+    let looked = commit_and_look(rt, alloc, store, pass, &gates.late);
+    gates.early.ended.store(1, Ordering::SeqCst);
+    looked
+}
+
+#[test]
+fn two_held_joins_end_with_the_rows_of_their_snapshots(rt: HostRuntime) -> Result<(), Fail> {
+    let alloc = rt.alloc();
+    let (store, mut pass) = one_pass(alloc, 7)?;
+    store.commit(&rt, &mut pass, make(alloc, b"t")?)?;
+    store.commit(&rt, &mut pass, load(alloc, b"t")?)?;
+    let early = store.snapshot(&rt, &mut pass, None)?;
+    store.commit(&rt, &mut pass, load(alloc, b"t")?)?;
+    let late = store.snapshot(&rt, &mut pass, None)?;
+    let gates = TwoHolds {
+        early: Holds::new(),
+        late: Holds::new(),
+    };
+    let ((of_early, of_late), committed) = thread::join(
+        &rt,
+        || join_two(&rt, alloc, &early, &late, &gates),
+        || commit_beside(&rt, alloc, &store, pass, &gates),
+    );
+    assert!(rt; gates.early.failed.load(Ordering::SeqCst) == 0);
+    assert!(rt; gates.late.failed.load(Ordering::SeqCst) == 0);
+    assert_eq!(rt; committed, Some((4, 3)));
+    check_pairs(&rt, of_early, &[(1, 1)]);
+    check_pairs(&rt, of_late, &PAIRS);
     Ok(())
 }
