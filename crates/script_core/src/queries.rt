@@ -91,7 +91,9 @@ fn both_tables(
 const ROWS_FOR_WORKERS: usize = 16_384;
 
 /// Who answers a query that reads so many rows: the crew, or one worker where the rows are few.
-fn crew_for<'a, T>(crew: &Crew<'a, T, OpenGate>, rows: usize) -> Crew<'a, T, OpenGate> {
+fn crew_for<'a, T>(crew: &Crew<'a, T, OpenGate>, rows: usize) -> Crew<'a, T, OpenGate>
+    ensures { result.workers ≤ crew.now.workers }
+{
     let workers = if rows < ROWS_FOR_WORKERS {
         1
     } else {
