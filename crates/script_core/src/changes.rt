@@ -58,7 +58,7 @@ pub(crate) fn make<R: Wait>(
 }
 
 /// The rows of a load's records, by the columns that a snapshot of all commits shows.
-fn read_load<T: Threads + Sync>(
+fn rows_of_load<T: Threads + Sync>(
     crew: &Crew<'_, T, OpenGate>,
     newest: &Snapshot,
     number: u64,
@@ -93,7 +93,7 @@ pub(crate) fn load_by<T: Threads + Wait + Sync>(
         (ledger_history ledger.old) (ledger_history ledger.new) result }
     ensures left { left_in ledger.old ≤ left_in ledger.new + 1 }
 {
-    let rows = read_load(crew, newest, number, table, body)?;
+    let rows = rows_of_load(crew, newest, number, table, body)?;
     apply(crew.rt, ledger, number, Change::Load { table, rows })
 }
 
@@ -115,28 +115,40 @@ pub(crate) fn load<T: Threads + Wait + Sync>(
     // The snapshot is given back before the commit, so that nothing is copied.
     let rows = {
         let newest = ledger.newest(crew.rt)?;
-        read_load(crew, &newest, number, table, body)?
+        rows_of_load(crew, &newest, number, table, body)?
     };
     apply(crew.rt, ledger, number, Change::Load { table, rows })
 }
 
+/// The portion of some rows of a table: of those that have the conditions' values.
+#[derive(Clone, Copy)]
+pub(crate) struct RowPortion<'a> {
+    pub table: Name,
+    pub portion: Period,
+    pub conds: TextPairs<'a>,
+}
+
 /// Changes a portion of a table's rows.
-pub(crate) fn update<R: Wait>(
-    rt: &R,
-    alloc: Global,
+pub(crate) fn update<T: Wait>(
+    crew: &Crew<'_, T, OpenGate>,
     ledger: &mut Ledger,
     number: u64,
-    table: Name,
-    portion: Period,
+    of: RowPortion<'_>,
     sets: TextPairs<'_>,
-    conds: TextPairs<'_>,
 ) -> Result<Answer, Failure>
     requires { 2 ≤ left_in ledger.old }
     ensures changes { Changes
-        (update_in number (ledger_history ledger.old) table portion (pairs_in sets.entry) (pairs_in conds.entry))
+        (update_in number (ledger_history ledger.old) of.entry.table of.entry.portion
+        (pairs_in sets.entry) (pairs_in of.entry.conds))
         (ledger_history ledger.old) (ledger_history ledger.new) result }
     ensures left { left_in ledger.old ≤ left_in ledger.new + 2 }
 {
+    let Crew { rt, alloc, .. } = *crew;
+    let RowPortion {
+        table,
+        portion,
+        conds,
+    } = of;
     let (sets, conds) = {
         let newest = ledger.newest(rt)?;
         let Ok(schema) = newest.schema(table) else {
@@ -155,21 +167,25 @@ pub(crate) fn update<R: Wait>(
 }
 
 /// Takes a portion of a table's rows out.
-pub(crate) fn delete<R: Wait>(
-    rt: &R,
-    alloc: Global,
+pub(crate) fn delete<T: Wait>(
+    crew: &Crew<'_, T, OpenGate>,
     ledger: &mut Ledger,
     number: u64,
-    table: Name,
-    portion: Period,
-    conds: TextPairs<'_>,
+    of: RowPortion<'_>,
 ) -> Result<Answer, Failure>
     requires { 2 ≤ left_in ledger.old }
     ensures changes { Changes
-        (delete_in number (ledger_history ledger.old) table portion (pairs_in conds.entry))
+        (delete_in number (ledger_history ledger.old) of.entry.table of.entry.portion
+        (pairs_in of.entry.conds))
         (ledger_history ledger.old) (ledger_history ledger.new) result }
     ensures left { left_in ledger.old ≤ left_in ledger.new + 2 }
 {
+    let Crew { rt, alloc, .. } = *crew;
+    let RowPortion {
+        table,
+        portion,
+        conds,
+    } = of;
     let conds = {
         let newest = ledger.newest(rt)?;
         let Ok(schema) = newest.schema(table) else {

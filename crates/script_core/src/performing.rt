@@ -12,7 +12,7 @@ ghost use Rattle.script_core.specs.Failure.{IsFailureOf};
 ghost use Rattle.script_core.specs.Ledgers.{ledger_history, left_in, ShowsAll};
 ghost use Rattle.script_core.specs.Performing.{asof_in, IsAnswerOf, Performs, PrintsAnswer, PrintsOne};
 
-use crate::changes::{delete, load, make, update};
+use crate::changes::{RowPortion, delete, load, make, update};
 use crate::failure::{Failure, refused};
 use crate::ledger::Ledger;
 use crate::queries::{
@@ -138,7 +138,7 @@ pub(crate) fn perform<T: Threads + Wait + Sync>(
         (ledger_history ledger.new) }
     ensures left { left_in ledger.old ≤ left_in ledger.new + 2 }
 {
-    let Crew { rt, alloc, .. } = *crew;
+    let rt = crew.rt;
     match command {
         Command::Make { table, schema } => make(rt, ledger, number, table, schema),
         Command::Load { table, body } => load(crew, ledger, number, table, body),
@@ -147,23 +147,52 @@ pub(crate) fn perform<T: Threads + Wait + Sync>(
             portion,
             sets,
             conds,
-        } => update(rt, alloc, ledger, number, table, portion, sets, conds),
+        } => {
+            let of = RowPortion {
+                table,
+                portion,
+                conds,
+            };
+            update(crew, ledger, number, of, sets)
+        }
         Command::Delete {
             table,
             portion,
             conds,
-        } => delete(rt, alloc, ledger, number, table, portion, conds),
+        } => {
+            let of = RowPortion {
+                table,
+                portion,
+                conds,
+            };
+            delete(crew, ledger, number, of)
+        }
         Command::Log => Ok(Answer::Log(ledger.log(rt)?)),
         Command::Refused(fault) => Ok(Answer::Refused(fault)),
-        asked => {
-            let newest = ledger.newest(rt)?;
-            let context = QueryContext {
-                crew,
-                newest: &newest,
-            };
-            query(&context, number, asked)
-        }
+        asked => query_newest(crew, ledger, number, asked),
     }
+}
+
+/// Answers a query, whose first record has this number, from what all commits show.
+fn query_newest<T: Threads + Wait + Sync>(
+    crew: &Crew<'_, T, OpenGate>,
+    ledger: &mut Ledger,
+    number: u64,
+    command: Command<'_>,
+) -> Result<Answer, Failure>
+    requires query { is_allowed true (meaning_of command) ≡ true }
+    requires numbers { number + behind_length (meaning_of command) < 2 ^ 64 }
+    requires left { 1 ≤ left_in ledger.old }
+    ensures performs { Performs (ledger_history ledger.old) number (meaning_of command.entry) result
+        (ledger_history ledger.new) }
+    ensures left { left_in ledger.old ≤ left_in ledger.new + 1 }
+{
+    let newest = ledger.newest(crew.rt)?;
+    let context = QueryContext {
+        crew,
+        newest: &newest,
+    };
+    query(&context, number, command)
 }
 
 /// The answer that a command's outcome is: a refusal is one too, and only want of memory is none.
