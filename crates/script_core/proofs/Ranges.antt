@@ -1,5 +1,5 @@
 -- Records of a load that are read range by range.
-use Rattle.std.proofs.Common.{◌≡◌, ◌∙◌, ℕ, zero, suc, ◌+◌, ◌-◌, min, List, [], ◌∷◌, ◌++◌, Option, Some, None, Result, Ok, Err, Vec, Global, refl, sym, ap, arith, take, drop, length, append-nil, append_assoc, unwrap_or}
+use Rattle.std.proofs.Common.{◌≡◌, ◌∙◌, ℕ, zero, suc, ◌+◌, ◌-◌, min, List, [], ◌∷◌, ◌++◌, Option, Some, None, Result, Ok, Err, Vec, Global, refl, sym, ap, arith, take, drop, length, append-nil, unwrap_or}
 use Rattle.std.specs.List.{enumerate_from}
 use Rattle.std.specs.Ordering.{nat_cmp}
 use Rattle.std.specs.declared.alloc.AllocError.{AllocError}
@@ -84,12 +84,6 @@ told-part read places number from to n lines part size end start is =
 pub behind-none : {T E : Type 0} (read : Result (List T) E) → behind [] read ≡ read
 behind-none (Ok more) = refl
 behind-none (Err wrong) = refl
-
--- what was read twice, one part behind another
-pub behind-twice : {T E : Type 0} (had next : List T) (read : Result (List T) E)
-    → behind had (behind next read) ≡ behind (had ++ next) read
-behind-twice had next (Ok more) = ap Ok (sym (append_assoc had next more))
-behind-twice had next (Err wrong) = refl
 
 -- what one part gives, and then the rest
 abbrev then_rest : {T E : Type 0} → Result (List T) E → Result (List T) E → Result (List T) E

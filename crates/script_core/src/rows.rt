@@ -76,7 +76,7 @@ fn rows_of_records(
 
 /// The rows of a load's records at some places, or the fault of the first of them that has one; the load's first record
 /// is of this number.
-fn rows_at(
+fn rows_in_range(
     alloc: Global,
     schema: &Schema,
     lines: Lines<'_>,
@@ -145,7 +145,7 @@ pub(crate) fn loaded_rows<T: Threads + Sync>(
             requires { number + length (lines_in lines) < 2 ^ 64 }
             ensures { IfOk result (λ read. drafts_told schema.entry.now
                 (piece places (enumerate_from number (lines_in lines.entry))) ≡ drafts_of read) }
-        { rows_at(alloc, schema, lines, number, places) },
+        { rows_in_range(alloc, schema, lines, number, places) },
     )?;
     in_one_list(alloc, ranges)
 }

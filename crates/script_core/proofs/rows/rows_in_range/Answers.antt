@@ -2,7 +2,7 @@ use Rattle.std.proofs.Common.{◌∙◌, ap, min}
 use Rattle.command_core.specs.Lines.{lines_in}
 use Rattle.script_core.specs.Effects.{loaded_row}
 use Rattle.script_core.proofs.Ranges.{told-part}
-use Rattle.script_core.proofs.rows.rows_at.Goals as goal
+use Rattle.script_core.proofs.rows.rows_in_range.Goals as goal
 
 pub returns-in-Ok : goal.returns-in-Ok
 returns-in-Ok c =
