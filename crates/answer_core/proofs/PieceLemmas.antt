@@ -1,11 +1,12 @@
 -- Pieces of lists of records, and what answers of them come to.
 use Rattle.std.proofs.Common.{◌≡◌, ◌∙◌, ℕ, ◌++◌, List, Option, None, Some, Result, Ok, append-nil, map, refl, sym, ap}
-use Rattle.std.specs.Prelude.{flat_map}
+use Rattle.std.specs.Global.{Vec}
 use Rattle.std.specs.Ordering.{nat_cmp}
 use Rattle.std.specs.declared.alloc.AllocError.{AllocError}
 use Rattle.std.proofs.lemmas.List.{drop-map, take-map}
 use Rattle.std.proofs.lemmas.List.Concat.{flat_map-append}
 use Rattle.csv.specs.Writing.{row_text}
+use Rattle.list_core.specs.Chunks.{all_in}
 use Rattle.share_core.specs.Pieces.{piece, piece_before, piece_from}
 use Rattle.share_core.specs.Ranges.{range}
 use Rattle.share_core.specs.Shares.{Gives, GivesFrom}
@@ -15,7 +16,6 @@ use Rattle.share_core.proofs.PieceLemmas.{piece_cut}
 use Rattle.share_core.proofs.ShareLemmas.{all_come}
 use Rattle.command_core.specs.Records.{Record}
 use Rattle.answer_core.specs.RecordBytes.{answer_writer, bytes_of}
-use Rattle.answer_core.specs.Unwritten.{Unwritten}
 
 before-map : {X Y : Type 0} (f : X → Y) (end : Option ℕ) (xs : List X)
     → map f (piece_before end xs) ≡ piece_before end (map f xs)
@@ -34,21 +34,20 @@ map-piece f places xs some is =
     ap (map f) is ∙ from-map f places.from (piece_before places.before xs)
     ∙ ap (piece_from places.from) (before-map f places.before xs)
 
--- the bytes of answers of the pieces of some records, one behind another, are the bytes of the records
-pub texts-all : (records : List Record) (post : Range ℕ → ℕ → Result Unwritten AllocError → Type 0)
-    (cuts : List (Cut ℕ)) (parts : List Unwritten)
-    → ((places : Range ℕ) (n : ℕ) (part : Unwritten) → post places n (Ok part)
-    → part.text ≡ bytes_of (piece places records))
-    → GivesFrom nat_cmp (Gives post) None cuts parts
-    → flat_map (λ (part : Unwritten). part.text) parts ≡ bytes_of records
-texts-all records post cuts parts told given =
-    let text : Unwritten → List ℕ = λ part. part.text in
+-- the bytes of the pieces of some records, one behind another, are the bytes of the records
+pub texts-all : (records : List Record) (post : Range ℕ → ℕ → Result (Vec ℕ) AllocError → Type 0)
+    (cuts : List (Cut ℕ)) (texts : List (Vec ℕ))
+    → ((places : Range ℕ) (n : ℕ) (text : Vec ℕ) → post places n (Ok text)
+    → text.items ≡ bytes_of (piece places records))
+    → GivesFrom nat_cmp (Gives post) None cuts texts
+    → all_in texts ≡ bytes_of records
+texts-all records post cuts texts told given =
     all_come nat_cmp (Gives post)
-    (λ (places : Range ℕ) (all : List Unwritten). flat_map text all ≡ bytes_of (piece places records))
-    (λ places part own. append-nil part.text ∙ told places own.0 part own.1)
-    (λ from at part more begun one others.
-    ap (λ l. l ++ flat_map text more) (told (range from (Some at)) one.0 part one.1)
+    (λ (places : Range ℕ) (all : List (Vec ℕ)). all_in all ≡ bytes_of (piece places records))
+    (λ places text own. append-nil text.items ∙ told places own.0 text own.1)
+    (λ from at text more begun one others.
+    ap (λ l. l ++ all_in more) (told (range from (Some at)) one.0 text one.1)
     ∙ ap (λ l. bytes_of (piece (range from (Some at)) records) ++ l) others
     ∙ sym (flat_map-append (row_text answer_writer) (piece (range from (Some at)) records) (piece (range (Some at) None) records))
     ∙ ap bytes_of (sym (piece_cut from at records begun)))
-    None cuts parts given
+    None cuts texts given

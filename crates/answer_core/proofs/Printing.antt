@@ -1,12 +1,10 @@
 -- Answers, printed record by record.
-use Rattle.std.proofs.Common.{◌≡◌, ℕ, zero, suc, ◌+◌, ◌<◌, ◌≤◌, ℤ, drop, subst, take, length-take, List, [], ◌∷◌, ◌++◌, Option, false, length, refl, sym, ap, ◌∙◌, arith, append_assoc, cond, map}
+use Rattle.std.proofs.Common.{◌≡◌, ℕ, zero, suc, ◌+◌, ◌<◌, ◌≤◌, ℤ, drop, take, length-take, List, [], ◌∷◌, ◌++◌, Option, false, length, refl, sym, ap, ◌∙◌, arith, append_assoc, append-nil, cond, map}
 use Rattle.std.specs.Prelude.{codes, get_or}
 use Rattle.std.proofs.lemmas.List.Concat.{flat_map-append}
 use Rattle.std.proofs.lemmas.List.Sums.{sum_by-cons}
 use Rattle.std.proofs.Math.Seq.{take-suc}
 use Rattle.std.proofs.lemmas.List.{drop-append-le}
-use Rattle.share_core.specs.Pieces.{piece, piece_before, piece_from}
-use Rattle.share_core.specs.declared.range.Range.{Range}
 use Rattle.csv.specs.Writing.{row_text}
 use Rattle.row_core.specs.declared.row.Row.{Row}
 use Rattle.book_core.specs.declared.log.Entry.{Entry}
@@ -76,32 +74,32 @@ errors_in-division rows parts instant =
       errors_in-part_records 0 parts,
     )
 
--- from a place on, one more part is printed
-pub Adds-part : (a b c : Unwritten) (parts : List (List Item)) (from k : ℕ) (items : List Item)
+-- from a place on, the bytes of one more part
+pub bytes-part : (a b c : List ℕ) (parts : List (List Item)) (from k : ℕ) (items : List Item)
     → from ≤ k → k < length parts → items ≡ part_at parts k
-    → Adds a b (drop from (take k (part_records 0 parts))) → Adds b c (part_record k items ∷ [])
-    → Adds a c (drop from (take (k + 1) (part_records 0 parts)))
-Adds-part a b c parts from k items le lt is first second =
+    → b ≡ a ++ bytes_of (drop from (take k (part_records 0 parts)))
+    → c ≡ b ++ row_text answer_writer (part_record k items)
+    → c ≡ a ++ bytes_of (drop from (take (k + 1) (part_records 0 parts)))
+bytes-part a b c parts from k items le lt is first second =
     let records = part_records 0 parts in
+    let front = drop from (take k records) in
     let next : k + 1 ≡ suc k = omega arith in
     let within : k < length records = omega (arith, lt, length-part_records 0 parts) in
     let enough : from ≤ length (take k records) = omega (arith, le, within, length-take k records) in
     let same : 0 + k ≡ k = omega arith in
     let last : get_or records k [] ≡ part_record k items =
     part_records-at 0 parts k lt ∙ ap (λ n. part_record n (part_at parts k)) same ∙ ap (part_record k) (sym is) in
-    let all : drop from (take (k + 1) records) ≡ drop from (take k records) ++ part_record k items ∷ [] =
+    let all : drop from (take (k + 1) records) ≡ front ++ part_record k items ∷ [] =
     ap (λ n. drop from (take n records)) next
     ∙ ap (drop from) (take-suc records k [] within ∙ ap (λ (r : Record). take k records ++ r ∷ []) last)
     ∙ drop-append-le from (take k records) (part_record k items ∷ []) enough in
-    subst (Adds a c) (sym all) (Adds-trans a b c (drop from (take k records)) (part_record k items ∷ []) first second)
-
--- the parts of a range, which ends and begins there
-pub Adds-range : (a b : Unwritten) (records : List Record) (places : Range ℕ) (start end : ℕ)
-    → piece_before places.before records ≡ take end records
-    → piece_from places.from (take end records) ≡ drop start (take end records)
-    → Adds a b (drop start (take end records)) → Adds a b (piece places records)
-Adds-range a b records places start end ends begins all =
-    subst (Adds a b) (sym (ap (piece_from places.from) ends ∙ begins)) all
+    second
+    ∙ (ap (λ t. t ++ row_text answer_writer (part_record k items)) first
+    ∙ (append_assoc a (bytes_of front) (row_text answer_writer (part_record k items))
+    ∙ ap (λ t. a ++ t)
+    (ap (λ t. bytes_of front ++ t) (sym (append-nil (row_text answer_writer (part_record k items))))
+    ∙ (sym (flat_map-append (row_text answer_writer) front (part_record k items ∷ []))
+    ∙ ap bytes_of (sym all)))))
 
 -- a list of records of which none tells of a refusal, and its end
 errors_in-list : {T : Type 0} (record_of : T → Record) → ((x : T) → begins (codes "error") (record_of x) ≡ false)

@@ -1,5 +1,3 @@
-pub mod AnswerWriter
-pub mod Begun
 pub mod JoinedRows
 pub mod PrintedRecords
 pub mod RecordBytes

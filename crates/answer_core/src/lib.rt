@@ -2,7 +2,6 @@
 #![tactic(auto)]
 
 mod answer;
-mod join_records;
 mod joined;
 mod kept_text;
 mod print;
@@ -12,10 +11,10 @@ mod print_division;
 mod print_join;
 mod print_log;
 mod ranges;
+mod record_text;
 mod row_values;
 mod texts;
 mod unmatched;
-mod values_text;
 mod writer;
 
 pub use answer::Answer;

@@ -1,16 +1,20 @@
 //! Prints answers: refusals, accepted changes, rows and versions here.
 ghost use Rattle.std.specs.Prelude.{◌≡◌, [], ◌∷◌, ◌++◌, List, OnErr, OnOk, map};
-ghost use Rattle.answer_core.specs.PrintedRecords.{IsPrintedAs, end_record, end_text, error_record, ok_record, row_record, row_records, together_record, value_text, version_record, version_records};
+ghost use Rattle.csv.specs.Writing.{row_text};
+ghost use Rattle.answer_core.specs.PrintedRecords.{IsPrintedAs, commit_records, end_record, end_text, error_record, ok_record, row_record, row_records, together_record, verdict_record, version_record, version_records};
+ghost use Rattle.answer_core.specs.RecordBytes.{answer_writer, bytes_of, field_behind};
 ghost use Rattle.answer_core.specs.Unwritten.{Adds, nothing};
 ghost use Rattle.command_core.specs.Records.{Record};
 
 use crate::answer::Answer;
 use crate::ranges::RecordList;
+use crate::record_text::RecordText;
 use crate::writer::AnswerWriter;
-use book_core::{SharedRows, Version, VersionList};
+use book_core::{Log, SharedRows, Version, VersionList};
+use cert_core::Verdict;
 use command_core::Fault;
 use period_core::NoMemory;
-use row_core::{Row, Value};
+use row_core::Row;
 use share_core::{Range, piece};
 use std::thread::Threads;
 use work_core::Crew;
@@ -24,8 +28,8 @@ struct RowRecords<'a> {
 impl<'a> RecordList for RowRecords<'a> {
     ghost records = { λ r. map row_record r.rows.now };
 
-    fn print_piece(&self, writer: &mut AnswerWriter, places: Range<usize>) -> Result<(), NoMemory> {
-        writer.row_items(piece(places, self.rows))
+    fn print_piece(&self, text: &mut RecordText, places: Range<usize>) -> Result<(), NoMemory> {
+        text.rows(piece(places, self.rows))
     }
 }
 
@@ -38,8 +42,8 @@ struct VersionRecords<'a> {
 impl<'a> RecordList for VersionRecords<'a> {
     ghost records = { λ r. map version_record r.versions.now };
 
-    fn print_piece(&self, writer: &mut AnswerWriter, places: Range<usize>) -> Result<(), NoMemory> {
-        writer.version_items(piece(places, self.versions))
+    fn print_piece(&self, text: &mut RecordText, places: Range<usize>) -> Result<(), NoMemory> {
+        text.versions(piece(places, self.versions))
     }
 }
 
@@ -75,20 +79,8 @@ impl AnswerWriter {
         ensures ok { OnOk result (Adds self.old self.new (together_record commit ∷ [])) }
         ensures err { OnErr result (self.new ≡ nothing) }
     {
-        let printed = self.opening(commit);
+        let printed = self.text.opening(commit);
         self.settled(printed)
-    }
-
-    /// What printing gave. Where a growth was refused, nothing is kept.
-    fn settled(&mut self, printed: Result<(), NoMemory>) -> Result<(), NoMemory>
-        ensures same { result ≡ printed }
-        ensures ok { OnOk result (self.new ≡ self.old) }
-        ensures err { OnErr result (self.new ≡ nothing) }
-    {
-        if printed.is_err() {
-            self.restart();
-        }
-        printed
     }
 
     fn print_records<R: Threads + Sync, G>(
@@ -115,35 +107,35 @@ impl AnswerWriter {
         }
     }
 
-    /// The answer to a command that is refused.
     fn refuse(&mut self, fault: Fault) -> Result<(), NoMemory>
-        requires { self.old.fields ≡ [] }
         ensures { OnOk result (Adds self.old self.new (error_record fault ∷ [])) }
     {
-        self.field(b"error")?;
-        self.number(fault.number)?;
-        self.field(fault.refusal.text())?;
-        self.end_record()
+        self.text.refusal(fault)
     }
 
-    /// The answer to a change that is accepted.
     fn accept(&mut self, commit: u64) -> Result<(), NoMemory>
-        requires { self.old.fields ≡ [] }
         ensures { OnOk result (Adds self.old self.new (ok_record commit ∷ [])) }
     {
-        self.field(b"ok")?;
-        self.number(commit)?;
-        self.end_record()
+        self.text.accepted(commit)
     }
 
-    /// The beginning of the answer to a block of commands.
-    fn opening(&mut self, commit: u64) -> Result<(), NoMemory>
-        requires { self.old.fields ≡ [] }
-        ensures { OnOk result (Adds self.old self.new (together_record commit ∷ [])) }
+    fn verdict(&mut self, verdict: Verdict) -> Result<(), NoMemory>
+        ensures { OnOk result (Adds self.old self.new (verdict_record verdict ∷ [])) }
     {
-        self.field(b"together")?;
-        self.number(commit)?;
-        self.end_record()
+        self.text.verdict(verdict)
+    }
+
+    fn log(&mut self, log: &Log) -> Result<(), NoMemory>
+        ensures { OnOk result (Adds self.old self.new (commit_records log.now)) }
+    {
+        self.text.log(log)
+    }
+
+    /// Ends the records of a list, of which there are so many.
+    pub(crate) fn end(&mut self, count: u64) -> Result<(), NoMemory>
+        ensures { OnOk result (Adds self.old self.new (end_record count ∷ [])) }
+    {
+        self.text.end_of_list(count)
     }
 
     /// Rows, and how many there are.
@@ -152,7 +144,6 @@ impl AnswerWriter {
         crew: &Crew<'_, R, G>,
         rows: &SharedRows,
     ) -> Result<(), NoMemory>
-        requires { self.old.fields ≡ [] }
         ensures { OnOk result (Adds self.old self.new (row_records rows.now)) }
     {
         let records = RowRecords {
@@ -162,34 +153,12 @@ impl AnswerWriter {
         self.end(rows.len() as u64)
     }
 
-    fn row_items(&mut self, rows: &[Row]) -> Result<(), NoMemory>
-        requires { self.old.fields ≡ [] }
-        ensures { OnOk result (Adds self.old self.new (map row_record rows.now)) }
-    {
-        for row in rows {
-            self.row(row)?;
-        }
-        Ok(())
-    }
-
-    fn row(&mut self, row: &Row) -> Result<(), NoMemory>
-        requires { self.old.fields ≡ [] }
-        ensures { OnOk result (Adds self.old self.new (row_record row.now ∷ [])) }
-    {
-        self.field(b"row")?;
-        self.number(row.id)?;
-        self.period(&row.period)?;
-        self.values(row.values.as_slice())?;
-        self.end_record()
-    }
-
     /// Versions, and how many there are.
     fn version_list<R: Threads + Sync, G>(
         &mut self,
         crew: &Crew<'_, R, G>,
         versions: &VersionList,
     ) -> Result<(), NoMemory>
-        requires { self.old.fields ≡ [] }
         ensures { OnOk result (Adds self.old self.new (version_records versions.now)) }
     {
         let records = VersionRecords {
@@ -198,10 +167,59 @@ impl AnswerWriter {
         self.by_places(crew, versions.len(), &records)?;
         self.end(versions.len() as u64)
     }
+}
 
-    fn version_items(&mut self, versions: &[Version]) -> Result<(), NoMemory>
-        requires { self.old.fields ≡ [] }
-        ensures { OnOk result (Adds self.old self.new (map version_record versions.now)) }
+impl RecordText {
+    /// The answer to a command that is refused.
+    fn refusal(&mut self, fault: Fault) -> Result<(), NoMemory>
+        ensures { OnOk result (self.new ≡ self.old ++ row_text answer_writer (error_record fault)) }
+    {
+        self.begin(b"error")?;
+        self.number(fault.number)?;
+        self.field(fault.refusal.text())?;
+        self.end()
+    }
+
+    /// The answer to a change that is accepted.
+    fn accepted(&mut self, commit: u64) -> Result<(), NoMemory>
+        ensures { OnOk result (self.new ≡ self.old ++ row_text answer_writer (ok_record commit)) }
+    {
+        self.begin(b"ok")?;
+        self.number(commit)?;
+        self.end()
+    }
+
+    /// The beginning of the answer to a block of commands.
+    fn opening(&mut self, commit: u64) -> Result<(), NoMemory>
+        ensures { OnOk result (self.new ≡ self.old ++ row_text answer_writer (together_record commit)) }
+    {
+        self.begin(b"together")?;
+        self.number(commit)?;
+        self.end()
+    }
+
+    fn rows(&mut self, rows: &[Row]) -> Result<(), NoMemory>
+        ensures { OnOk result (self.new ≡ self.old ++ bytes_of (map row_record rows.now)) }
+    {
+        for row in rows {
+            self.row(row)?;
+        }
+        Ok(())
+    }
+
+    fn row(&mut self, row: &Row) -> Result<(), NoMemory>
+        ensures { OnOk result (self.new ≡ self.old ++ row_text answer_writer (row_record row.now)) }
+    {
+        self.begin(b"row")?;
+        self.number(row.id)?;
+        self.period(&row.period)?;
+        self.values(row.values.as_slice())?;
+        self.end()
+    }
+
+    fn versions(&mut self, versions: &[Version]) -> Result<(), NoMemory>
+        ensures { OnOk result
+            (self.new ≡ self.old ++ bytes_of (map version_record versions.now)) }
     {
         for version in versions {
             self.version(version)?;
@@ -210,21 +228,20 @@ impl AnswerWriter {
     }
 
     fn version(&mut self, version: &Version) -> Result<(), NoMemory>
-        requires { self.old.fields ≡ [] }
-        ensures { OnOk result (Adds self.old self.new (version_record version.now ∷ [])) }
+        ensures { OnOk result
+            (self.new ≡ self.old ++ row_text answer_writer (version_record version.now)) }
     {
-        self.field(b"version")?;
+        self.begin(b"version")?;
         self.number(version.row.id)?;
         self.period(&version.row.period)?;
         self.number(version.sysfrom)?;
         self.system_end(version.systo)?;
         self.values(version.row.values.as_slice())?;
-        self.end_record()
+        self.end()
     }
 
     fn system_end(&mut self, end: Option<u64>) -> Result<(), NoMemory>
-        ensures { OnOk result
-            (self.new ≡ record self.old { fields = self.old.fields ++ end_text end ∷ [] }) }
+        ensures { OnOk result (self.new ≡ self.old ++ field_behind (end_text end)) }
     {
         match end {
             Some(commit) => self.number(commit),
@@ -232,33 +249,12 @@ impl AnswerWriter {
         }
     }
 
-    pub(crate) fn values(&mut self, values: &[Value]) -> Result<(), NoMemory>
-        ensures { OnOk result
-            (self.new ≡ record self.old { fields = self.old.fields ++ map value_text values.now }) }
-    {
-        for value in values {
-            self.value(value)?;
-        }
-        Ok(())
-    }
-
-    pub(crate) fn value(&mut self, value: &Value) -> Result<(), NoMemory>
-        ensures { OnOk result
-            (self.new ≡ record self.old { fields = self.old.fields ++ value_text value.now ∷ [] }) }
-    {
-        match value {
-            Value::Int(number) => self.signed(*number),
-            Value::Text(text) => self.field(text.as_bytes()),
-        }
-    }
-
     /// Ends the records of a list, of which there are so many.
-    pub(crate) fn end(&mut self, count: u64) -> Result<(), NoMemory>
-        requires { self.old.fields ≡ [] }
-        ensures { OnOk result (Adds self.old self.new (end_record count ∷ [])) }
+    pub(crate) fn end_of_list(&mut self, count: u64) -> Result<(), NoMemory>
+        ensures { OnOk result (self.new ≡ self.old ++ row_text answer_writer (end_record count)) }
     {
-        self.field(b"end")?;
+        self.begin(b"end")?;
         self.number(count)?;
-        self.end_record()
+        self.end()
     }
 }

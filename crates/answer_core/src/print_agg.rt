@@ -1,12 +1,15 @@
 //! Prints what the rows of a table come to.
-ghost use Rattle.std.specs.Prelude.{◌≡◌, ◌++◌, ◌∷◌, [], OnOk, map};
+ghost use Rattle.std.specs.Prelude.{◌≡◌, ◌++◌, [], OnOk, map};
 ghost use Rattle.std.specs.Option.{option_copied};
+ghost use Rattle.csv.specs.Writing.{fields_text, row_text};
 ghost use Rattle.agg_core.specs.Grouping.{agg_row_of};
 ghost use Rattle.agg_core.specs.Shares.{rows_in, rows_in_shares};
 ghost use Rattle.answer_core.specs.PrintedRecords.{agg_record, agg_records, group_fields};
+ghost use Rattle.answer_core.specs.RecordBytes.{answer_writer, bytes_of};
 ghost use Rattle.answer_core.specs.Unwritten.{Adds};
 
 use crate::ranges::RecordList;
+use crate::record_text::RecordText;
 use crate::writer::AnswerWriter;
 use agg_core::{AggRows, AggShare, Plateau};
 use period_core::NoMemory;
@@ -26,8 +29,8 @@ impl<'a> RecordList for PlateauRecords<'a> {
     ghost records = { λ p.
         map agg_record (map (agg_row_of p.share.now.groups.items) p.plateaus.now) };
 
-    fn print_piece(&self, writer: &mut AnswerWriter, places: Range<usize>) -> Result<(), NoMemory> {
-        writer.agg_rows(self.share, piece(places, self.plateaus))
+    fn print_piece(&self, text: &mut RecordText, places: Range<usize>) -> Result<(), NoMemory> {
+        text.agg_rows(self.share, piece(places, self.plateaus))
     }
 }
 
@@ -77,12 +80,13 @@ impl AnswerWriter {
         }
         Ok(())
     }
+}
 
+impl RecordText {
     /// The rows of some plateaus of a share.
     fn agg_rows(&mut self, share: &AggShare, plateaus: &[Plateau]) -> Result<(), NoMemory>
-        requires { self.old.fields ≡ [] }
-        ensures { OnOk result (Adds self.old self.new
-            (map agg_record (map (agg_row_of share.now.groups.items) plateaus.now))) }
+        ensures { OnOk result (self.new ≡ self.old
+            ++ bytes_of (map agg_record (map (agg_row_of share.now.groups.items) plateaus.now))) }
     {
         for plateau in plateaus {
             self.agg_row(share.group(plateau), plateau)?;
@@ -91,25 +95,23 @@ impl AnswerWriter {
     }
 
     fn agg_row(&mut self, group: Option<&Value>, plateau: &Plateau) -> Result<(), NoMemory>
-        requires { self.old.fields ≡ [] }
-        ensures { OnOk result (Adds self.old self.new (agg_record record {
+        ensures { OnOk result (self.new ≡ self.old ++ row_text answer_writer (agg_record record {
           group = option_copied group.entry;
           period = plateau.now.period;
           value = plateau.now.value;
-        } ∷ [])) }
+        })) }
     {
-        self.field(b"row")?;
+        self.begin(b"row")?;
         self.group(group)?;
         self.period(&plateau.period)?;
         self.wide(plateau.value)?;
-        self.end_record()
+        self.end()
     }
 
     /// The value of a group; nothing where all rows are one group.
     fn group(&mut self, group: Option<&Value>) -> Result<(), NoMemory>
-        ensures { OnOk result (self.new ≡ record self.old {
-          fields = self.old.fields ++ group_fields (option_copied group.entry);
-        }) }
+        ensures { OnOk result (self.new ≡ self.old
+            ++ fields_text answer_writer (group_fields (option_copied group.entry))) }
     {
         match group {
             Some(value) => self.value(value),

@@ -1,10 +1,13 @@
 //! Prints rows of a table when none of another matched them.
-ghost use Rattle.std.specs.Prelude.{◌≡◌, ◌∷◌, [], OnOk, map};
+ghost use Rattle.std.specs.Prelude.{◌≡◌, ◌++◌, [], OnOk, map};
+ghost use Rattle.csv.specs.Writing.{row_text};
 ghost use Rattle.list_core.specs.Chunks.{all_in};
 ghost use Rattle.answer_core.specs.PrintedRecords.{anti_record, anti_records};
+ghost use Rattle.answer_core.specs.RecordBytes.{answer_writer, bytes_of};
 ghost use Rattle.answer_core.specs.Unwritten.{Adds};
 
 use crate::ranges::RecordList;
+use crate::record_text::RecordText;
 use crate::row_values::RowValues;
 use crate::unmatched::Unmatched;
 use crate::writer::AnswerWriter;
@@ -24,8 +27,8 @@ struct AntiRecords<'a> {
 impl<'a> RecordList for AntiRecords<'a> {
     ghost records = { λ a. map (anti_record a.left.now) a.rows.now };
 
-    fn print_piece(&self, writer: &mut AnswerWriter, places: Range<usize>) -> Result<(), NoMemory> {
-        writer.anti_rows(piece(places, self.rows), self.left)
+    fn print_piece(&self, text: &mut RecordText, places: Range<usize>) -> Result<(), NoMemory> {
+        text.anti_rows(piece(places, self.rows), self.left)
     }
 }
 
@@ -59,10 +62,12 @@ impl AnswerWriter {
         }
         Ok(())
     }
+}
 
+impl RecordText {
     fn anti_rows(&mut self, rows: &[AntiRow], left: &RowValues<'_>) -> Result<(), NoMemory>
-        requires { self.old.fields ≡ [] }
-        ensures { OnOk result (Adds self.old self.new (map (anti_record left.now) rows.now)) }
+        ensures { OnOk result
+            (self.new ≡ self.old ++ bytes_of (map (anti_record left.now) rows.now)) }
     {
         for row in rows {
             self.anti_row(row, left)?;
@@ -71,13 +76,13 @@ impl AnswerWriter {
     }
 
     fn anti_row(&mut self, row: &AntiRow, left: &RowValues<'_>) -> Result<(), NoMemory>
-        requires { self.old.fields ≡ [] }
-        ensures { OnOk result (Adds self.old self.new (anti_record left.now row.now ∷ [])) }
+        ensures { OnOk result
+            (self.new ≡ self.old ++ row_text answer_writer (anti_record left.now row.now)) }
     {
-        self.field(b"row")?;
+        self.begin(b"row")?;
         self.number(row.id)?;
         self.period(&row.period)?;
         self.values(left.of(row.id))?;
-        self.end_record()
+        self.end()
     }
 }

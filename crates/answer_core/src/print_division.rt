@@ -1,12 +1,15 @@
 //! Prints divisions, and the verdicts on claimed ones.
-ghost use Rattle.std.specs.Prelude.{◌≡◌, ◌≤◌, [], ◌∷◌, ℤ, List, OnOk, Option, codes, decimal, drop, length, map, take};
+ghost use Rattle.std.specs.Prelude.{◌≡◌, ◌≤◌, ◌∷◌, ◌++◌, ℤ, List, OnOk, Option, codes, decimal, drop, length, map, take};
+ghost use Rattle.csv.specs.Writing.{row_text};
 ghost use Rattle.share_core.specs.Pieces.{piece, piece_before, piece_from};
 ghost use Rattle.command_core.specs.Records.{Record};
+ghost use Rattle.answer_core.specs.RecordBytes.{answer_writer, bytes_of, field_behind};
 ghost use Rattle.answer_core.specs.Unwritten.{Adds};
-ghost use Rattle.answer_core.specs.PrintedRecords.{dip_record, division_records, part_record, part_records, verdict_record};
+ghost use Rattle.answer_core.specs.PrintedRecords.{dip_record, division_records, instant_text, part_record, part_records, verdict_record};
 ghost use Rattle.dip_core.specs.Division.{IsInstantOf};
 
 use crate::ranges::RecordList;
+use crate::record_text::RecordText;
 use crate::writer::AnswerWriter;
 use cert_core::Verdict;
 use dip_core::{Division, Part};
@@ -24,8 +27,8 @@ struct PartRecords<'a> {
 impl<'a> RecordList for PartRecords<'a> {
     ghost records = { λ p. part_records 0 p.division.now };
 
-    fn print_piece(&self, writer: &mut AnswerWriter, places: Range<usize>) -> Result<(), NoMemory> {
-        writer.some_parts(self.division, places)
+    fn print_piece(&self, text: &mut RecordText, places: Range<usize>) -> Result<(), NoMemory> {
+        text.some_parts(self.division, places)
     }
 }
 
@@ -62,7 +65,6 @@ impl AnswerWriter {
         rows: usize,
         division: &Division,
     ) -> Result<(), NoMemory>
-        requires { self.old.fields ≡ [] }
         ensures { OnOk result
             ((instant : Option ℤ) × IsInstantOf division.now instant
             × Adds self.old self.new (division_records rows division.now instant)) }
@@ -77,11 +79,10 @@ impl AnswerWriter {
         division: &Division,
         instant: Option<Point>,
     ) -> Result<(), NoMemory>
-        requires { self.old.fields ≡ [] }
         ensures { OnOk result
             (Adds self.old self.new (division_records rows division.now instant)) }
     {
-        self.heading(rows, division.parts(), instant)?;
+        self.text.heading(rows, division.parts(), instant)?;
         self.parts(crew, rows, division)
     }
 
@@ -92,19 +93,19 @@ impl AnswerWriter {
         rows: usize,
         division: &Division,
     ) -> Result<(), NoMemory>
-        requires { self.old.fields ≡ [] }
         ensures { OnOk result (Adds self.old self.new (part_records 0 division.now)) }
     {
         let size = (rows / (division.parts() as usize).max(1)).max(1);
         let shares = Shares::of(crew.alloc, rows, crew.workers, &|row: usize| row / size)?;
         self.by_ranges(crew, &shares, &PartRecords { division })
     }
+}
 
+impl RecordText {
     /// The parts of a range of places.
     fn some_parts(&mut self, division: &Division, places: Range<usize>) -> Result<(), NoMemory>
-        requires { self.old.fields ≡ [] }
-        ensures { OnOk result
-            (Adds self.old self.new (piece places (part_records 0 division.now))) }
+        ensures { OnOk result (self.new ≡ self.old
+            ++ bytes_of (piece places (part_records 0 division.now))) }
     {
         let end = end_of(places.before, division.parts());
         let start = start_of(places.from, end);
@@ -115,36 +116,40 @@ impl AnswerWriter {
     }
 
     fn heading(&mut self, rows: usize, parts: u32, instant: Option<Point>) -> Result<(), NoMemory>
-        requires { self.old.fields ≡ [] }
-        ensures { OnOk result (Adds self.old self.new (dip_record rows parts instant ∷ [])) }
+        ensures { OnOk result
+            (self.new ≡ self.old ++ row_text answer_writer (dip_record rows parts instant)) }
     {
-        self.field(b"dip")?;
+        self.begin(b"dip")?;
         self.number(rows as u64)?;
         self.number(u64::from(parts))?;
+        self.instant(instant)?;
+        self.end()
+    }
+
+    fn instant(&mut self, instant: Option<Point>) -> Result<(), NoMemory>
+        ensures { OnOk result (self.new ≡ self.old ++ field_behind (instant_text instant)) }
+    {
         match instant {
-            Some(instant) => self.point(instant)?,
-            None => self.field(b"-")?,
+            Some(instant) => self.point(instant),
+            None => self.field(b"-"),
         }
-        self.end_record()
     }
 
     fn part(&mut self, number: u32, part: Part<'_>) -> Result<(), NoMemory>
-        requires { self.old.fields ≡ [] }
-        ensures { OnOk result
-            (Adds self.old self.new (part_record number part.entry.items.now ∷ [])) }
+        ensures { OnOk result (self.new
+            ≡ self.old ++ row_text answer_writer (part_record number part.entry.items.now)) }
     {
-        self.field(b"part")?;
+        self.begin(b"part")?;
         self.number(u64::from(number))?;
         for item in part.items() {
             self.number(item.id)?;
         }
-        self.end_record()
+        self.end()
     }
 
     /// What a check of a claimed division says.
     pub(crate) fn verdict(&mut self, verdict: Verdict) -> Result<(), NoMemory>
-        requires { self.old.fields ≡ [] }
-        ensures { OnOk result (Adds self.old self.new (verdict_record verdict ∷ [])) }
+        ensures { OnOk result (self.new ≡ self.old ++ row_text answer_writer (verdict_record verdict)) }
     {
         match verdict {
             Verdict::WrongCount(parts) => self.refutation(b"WrongCount", &[parts]),
@@ -155,22 +160,21 @@ impl AnswerWriter {
             Verdict::Overlap(first, second) => self.refutation(b"Overlap", &[first, second]),
             Verdict::NotCrowded { holds } => self.refutation(b"NotCrowded", &[holds]),
             Verdict::Yes => {
-                self.field(b"yes")?;
-                self.end_record()
+                self.begin(b"yes")?;
+                self.end()
             }
         }
     }
 
     fn refutation(&mut self, name: &[u8], numbers: &[u64]) -> Result<(), NoMemory>
-        requires { self.old.fields ≡ [] }
-        ensures { OnOk result
-            (Adds self.old self.new ((codes "no" ∷ name.now ∷ map decimal numbers.now) ∷ [])) }
+        ensures { OnOk result (self.new ≡ self.old
+            ++ row_text answer_writer (codes "no" ∷ name.now ∷ map decimal numbers.now)) }
     {
-        self.field(b"no")?;
+        self.begin(b"no")?;
         self.field(name)?;
         for number in numbers {
             self.number(*number)?;
         }
-        self.end_record()
+        self.end()
     }
 }

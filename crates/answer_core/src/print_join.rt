@@ -1,11 +1,13 @@
 //! Prints rows of two tables that held together.
-ghost use Rattle.std.specs.Prelude.{◌≡◌, [], OnOk, map};
-ghost use Rattle.answer_core.specs.PrintedRecords.{join_record, join_records};
+ghost use Rattle.std.specs.Prelude.{◌≡◌, ◌++◌, OnOk, map};
+ghost use Rattle.csv.specs.Writing.{row_body, row_text};
+ghost use Rattle.answer_core.specs.PrintedRecords.{join_front, join_record, join_records};
+ghost use Rattle.answer_core.specs.RecordBytes.{answer_writer, bytes_of};
 ghost use Rattle.answer_core.specs.Unwritten.{Adds};
 
-use crate::join_records::push_records;
 use crate::joined::Joined;
 use crate::ranges::RecordList;
+use crate::record_text::RecordText;
 use crate::row_values::RowValues;
 use crate::writer::AnswerWriter;
 use join_core::JoinRow;
@@ -25,8 +27,8 @@ struct JoinRecords<'a> {
 impl<'a> RecordList for JoinRecords<'a> {
     ghost records = { λ j. map (join_record j.left.now j.right.now) j.rows.now };
 
-    fn print_piece(&self, writer: &mut AnswerWriter, places: Range<usize>) -> Result<(), NoMemory> {
-        writer.join_rows(piece(places, self.rows), self.left, self.right)
+    fn print_piece(&self, text: &mut RecordText, places: Range<usize>) -> Result<(), NoMemory> {
+        text.join_rows(piece(places, self.rows), self.left, self.right)
     }
 }
 
@@ -37,7 +39,6 @@ impl AnswerWriter {
         crew: &Crew<'_, R, G>,
         joined: &Joined,
     ) -> Result<(), NoMemory>
-        requires { self.old.fields ≡ [] }
         ensures { OnOk result (Adds self.old self.new (join_records joined.now)) }
     {
         let left = joined.left_values(crew.alloc)?;
@@ -50,19 +51,46 @@ impl AnswerWriter {
         self.by_places(crew, joined.rows().len(), &records)?;
         self.end(joined.rows().len() as u64)
     }
+}
 
+impl RecordText {
     fn join_rows(
         &mut self,
         rows: &[JoinRow],
         left: &RowValues<'_>,
         right: &RowValues<'_>,
     ) -> Result<(), NoMemory>
-        requires { self.old.fields ≡ [] }
         ensures { OnOk result
-            (Adds self.old self.new (map (join_record left.now right.now) rows.now)) }
+            (self.new ≡ self.old ++ bytes_of (map (join_record left.now right.now) rows.now)) }
     {
-        let mut text = Vec::new(self.alloc());
-        push_records(self.alloc(), &mut text, rows, left, right)?;
-        self.add_text(text)
+        for row in rows {
+            self.join_row(row, left, right)?;
+        }
+        Ok(())
+    }
+
+    fn join_row(
+        &mut self,
+        row: &JoinRow,
+        left: &RowValues<'_>,
+        right: &RowValues<'_>,
+    ) -> Result<(), NoMemory>
+        ensures { OnOk result (self.new
+            ≡ self.old ++ row_text answer_writer (join_record left.now right.now row.now)) }
+    {
+        self.join_front(row)?;
+        self.values(left.of(row.left))?;
+        self.values(right.of(row.right))?;
+        self.end()
+    }
+
+    /// Begins the record of two rows, up to their values.
+    fn join_front(&mut self, row: &JoinRow) -> Result<(), NoMemory>
+        ensures { OnOk result (self.new ≡ self.old ++ row_body answer_writer (join_front row.now)) }
+    {
+        self.begin(b"row")?;
+        self.period(&row.period)?;
+        self.number(row.left)?;
+        self.number(row.right)
     }
 }

@@ -1,25 +1,24 @@
 //! Prints the log of commits.
-ghost use Rattle.std.specs.Prelude.{◌≡◌, [], ◌∷◌, ◌++◌, OnOk, map};
-ghost use Rattle.answer_core.specs.Unwritten.{Adds};
+ghost use Rattle.std.specs.Prelude.{◌≡◌, ◌∷◌, ◌++◌, [], OnOk, codes, decimal, map};
+ghost use Rattle.csv.specs.Writing.{row_body, row_text};
+ghost use Rattle.answer_core.specs.RecordBytes.{answer_writer, bytes_of, field_behind};
 ghost use Rattle.answer_core.specs.PrintedRecords.{commit_record, commit_records, kind_text};
 
-use crate::writer::AnswerWriter;
+use crate::record_text::RecordText;
 use book_core::{ChangeKind, Entry, Log};
 use period_core::NoMemory;
 
-impl AnswerWriter {
+impl RecordText {
     /// The commits of a log, and how many there are.
     pub(crate) fn log(&mut self, log: &Log) -> Result<(), NoMemory>
-        requires { self.old.fields ≡ [] }
-        ensures { OnOk result (Adds self.old self.new (commit_records log.now)) }
+        ensures { OnOk result (self.new ≡ self.old ++ bytes_of (commit_records log.now)) }
     {
         self.entries(log.as_slice())?;
-        self.end(log.len() as u64)
+        self.end_of_list(log.len() as u64)
     }
 
     fn entries(&mut self, entries: &[Entry]) -> Result<(), NoMemory>
-        requires { self.old.fields ≡ [] }
-        ensures { OnOk result (Adds self.old self.new (map commit_record entries.now)) }
+        ensures { OnOk result (self.new ≡ self.old ++ bytes_of (map commit_record entries.now)) }
     {
         for entry in entries {
             self.entry(entry)?;
@@ -28,22 +27,29 @@ impl AnswerWriter {
     }
 
     fn entry(&mut self, entry: &Entry) -> Result<(), NoMemory>
-        requires { self.old.fields ≡ [] }
-        ensures { OnOk result (Adds self.old self.new (commit_record entry.now ∷ [])) }
+        ensures { OnOk result (self.new ≡ self.old ++ row_text answer_writer (commit_record entry.now)) }
     {
-        self.field(b"commit")?;
-        self.number(entry.number)?;
-        self.number(u64::from(entry.by))?;
-        self.kind(entry.kind)?;
+        self.entry_front(entry)?;
         self.field(entry.table.as_bytes())?;
         self.number(entry.added)?;
         self.number(entry.closed)?;
-        self.end_record()
+        self.end()
+    }
+
+    /// Begins the record of a commit, up to its table.
+    fn entry_front(&mut self, entry: &Entry) -> Result<(), NoMemory>
+        ensures { OnOk result (self.new ≡ self.old ++ row_body answer_writer
+            (codes "commit" ∷ decimal entry.now.number ∷ decimal entry.now.by
+            ∷ kind_text entry.now.kind ∷ [])) }
+    {
+        self.begin(b"commit")?;
+        self.number(entry.number)?;
+        self.number(u64::from(entry.by))?;
+        self.kind(entry.kind)
     }
 
     fn kind(&mut self, kind: ChangeKind) -> Result<(), NoMemory>
-        ensures { OnOk result
-            (self.new ≡ record self.old { fields = self.old.fields ++ kind_text kind ∷ [] }) }
+        ensures { OnOk result (self.new ≡ self.old ++ field_behind (kind_text kind)) }
     {
         match kind {
             ChangeKind::Make => self.field(b"table"),

@@ -1,10 +1,12 @@
 //! Records that workers make, each those of a range of places.
-ghost use Rattle.std.specs.Prelude.{◌≡◌, ◌++◌, [], List, IfOk, OnOk, flat_map};
+ghost use Rattle.std.specs.Prelude.{◌≡◌, ◌++◌, List, IfOk, OnOk};
+ghost use Rattle.list_core.specs.Chunks.{all_in};
 ghost use Rattle.share_core.specs.Pieces.{piece};
 ghost use Rattle.command_core.specs.Records.{Record};
 ghost use Rattle.answer_core.specs.RecordBytes.{bytes_of};
 ghost use Rattle.answer_core.specs.Unwritten.{Adds};
 
+use crate::record_text::RecordText;
 use crate::writer::AnswerWriter;
 use period_core::NoMemory;
 use share_core::{Range, Shares, shared_out};
@@ -18,42 +20,41 @@ pub(crate) trait RecordList: Sync {
     ghost records: { Self → List Record };
 
     /// Adds those of a range of places.
-    fn print_piece(&self, writer: &mut AnswerWriter, places: Range<usize>) -> Result<(), NoMemory>
-        requires { writer.old.fields ≡ [] }
-        ensures { OnOk result (Adds writer.old writer.new (piece places (records self.now))) };
+    fn print_piece(&self, text: &mut RecordText, places: Range<usize>) -> Result<(), NoMemory>
+        ensures { OnOk result
+            (text.new ≡ text.old ++ bytes_of (piece places (records self.now))) };
 }
 
-/// An answer of the records of a range of places.
-fn part_of<L: RecordList>(
+/// The text of the records of a range of places.
+fn text_of<L: RecordList>(
     alloc: Global,
     list: &L,
     places: Range<usize>,
-) -> Result<AnswerWriter, NoMemory>
-    ensures { IfOk result (λ part. part.text ≡ bytes_of (piece places (L.records list.now))) }
+) -> Result<Vec<u8>, NoMemory>
+    ensures { IfOk result (λ text. text.items ≡ bytes_of (piece places (L.records list.now))) }
 {
-    let mut part = AnswerWriter::new(alloc);
-    list.print_piece(&mut part, places)?;
-    Ok(part)
+    let mut text = RecordText::new(alloc);
+    list.print_piece(&mut text, places)?;
+    Ok(text.into_bytes())
 }
 
-/// The records of a list in several answers, one for each of the ranges.
-fn parts_of<R: Threads + Sync, G, L: RecordList>(
+/// The records of a list in several texts, one for each of the ranges.
+fn texts_of<R: Threads + Sync, G, L: RecordList>(
     crew: &Crew<'_, R, G>,
     shares: &Shares<usize>,
     list: &L,
-) -> Result<Vec<AnswerWriter>, NoMemory>
-    ensures { IfOk result (λ parts.
-        flat_map (λ part. part.text) parts.items ≡ bytes_of (L.records list.now)) }
+) -> Result<Vec<Vec<u8>>, NoMemory>
+    ensures { IfOk result (λ texts. all_in texts.items ≡ bytes_of (L.records list.now)) }
 {
     let Crew { rt, alloc, .. } = *crew;
     shared_out(
         rt,
         alloc,
         shares,
-        &|places: Range<usize>, _workers: u32| -> Result<AnswerWriter, NoMemory>
-            ensures { IfOk result (λ part.
-                part.text ≡ bytes_of (piece places (L.records list.entry.now))) }
-        { part_of(alloc, list, places) },
+        &|places: Range<usize>, _workers: u32| -> Result<Vec<u8>, NoMemory>
+            ensures { IfOk result (λ text.
+                text.items ≡ bytes_of (piece places (L.records list.entry.now))) }
+        { text_of(alloc, list, places) },
     )
 }
 
@@ -65,7 +66,6 @@ impl AnswerWriter {
         count: usize,
         list: &L,
     ) -> Result<(), NoMemory>
-        requires { self.old.fields ≡ [] }
         ensures { OnOk result (Adds self.old self.new (L.records list.now)) }
     {
         let shares = Shares::of(crew.alloc, count, crew.workers, &|place: usize| place)?;
@@ -79,7 +79,6 @@ impl AnswerWriter {
         shares: &Shares<usize>,
         list: &L,
     ) -> Result<(), NoMemory>
-        requires { self.old.fields ≡ [] }
         ensures { OnOk result (Adds self.old self.new (L.records list.now)) }
     {
         if shares.len() == 1 {
@@ -87,23 +86,9 @@ impl AnswerWriter {
                 from: None,
                 before: None,
             };
-            return list.print_piece(self, all);
+            return list.print_piece(&mut self.text, all);
         }
-        let parts = parts_of(crew, shares, list)?;
-        self.add_all(parts)
-    }
-
-    /// Adds the records of several answers.
-    fn add_all(&mut self, parts: Vec<AnswerWriter>) -> Result<(), NoMemory>
-        requires { self.old.fields ≡ [] }
-        ensures { OnOk result (self.new ≡ record {
-          text = self.old.text ++ flat_map (λ part. part.text) parts.items;
-          fields = [];
-        }) }
-    {
-        for part in parts {
-            self.add(part)?;
-        }
-        Ok(())
+        let texts = texts_of(crew, shares, list)?;
+        self.add_texts(texts)
     }
 }

@@ -1,0 +1,14 @@
+use Rattle.std.proofs.Common.{◌≡◌, ℕ, List, false, subst, sym, append_assoc, rules}
+use Rattle.std.proofs.lemmas.Result.{IfOk-equal}
+use Rattle.csv.specs.Writing.{needs_quotes}
+use Rattle.answer_core.specs.RecordBytes.{answer_writer}
+use Rattle.answer_core.proofs.FieldLemmas.{point_plain}
+use Rattle.answer_core.proofs.record_text.RecordText.period.Goals as goal
+
+pub push_plain-requires : goal.push_plain-requires
+push_plain-requires c =
+    subst (λ (bytes : List ℕ). needs_quotes answer_writer bytes ≡ false) (sym c.in_ok-text_of.ensures)
+    (point_plain c.args.period.now.to)
+
+pub returns : goal.returns
+returns c = search (rules, IfOk-equal, append_assoc)

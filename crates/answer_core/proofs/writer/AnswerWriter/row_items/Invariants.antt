@@ -1,8 +1,0 @@
--- The rows so far are printed.
-use Rattle.std.proofs.Common.{map, take}
-use Rattle.answer_core.specs.PrintedRecords.{row_record}
-use Rattle.answer_core.specs.Unwritten.{Adds}
-use Rattle.answer_core.proofs.writer.AnswerWriter.row_items.Given as goal
-
-abbrev pub invariant-loop-row : goal.invariant-loop-row
-invariant-loop-row l = Adds l.fn.self l.self (map row_record (take l.row-index l.rows))

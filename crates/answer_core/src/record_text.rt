@@ -1,0 +1,209 @@
+//! Makes the text of records field by field, as `csv` writes them: numbers and points as they are, other fields with
+//! the quotes that they call for.
+ghost use Rattle.std.specs.Prelude.{◌≡◌, ◌∷◌, ◌++◌, [], OnOk, decimal, false, map, true};
+ghost use Rattle.std.specs.Fmt.{signed_decimal};
+ghost use Rattle.csv.specs.Writing.{escaped, fields_text, needs_byte, needs_quotes};
+ghost use Rattle.period_core.specs.Point.{point_text};
+ghost use Rattle.answer_core.specs.PrintedRecords.{value_text};
+ghost use Rattle.answer_core.specs.RecordBytes.{answer_writer, field_behind};
+
+use crate::kept_text::KeptText;
+use itoa::Buffer;
+use period_core::{NoMemory, Period, Point};
+use row_core::Value;
+use std::alloc::Global;
+use std::marker::Model;
+
+/// The text of records, one behind another, of which the last may not have ended. Contracts see its bytes.
+#[derive(Drop)]
+pub(crate) struct RecordText {
+    bytes: Vec<u8>,
+    /// The starts and the ends of periods.
+    from: KeptText,
+    to: KeptText,
+}
+
+impl Model for RecordText {
+    ghost use Rattle.std.specs.Prelude.{ℕ, List};
+
+    ghost Value = { List ℕ };
+
+    ghost view = { λ t. t.bytes.items };
+}
+
+impl RecordText {
+    /// No records.
+    pub(crate) fn new(alloc: Global) -> Self
+        ensures { result ≡ [] }
+    {
+        RecordText {
+            bytes: Vec::new(alloc),
+            from: KeptText::new(alloc),
+            to: KeptText::new(alloc),
+        }
+    }
+
+    /// The bytes.
+    pub(crate) fn as_bytes(&self) -> &[u8]
+        ensures { result.now ≡ self.now }
+    {
+        &self.bytes
+    }
+
+    /// The bytes, where nothing more is added.
+    pub(crate) fn into_bytes(self) -> Vec<u8>
+        ensures { result.items ≡ self }
+    {
+        self.bytes
+    }
+
+    /// Drops all records. The room for them is kept.
+    pub(crate) fn clear(&mut self)
+        ensures { self.new ≡ [] }
+    {
+        self.bytes.clear();
+    }
+
+    /// Begins a record by a first field, which calls for no quotes.
+    pub(crate) fn begin(&mut self, word: &[u8]) -> Result<(), NoMemory>
+        ensures { OnOk result (self.new ≡ self.old ++ word.now) }
+    {
+        self.bytes.extend_from_slice(word)
+    }
+
+    /// Ends the record.
+    pub(crate) fn end(&mut self) -> Result<(), NoMemory>
+        ensures { OnOk result (self.new ≡ self.old ++ 10 ∷ []) }
+    {
+        self.bytes.extend_from_slice(b"\n")
+    }
+
+    /// Adds a field.
+    pub(crate) fn field(&mut self, field: &[u8]) -> Result<(), NoMemory>
+        ensures { OnOk result (self.new ≡ self.old ++ field_behind field.now) }
+    {
+        push_field(&mut self.bytes, field)
+    }
+
+    /// Adds a number.
+    pub(crate) fn number(&mut self, number: u64) -> Result<(), NoMemory>
+        ensures { OnOk result (self.new ≡ self.old ++ field_behind (decimal number)) }
+    {
+        let mut digits = Buffer::new();
+        push_plain(&mut self.bytes, digits.format(number).as_bytes())
+    }
+
+    /// Adds a number of up to 128 bits that may be negative.
+    pub(crate) fn wide(&mut self, number: i128) -> Result<(), NoMemory>
+        ensures { OnOk result (self.new ≡ self.old ++ field_behind (signed_decimal number)) }
+    {
+        let mut digits = Buffer::new();
+        push_field(&mut self.bytes, digits.format(number).as_bytes())
+    }
+
+    /// Adds a point.
+    pub(crate) fn point(&mut self, point: Point) -> Result<(), NoMemory>
+        ensures { OnOk result (self.new ≡ self.old ++ field_behind (point_text point)) }
+    {
+        push_plain(&mut self.bytes, self.from.text_of(point)?)
+    }
+
+    /// Adds the start and the end of a period.
+    pub(crate) fn period(&mut self, period: &Period) -> Result<(), NoMemory>
+        ensures { OnOk result (self.new ≡ self.old
+            ++ (field_behind (point_text period.now.from) ++ field_behind (point_text period.now.to))) }
+    {
+        self.point(period.from)?;
+        push_plain(&mut self.bytes, self.to.text_of(period.to)?)
+    }
+
+    /// Adds a value.
+    pub(crate) fn value(&mut self, value: &Value) -> Result<(), NoMemory>
+        ensures { OnOk result (self.new ≡ self.old ++ field_behind (value_text value.now)) }
+    {
+        match value {
+            Value::Int(number) => {
+                let mut digits = Buffer::new();
+                push_field(&mut self.bytes, digits.format(*number).as_bytes())
+            }
+            Value::Text(text) => push_field(&mut self.bytes, text.as_bytes()),
+        }
+    }
+
+    /// Adds values.
+    pub(crate) fn values(&mut self, values: &[Value]) -> Result<(), NoMemory>
+        ensures { OnOk result
+            (self.new ≡ self.old ++ fields_text answer_writer (map value_text values.now)) }
+    {
+        for value in values {
+            self.value(value)?;
+        }
+        Ok(())
+    }
+}
+
+/// Whether a field with this byte is written in quotes.
+fn needs_byte(byte: u8) -> bool
+    ensures { result ≡ needs_byte answer_writer byte }
+{
+    byte == b',' || byte == b'"' || byte == b'\r' || byte == b'\n'
+}
+
+/// Whether a field is written in quotes.
+fn needs_quotes(field: &[u8]) -> bool
+    ensures { result ≡ needs_quotes answer_writer field.now }
+{
+    field.iter().any(|byte| needs_byte(*byte))
+}
+
+/// Adds a field, in quotes where it calls for them.
+fn push_field(text: &mut Vec<u8>, field: &[u8]) -> Result<(), NoMemory>
+    ensures { OnOk result (text.new.items ≡ text.old.items ++ field_behind field.now) }
+{
+    if needs_quotes(field) {
+        push_quoted(text, field)
+    } else {
+        push_plain(text, field)
+    }
+}
+
+/// Adds a field that calls for no quotes.
+fn push_plain(text: &mut Vec<u8>, field: &[u8]) -> Result<(), NoMemory>
+    requires { needs_quotes answer_writer field.now ≡ false }
+    ensures { OnOk result (text.new.items ≡ text.old.items ++ field_behind field.now) }
+{
+    text.push(b',')?;
+    text.extend_from_slice(field)
+}
+
+/// Adds a field in quotes.
+fn push_quoted(text: &mut Vec<u8>, field: &[u8]) -> Result<(), NoMemory>
+    requires { needs_quotes answer_writer field.now ≡ true }
+    ensures { OnOk result (text.new.items ≡ text.old.items ++ field_behind field.now) }
+{
+    text.extend_from_slice(b",\"")?;
+    push_escaped(text, field)?;
+    text.extend_from_slice(b"\"")
+}
+
+/// Adds what stands between the quotes of a field.
+fn push_escaped(text: &mut Vec<u8>, field: &[u8]) -> Result<(), NoMemory>
+    ensures { OnOk result (text.new.items ≡ text.old.items ++ escaped answer_writer field.now) }
+{
+    for byte in field {
+        push_byte(text, *byte)?;
+    }
+    Ok(())
+}
+
+/// Adds a byte between quotes.
+fn push_byte(text: &mut Vec<u8>, byte: u8) -> Result<(), NoMemory>
+    ensures { OnOk result (text.new.items ≡ text.old.items ++ escaped answer_writer (byte ∷ [])) }
+{
+    if byte == b'"' {
+        text.extend_from_slice(b"\"\"")
+    } else {
+        text.push(byte)?;
+        Ok(())
+    }
+}
