@@ -8,7 +8,7 @@ use Rattle.std.proofs.lemmas.Fmt.{decimal_by_steps}
 use Rattle.std.proofs.lemmas.List.{map-append}
 use Rattle.std.proofs.lemmas.List.Elements.{All-append, All-cons}
 use Rattle.std.proofs.lemmas.List.Folds.{list_any_none}
-use Rattle.csv.specs.Writing.{escaped, field_text, fields_text, needs_byte, needs_quotes, quoted, row_body}
+use Rattle.csv.specs.Writing.{escaped, field_text, fields_text, needs_byte, needs_quotes, row_body}
 use Rattle.csv.proofs.WriteFacts.{escaped-append, escaped-double, escaped-other}
 use Rattle.period_core.specs.Point.{HourMinuteSecond, YearMonthDay, date_of_number, date_text, day_of, digits, point_text, second_of, text_behind, time_of_second, time_text}
 use Rattle.answer_core.specs.RecordBytes.{answer_writer, field_behind}
@@ -35,14 +35,6 @@ plain_byte b from =
 
 plain : (bytes : List ℕ) → All (λ b. 45 ≤ b) bytes → needs_quotes answer_writer bytes ≡ false
 plain bytes from = list_any_none (needs_byte answer_writer) bytes (λ k d within. plain_byte _ (from k d within))
-
--- a field as it is written with quotes, and without them
-pub in_quotes : (field : List ℕ) → needs_quotes answer_writer field ≡ true
-    → field_behind field ≡ 44 ∷ quoted answer_writer field
-in_quotes field calls = ap (λ (q : Bool). 44 ∷ cond q (quoted answer_writer field) field) calls
-
-pub as_it_is : (field : List ℕ) → needs_quotes answer_writer field ≡ false → field_behind field ≡ 44 ∷ field
-as_it_is field calls = ap (λ (q : Bool). 44 ∷ cond q (quoted answer_writer field) field) calls
 
 -- digits call for no quotes
 pub decimal_plain : (n : ℕ) → n < 2 ^ 64 → needs_quotes answer_writer (decimal n) ≡ false

@@ -1,4 +1,4 @@
-use Rattle.std.proofs.Common.{◌≡◌, ◌≤◌, ◌<◌, ◌++◌, ◌∙◌, ap, arith, drop, length, length-take, subst, sym, take}
+use Rattle.std.proofs.Common.{◌≡◌, ◌≤◌, ◌<◌, ◌++◌, ◌∙◌, ap, arith, drop, length, length-take, sym, take}
 use Rattle.share_core.specs.Pieces.{piece_from}
 use Rattle.answer_core.specs.PrintedRecords.{part_records}
 use Rattle.answer_core.specs.RecordBytes.{bytes_of}
