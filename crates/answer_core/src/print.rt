@@ -191,7 +191,8 @@ impl RecordText {
 
     /// The beginning of the answer to a block of commands.
     fn opening(&mut self, commit: u64) -> Result<(), NoMemory>
-        ensures { OnOk result (self.new ≡ self.old ++ row_text answer_writer (together_record commit)) }
+        ensures { OnOk result
+            (self.new ≡ self.old ++ row_text answer_writer (together_record commit)) }
     {
         self.begin(b"together")?;
         self.number(commit)?;

@@ -149,7 +149,8 @@ impl RecordText {
 
     /// What a check of a claimed division says.
     pub(crate) fn verdict(&mut self, verdict: Verdict) -> Result<(), NoMemory>
-        ensures { OnOk result (self.new ≡ self.old ++ row_text answer_writer (verdict_record verdict)) }
+        ensures { OnOk result
+            (self.new ≡ self.old ++ row_text answer_writer (verdict_record verdict)) }
     {
         match verdict {
             Verdict::WrongCount(parts) => self.refutation(b"WrongCount", &[parts]),

@@ -27,7 +27,8 @@ impl RecordText {
     }
 
     fn entry(&mut self, entry: &Entry) -> Result<(), NoMemory>
-        ensures { OnOk result (self.new ≡ self.old ++ row_text answer_writer (commit_record entry.now)) }
+        ensures { OnOk result
+            (self.new ≡ self.old ++ row_text answer_writer (commit_record entry.now)) }
     {
         self.entry_front(entry)?;
         self.field(entry.table.as_bytes())?;

@@ -111,7 +111,8 @@ impl RecordText {
     /// Adds the start and the end of a period.
     pub(crate) fn period(&mut self, period: &Period) -> Result<(), NoMemory>
         ensures { OnOk result (self.new ≡ self.old
-            ++ (field_behind (point_text period.now.from) ++ field_behind (point_text period.now.to))) }
+            ++ (field_behind (point_text period.now.from)
+            ++ field_behind (point_text period.now.to))) }
     {
         self.point(period.from)?;
         push_plain(&mut self.bytes, self.to.text_of(period.to)?)
