@@ -5,8 +5,7 @@ use Rattle.period_core.specs.Point.{point_text}
 use Rattle.row_core.specs.declared.row.Row.{Row}
 use Rattle.row_core.specs.declared.value.Value.{Value}
 use Rattle.row_core.specs.declared.value.Value.TheVariants.{Int, Text}
-use Rattle.book_core.specs.declared.log.ChangeKind.{ChangeKind}
-use Rattle.book_core.specs.declared.log.ChangeKind.TheVariants.{Make, Load, Update, Delete}
+use Rattle.book_core.specs.Words.{word_of}
 use Rattle.book_core.specs.declared.log.Entry.{Entry}
 use Rattle.version_core.specs.declared.version.Version.{Version}
 use Rattle.cert_core.specs.declared.verdict.Verdict.{Verdict}
@@ -117,17 +116,10 @@ agg_records rows = map agg_record rows ++ end_record (length rows) ∷ []
 
 -- ---- the log
 
--- a kind of change as it is printed
-abbrev pub kind_text : ChangeKind → List ℕ
-kind_text Make = codes "table"
-kind_text Load = codes "load"
-kind_text Update = codes "update"
-kind_text Delete = codes "delete"
-
 -- a commit: its number, who made it, what kind of change it is, its table, and how many versions it added and closed
 abbrev pub commit_record : Entry → Record
 commit_record e =
-    codes "commit" ∷ decimal e.number ∷ decimal e.by ∷ kind_text e.kind ∷ e.table ∷ decimal e.added
+    codes "commit" ∷ decimal e.number ∷ decimal e.by ∷ word_of e.kind ∷ e.table ∷ decimal e.added
     ∷ decimal e.closed ∷ []
 
 -- one record for each commit, and how many there are

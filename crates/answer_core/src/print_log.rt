@@ -1,11 +1,12 @@
 //! Prints the log of commits.
 ghost use Rattle.std.specs.Prelude.{◌≡◌, ◌∷◌, ◌++◌, [], OnOk, codes, decimal, map};
 ghost use Rattle.csv.specs.Writing.{row_body, row_text};
-ghost use Rattle.answer_core.specs.RecordBytes.{answer_writer, bytes_of, field_behind};
-ghost use Rattle.answer_core.specs.PrintedRecords.{commit_record, commit_records, kind_text};
+ghost use Rattle.book_core.specs.Words.{word_of};
+ghost use Rattle.answer_core.specs.RecordBytes.{answer_writer, bytes_of};
+ghost use Rattle.answer_core.specs.PrintedRecords.{commit_record, commit_records};
 
 use crate::record_text::RecordText;
-use book_core::{ChangeKind, Entry, Log};
+use book_core::{Entry, Log};
 use period_core::NoMemory;
 
 impl RecordText {
@@ -41,22 +42,11 @@ impl RecordText {
     fn entry_front(&mut self, entry: &Entry) -> Result<(), NoMemory>
         ensures { OnOk result (self.new ≡ self.old ++ row_body answer_writer
             (codes "commit" ∷ decimal entry.now.number ∷ decimal entry.now.by
-            ∷ kind_text entry.now.kind ∷ [])) }
+            ∷ word_of entry.now.kind ∷ [])) }
     {
         self.begin(b"commit")?;
         self.number(entry.number)?;
         self.number(u64::from(entry.by))?;
-        self.kind(entry.kind)
-    }
-
-    fn kind(&mut self, kind: ChangeKind) -> Result<(), NoMemory>
-        ensures { OnOk result (self.new ≡ self.old ++ field_behind (kind_text kind)) }
-    {
-        match kind {
-            ChangeKind::Make => self.field(b"table"),
-            ChangeKind::Load => self.field(b"load"),
-            ChangeKind::Update => self.field(b"update"),
-            ChangeKind::Delete => self.field(b"delete"),
-        }
+        self.field(entry.kind.word().as_bytes())
     }
 }
