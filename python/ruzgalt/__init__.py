@@ -28,7 +28,7 @@ Python 3.9 and its library are all that is needed. A module stands on those abov
     drawing, shades     the pieces of a drawing in SVG, and the colours of its bars
     labels, svg_steps   where labels stand; steps in SVG
     svg, picture_cli    how a picture is drawn as SVG; the words of `picture`
-    progress            a line that tells how far a tool is
+    progress, streams   a line that tells how far a tool is; standard input and output that are closed
     which, program      which program answers, for frames too; how tools ask it
     page                all answers as one page for a browser
     sheets              a CSV file with a header: its bytes, its records by pieces

@@ -1,6 +1,5 @@
 """The words of tools/answers: a subcommand for each thing that is done with a script and its answers."""
 import gc
-import signal
 import sqlite3
 import sys
 import textwrap
@@ -10,7 +9,7 @@ from typing import Callable, Dict, Iterable, NamedTuple, Optional, Sequence
 
 from ruzgalt import (
     answers, called, changes, commands, export, fitting, front, history, marks, overlaps, picks, picture_cli, program,
-    records, refusals, single, which,
+    records, refusals, single, streams, which,
 )
 from ruzgalt.errors import Misfit
 from ruzgalt.forms import read_point
@@ -40,8 +39,6 @@ def show(text: str) -> None:
 
 
 def show_pieces(pieces: Iterable[bytes]) -> None:
-    # Where what is printed isn't read to its end, as by `head`, the tool ends as other programs do.
-    signal.signal(signal.SIGPIPE, signal.SIG_DFL)
     for piece in pieces:
         sys.stdout.buffer.write(piece)
     sys.stdout.flush()
@@ -135,7 +132,12 @@ def do_history(options: Namespace) -> None:
     found = read(options)
     if not found.is_own:
         fitting.refuse_unfit(found.answers, found.answers)
+    newest = max((answer.commits for answer in found.answers), default=0)
+    if options.commit is not None and not 1 <= options.commit <= newest:
+        raise Misfit(f"--commit {options.commit}: no commit that is there: the newest is {newest}")
     table = history.of_table(found.answers, options.table, options.where, options.diary)
+    if options.where and not table.records:
+        warn(f"no row of {options.table} ever had what --where tells")
     table = history.retroactive(table) if options.retroactive else table
     show_pieces(export.to_csv(table if options.commit is None else history.of_commit(table, options.commit)))
 
@@ -143,6 +145,8 @@ def do_history(options: Namespace) -> None:
 def do_front(options: Namespace) -> int:
     """Tells what differs. The status is 1 where something does."""
     script, kept = bytes_of(options.script), bytes_of(options.kept)
+    if script and not kept:
+        warn(f"{options.kept} is empty, and so the front of any answers")
     lines = list(front.edits(bytes_of(options.before), script)) if options.before else []
     output = program.output(options.program, script)
     reading = answers.Reading(Source(output), True)
@@ -334,6 +338,7 @@ def usage() -> str:
 
 
 def main(words: Sequence[str]) -> int:
+    streams.prepare(called.ANSWERS_SAY)
     # What is read is kept to the end, so nothing is won by looking for what can be dropped.
     gc.disable()
     if not words or words[0] in ("-h", "--help"):
@@ -346,9 +351,12 @@ def main(words: Sequence[str]) -> int:
     try:
         return tool.do(options) or 0
     except OSError as error:
-        return fail(f"{error.filename}: {error.strerror}" if error.filename else str(error))
+        told = error.strerror or str(error)
+        return fail(f"{error.filename}: {told}" if error.filename else told)
     except (Misfit, sqlite3.Error, sqlite3.Warning) as error:
         return fail(str(error))
+    except MemoryError:
+        return fail("out of memory")
     except UnicodeEncodeError as error:
         return fail(f"SQLite has UTF-8 alone, and none is {records.visible(error.object)}")
 

@@ -21,7 +21,7 @@ FORMS: Dict[str, Pattern[str]] = {
     }.items()
 }
 # Excel counts days from here on, for all days since March 1900.
-EXCEL_BEGINNING = datetime(1899, 12, 30)
+EXCEL_BEGINNING, EXCEL_FIRST = datetime(1899, 12, 30), 61
 # What other programs write where there is no date.
 MISSING = ("", "-", "none", "null", "nan", "nat", "n/a", "unbefristet", "offen", "infinity", "\u221e")
 
@@ -33,6 +33,8 @@ def read_as(form: str, text: str) -> Optional[datetime]:
     parts = told.groupdict()
     try:
         if form == EXCEL:
+            if int(parts["days"]) < EXCEL_FIRST:
+                return None
             # The day's part is rounded to a second, as Excel shows it.
             seconds = round(float(f"0.{parts['part'] or 0}") * 86_400)
             return EXCEL_BEGINNING + timedelta(days=int(parts["days"]), seconds=seconds)
@@ -80,8 +82,11 @@ def is_month_end(text: str) -> bool:
 
 
 def is_far_off(text: str) -> bool:
-    """Whether a point is in a year that is seldom meant. The first day and the last year stand for what isn't known."""
-    return not ("1900" <= text[:4] <= "2098" or text[:4] == "9999" or text == "0001-01-01")
+    """Whether a point is one that is seldom meant. The first day and the last year stand for what isn't known.
+
+    1900-01-01 is what databases make of no date.
+    """
+    return not ("1900-01-01" < text < "2099" or text[:4] == "9999" or text == "0001-01-01")
 
 
 def names_of_forms() -> List[str]:

@@ -3,11 +3,12 @@ import re
 from typing import Dict, List, Optional, Sequence, Tuple
 
 from ruzgalt.errors import Misfit
+from ruzgalt.forms import is_integer
 
 # Spreadsheets part thousands by these too: a space, a no-break space, and a narrow one.
 SPACES = " \u00a0\u202f"
-# No number of the store has more digits.
-LONGEST_NUMBER = 19
+# All numbers with fewer digits are some of the store's.
+LONGEST_NUMBER = 18
 # One mark, with three digits behind it, parts thousands as well as decimals.
 EITHER = re.compile(r"-?[1-9]\d{0,2}[.,]\d{3}", re.ASCII)
 
@@ -86,10 +87,11 @@ class Scale:
         self.longest = max(self.longest, len(decimals))
         if len(decimals.rstrip("0")) > self.digits:
             raise Misfit(f"more than {self.digits} decimals")
-        if len(whole.lstrip("0")) + self.digits > LONGEST_NUMBER:
-            raise Misfit(f"no number of the store has more than {LONGEST_NUMBER} digits")
         number = int(whole.lstrip("0") + decimals[:self.digits].ljust(self.digits, "0") or "0")
-        return f"{sign if number else ''}{number}"
+        made = f"{sign if number else ''}{number}"
+        if not is_integer(made):
+            raise Misfit("the store's numbers are from -9223372036854775808 to 9223372036854775807")
+        return made
 
     def example(self) -> str:
         return "1.234,50" if self.marks.mark == "," else "1,234.50"

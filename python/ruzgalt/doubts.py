@@ -12,6 +12,8 @@ from ruzgalt.dates import is_far_off, is_month_end, shifted
 from ruzgalt.decimals import SPACES, number_in
 from ruzgalt.records import visible
 
+# Marks of how a text runs, control characters, and ends of lines and paragraphs.
+UNSEEN = ("Cf", "Cc", "Zl", "Zp")
 NO_BREAK = re.compile(f"[{SPACES[1:]}]")
 # Letters of Europe that are one character, and that no other character stands for.
 LETTER = "A-Za-z\u00c0-\u00d6\u00d8-\u00f6\u00f8-\u0131\u0134-\u013e\u0141-\u0148\u014a-\u017e"
@@ -19,28 +21,51 @@ LETTER = "A-Za-z\u00c0-\u00d6\u00d8-\u00f6\u00f8-\u0131\u0134-\u013e\u0141-\u014
 PLAIN = re.compile(f"(?!=)[!-~{LETTER}]+(?: [!-~{LETTER}]+)*")
 # Several of them, a line each, but for single spaces: no numbers, or whole ones, and without quotes.
 LINES = re.compile(f"(?:(?:[{LETTER}][ !#-~{LETTER}]*|[0-9][ !#-~{LETTER}]*(?<=[{LETTER}])|0|[1-9][0-9]*)\n)+")
+ENTITY = re.compile(r"&(?:#\d+|#x[0-9A-Fa-f]+|[A-Za-z]+\d*);")
+# What other programs write for no value, and in rows that sum up others.
+WORDS = {
+    **dict.fromkeys(("null", "none", "nan", "nat", "n/a"), "other programs write it for no value; it is a text"),
+    **dict.fromkeys(
+        ("total", "subtotal", "grand total", "sum", "summe", "gesamt", "zwischensumme", "gesamtsumme"),
+        "a row with a sum of others is loaded as they are",
+    ),
+}
+# Characters that look like those of ASCII: quotes, dashes, and letters of Cyrillic and Greek.
+LIKE_ASCII = str.maketrans(
+    "\u2018\u2019\u201a\u201b\u02bc\u201c\u201d\u201e\u2010\u2011\u2012\u2013\u2014\u2212"
+    "\u0410\u0412\u0415\u041a\u041c\u041d\u041e\u0420\u0421\u0422\u0423\u0425\u0430\u0435\u043e\u0440\u0441\u0443\u0445"
+    "\u0391\u0392\u0395\u0396\u0397\u0399\u039a\u039c\u039d\u039f\u03a1\u03a4\u03a5\u03a7\u03bf",
+    "'''''\"\"\"------ABEKMHOPCTYXaeopcyxABEZHIKMNOPTYXo",
+)
 ROUNDED = re.compile(r"-?\d+(?:[.,]\d+)?[eE][+-]?\d+", re.ASCII)
 
 
 def are_plain(texts: Sequence[str]) -> bool:
     """Whether all of the texts look like themselves, at once; some that do are left out."""
     lines = "\n".join([*texts, ""])
-    is_right = lines.count("\n") == len(texts) and "  " not in lines and " \n" not in lines
-    return is_right and bool(LINES.fullmatch(lines))
+    is_right = lines.count("\n") == len(texts) and "  " not in lines and " \n" not in lines and "\u00c3" not in lines
+    return is_right and bool(LINES.fullmatch(lines)) and not ("&" in lines and ENTITY.search(lines))
 
 
 def doubt_of(value: str, mark: str) -> Optional[str]:
     """What may not be meant in a text by itself."""
-    is_plain = PLAIN.fullmatch(value)
-    if is_plain and not value[-1].isdigit():
-        return None
-    if ROUNDED.fullmatch(value):
+    is_plain, last = PLAIN.fullmatch(value), value[-1:]
+    if value.lower() in WORDS:
+        return WORDS[value.lower()]
+    if last.isdigit() and ROUNDED.fullmatch(value):
         return "digits are rounded off; save the column as text, or as a number without an exponent"
     if value.startswith("="):
         return "a formula of a spreadsheet stays a text; save its value"
-    if mark == "," and set(value) & set(".,") and number_in(value, mark) is not None:
-        return "a number as 1.234,50; --decimals COLUMN=DIGITS makes it whole"
-    return None if is_plain else unseen_in(value)
+    if value.startswith("#"):
+        return "an error of a spreadsheet, or a comment, is a text here"
+    if value.startswith("'") and last.isdigit():
+        return "a spreadsheet's sign for a text is taken for a part of it"
+    if last.isdigit() and set(value) & set(".,") and number_in(value, mark) is not None:
+        example = "1.234,50" if mark == "," else "1,234.50"
+        return f"a number as {example}; --decimals COLUMN=DIGITS makes it whole"
+    if ENTITY.search(value):
+        return "a character is written as in a page of the web"
+    return None if is_plain and value.isascii() else unseen_in(value)
 
 
 def unseen_in(value: str) -> Optional[str]:
@@ -50,9 +75,19 @@ def unseen_in(value: str) -> Optional[str]:
         return "a space at an end makes it another text"
     if not unicodedata.is_normalized("NFC", value):
         return "a letter and its accent are two characters, and with one for both it is another text"
-    if any(unicodedata.category(character) == "Cf" for character in value):
+    if any(unicodedata.category(one) in UNSEEN for one in value.replace("\n", "").replace("\r", "")):
         return "a character that can't be seen makes it another text"
-    return None
+    if "\ufffd" in value:
+        return "another program has lost a character of it"
+    return "its letters were read in another encoding; save the file as UTF-8 anew" if is_garbled(value) else None
+
+
+def is_garbled(value: str) -> bool:
+    """Whether its characters are the bytes of UTF-8, each as Windows-1252 has it."""
+    try:
+        return not value.isascii() and bool(value.encode("cp1252").decode("utf-8"))
+    except UnicodeError:
+        return False
 
 
 def fold(value: str) -> str:
@@ -61,7 +96,7 @@ def fold(value: str) -> str:
         return value.lower()
     if not value.isascii():
         value = unicodedata.normalize("NFKC", value)
-        value = "".join(one for one in value if unicodedata.category(one) != "Cf")
+        value = "".join(one for one in value if unicodedata.category(one) != "Cf").translate(LIKE_ASCII)
     value = " ".join(value.split()).casefold()
     return value.lstrip("0") or "0" if value.isdigit() else value
 
@@ -75,7 +110,7 @@ class LookAlikes:
     def are_apart(self, values: Sequence[str]) -> bool:
         """Whether of plain texts none looks like another one, or like one before."""
         folds = "\n".join(values).casefold().split("\n")
-        return all(map(eq, map(self.by_fold.setdefault, folds, values), values))
+        return WORDS.keys().isdisjoint(folds) and all(map(eq, map(self.by_fold.setdefault, folds, values), values))
 
     def other(self, value: str) -> Optional[str]:
         found = self.by_fold.setdefault(fold(value), value)
@@ -179,6 +214,13 @@ class Ends:
         line, end = next(pair for pair in zip(chain(*self.lines), ends) if pair[1] in starts)
         return f"line {starts[end]} after line {line}"
 
+    def told_of_starts(self) -> Iterator[str]:
+        """Tells of updates of one key from one point on."""
+        pair = first_pair(self.starts, self.lines)
+        if pair:
+            told = f"updates the same {self.key} from the same point on as line {pair[1]}"
+            yield f"line {pair[0]} {told}, and the later one stands"
+
     def remedy(self) -> str:
         if self.is_last_day:
             return "--last-day takes it for the last day of a row; without it, the day before is the last"
@@ -195,6 +237,15 @@ class Ends:
             yield f"{self.name} is {days[0]}: {self.remedy()} ({of_all})"
 
 
+def first_pair(numbers: "array[int]", lines: Sequence[Sequence[int]]) -> Optional[Tuple[int, int]]:
+    """The lines of the first row that has another one's number, and of that one."""
+    if len(set(numbers)) == len(numbers):
+        return None
+    firsts: Dict[int, int] = {}
+    pairs = ((line, firsts.setdefault(number, line)) for line, number in zip(chain(*lines), numbers))
+    return next(pair for pair in pairs if pair[0] != pair[1])
+
+
 class Twins:
     """Tells a row that is equal to one before it. Of a row a number is kept, which is looked at when all are there."""
 
@@ -207,10 +258,8 @@ class Twins:
         self.rows.extend(map(hash, rows))
 
     def told(self) -> Iterator[str]:
-        count = len(self.rows) - len(set(self.rows))
-        if count:
-            firsts: Dict[int, int] = {}
-            pairs = ((line, firsts.setdefault(row, line)) for line, row in zip(chain(*self.lines), self.rows))
-            line, before = next(pair for pair in pairs if pair[0] != pair[1])
-            more = f"; {count - 1} more rows are so" if count > 1 else ""
-            yield f"line {line} makes the same row as line {before}, and both are loaded{more}"
+        pair = first_pair(self.rows, self.lines)
+        if pair:
+            count = len(self.rows) - len(set(self.rows)) - 1
+            more = f"; {count} more rows are so" if count else ""
+            yield f"line {pair[0]} makes the same row as line {pair[1]}, and both are loaded{more}"

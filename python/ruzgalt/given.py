@@ -4,7 +4,7 @@ from argparse import Namespace
 from pathlib import Path
 from typing import Dict, List, NamedTuple, Optional, Sequence
 
-from ruzgalt import answers, called, fitting, picks, program, questions, records, refusals, store
+from ruzgalt import answers, called, fitting, picks, program, questions, records, refusals, store, streams
 from ruzgalt.answers import Answer
 from ruzgalt.errors import Misfit
 
@@ -55,7 +55,7 @@ def read(options: Namespace, shows_refusals: bool = False, script: Optional[byte
 
 
 def bytes_of(name: str) -> bytes:
-    return sys.stdin.buffer.read() if name == "-" else Path(name).read_bytes()
+    return streams.given() if name == "-" else Path(name).read_bytes()
 
 
 def chosen(found: Found, words: Sequence[str]) -> List[picks.Pick]:

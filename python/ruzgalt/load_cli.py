@@ -1,16 +1,17 @@
 """The words of tools/csv-to-load."""
 import gc
 import os
-import signal
 import sys
 from argparse import ArgumentParser, ArgumentTypeError, Namespace
 from pathlib import Path
 from typing import List, Optional, Sequence, Tuple
 
-from ruzgalt import called, claims, commands, dates, records
+from ruzgalt import called, claims, commands, dates, records, streams
 from ruzgalt.errors import Misfit
+from ruzgalt.forms import is_name, read_point
 from ruzgalt.loading import Load
 from ruzgalt.reader import Source
+from ruzgalt.records import visible
 from ruzgalt.sheets import Sheet
 from ruzgalt.tables import Schema, is_schema
 from ruzgalt.words import decimals
@@ -132,7 +133,7 @@ def fit(options: Namespace, schema: Schema, header: List[str]) -> None:
 
 
 def given(options: Namespace) -> bytes:
-    return Path(options.file).read_bytes() if options.file else sys.stdin.buffer.read()
+    return Path(options.file).read_bytes() if options.file else streams.given()
 
 
 def load_of(options: Namespace) -> Tuple[Load, Optional[Schema]]:
@@ -148,12 +149,20 @@ def claimed(options: Namespace) -> bytes:
     """The check of a division that the file tells."""
     if options.column:
         raise Misfit(f"--check: a division has a part and an id alone, and not {options.column[0]}")
+    if options.check != "-" and read_point(options.check) is None:
+        raise Misfit(f"--check {options.check}: no point, as 2024-01-05, and no - for a table without rows")
+    unused = [word for word in ("part", "update", "record", "decimals") if getattr(options, word)]
+    if unused:
+        raise Misfit(f"--check takes no --{unused[0].replace('record', 'table')}: it makes no load")
     sheet = Sheet(given(options), options.line_breaks)
     return records.encode(claims.check_of(sheet, options.table, options.start, options.end, options.check))
 
 
 def made(options: Namespace) -> Tuple[List[bytes], List[str], List[str], int]:
     """What is printed; what is at fault, or what is noted; and how many faults there are."""
+    if not is_name(options.table):
+        form = "small letters, digits and _, at most 32, a letter first"
+        raise Misfit(f"{visible(options.table)}: no name of a table: {form}")
     if options.check is not None:
         return [claimed(options)], [], [], 0
     load, schema = load_of(options)
@@ -186,8 +195,7 @@ def show(pieces: Sequence[bytes]) -> None:
 
 
 def main(arguments: Sequence[str]) -> int:
-    # Where what is printed isn't read to its end, the tool ends as other programs do.
-    signal.signal(signal.SIGPIPE, signal.SIG_DFL)
+    streams.prepare(called.LOAD_SAYS)
     # What is read is dropped when it is done with, or kept to the end.
     gc.disable()
     pieces: List[bytes] = []
@@ -201,6 +209,8 @@ def main(arguments: Sequence[str]) -> int:
         faults, notes, count = [str(error)], [], 1
     except OSError as error:
         faults, notes, count = [f"{error.filename}: {error.strerror}"], [], 1
+    except MemoryError:
+        faults, notes, count = ["out of memory: --part 1/2 and --part 2/2 make two scripts of the file"], [], 1
     tell(faults or notes, count)
     show([FAILED] if count else pieces)
     return 1 if count else 0

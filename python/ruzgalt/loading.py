@@ -10,7 +10,7 @@ from ruzgalt.columns import Column, End, Start, Text, form_of, mark_of
 from ruzgalt.decimals import Marks, Scale, both_readings
 from ruzgalt.doubts import Ends, Notes, Twins
 from ruzgalt.errors import Misfit
-from ruzgalt.forms import is_name
+from ruzgalt.forms import is_name, read_point
 from ruzgalt.progress import Progress
 from ruzgalt.records import visible
 from ruzgalt.sheets import Piece, Sheet
@@ -183,6 +183,8 @@ class Load:
         if not self.rows:
             yield "no row stands behind the header, so the load has none"
         yield from [*self.notes.told(), *self.ends.told(), *self.twins.told(), *self.told_of_scales()]
+        if self.options.update:
+            yield from self.ends.told_of_starts()
         if self.rows > MOST_ROWS * 9 // 10 or self.bytes > MOST_BYTES * 9 // 10:
             limits = f"a script has {MOST_BYTES:,} bytes at most, a table {MOST_ROWS:,} versions of rows"
             told = f"{self.rows:,} rows in {self.bytes:,} bytes leave little room for corrections"
@@ -203,6 +205,8 @@ def refuse_header(header: List[str], names: List[str]) -> None:
     if unknown:
         shown = ", ".join(f"'{visible(name)}'" for name in header)
         raise Misfit(f"not in the header: {', '.join(map(visible, unknown))}; it has {shown}")
+    if any(read_point(name) for name in names[:2]):
+        raise Misfit(f"the first line is to have names, and has a date: {visible(','.join(header))}")
     twice = [name for name in names if header.count(name) > 1]
     if twice:
         raise Misfit(f"two columns of the header have the name {visible(twice[0])}")

@@ -26,6 +26,8 @@ def refuse_strange(data: bytes) -> None:
     """Refuses what is no text."""
     if data.startswith(b"PK\x03\x04") or data.startswith(b"\xd0\xcf\x11\xe0"):
         raise Misfit("this is a workbook of a spreadsheet, and no CSV: save the sheet there as CSV UTF-8")
+    if data.startswith(b"\x1f\x8b"):
+        raise Misfit("this is a packed file: `gunzip -c FILE` unpacks it")
     if b"\0" in data and not data.startswith((b"\xff\xfe", b"\xfe\xff")):
         line = data.count(b"\n", 0, data.index(b"\0")) + 1
         raise Misfit(f"line {line}: a zero byte, of {data.count(0)} in the file: `tr -d '\\000'` leaves them out")

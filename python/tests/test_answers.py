@@ -118,6 +118,12 @@ class Tables(unittest.TestCase):
         words = "history $S pay --answers $A --diary diary --retroactive --commit 3"
         self.prints(wanted, words, script, "".join(f"ok,{number}\n" for number in range(1, 6)))
 
+    def test_history_of_what_isn_t_there_is_told(self) -> None:
+        _, _, said = answers("history $S pay --answers $A --where person=a", PAY, "ok,1\nok,2\n")
+        self.assertIn("no row of pay ever had what --where tells", said)
+        status, _, said = answers("history $S pay --answers $A --commit 3", PAY, "ok,1\nok,2\n")
+        self.assertEqual((status, "no commit that is there: the newest is 2" in said), (1, True))
+
     def test_a_name_of_a_question_is_that_of_its_table(self) -> None:
         words = "sqlite $S :memory: --answers $A --ask all=rows,pay"
         self.prints("table,rows\nall,2\n", words, PAY, f"ok,1\nok,2\n{ROWS}")
@@ -189,6 +195,10 @@ class Fronts(unittest.TestCase):
             words = f"front $S {kept.name} --program $P"
             status, printed, _ = answers(words, PAY + "rows,pay\n", f"ok,1\nok,2\n{ROWS}")
         self.assertEqual((status, printed), (0, ""))
+
+    def test_an_empty_file_is_told(self) -> None:
+        status, printed, said = answers("front $S /dev/null --program $P", PAY, "ok,1\nok,2\n")
+        self.assertEqual((status, printed, "is empty, and so the front of any" in said), (0, "", True))
 
     def test_an_edited_record_is_told_with_its_line(self) -> None:
         with tempfile.NamedTemporaryFile("w") as kept, tempfile.NamedTemporaryFile("w") as before:

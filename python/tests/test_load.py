@@ -10,6 +10,7 @@ from unittest import mock
 
 from ruzgalt import load_cli, loading
 from ruzgalt.errors import Misfit
+from ruzgalt.records import visible
 
 HEADER = "Name,Pay,Start,End\n"
 WORDS = ["pay", "Start", "End", "Name", "Pay"]
@@ -120,6 +121,27 @@ class LookAlikeTexts(Case):
             with self.subTest(value):
                 self.told(part, rows(f"{value},1,2024-01-01,2024-02-05"))
 
+    def test_signs_that_look_alike_are_told(self) -> None:
+        for one, other in [("O'Neil", "O’Neil"), ("A-B", "A‑B"), ("A-B", "A–B"), ("A", "\u0410"), ("Gross", "Groß")]:
+            with self.subTest(other):
+                text = rows(f"{one},1,2024-01-01,2024-02-05", f"{other},1,2024-03-03,2024-04-05")
+                self.told(f"it is another text than '{one}', though they look alike", text)
+
+    def test_what_no_name_has_is_told(self) -> None:
+        for value, part in [
+            ("MÃ¼ller", "read in another encoding"), ("GroÃŸ", "read in another encoding"),
+            ("M\ufffdller", "has lost a character"), ("A\x07B", "can't be seen"), ("A\tB", "can't be seen"),
+            ("A\u2028B", "can't be seen"), ("M&uuml;ller", "in a page of the web"), ("NULL", "write it for no value"),
+            ("Summe", "with a sum of others"), ("# B", "or a comment"), ("#REF!", "or a comment"), ("'001", "sign for"),
+            ("1001.0", "a number as 1,234.50"), ("4800.50", "--decimals COLUMN=DIGITS makes it whole"),
+        ]:
+            for count in (0, 100):
+                with self.subTest(value, count=count):
+                    others = [f"N{number},1,2024-01-01,2024-03-05" for number in range(count)]
+                    text = rows(*others, f"{value},1,2024-01-01,2024-02-05")
+                    self.told(f"Name is '{visible(value)}', and is loaded so: ", text)
+                    self.told(part, text)
+
     def test_a_zero_byte_is_refused_with_its_line(self) -> None:
         self.refused("line 2: a zero byte, of 1 in the file", rows("A\0,1,2024-01-01,2024-02-05"))
 
@@ -150,6 +172,13 @@ class ManyValues(Case):
             with self.subTest(form):
                 text = rows(*(f"{name},1,2024-01-01,2024-03-05" for name in names))
                 self.told(f"Name is '{other}', and is loaded so: it is another text than '{form.format(250)}'", text)
+
+    def test_numbers_past_the_store_s_are_refused(self) -> None:
+        words = [*WORDS, "--decimals", "Pay=2"]
+        text = rows("A,92233720368547758.08,2024-01-01,2024-03-05")
+        self.refused("the store's numbers are from -92233", text, *words)
+        text = text.replace(",9", ",-9")
+        self.loaded("load,pay\nrow,2024-01-01,2024-03-05,A,-9223372036854775808\nend\n", text, *words)
 
     def test_numbers_of_many_forms_become_whole(self) -> None:
         for form in ("{}.25", "0.{:02}", "{}", "-{}.5", "1,{:03}.00"):
@@ -227,6 +256,12 @@ class Dates(Case):
         self.told("0204 is far off", rows("A,1,0204-01-01,2024-02-05"))
         self.told("--no-end '2099-12-31' makes it", rows("A,1,2024-01-01,2099-12-31"))
 
+    def test_the_first_of_1900_is_told(self) -> None:
+        self.told("1900 is far off", rows("A,1,1900-01-01,2024-02-05"))
+
+    def test_days_that_excel_counts_otherwise_are_refused(self) -> None:
+        self.refused("Start is '00060': no date as", rows("A,1,00060,45000"), *WORDS, "--dates", "45657")
+
     def test_a_start_that_isn_t_before_its_end_is_refused(self) -> None:
         self.refused("line 2: Start is 2024-03-05, and isn't before End, 2024-01-01", rows("A,1,2024-03-05,2024-01-01"))
         self.refused("2024-01-01; where that is the last day, --last-day", rows("A,1,2024-01-01,2024-01-01"))
@@ -238,6 +273,11 @@ class Updates(Case):
         wanted = 'update,pay,2024-01-01,2024-03-05,set,euros,1,where,person,"Hill, Grace"\n'
         self.loaded(wanted, text, "pay", "Start", "End", "person", "euros", "--update", "person")
 
+    def test_two_updates_of_one_key_and_start_are_told(self) -> None:
+        text = "person,euros,Start,End\nA,1,2024-01-01,2024-03-05\nA,2,2024-01-01,2024-04-05\n"
+        told = "line 3 updates the same person from the same point on as line 2, and the later one stands"
+        self.told(told, text, "pay", "Start", "End", "person", "euros", "--update", "person")
+
     def test_names_that_are_none_of_a_table_are_refused(self) -> None:
         self.refused("Name is no name of a table's", rows("A,1,2024-01-01,2024-03-05"), *WORDS, "--update", "Name")
 
@@ -248,11 +288,28 @@ class Claims(Case):
         wanted = "check,posts,2,2024-01-05\npart,1,3\npart,2\nend\n"
         self.loaded(wanted, text, "posts", "Post", "Contract", "--check", "2024-01-05")
 
+    def test_words_of_a_load_are_refused(self) -> None:
+        words = ["posts", "P", "I", "--check"]
+        self.refused("--check x: no point", "P,I\nA,1\n", *words, "x")
+        for more in (["--part", "1/2"], ["--update", "P"], ["--table", "table,posts"]):
+            self.refused(f"--check takes no {more[0]}", "P,I\nA,1\n", *words, "2024-01-05", *more)
+
     def test_an_id_that_is_none_is_refused_with_its_line(self) -> None:
         self.refused("line 2: A,x: no row with a part", "P,I\nA,x\n", "posts", "P", "I", "--check", "2024-01-05")
 
 
 class Files(Case):
+    def test_a_first_line_without_names_is_refused(self) -> None:
+        text, words = "A,1,2024-01-01,2024-03-05\nB,1,2024-01-01,2024-03-05\n", ["2024-01-01", "2024-03-05", "A", "1"]
+        self.refused("the first line is to have names, and has a date", text, "pay", *words)
+
+    def test_a_name_that_no_table_has_is_refused(self) -> None:
+        for name in ("Pay", "my pay", "a,b", "1a", ""):
+            self.refused("no name of a table", rows("A,1,2024-01-01,2024-03-05"), name, *WORDS[1:])
+
+    def test_a_packed_file_is_told_as_that(self) -> None:
+        self.refused("this is a packed file", b"\x1f\x8b\x08\x00")
+
     def test_a_workbook_is_told_as_that(self) -> None:
         self.refused("this is a workbook of a spreadsheet", b"PK\x03\x04...")
 

@@ -1,0 +1,59 @@
+"""The tools as a shell runs them: with closed streams, a full device, and ended by Ctrl-C."""
+import signal
+import subprocess
+import sys
+import time
+import unittest
+from typing import List, Tuple
+
+from tests.support import TOP
+
+LOADS = "tools/csv-to-load pay Start End Name"
+CSV = "Name,Start,End\n Hill,2024-01-01,2024-03-05\n"
+LOADED = "load,pay\nrow,2024-01-01,2024-03-05, Hill\nend\n"
+
+
+def run(command: str, given: str = CSV) -> Tuple[int, str, str]:
+    """The status of a command of a shell, what it prints and what it says."""
+    ran = subprocess.run(["bash", "-c", command], cwd=TOP, input=given, capture_output=True, text=True)
+    return ran.returncode, ran.stdout, ran.stderr
+
+
+class ClosedStreams(unittest.TestCase):
+    def test_a_closed_input_is_told(self) -> None:
+        told = (1, "csv-to-load failed\n", "csv-to-load: standard input is closed\n")
+        self.assertEqual(run(f"{LOADS} <&-"), told)
+        self.assertEqual(run("tools/answers list - <&-"), (1, "", "answers: standard input is closed\n"))
+
+    def test_a_closed_output_is_told(self) -> None:
+        self.assertEqual(run(f"{LOADS} >&-"), (1, "", "csv-to-load: standard output is closed\n"))
+        self.assertEqual(run("tools/answers list - >&-"), (1, "", "answers: standard output is closed\n"))
+
+    def test_where_nothing_can_be_told_the_load_is_printed(self) -> None:
+        self.assertEqual(run(f"{LOADS} 2>&-"), (0, LOADED, ""))
+
+    def test_a_full_device_is_told(self) -> None:
+        status, _, said = run(f"{LOADS} >/dev/full")
+        self.assertEqual((status, said.splitlines()[-1]), (1, "csv-to-load: No space left on device"))
+        script = "examples/pay.csv"
+        status, _, said = run(f"tools/answers list {script} --answers {script}.stdout >/dev/full")
+        self.assertEqual((status, said), (1, "answers: No space left on device\n"))
+
+
+class CtrlC(unittest.TestCase):
+    def ended(self, words: List[str]) -> None:
+        """A tool that waits for its input ends by the signal, without a word."""
+        with subprocess.Popen(
+            [sys.executable, *words], cwd=TOP, stdin=subprocess.PIPE, stdout=subprocess.PIPE, stderr=subprocess.PIPE,
+        ) as tool:
+            time.sleep(1)
+            tool.send_signal(signal.SIGINT)
+            self.assertEqual((tool.wait(10), *tool.communicate()), (-signal.SIGINT, b"", b""))
+
+    def test_the_tools_end_by_it(self) -> None:
+        self.ended(LOADS.split(" "))
+        self.ended(["tools/answers", "list", "-"])
+
+
+if __name__ == "__main__":
+    unittest.main()
