@@ -185,8 +185,10 @@ class Ends:
         """Adds rows with their points as they are loaded."""
         others = list(map(self.days.__getitem__, ends))
         told, behind = (others, ends) if self.is_last_day else (ends, others)
+        # A row of one day doesn't meet itself.
+        met = ["" if start == end else end for start, end in zip(starts, told)] if self.is_last_day else told
         self.lines.append(lines)
-        for numbers, points in ((self.starts, starts), (self.same, told), (self.behind, behind)):
+        for numbers, points in ((self.starts, starts), (self.same, met), (self.behind, behind)):
             numbers.extend(map(hash, zip(keys, points)))
         self.counts.update(told)
 

@@ -56,7 +56,7 @@ class Marks:
         elif word == "at":
             self.add(answer, self.of_point(answer))
         elif word in PORTIONS:
-            self.add(answer, of_portion(answer.command.record.fields))
+            self.add(answer, of_portion(answer, store))
 
     def add(self, answer: Answer, told: Optional[str]) -> None:
         if told:
@@ -104,13 +104,17 @@ class Marks:
         return sorted(self.marks, key=lambda mark: mark.answer.number)
 
 
-def of_portion(texts: Sequence[str]) -> Optional[str]:
-    end = texts[3]
-    if "T23:59" in end and not end.startswith("9999"):
+def of_portion(answer: Answer, store: Store) -> Optional[str]:
+    """Tells a portion's end that looks like a last day, where it cuts a row."""
+    end = answer.command.record.fields[3]
+    is_second = "T23:59" in end and not end.startswith("9999")
+    if not is_second and not (end < NO_END and is_month_end(end)):
+        return None
+    if not any(end < version.row.end for version in store.change(answer).closed):
+        return None
+    if is_second:
         return f"{end} isn't in it: a day ends at the next one's midnight"
-    if end < NO_END and is_month_end(end):
-        return f"{end} isn't in it: a portion ends before its TO, so one that has this day ends on the next"
-    return None
+    return f"{end} isn't in it: a portion ends before its TO, so one that has this day ends on the next"
 
 
 def of_count(answer: Answer, count: int) -> Optional[str]:

@@ -55,12 +55,17 @@ class Lists(unittest.TestCase):
         self.marks("without a `where` it acts on all rows of that time: 2 were changed", script, "ok,1\nok,2\nok,3\n")
 
     def test_a_portion_to_a_last_day_is_marked(self) -> None:
-        script = PAY + "delete,pay,2024-01-01,2024-12-31,where,person,A\n"
-        self.marks("2024-12-31 isn't in it: a portion ends before its TO", script, "ok,1\nok,2\nok,3\n")
+        script = PAY + "delete,pay,2024-01-01,2024-04-30,where,person,A\n"
+        self.marks("2024-04-30 isn't in it: a portion ends before its TO", script, "ok,1\nok,2\nok,3\n")
+
+    def test_a_portion_to_a_row_s_own_end_isn_t_marked(self) -> None:
+        script = PAY.replace("2024-06-01", "2024-05-31") + "delete,pay,2024-01-01,2024-05-31,where,person,A\n"
+        _, _, said = answers("list $S --answers $A", script, "ok,1\nok,2\nok,3\n")
+        self.assertEqual(said, "")
 
     def test_a_portion_to_the_last_second_is_marked(self) -> None:
-        script = PAY + "delete,pay,2024-01-01,2024-12-30T23:59:59,where,person,A\n"
-        self.marks("2024-12-30T23:59:59 isn't in it", script, "ok,1\nok,2\nok,3\n")
+        script = PAY + "delete,pay,2024-01-01,2024-05-30T23:59:59,where,person,A\n"
+        self.marks("2024-05-30T23:59:59 isn't in it", script, "ok,1\nok,2\nok,3\n")
 
     def test_a_row_to_the_last_second_is_marked(self) -> None:
         script = PAY + "load,pay\nrow,2024-07-01,2024-07-05T23:59:59,A,1\nend\n"

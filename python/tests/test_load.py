@@ -64,6 +64,12 @@ class LastDays(Case):
         text = rows("A,1,2024-01-01,2024-03-15", "A,2,2024-03-15,2024-06-02")
         self.told("1 start on it (line 3 after line 2): --last-day takes it", text, *WORDS, "--last-day")
 
+    def test_a_row_of_one_day_doesn_t_follow_itself(self) -> None:
+        text = rows("A,1,2024-01-05,2024-01-05", "B,2,2024-02-07,2024-02-07")
+        wanted = "load,pay\nrow,2024-01-05,2024-01-06,A,1\nrow,2024-02-07,2024-02-08,B,2\nend\n"
+        self.loaded(wanted, text, *WORDS, "--last-day")
+        self.loaded(wanted, text, "pay", "Start", "Start", "Name", "Pay", "--last-day")
+
     def test_rows_of_both_kinds_are_told(self) -> None:
         text = rows(
             "A,1,2024-01-01,2024-03-15", "A,2,2024-03-15,2024-05-20", "B,1,2024-01-01,2024-03-15",
