@@ -1,7 +1,7 @@
 """Points in the forms of other programs. A form is told by the last day of 2024 as it is written there."""
 import re
 from datetime import datetime, timedelta
-from typing import Dict, List, Optional, Pattern
+from typing import Dict, List, Optional, Pattern, Sequence, Tuple
 
 from ruzgalt.errors import Misfit
 from ruzgalt.forms import print_point, read_point
@@ -20,6 +20,7 @@ FORMS: Dict[str, Pattern[str]] = {
         "2024-12-31 00:00:00": rf"(?P<year>\d{{4}})-(?P<month>\d\d)-(?P<day>\d\d){TIME}",
     }.items()
 }
+SWAPPED = {"31/12/2024": "12/31/2024", "12/31/2024": "31/12/2024"}
 # Excel counts days from here on, for all days since March 1900.
 EXCEL_BEGINNING, EXCEL_FIRST = datetime(1899, 12, 30), 61
 # What other programs write where there is no date.
@@ -87,6 +88,22 @@ def is_far_off(text: str) -> bool:
     1900-01-01 is what databases make of no date.
     """
     return not ("1900-01-01" < text < "2099" or text[:4] == "9999" or text == "0001-01-01")
+
+
+def other_months(texts: Sequence[str], form: str) -> Optional[Tuple[str, int, int]]:
+    """The form with day and month the other way round, where it takes all texts, and gives them more months.
+
+    The months that they are of by it, and by the form that is told, stand behind it.
+    """
+    other = SWAPPED.get(form)
+    if other is None:
+        return None
+    written = [text for text in texts if "/" in text]
+    by_other, by_form = ([read_as(one, text) for text in written] for one in (other, form))
+    if None in by_other:
+        return None
+    wanted, found = (len({point.month for point in points if point}) for points in (by_other, by_form))
+    return (other, wanted, found) if wanted > found + 1 else None
 
 
 def names_of_forms() -> List[str]:

@@ -7,6 +7,7 @@ from zlib import crc32
 
 from ruzgalt import called, records
 from ruzgalt.columns import Column, End, Start, Text, form_of, mark_of
+from ruzgalt.dates import other_months
 from ruzgalt.decimals import Marks, Scale, both_readings
 from ruzgalt.doubts import Ends, Notes, Twins
 from ruzgalt.errors import Misfit
@@ -183,12 +184,20 @@ class Load:
         if not self.rows:
             yield "no row stands behind the header, so the load has none"
         yield from [*self.notes.told(), *self.ends.told(), *self.twins.told(), *self.told_of_scales()]
+        yield from self.told_of_swapped()
         if self.options.update:
             yield from self.ends.told_of_starts()
         if self.rows > MOST_ROWS * 9 // 10 or self.bytes > MOST_BYTES * 9 // 10:
             limits = f"a script has {MOST_BYTES:,} bytes at most, a table {MOST_ROWS:,} versions of rows"
             told = f"{self.rows:,} rows in {self.bytes:,} bytes leave little room for corrections"
             yield f"{told}: {limits}; --part 1/2 and --part 2/2 make two scripts of the file"
+
+    def told_of_swapped(self) -> Iterator[str]:
+        found = other_months([text.strip() for column in self.columns[:2] for text in column], self.options.dates or "")
+        if found:
+            other, wanted, months = found
+            told = f"--dates {other} reads all dates too, which are then of {wanted} months, and not of {months}"
+            yield f"{self.options.start} and {self.options.end}: {told}: which is meant?"
 
     def told_of_scales(self) -> Iterator[str]:
         for column in self.columns:

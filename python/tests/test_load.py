@@ -265,6 +265,15 @@ class Dates(Case):
     def test_the_first_of_1900_is_told(self) -> None:
         self.told("1900 is far off", rows("A,1,1900-01-01,2024-02-05"))
 
+    def test_days_and_months_the_other_way_round_are_told(self) -> None:
+        lines = [f"A{month},1,{month:02}/01/2024,{month + 1:02}/01/2024" for month in range(1, 12)]
+        told = "--dates 12/31/2024 reads all dates too, which are then of 12 months, and not of 1: which is meant?"
+        self.told(told, rows(*lines), *WORDS, "--dates", "31/12/2024")
+        _, found = load(rows(*lines), *WORDS, "--dates", "12/31/2024")
+        self.assertEqual(found, [])
+        _, found = load(rows(*lines, "B,1,01/13/2024,02/01/2024"), *WORDS, "--dates", "12/31/2024")
+        self.assertEqual(found, [])
+
     def test_days_that_excel_counts_otherwise_are_refused(self) -> None:
         self.refused("Start is '00060': no date as", rows("A,1,00060,45000"), *WORDS, "--dates", "45657")
 
