@@ -41,18 +41,36 @@ class ClosedStreams(unittest.TestCase):
 
 
 class CtrlC(unittest.TestCase):
-    def ended(self, words: List[str]) -> None:
-        """A tool that waits for its input ends by the signal, without a word."""
+    def ended(self, words: List[str], status: int, said: str) -> None:
+        """A tool that waits for its input ends so by the signal."""
         with subprocess.Popen(
             [sys.executable, *words], cwd=TOP, stdin=subprocess.PIPE, stdout=subprocess.PIPE, stderr=subprocess.PIPE,
         ) as tool:
             time.sleep(1)
             tool.send_signal(signal.SIGINT)
-            self.assertEqual((tool.wait(10), *tool.communicate()), (-signal.SIGINT, b"", b""))
+            self.assertEqual((tool.wait(10), *tool.communicate()), (status, b"", said.encode()))
 
     def test_the_tools_end_by_it(self) -> None:
-        self.ended(LOADS.split(" "))
-        self.ended(["tools/answers", "list", "-"])
+        self.ended(LOADS.split(" "), -signal.SIGINT, "")
+        self.ended(["tools/answers", "list", "-"], -signal.SIGINT, "")
+        about = "nothing is proved yet: the program is compiled from its sources, in about two minutes"
+        self.ended(["try"], 128 + signal.SIGINT, f"try: {about}; ./dipq proves it\n")
+
+
+class WrongWords(unittest.TestCase):
+    def test_each_tool_tells_its_words(self) -> None:
+        for words in (
+            "tools/check-random none", "tools/check-random . 5", "tools/check-random tools/answers x",
+            "tools/check-large none", "tools/check-large tools/answers 1 x", "bench/time-tools x",
+            "bench/time-tools 1 2 3", "try x", "tools/answers show x", "tools/csv-to-load",
+        ):
+            with self.subTest(words):
+                status, _, said = run(f"{sys.executable} {words}", "")
+                self.assertEqual((status, said.split(":")[0]), (2, "usage"))
+
+    def test_a_measure_without_a_program_is_none(self) -> None:
+        status, _, said = run(f"{sys.executable} bench/time-tools 10 /none", "")
+        self.assertEqual((status, "/none: no such program" in said), (1, True))
 
 
 if __name__ == "__main__":
