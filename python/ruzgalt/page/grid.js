@@ -10,6 +10,8 @@ const UNSEEN = /[\u0000-\u0008\u000b-\u001f\u007f-\u009f\u00ad\u200b\u200e\u200f
 const ON_PAPER = 100;
 // A text of so many characters at most stays in one line, where there is room.
 const BRIEF = 24;
+// A table of more records may need a bar to scroll, for which it has room beside its last column.
+const LONG = 12;
 
 function blockOf(id) {
   return JSON.parse(document.getElementById(id).textContent);
@@ -104,8 +106,8 @@ class Grid {
     this.more = pressed("Show more", () => { this.limit = data.shown; this.refresh(); });
     this.heads = columns.map(([name, kind], place) => this.headOf(name, kind, place));
     const table = make("table", {}, make("thead", {}, make("tr", {}, ...this.heads)), this.body);
-    const scroll = make("div", { class: "scroll", tabindex: "0", role: "region", "aria-label": label }, table);
-    this.element = make("div", { class: "table" }, this.toolsFor(label, file), scroll);
+    this.scroll = make("div", { class: "scroll", tabindex: "0", role: "region", "aria-label": label }, table);
+    this.element = make("div", { class: "table" }, this.toolsFor(label, file), this.scroll);
     this.refresh();
   }
 
@@ -166,6 +168,7 @@ class Grid {
     const found = this.found(), { limit, count, records, only } = this;
     this.visible = found.slice(0, limit);
     this.body.replaceChildren(...this.visible.map((record) => this.rowOf(record)));
+    this.scroll.classList.toggle("long", this.visible.length > LONG);
     const front = found.length > limit ? `first ${grouped(limit)} of ` : "";
     const lacking = records.length < count ? `; of ${grouped(count)} the others aren't in this page` : "";
     this.told.textContent = `${front}${counted(found.length, "record")}${this.words || only ? " found" : ""}${lacking}`;
