@@ -11,10 +11,12 @@ from pathlib import Path
 from typing import Any, Dict, List, Optional
 from unittest import mock
 
+from ruzgalt.answers import Answer
 from ruzgalt.errors import Misfit
 from ruzgalt.page import contents, document, drawings, sources
 from tests.support import TOP, ToolCase, kept, run
 from tests.test_answers import FAKE
+from tests.test_answers_scripts import SCRIPTS, found_in
 
 BLOCK = re.compile(r'<script type="application/json" id="([a-z]+(?:-\d+)?)">([^<]*)</script>\n')
 HOSTILE = [
@@ -114,6 +116,10 @@ class Documents(unittest.TestCase):
             self.assertGreaterEqual(contrast(colours["edge"], colours["paper"]), 3)
 
 
+def is_opened(answer: Answer) -> bool:
+    return answer.command.word == "together" and not answer.refusal
+
+
 def contrast(one: str, other: str) -> float:
     """How many times as light the one colour is as the other, as WCAG tells it."""
     lights = sorted(luminance(colour) + 0.05 for colour in (one, other))
@@ -127,6 +133,17 @@ def luminance(colour: str) -> float:
 
 
 class Contents(ToolCase):
+    def test_each_script_of_the_repository_gives_a_page(self) -> None:
+        for script in SCRIPTS:
+            with self.subTest(script.name):
+                words = [str(script), "--answers", f"{script}.stdout", "--go-on"]
+                status, page, said = run(["tools/answers", "page", *words])
+                self.assertEqual((status, said), (0, ""))
+                data = data_of(page)["data"]
+                told = len(data["commits"]) + len(data["questions"]) + len(data["refused"])
+                blocks = sum(map(is_opened, found_in(script)))
+                self.assertEqual(told + blocks, data["answers"])
+
     def test_the_head_tells_the_script_and_who_answered(self) -> None:
         data = data_of(example("pay"))["data"]
         script = Path(TOP, "examples/pay.csv").read_bytes()

@@ -70,6 +70,22 @@ class Texts(BrowserCase):
         self.assertEqual(self.value(tried), "TypeError")
         self.assertEqual(self.value("fetch('https://example.org/').then(() => 'asked', () => 'refused')"), "refused")
 
+    def test_a_name_of_a_file_is_no_html(self) -> None:
+        name = "<img src=x onerror=alert(1)>.csv"
+        script = Path(self.folder.name, name)
+        for file, text in ((script, "table,t\n"), (script.with_name(name + ".stdout"), "ok,1\n")):
+            file.write_text(text)
+        self.open(run(["tools/answers", "page", str(script), "--answers", f"{script}.stdout"])[1])
+        self.assertEqual(self.value("document.title"), f"Answers to {name}")
+        self.assertEqual(self.value("document.querySelector('h1').textContent"), f"Answers to {name}")
+        self.assertEqual(self.value("document.querySelectorAll('img').length"), 0)
+
+    def test_each_example_is_shown_without_a_fault(self) -> None:
+        for script in sorted(TOP.glob("examples/*.csv")):
+            with self.subTest(script.name):
+                self.open(example(script.stem))
+                self.assertIn(script.name, self.value("document.title"))
+
     def test_a_page_without_any_answer_is_shown(self) -> None:
         self.open(page_of("", ""))
         self.assertIn("The script asks nothing.", self.value("document.body.textContent"))
