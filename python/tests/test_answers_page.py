@@ -232,7 +232,9 @@ class Contents(ToolCase):
 
     def test_answers_that_the_changes_do_not_give_make_no_page(self) -> None:
         told = Path(TOP, "examples/pay.csv.stdout").read_text().replace(",5400", ",5401")
-        self.check(["tools/answers", "page", "examples/pay.csv", "--answers", "-"], told, 1, "answers: line 7: at,pay,")
+        words = ["tools/answers", "page", "examples/pay.csv", "--answers", "-"]
+        self.check(words, told, 1, "answers: line 7: at,pay,")
+        self.check([*words, "--once"], told, 1, "answers: line 7: at,pay,")
 
     def test_the_status_is_that_of_a_list(self) -> None:
         words = ["examples/payroll.csv", "--answers", "examples/payroll.csv.stdout"]

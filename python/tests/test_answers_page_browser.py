@@ -2,6 +2,7 @@
 
 Where the environment names a folder in PICTURES, what the pages look like is put there.
 """
+import json
 import os
 import re
 import tempfile
@@ -278,6 +279,17 @@ class Times(BrowserCase):
         self.assertEqual(told, "9 records said both times, 4 only then, 4 only now.")
         self.value("document.querySelector('#pairs input[type=checkbox]').click()")
         self.assertEqual([[row[0] for row in self.cells("#pairs", place)].count("") for place in (0, 1)], [9, 9])
+
+    def test_records_with_other_ids_alone_are_said_both_times(self) -> None:
+        self.open(example("pay"))
+        for word, then, now, mark in [
+            ("rows", "1,a", "2,a", ""), ("at", "1,a", "2,a", ""), ("anti", "1,a", "2,b", "x"),
+            ("join", "a,b,1,2", "a,b,3,4", ""), ("join", "a,b,1,2", "a,c,1,2", "x"),
+            ("agg", "1,a", "2,a", "x"), ("dip", "0,1", "0,2", "x"),
+        ]:
+            with self.subTest(word, then=then, now=now):
+                records = [json.dumps([record.split(",")]) for record in (then, now)]
+                self.assertEqual(self.value(f"marked('{word}', {', '.join(records)}, 'x')[0][0]"), mark)
 
     def test_of_two_equal_rows_one_may_be_new(self) -> None:
         rows = f"table,t\nload,t\nrow,{TIME}\nend\nload,t\nrow,{TIME}\nend\nrows,t,asof,2\nrows,t\n"
