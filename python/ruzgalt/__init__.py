@@ -33,6 +33,7 @@ Python 3.9 and its library are all that is needed. A module stands on those abov
     page                all answers as one page for a browser
     sheets              a CSV file with a header: its bytes, its records by pieces
     dates, decimals     points and numbers in the forms of other programs
+    looks               texts that look like others, or have what can't be seen
     doubts, marks       what may not be meant in a file that is loaded, and in a script
     columns, loading    what the values of a column become, and the load that is made of a file
     claims              somebody's division as a check

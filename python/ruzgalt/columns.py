@@ -6,9 +6,10 @@ from typing import Callable, Dict, Optional, Sequence
 from ruzgalt import dates
 from ruzgalt.dates import NO_END
 from ruzgalt.decimals import SPACES, Scale
-from ruzgalt.doubts import Doubt, LookAlikes, are_plain, doubt_of
+from ruzgalt.doubts import Doubt
 from ruzgalt.errors import Misfit
 from ruzgalt.forms import TEXT_LIMIT, is_integer, is_short
+from ruzgalt.looks import LookAlikes, are_plain, doubt_of
 from ruzgalt.records import Printer, visible
 from ruzgalt.tables import Kind
 

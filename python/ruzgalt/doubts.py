@@ -1,120 +1,12 @@
 """What may not be meant in a file that is loaded as it is: told once a column, with a count and a line."""
-import re
-import unicodedata
 from array import array
 from collections import Counter
 from itertools import chain
-from operator import eq
 from typing import Counter as Counts
 from typing import Dict, Iterator, List, NamedTuple, Optional, Sequence, Tuple
 
 from ruzgalt.dates import is_far_off, is_month_end, shifted
-from ruzgalt.decimals import SPACES, number_in
 from ruzgalt.records import visible
-
-# Marks of how a text runs, control characters, and ends of lines and paragraphs.
-UNSEEN = ("Cf", "Cc", "Zl", "Zp")
-NO_BREAK = re.compile(f"[{SPACES[1:]}]")
-# Letters of Europe that are one character, and that no other character stands for.
-LETTER = "A-Za-z\u00c0-\u00d6\u00d8-\u00f6\u00f8-\u0131\u0134-\u013e\u0141-\u0148\u014a-\u017e"
-# A text that looks like itself: words with single spaces between them, and no formula.
-PLAIN = re.compile(f"(?!=)[!-~{LETTER}]+(?: [!-~{LETTER}]+)*")
-# Several of them, a line each, but for single spaces: no numbers, or whole ones, and without quotes.
-LINES = re.compile(f"(?:(?:[{LETTER}][ !#-~{LETTER}]*|[0-9][ !#-~{LETTER}]*(?<=[{LETTER}])|0|[1-9][0-9]*)\n)+")
-ENTITY = re.compile(r"&(?:#\d+|#x[0-9A-Fa-f]+|[A-Za-z]+\d*);")
-# What other programs write for no value, and in rows that sum up others.
-WORDS = {
-    **dict.fromkeys(("null", "none", "nan", "nat", "n/a"), "other programs write it for no value; it is a text"),
-    **dict.fromkeys(
-        ("total", "subtotal", "grand total", "sum", "summe", "gesamt", "zwischensumme", "gesamtsumme"),
-        "a row with a sum of others is loaded as they are",
-    ),
-}
-# Characters that look like those of ASCII: quotes, dashes, and letters of Cyrillic and Greek.
-LIKE_ASCII = str.maketrans(
-    "\u2018\u2019\u201a\u201b\u02bc\u201c\u201d\u201e\u2010\u2011\u2012\u2013\u2014\u2212"
-    "\u0410\u0412\u0415\u041a\u041c\u041d\u041e\u0420\u0421\u0422\u0423\u0425\u0430\u0435\u043e\u0440\u0441\u0443\u0445"
-    "\u0391\u0392\u0395\u0396\u0397\u0399\u039a\u039c\u039d\u039f\u03a1\u03a4\u03a5\u03a7\u03bf",
-    "'''''\"\"\"------ABEKMHOPCTYXaeopcyxABEZHIKMNOPTYXo",
-)
-ROUNDED = re.compile(r"-?\d+(?:[.,]\d+)?[eE][+-]?\d+", re.ASCII)
-
-
-def are_plain(texts: Sequence[str]) -> bool:
-    """Whether all of the texts look like themselves, at once; some that do are left out."""
-    lines = "\n".join([*texts, ""])
-    is_right = lines.count("\n") == len(texts) and "  " not in lines and " \n" not in lines and "\u00c3" not in lines
-    return is_right and bool(LINES.fullmatch(lines)) and not ("&" in lines and ENTITY.search(lines))
-
-
-def doubt_of(value: str, mark: str) -> Optional[str]:
-    """What may not be meant in a text by itself."""
-    is_plain, last = PLAIN.fullmatch(value), value[-1:]
-    if value.lower() in WORDS:
-        return WORDS[value.lower()]
-    if last.isdigit() and ROUNDED.fullmatch(value):
-        return "digits are rounded off; save the column as text, or as a number without an exponent"
-    if value.startswith("="):
-        return "a formula of a spreadsheet stays a text; save its value"
-    if value.startswith("#"):
-        return "an error of a spreadsheet, or a comment, is a text here"
-    if value.startswith("'") and last.isdigit():
-        return "a spreadsheet's sign for a text is taken for a part of it"
-    if last.isdigit() and set(value) & set(".,") and number_in(value, mark) is not None:
-        example = "1.234,50" if mark == "," else "1,234.50"
-        return f"a number as {example}; --decimals COLUMN=DIGITS makes it whole"
-    if ENTITY.search(value):
-        return "a character is written as in a page of the web"
-    return None if is_plain and value.isascii() else unseen_in(value)
-
-
-def unseen_in(value: str) -> Optional[str]:
-    if NO_BREAK.search(value):
-        return "a no-break space makes it another text; --plain-spaces takes a space for it"
-    if value != value.strip():
-        return "a space at an end makes it another text"
-    if not unicodedata.is_normalized("NFC", value):
-        return "a letter and its accent are two characters, and with one for both it is another text"
-    if any(unicodedata.category(one) in UNSEEN for one in value.replace("\n", "").replace("\r", "")):
-        return "a character that can't be seen makes it another text"
-    if "\ufffd" in value:
-        return "another program has lost a character of it"
-    return "its letters were read in another encoding; save the file as UTF-8 anew" if is_garbled(value) else None
-
-
-def is_garbled(value: str) -> bool:
-    """Whether its characters are the bytes of UTF-8, each as Windows-1252 has it."""
-    try:
-        return not value.isascii() and bool(value.encode("cp1252").decode("utf-8"))
-    except UnicodeError:
-        return False
-
-
-def fold(value: str) -> str:
-    """What texts have in common that look alike: without capitals, accents of their own, spaces and zeros in front."""
-    if value.isascii() and value[-1:].isalpha() and "  " not in value and value[0] != " ":
-        return value.lower()
-    if not value.isascii():
-        value = unicodedata.normalize("NFKC", value)
-        value = "".join(one for one in value if unicodedata.category(one) != "Cf").translate(LIKE_ASCII)
-    value = " ".join(value.split()).casefold()
-    return value.lstrip("0") or "0" if value.isdigit() else value
-
-
-class LookAlikes:
-    """Finds a text that looks like another one which it isn't."""
-
-    def __init__(self) -> None:
-        self.by_fold: Dict[str, str] = {}
-
-    def are_apart(self, values: Sequence[str]) -> bool:
-        """Whether of plain texts none looks like another one, or like one before."""
-        folds = "\n".join(values).casefold().split("\n")
-        return WORDS.keys().isdisjoint(folds) and all(map(eq, map(self.by_fold.setdefault, folds, values), values))
-
-    def other(self, value: str) -> Optional[str]:
-        found = self.by_fold.setdefault(fold(value), value)
-        return None if found == value else found
 
 
 class Doubt(NamedTuple):

@@ -4,8 +4,8 @@ from typing import Dict, Iterator, List, NamedTuple, Optional, Sequence, Set, Tu
 
 from ruzgalt.answers import Answer
 from ruzgalt.dates import NO_END, is_month_end
-from ruzgalt.doubts import fold
 from ruzgalt.fields import where_places
+from ruzgalt.looks import fold
 from ruzgalt.reader import Block
 from ruzgalt.records import visible
 from ruzgalt.store import Store

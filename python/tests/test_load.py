@@ -135,7 +135,7 @@ class LookAlikeTexts(Case):
 
     def test_what_no_name_has_is_told(self) -> None:
         for value, part in [
-            ("MÃ¼ller", "read in another encoding"), ("GroÃŸ", "read in another encoding"),
+            ("MÃ¼ller", "read in another encoding"), ("GroÃŸ", "another encoding"), ("DaÄŸ", "another encoding"),
             ("M\ufffdller", "has lost a character"), ("A\x07B", "can't be seen"), ("A\tB", "can't be seen"),
             ("A\u2028B", "can't be seen"), ("M&uuml;ller", "in a page of the web"), ("NULL", "write it for no value"),
             ("Summe", "with a sum of others"), ("# B", "or a comment"), ("#REF!", "or a comment"), ("'001", "sign for"),
@@ -165,6 +165,7 @@ class ManyValues(Case):
 
     def test_each_row_keeps_its_value(self) -> None:
         forms = ["Person {}, A", "Özgür {} Şahin", "K-{}", "{}", "{} Müller", "e{}", 'Łódź "{}"', "Ω {}", "a\nb {} c"]
+        forms += ["Νίκος {} ω", "名前 {} 様"]
         for form in forms:
             names = [form.format(number) for number in range(1, 300)]
             names.extend(reversed(names))
@@ -173,7 +174,8 @@ class ManyValues(Case):
                 self.assertEqual(self.made(names, "--line-breaks"), wanted)
 
     def test_a_text_that_looks_like_one_of_many_is_told_with_both(self) -> None:
-        for form, other in [("Person {}", "PERSON 250"), ("Öz {} Straße", "öz 250 STRASSE"), ("{}", "0250")]:
+        pairs = [("Person {}", "PERSON 250"), ("Öz {} Straße", "öz 250 STRASSE"), ("{}", "0250"), ("C{}", "\u0421250")]
+        for form, other in pairs:
             names = [*map(form.format, range(1, 300)), other]
             with self.subTest(form):
                 text = rows(*(f"{name},1,2024-01-01,2024-03-05" for name in names))

@@ -3,8 +3,8 @@ from typing import Iterator, List, NamedTuple, Optional, Sequence, Tuple
 
 from ruzgalt import marks, overlaps, refusals
 from ruzgalt.answers import CHANGES, Answer
-from ruzgalt.doubts import fold
 from ruzgalt.fields import where_places
+from ruzgalt.looks import fold
 from ruzgalt.page.sources import CLOSED, MADE, VALUES, Sources, Tally
 from ruzgalt.records import short, to_record, visible
 from ruzgalt.store import Store
