@@ -17,7 +17,7 @@ TO_SPACE = str.maketrans(SPACES, " " * len(SPACES))
 
 
 # So few new values are made one by one.
-FEW = 64
+FEW = 8
 # What stands in quotes in a record.
 MARKED = re.compile('[,"\r\n]')
 # Whole numbers, a line each, that surely are some of the store.
