@@ -150,6 +150,8 @@ def odd_points(query: str) -> List[str]:
 
 
 BETWEEN_ENDS = re.compile(r"\bbetween\s+[\w.\"`]*valid_from[\"`]?\s+and\s+[\w.\"`]*valid_to", re.IGNORECASE)
+AT_END = re.compile(r"valid_to[\"`]?\s*>=|<=\s*[\w.\"`]*valid_to", re.IGNORECASE)
+YEARS = re.compile(r"valid_to[\"`]?\s*-\s*[\w.\"`]*valid_from", re.IGNORECASE)
 LENGTH = re.compile(r"julianday\s*\(\s*[\w.\"`]*valid_to", re.IGNORECASE)
 
 
@@ -157,6 +159,10 @@ def odd_periods(query: str, has_open_ends: bool) -> Iterator[str]:
     """What takes a record to hold at its end, or an end that isn't known for a day."""
     if BETWEEN_ENDS.search(query):
         yield "a record doesn't hold at its valid_to, which `between` includes: valid_from <= '..' and '..' < valid_to"
+    if AT_END.search(query) and "valid_from" in query.lower() and "9999" not in query:
+        yield "a record doesn't hold at its valid_to, which `>=` includes: valid_from <= '..' and '..' < valid_to"
+    if YEARS.search(query):
+        yield "points are texts, and their difference is of years: julianday(..) of both has days"
     if has_open_ends and LENGTH.search(query) and "9999" not in query and "min(" not in query.lower():
         yield "a length up to 9999-12-31, where no end is known, is 8,000 years: cut it, as by min(valid_to, '..')"
 

@@ -148,6 +148,17 @@ class Tables(unittest.TestCase):
                 _, _, said = answers(words, PAY.replace("2024-06-01", end), rows)
                 self.assertEqual(said[:len(told) or None], told)
 
+    def test_ends_that_are_included_or_subtracted_are_told(self) -> None:
+        for query, part in [
+            ("select * from a where valid_from <= '2024-03-01' and valid_to >= '2024-03-01'", "which `>=` includes"),
+            ("select * from a where valid_from <= '2024-03-01' and '2024-03-01' <= a.valid_to", "which `>=` includes"),
+            ("select valid_to - valid_from as days from a", "their difference is of years"),
+        ]:
+            words = ["sqlite", "$S", ":memory:", "--answers", "$A", "last=a", "--query", query.replace(" ", "\t")]
+            _, _, said = answers(" ".join(words), PAY + "rows,pay\n", "ok,1\nok,2\n" + ROWS)
+            with self.subTest(query):
+                self.assertEqual((said.count("\n"), part in said), (1, True), said)
+
     def test_between_the_ends_of_a_record_is_told(self) -> None:
         query = "select\t1\tfrom\ta\twhere\t'1'\tbetween\tvalid_from\tand\tvalid_to"
         words = f"sqlite $S :memory: --answers $A --ask a=rows,pay --query={query}"
