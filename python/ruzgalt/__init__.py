@@ -19,7 +19,7 @@ Python 3.9 and its library are all that is needed. A module stands on those abov
     again, fitting      queries done again, and whether answers can be those of a script
     changes, single     what really changed; a change of one row alone
     history, front      what each commit changed; whether kept answers are still the front of today's
-    export              CSV, SQLite and JSON
+    export, queries     CSV, SQLite and JSON; what may not be meant in a query of SQL
     timeline, cells     the axis of a picture; how wide a text is
     amounts, shapes     how numbers are printed; the bars and steps that a picture has
     wishes, squares     what is told beside an answer that is drawn; the picture of versions

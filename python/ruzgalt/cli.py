@@ -9,7 +9,7 @@ from typing import Callable, Dict, Iterable, NamedTuple, Optional, Sequence
 
 from ruzgalt import (
     answers, called, changes, commands, export, fitting, front, history, marks, overlaps, picks, picture_cli, program,
-    records, refusals, single, streams, which,
+    queries, records, refusals, single, streams, which,
 )
 from ruzgalt.errors import Misfit
 from ruzgalt.forms import read_point
@@ -92,10 +92,8 @@ def do_sqlite(options: Namespace) -> None:
         export.make_views(found, database, options.day)
     is_open = export.has_open_ends(found, database)
     for query in options.query:
-        for told in export.odd_periods(query, is_open):
+        for told in queries.doubts_of(query, is_open):
             warn(f"--query: {told}")
-        for text in export.odd_points(query):
-            warn(f"--query: {text} is compared as a text: points are as '2024-01-31' in the tables")
         show(asked(database, query, found))
     if not options.query:
         show(export.told_tables(found))

@@ -1,6 +1,5 @@
 """Writes answers as CSV with a header, as tables of SQLite, and as JSON."""
 import json
-import re
 import sqlite3
 from itertools import islice
 from pathlib import Path
@@ -10,6 +9,7 @@ from ruzgalt.answers import Answer, Listed
 from ruzgalt.errors import Misfit
 from ruzgalt.forms import is_integer, printed
 from ruzgalt.picks import Pick
+from ruzgalt.queries import QUOTED
 from ruzgalt.reader import PIECE
 from ruzgalt.records import Printer, encode, to_text
 from ruzgalt.tables import Kind, Table
@@ -121,7 +121,6 @@ def ask(database: sqlite3.Connection, query: str) -> str:
 
 
 # Texts, names in their three kinds of quotes, and comments.
-QUOTED = re.compile(r"'(?:[^']|'')*'|\"(?:[^\"]|\"\")*\"|`[^`]*`|\[[^\]]*\]|--[^\n]*|/\*.*?\*/", re.DOTALL)
 
 
 def with_names(query: str) -> str:
@@ -131,40 +130,6 @@ def with_names(query: str) -> str:
     an answer. Not all versions of Python can tell it to refuse; in backquotes it is always a name.
     """
     return QUOTED.sub(lambda found: in_backquotes(found[0]) if found[0].startswith('"') else found[0], query)
-
-
-# Days as they aren't written in the tables, and a point without quotes, which is a subtraction.
-ODD_DAY = re.compile(r"'(?:\d{1,2}[./]\d{1,2}[./]\d{4}|\d{4}-\d{1,2}-\d|\d{4}-\d-\d{1,2})'", re.ASCII)
-BARE_POINT = re.compile(r"\b\d{4}-\d\d-\d\d\b", re.ASCII)
-
-
-def odd_points(query: str) -> List[str]:
-    """What stands for a day in the query, and is in the order of time with none of the tables' points.
-
-    Raises Misfit where a point has no quotes.
-    """
-    bare = BARE_POINT.search(QUOTED.sub("''", query))
-    if bare:
-        raise Misfit(f"--query: {bare[0]} is a subtraction: a point stands in single quotes, as '{bare[0]}'")
-    return ODD_DAY.findall(query)
-
-
-BETWEEN_ENDS = re.compile(r"\bbetween\s+[\w.\"`]*valid_from[\"`]?\s+and\s+[\w.\"`]*valid_to", re.IGNORECASE)
-AT_END = re.compile(r"valid_to[\"`]?\s*>=|<=\s*[\w.\"`]*valid_to", re.IGNORECASE)
-YEARS = re.compile(r"valid_to[\"`]?\s*-\s*[\w.\"`]*valid_from", re.IGNORECASE)
-LENGTH = re.compile(r"julianday\s*\(\s*[\w.\"`]*valid_to", re.IGNORECASE)
-
-
-def odd_periods(query: str, has_open_ends: bool) -> Iterator[str]:
-    """What takes a record to hold at its end, or an end that isn't known for a day."""
-    if BETWEEN_ENDS.search(query):
-        yield "a record doesn't hold at its valid_to, which `between` includes: valid_from <= '..' and '..' < valid_to"
-    if AT_END.search(query) and "valid_from" in query.lower() and "9999" not in query:
-        yield "a record doesn't hold at its valid_to, which `>=` includes: valid_from <= '..' and '..' < valid_to"
-    if YEARS.search(query):
-        yield "points are texts, and their difference is of years: julianday(..) of both has days"
-    if has_open_ends and LENGTH.search(query) and "9999" not in query and "min(" not in query.lower():
-        yield "a length up to 9999-12-31, where no end is known, is 8,000 years: cut it, as by min(valid_to, '..')"
 
 
 def has_open_ends(picks: Sequence[Pick], database: sqlite3.Connection) -> bool:
