@@ -120,9 +120,6 @@ def ask(database: sqlite3.Connection, query: str) -> str:
         return to_text([header, *(["" if field is None else str(field) for field in row] for row in found)])
 
 
-# Texts, names in their three kinds of quotes, and comments.
-
-
 def with_names(query: str) -> str:
     """The query with names in backquotes where they are in double ones.
 

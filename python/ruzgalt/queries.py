@@ -5,7 +5,7 @@ from typing import Iterator
 from ruzgalt.errors import Misfit
 from ruzgalt.forms import printed, read_point
 
-# What stands in quotes, a text or a name, and comments.
+# Texts, names in their three kinds of quotes, and comments.
 QUOTED = re.compile(r"'(?:[^']|'')*'|\"(?:[^\"]|\"\")*\"|`[^`]*`|\[[^\]]*\]|--[^\n]*|/\*.*?\*/", re.DOTALL)
 BARE_POINT = re.compile(r"\b\d{4}-\d\d-\d\d\b", re.ASCII)
 # A text that is meant as a day, perhaps with a time.
