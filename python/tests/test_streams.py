@@ -8,7 +8,8 @@ from typing import List, Tuple
 
 from tests.support import TOP
 
-LOADS = "tools/csv-to-load pay Start End Name"
+LOADS = f"{sys.executable} tools/csv-to-load pay Start End Name"
+ANSWERS = f"{sys.executable} tools/answers"
 CSV = "Name,Start,End\n Hill,2024-01-01,2024-03-05\n"
 LOADED = "load,pay\nrow,2024-01-01,2024-03-05, Hill\nend\n"
 
@@ -23,11 +24,11 @@ class ClosedStreams(unittest.TestCase):
     def test_a_closed_input_is_told(self) -> None:
         told = (1, "csv-to-load failed\n", "csv-to-load: standard input is closed\n")
         self.assertEqual(run(f"{LOADS} <&-"), told)
-        self.assertEqual(run("tools/answers list - <&-"), (1, "", "answers: standard input is closed\n"))
+        self.assertEqual(run(f"{ANSWERS} list - <&-"), (1, "", "answers: standard input is closed\n"))
 
     def test_a_closed_output_is_told(self) -> None:
         self.assertEqual(run(f"{LOADS} >&-"), (1, "", "csv-to-load: standard output is closed\n"))
-        self.assertEqual(run("tools/answers list - >&-"), (1, "", "answers: standard output is closed\n"))
+        self.assertEqual(run(f"{ANSWERS} list - >&-"), (1, "", "answers: standard output is closed\n"))
 
     def test_where_nothing_can_be_told_the_load_is_printed(self) -> None:
         self.assertEqual(run(f"{LOADS} 2>&-"), (0, LOADED, ""))
@@ -36,7 +37,7 @@ class ClosedStreams(unittest.TestCase):
         status, _, said = run(f"{LOADS} >/dev/full")
         self.assertEqual((status, said.splitlines()[-1]), (1, "csv-to-load: No space left on device"))
         script = "examples/pay.csv"
-        status, _, said = run(f"tools/answers list {script} --answers {script}.stdout >/dev/full")
+        status, _, said = run(f"{ANSWERS} list {script} --answers {script}.stdout >/dev/full")
         self.assertEqual((status, said), (1, "answers: No space left on device\n"))
 
 
@@ -44,17 +45,20 @@ class CtrlC(unittest.TestCase):
     def ended(self, words: List[str], status: int, said: str) -> None:
         """A tool that waits for its input ends so by the signal."""
         with subprocess.Popen(
-            [sys.executable, *words], cwd=TOP, stdin=subprocess.PIPE, stdout=subprocess.PIPE, stderr=subprocess.PIPE,
+            words, bufsize=0, cwd=TOP, stdin=subprocess.PIPE, stdout=subprocess.PIPE, stderr=subprocess.PIPE,
         ) as tool:
-            time.sleep(1)
+            # More than a pipe holds, so it has begun to read, and waits for more.
+            assert tool.stdin is not None
+            tool.stdin.write(b"\n" * 200_000)
+            time.sleep(0.5)
             tool.send_signal(signal.SIGINT)
             self.assertEqual((tool.wait(10), *tool.communicate()), (status, b"", said.encode()))
 
     def test_the_tools_end_by_it(self) -> None:
         self.ended(LOADS.split(" "), -signal.SIGINT, "")
-        self.ended(["tools/answers", "list", "-"], -signal.SIGINT, "")
+        self.ended([*ANSWERS.split(" "), "list", "-"], -signal.SIGINT, "")
         about = "nothing is proved yet: the program is compiled from its sources, in about two minutes"
-        self.ended(["try"], 128 + signal.SIGINT, f"try: {about}; ./dipq proves it\n")
+        self.ended([sys.executable, "try"], 128 + signal.SIGINT, f"try: {about}; ./dipq proves it\n")
 
 
 class WrongWords(unittest.TestCase):
