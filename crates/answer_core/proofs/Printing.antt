@@ -18,25 +18,19 @@ use Rattle.agg_core.specs.declared.rows.AggRow.{AggRow}
 use Rattle.answer_core.specs.JoinedRows.{JoinedRows}
 use Rattle.answer_core.specs.UnmatchedRows.{UnmatchedRows}
 use Rattle.answer_core.specs.PrintedRecords.{IsPrintedAs, agg_record, agg_records, anti_record, anti_records, commit_record, commit_records, dip_record, end_record, errors_in, join_record, join_records, part_record, part_records, row_record, row_records, verdict_record, version_record, version_records}
-use Rattle.answer_core.specs.Unwritten.{Adds, Unwritten}
+use Rattle.answer_core.specs.Unwritten.{Adds}
 use Rattle.answer_core.specs.declared.answer.Answer.{Answer}
 use Rattle.answer_core.specs.declared.answer.Answer.TheVariants as answer
 use Rattle.command_core.specs.Records.{Record}
 use Rattle.answer_core.specs.RecordBytes.{answer_writer, bytes_of}
 use Rattle.command_core.specs.Words.{begins}
 
-with_text : List ℕ → Unwritten
-with_text text = record { text = text; fields = [] }
-
 -- some records, and then some more
-pub Adds-trans : (a b c : Unwritten) (xs ys : List Record) → Adds a b xs → Adds b c ys → Adds a c (xs ++ ys)
-unfolding with_text
+pub Adds-trans : (a b c : List ℕ) (xs ys : List Record) → Adds a b xs → Adds b c ys → Adds a c (xs ++ ys)
 Adds-trans a b c xs ys first second =
-    let text : b.text ≡ a.text ++ bytes_of xs = ap (λ (d : Unwritten). d.text) first in
     let all : bytes_of (xs ++ ys) ≡ bytes_of xs ++ bytes_of ys = flat_map-append (row_text answer_writer) xs ys in
-    second ∙ ap with_text
-    (ap (λ t. t ++ bytes_of ys) text
-    ∙ (append_assoc a.text (bytes_of xs) (bytes_of ys) ∙ ap (λ t. a.text ++ t) (sym all)))
+    second ∙ ap (λ t. t ++ bytes_of ys) first
+    ∙ (append_assoc a (bytes_of xs) (bytes_of ys) ∙ ap (λ t. a ++ t) (sym all))
 
 -- as many records as there are parts
 pub length-part_records : (k : ℕ) (parts : List (List Item)) → length (part_records k parts) ≡ length parts

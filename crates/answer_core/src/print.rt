@@ -3,7 +3,7 @@ ghost use Rattle.std.specs.Prelude.{◌≡◌, [], ◌∷◌, ◌++◌, List, On
 ghost use Rattle.csv.specs.Writing.{row_text};
 ghost use Rattle.answer_core.specs.PrintedRecords.{IsPrintedAs, commit_records, end_record, end_text, error_record, ok_record, row_record, row_records, together_record, verdict_record, version_record, version_records};
 ghost use Rattle.answer_core.specs.RecordBytes.{answer_writer, bytes_of, field_behind};
-ghost use Rattle.answer_core.specs.Unwritten.{Adds, nothing};
+ghost use Rattle.answer_core.specs.Unwritten.{Adds};
 ghost use Rattle.command_core.specs.Records.{Record};
 
 use crate::answer::Answer;
@@ -58,11 +58,10 @@ impl AnswerWriter {
         crew: &Crew<'_, R, G>,
         answer: &Answer,
     ) -> Result<(), NoMemory>
-        requires { self.old.fields ≡ [] }
         ensures ok { OnOk result
             ((records : List Record) × IsPrintedAs answer.now records
             × Adds self.old self.new records) }
-        ensures err { OnErr result (self.new ≡ nothing) }
+        ensures err { OnErr result (self.new ≡ []) }
     {
         let printed = self.print_records(crew, answer);
         self.settled(printed)
@@ -75,9 +74,8 @@ impl AnswerWriter {
     ///
     /// `NoMemory` where a growth is refused: then what was printed and is not yet written is lost.
     pub fn together(&mut self, commit: u64) -> Result<(), NoMemory>
-        requires { self.old.fields ≡ [] }
         ensures ok { OnOk result (Adds self.old self.new (together_record commit ∷ [])) }
-        ensures err { OnErr result (self.new ≡ nothing) }
+        ensures err { OnErr result (self.new ≡ []) }
     {
         let printed = self.text.opening(commit);
         self.settled(printed)
@@ -88,7 +86,6 @@ impl AnswerWriter {
         crew: &Crew<'_, R, G>,
         answer: &Answer,
     ) -> Result<(), NoMemory>
-        requires { self.old.fields ≡ [] }
         ensures { OnOk result
             ((records : List Record) × IsPrintedAs answer.now records
             × Adds self.old self.new records) }

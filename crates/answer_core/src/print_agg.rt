@@ -41,7 +41,6 @@ impl AnswerWriter {
         crew: &Crew<'_, R, G>,
         rows: &AggRows,
     ) -> Result<(), NoMemory>
-        requires { self.old.fields ≡ [] }
         ensures { OnOk result (Adds self.old self.new (agg_records rows.now)) }
     {
         self.agg_shares(crew, rows.shares())?;
@@ -53,7 +52,6 @@ impl AnswerWriter {
         crew: &Crew<'_, R, G>,
         shares: &[AggShare],
     ) -> Result<(), NoMemory>
-        requires { self.old.fields ≡ [] }
         ensures { OnOk result
             (Adds self.old self.new (map agg_record (rows_in_shares shares.now))) }
     {
@@ -68,7 +66,6 @@ impl AnswerWriter {
         crew: &Crew<'_, R, G>,
         share: &AggShare,
     ) -> Result<(), NoMemory>
-        requires { self.old.fields ≡ [] }
         ensures { OnOk result (Adds self.old self.new (map agg_record (rows_in share.now))) }
     {
         for chunk in share.plateaus.chunks() {

@@ -39,7 +39,6 @@ impl AnswerWriter {
         crew: &Crew<'_, R, G>,
         unmatched: &Unmatched,
     ) -> Result<(), NoMemory>
-        requires { self.old.fields ≡ [] }
         ensures { OnOk result (Adds self.old self.new (anti_records unmatched.now)) }
     {
         let left = unmatched.left_values(crew.alloc)?;
@@ -53,7 +52,6 @@ impl AnswerWriter {
         chunks: &'a [Vec<AntiRow>],
         left: &'a RowValues<'a>,
     ) -> Result<(), NoMemory>
-        requires { self.old.fields ≡ [] }
         ensures { OnOk result
             (Adds self.old self.new (map (anti_record left.now) (all_in chunks.now))) }
     {

@@ -3,7 +3,7 @@ ghost use Rattle.std.specs.Prelude.{◌≡◌, ◌+◌, ◌≤◌, ◌++◌, [],
 ghost use Rattle.std.specs.Io.KnownBytes.{Appends};
 ghost use Rattle.list_core.specs.Chunks.{all_in};
 ghost use Rattle.stream_core.specs.Counted.{failures_of, inner_of, sink_of};
-ghost use Rattle.answer_core.specs.Unwritten.{Unwritten, left_by, nothing};
+ghost use Rattle.answer_core.specs.Unwritten.{left_by};
 ghost use Rattle.stream_core.specs.Faults.{ExplainsWriting, last_failures};
 
 use crate::record_text::RecordText;
@@ -18,8 +18,7 @@ use stream_core::{Counted, Patience, RunFault};
 /// The bytes of an answer for which the room is kept for the next one.
 const KEPT: usize = 65_536;
 
-/// Makes the bytes of an answer, and writes them. Contracts see the bytes of its records so far; no record is begun
-/// between two calls.
+/// Makes the bytes of an answer, and writes them. Contracts see the bytes of its records so far.
 #[derive(Drop)]
 pub struct AnswerWriter {
     alloc: Global,
@@ -29,13 +28,12 @@ pub struct AnswerWriter {
 }
 
 impl Model for AnswerWriter {
-    ghost use Rattle.std.specs.Prelude.{◌++◌, []};
+    ghost use Rattle.std.specs.Prelude.{ℕ, List, ◌++◌};
     ghost use Rattle.list_core.specs.Chunks.{all_in};
-    ghost use Rattle.answer_core.specs.Unwritten.{Unwritten};
 
-    ghost Value = { Unwritten };
+    ghost Value = { List ℕ };
 
-    ghost view = { λ a. record { text = all_in a.done.items ++ a.text; fields = [] } };
+    ghost view = { λ a. all_in a.done.items ++ a.text };
 }
 
 /// Puts a text behind others, and begins another.
@@ -51,7 +49,7 @@ fn close(alloc: Global, texts: &mut Vec<Vec<u8>>, text: &mut RecordText) -> Resu
 impl AnswerWriter {
     /// An answer without records.
     pub fn new(alloc: Global) -> Self
-        ensures { result ≡ nothing }
+        ensures { result ≡ [] }
     {
         AnswerWriter {
             alloc,
@@ -62,15 +60,14 @@ impl AnswerWriter {
 
     /// Drops what was not written.
     pub(crate) fn restart(&mut self)
-        ensures { self.new ≡ nothing }
+        ensures { self.new ≡ [] }
     {
         *self = AnswerWriter::new(self.alloc);
     }
 
     /// Adds texts of records.
     pub(crate) fn add_texts(&mut self, mut texts: Vec<Vec<u8>>) -> Result<(), NoMemory>
-        ensures { OnOk result
-            (self.new ≡ record self.old { text = self.old.text ++ all_in texts.items }) }
+        ensures { OnOk result (self.new ≡ self.old ++ all_in texts.items) }
     {
         close(self.alloc, &mut self.done, &mut self.text)?;
         self.done.append(&mut texts)
@@ -82,11 +79,8 @@ impl AnswerWriter {
     ///
     /// `NoMemory` where a growth is refused: then what was printed and is not yet written is lost.
     pub fn append(&mut self, other: AnswerWriter) -> Result<(), NoMemory>
-        requires here { self.old.fields ≡ [] }
-        requires there { other.fields ≡ [] }
-        ensures ok { OnOk result
-            (self.new ≡ record { text = self.old.text ++ other.text; fields = [] }) }
-        ensures err { OnErr result (self.new ≡ nothing) }
+        ensures ok { OnOk result (self.new ≡ self.old ++ other) }
+        ensures err { OnErr result (self.new ≡ []) }
     {
         let added = self.put_behind(other);
         self.settled(added)
@@ -94,8 +88,7 @@ impl AnswerWriter {
 
     /// Adds the records of another answer behind those of this one.
     fn put_behind(&mut self, mut other: AnswerWriter) -> Result<(), NoMemory>
-        ensures { OnOk result
-            (self.new ≡ record self.old { text = self.old.text ++ other.text }) }
+        ensures { OnOk result (self.new ≡ self.old ++ other) }
     {
         close(self.alloc, &mut self.done, &mut self.text)?;
         self.done.append(&mut other.done)?;
@@ -107,7 +100,7 @@ impl AnswerWriter {
     pub(crate) fn settled(&mut self, added: Result<(), NoMemory>) -> Result<(), NoMemory>
         ensures same { result ≡ added }
         ensures ok { OnOk result (self.new ≡ self.old) }
-        ensures err { OnErr result (self.new ≡ nothing) }
+        ensures err { OnErr result (self.new ≡ []) }
     {
         if added.is_err() {
             self.restart();
@@ -128,10 +121,10 @@ impl AnswerWriter {
     ) -> Result<(), RunFault>
         ensures ok { OnOk result
             (Appends (W.contents (inner_of writer.old))
-            (W.contents (inner_of writer.new)) self.old.text) }
-        ensures begins { OnOk result (self.new ≡ nothing) }
+            (W.contents (inner_of writer.new)) self.old) }
+        ensures begins { OnOk result (self.new ≡ []) }
         ensures fault { IfErr result
-            (ExplainsWriting self.old.text (sink_of W.contents writer.old)
+            (ExplainsWriting self.old (sink_of W.contents writer.old)
             (sink_of W.contents writer.new)) }
         ensures after { IfErr result (λ why. self.new ≡ left_by why self.old) }
         ensures counts { failures_of writer.old ≤ failures_of writer.new }

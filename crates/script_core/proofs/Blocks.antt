@@ -17,7 +17,7 @@ use Rattle.command_core.specs.declared.refusal.Refusal.{Refusal}
 use Rattle.command_core.specs.declared.refusal.Refusal.TheVariants.{NotInBlock}
 use Rattle.command_core.proofs.MeaningUniqueness.{same_head}
 use Rattle.answer_core.specs.PrintedRecords.{IsPrintedAs, errors_in, together_record}
-use Rattle.answer_core.specs.Unwritten.{Adds, Unwritten, nothing}
+use Rattle.answer_core.specs.Unwritten.{Adds}
 use Rattle.answer_core.specs.declared.answer.Answer.{Answer}
 use Rattle.answer_core.proofs.Printing.{Adds-trans}
 use Rattle.row_core.specs.declared.failure.Failure.TheVariants.{Refused, NoMemory}
@@ -44,7 +44,7 @@ performed-answer before number meant (Err NoMemory) after given performs is = ab
 
 -- a command is answered by the answer that its outcome is, which was printed
 pub command-printed : {E : Type 0} (before : History) (number : ℕ) (meant : Meaning) (outcome : Result Answer Failure)
-    (after : History) (given : Result Answer E) (old new : Unwritten) (errors : ℕ)
+    (after : History) (given : Result Answer E) (old new : List ℕ) (errors : ℕ)
     → Performs before number meant outcome after → IfOk given (IsAnswerOf outcome)
     → (answer : Answer) × (given ≡ Ok answer) × PrintsAnswer answer old new errors
     → PrintsOne before number meant after old new errors
@@ -196,7 +196,7 @@ placed-split (member ∷ front) back load none loads =
 
 -- the queries that are told are answered, and these are left from this place on
 pub record QueriesTo (before : History) (number : ℕ) (records : List Record) (at : ℕ) (members : List Member)
-    (old new : Unwritten) (told : Outcome) : Type 0 where
+    (old new : List ℕ) (told : Outcome) : Type 0 where
   pub gone : List Member
   pub left : List Member
   pub are : members ≡ gone ++ left
@@ -204,13 +204,13 @@ pub record QueriesTo (before : History) (number : ℕ) (records : List Record) (
   pub printed : PrintsQueries before (placed_in true gone) old new told
 
 -- the same of all members that the records have
-abbrev pub QueriesDone : History → ℕ → List Record → ℕ → Unwritten → Unwritten → Outcome → Type 0
+abbrev pub QueriesDone : History → ℕ → List Record → ℕ → List ℕ → List ℕ → Outcome → Type 0
 QueriesDone before number records at old new told =
     (members : List Member) → AreMembers number records members
     → QueriesTo before number records at members old new told
 
 -- one more query is answered
-pub queries-more : (before : History) (number : ℕ) (records : List Record) (at taken : ℕ) (old mid new : Unwritten)
+pub queries-more : (before : History) (number : ℕ) (records : List Record) (at taken : ℕ) (old mid new : List ℕ)
     (told next : Outcome) (meant : Meaning) (errors : ℕ) → QueriesDone before number records at old mid told
     → taken ≤ length (drop at records)
     → ((members : List Member) → AreMembers (number + at) (drop at records) members
@@ -270,7 +270,7 @@ none-left number records (member ∷ more) empty (own, later, split, first, is, 
     absurd (cc)
 
 -- all are
-pub queries-all : (before : History) (number : ℕ) (records : List Record) (at : ℕ) (old new : Unwritten)
+pub queries-all : (before : History) (number : ℕ) (records : List Record) (at : ℕ) (old new : List ℕ)
     (told : Outcome) → QueriesDone before number records at old new told → length records ≤ at
     → (members : List Member) → AreMembers number records members
     → PrintsQueries before (placed_in true members) old new told
@@ -280,29 +280,21 @@ queries-all before number records at old new told done over members are =
     let whole : d.gone ≡ members = sym (d.are ∙ (ap (λ l. d.gone ++ l) empty ∙ append-nil d.gone)) in
     subst (λ l. PrintsQueries before (placed_in true l) old new told) whole d.printed
 
--- no record is begun behind them
-pub printed-fields : (before : History) (placed : List Placed) (old new : Unwritten) (told : Outcome)
-    → PrintsQueries before placed old new told → new.fields ≡ []
-printed-fields before placed old new told p = ap (λ (u : Unwritten). u.fields) p.printed
-
 -- ---- the whole block
 
 -- what another printer made comes behind what one printed
-appended : (old later new : Unwritten) (ys : List Record) → Adds nothing later ys
-    → new ≡ record { text = old.text ++ later.text; fields = [] } → Adds old new ys
-appended old later new ys adds is = is ∙ ap (λ (u : Unwritten). behind u.text) adds
-  where
-    behind : List ℕ → Unwritten
-    behind t = record { text = old.text ++ t; fields = [] }
+appended : (old later new : List ℕ) (ys : List Record) → Adds [] later ys
+    → new ≡ old ++ later → Adds old new ys
+appended old later new ys adds is = is ∙ ap (λ t. old ++ t) adds
 
 -- the queries before a load, the load, and the queries behind it
 pub block-printed : (before after : History) (members front back : List Member) (load : Member)
-    (errors : ℕ) (old mid near later new : Unwritten) (first last told : Outcome)
+    (errors : ℕ) (old mid near later new : List ℕ) (first last told : Outcome)
     → members ≡ front ++ load ∷ back → All (λ m. begins_load m ≡ false) front → begins_load load ≡ true
     → AsksLoad (meaning_inside false load) → PrintsQueries before (placed_in true front) old mid first
     → PrintsOne before load.number (meaning_inside false load) after mid near errors
-    → PrintsQueries before (placed_in true back) nothing later last
-    → new ≡ record { text = near.text ++ later.text; fields = [] }
+    → PrintsQueries before (placed_in true back) [] later last
+    → new ≡ near ++ later
     → told.commands ≡ first.commands + last.commands + 1 → told.errors ≡ first.errors + last.errors + errors
     → PrintsBlock before (placed_in false members) after old new told
 block-printed before after members front back load errors old mid near later new first last told are none loads
@@ -348,7 +340,7 @@ block-printed before after members front back load errors old mid near later new
     }
 
 -- queries alone
-pub queries-block : (before after : History) (members : List Member) (old new : Unwritten) (told : Outcome)
+pub queries-block : (before after : History) (members : List Member) (old new : List ℕ) (told : Outcome)
     → All (λ m. begins_load m ≡ false) members → after ≡ before
     → PrintsQueries before (placed_in true members) old new told
     → PrintsBlock before (placed_in false members) after old new told
@@ -363,7 +355,7 @@ queries-block before after members old new told none same printed =
     }
 
 -- behind the record that the block's answer begins with
-pub block-stated : (before : History) (number : ℕ) (commands : List Placed) (after : History) (old mid new : Unwritten)
+pub block-stated : (before : History) (number : ℕ) (commands : List Placed) (after : History) (old mid new : List ℕ)
     (told next : Outcome) (own : List Record) → own ≡ together_record (length before) ∷ [] → Adds old mid own
     → PrintsBlock before commands after mid new told → next.commands ≡ told.commands + 1
     → next.errors ≡ told.errors → PrintsStatement before number (Together commands) after old new next
@@ -452,7 +444,7 @@ load-cut number lines place taken members meant within few split next_is =
 
 -- what is told of two sections that are printed can be told of both
 pub sections-joined : {E : Type 0} (before : History) (near far : ℕ) (front back : List Record)
-    (old new empty later : Unwritten) (queries : Result (Outcome × Outcome) E)
+    (old new empty later : List ℕ) (queries : Result (Outcome × Outcome) E)
     → length front + length back + 1 < 2 ^ 64
     → IfOk queries (λ told. PrintsSection before near front old new told.0)
     → IfOk queries (λ told. PrintsSection before far back empty later told.1)

@@ -1,8 +1,8 @@
 -- What performing a command gives: its answer, or why there is none.
-use Rattle.std.specs.Prelude.{ℕ, ◌≡◌, ◌≤◌, ◌<◌, ◌+◌, ◌^◌, ◌++◌, All, IfOk, IsTrue, List, [], drop, length, take, true, Option, None, Result, Ok, Err, ⊤}
+use Rattle.std.specs.Prelude.{ℕ, ◌≡◌, ◌≤◌, ◌<◌, ◌+◌, ◌^◌, ◌++◌, All, IfOk, IsTrue, List, drop, length, take, true, Option, None, Result, Ok, Err, ⊤}
 use Rattle.std.specs.Borrow.{Bor}
 use Rattle.answer_core.specs.PrintedRecords.{IsPrintedAs, errors_in}
-use Rattle.answer_core.specs.Unwritten.{Adds, Unwritten}
+use Rattle.answer_core.specs.Unwritten.{Adds}
 use Rattle.answer_core.specs.declared.answer.Answer.{Answer}
 use Rattle.answer_core.specs.declared.answer.Answer.TheVariants as answer
 use Rattle.book_core.specs.History.{History}
@@ -66,20 +66,20 @@ Performs before number meaning (Err (Refused fault)) after =
 Performs before number meaning (Err NoMemory) after = ⊤
 
 -- the records of an answer were printed, and those that tell of a refusal counted
-pub record PrintsAnswer (answer : Answer) (old new : Unwritten) (told : ℕ) : Type 0 where
+pub record PrintsAnswer (answer : Answer) (old new : List ℕ) (told : ℕ) : Type 0 where
   pub records : List Record
   pub are : IsPrintedAs answer records
   pub printed : Adds old new records
   pub errors : told ≡ errors_in records
 
 -- the same of the answer that there is, and what another printer made put behind it
-pub record PrintsBefore {E : Type 0} (given : Result Answer E) (old later new : Unwritten) (told : ℕ)
+pub record PrintsBefore {E : Type 0} (given : Result Answer E) (old later new : List ℕ) (told : ℕ)
     : Type 0 where
   pub answer : Answer
   pub is : given ≡ Ok answer
-  pub near : Unwritten
+  pub near : List ℕ
   pub own : PrintsAnswer answer old near told
-  pub joined : new ≡ record { text = near.text ++ later.text; fields = [] }
+  pub joined : new ≡ near ++ later
 
 -- what is told of the queries before a block's load and of those behind it can be told of all its commands
 pub record CanBeJoined (first last : Outcome) : Type 0 where
@@ -90,7 +90,7 @@ pub record CanBeJoined (first last : Outcome) : Type 0 where
 -- what comes behind the answers to the queries before a block's load was printed: the load's answer, and what another
 -- printer made of the queries behind it; all commands and refusals of the block were counted
 pub record PrintsBehind {E : Type 0} (queries : Result (Outcome × Outcome) E) (load : Result Answer E)
-    (old later new : Unwritten) (told : Outcome) : Type 0 where
+    (old later new : List ℕ) (told : Outcome) : Type 0 where
   pub queried : Outcome × Outcome
   pub queries_are : queries ≡ Ok queried
   pub errors : ℕ
@@ -100,7 +100,7 @@ pub record PrintsBehind {E : Type 0} (queries : Result (Outcome × Outcome) E) (
   pub refusals : told.errors ≡ queried.0.errors + queried.1.errors + errors
 
 -- a command was answered, the records of its answer printed, and those that tell of a refusal counted
-pub record PrintsOne (before : History) (number : ℕ) (meaning : Meaning) (after : History) (old new : Unwritten)
+pub record PrintsOne (before : History) (number : ℕ) (meaning : Meaning) (after : History) (old new : List ℕ)
     (told : ℕ) : Type 0 where
   pub answer : List Record
   pub answers : AnswersOne before number meaning answer after
@@ -109,7 +109,7 @@ pub record PrintsOne (before : History) (number : ℕ) (meaning : Meaning) (afte
 
 -- commands of a block, none of them a load that may be done, were answered one after another, whatever history the
 -- block's load leads to, and the records of their answers printed
-pub record PrintsQueries (before : History) (placed : List Placed) (old new : Unwritten) (told : Outcome)
+pub record PrintsQueries (before : History) (placed : List Placed) (old new : List ℕ) (told : Outcome)
     : Type 0 where
   pub answers : List Record
   pub each : (after : History) → AnswersEach before after placed answers
@@ -118,7 +118,7 @@ pub record PrintsQueries (before : History) (placed : List Placed) (old new : Un
   pub errors : told.errors ≡ errors_in answers
 
 -- the same of the commands that a section of a block's records holds, the first of them of this number
-pub record PrintsSection (before : History) (number : ℕ) (records : List Record) (old new : Unwritten)
+pub record PrintsSection (before : History) (number : ℕ) (records : List Record) (old new : List ℕ)
     (told : Outcome) : Type 0 where
   pub printed : (members : List Member) → AreMembers number records members
       → PrintsQueries before (placed_in true members) old new told
@@ -126,7 +126,7 @@ pub record PrintsSection (before : History) (number : ℕ) (records : List Recor
   pub fewer : told.commands ≤ length records
 
 -- all commands of a block were answered, one after another, and the records of their answers printed
-pub record PrintsBlock (before : History) (placed : List Placed) (after : History) (old new : Unwritten)
+pub record PrintsBlock (before : History) (placed : List Placed) (after : History) (old new : List ℕ)
     (told : Outcome) : Type 0 where
   pub answers : List Record
   pub block : AnswersBlock before placed answers after
@@ -148,7 +148,7 @@ IsAnswerOf (Err NoMemory) told = ⊥
 
 -- a statement's answer was printed, and its commands and refusals counted
 pub record PrintsStatement (before : History) (number : ℕ) (statement : Statement) (after : History)
-    (old new : Unwritten) (told : Outcome) : Type 0 where
+    (old new : List ℕ) (told : Outcome) : Type 0 where
   pub answer : List Record
   pub answers : Answers before number statement answer after
   pub printed : Adds old new answer
@@ -156,7 +156,7 @@ pub record PrintsStatement (before : History) (number : ℕ) (statement : Statem
   pub errors : told.errors ≡ errors_in answer
 
 -- the first statement of some records, the first of them of this number, takes so many of them; it was answered
-pub record PrintsNext (records : List Record) (number : ℕ) (before after : History) (old new : Unwritten)
+pub record PrintsNext (records : List Record) (number : ℕ) (before after : History) (old new : List ℕ)
     (told : Outcome) (taken : ℕ) : Type 0 where
   pub some : 0 < taken
   pub within : taken ≤ length records

@@ -213,7 +213,6 @@ fn print_answer<T: Threads + Sync>(
     printer: &mut AnswerWriter,
     answer: &Answer,
 ) -> Result<u64, NoMemory>
-    requires { printer.old.fields ≡ [] }
     ensures printed { IfOk result (PrintsAnswer answer.now printer.old printer.new) }
     ensures few { IfOk result (λ errors. errors ≤ 1) }
 {
@@ -227,7 +226,6 @@ pub(crate) fn print_given<T: Threads + Sync>(
     printer: &mut AnswerWriter,
     given: Result<Answer, NoMemory>,
 ) -> Result<u64, NoMemory>
-    requires { printer.old.fields ≡ [] }
     ensures printed { IfOk result (λ errors.
         (answer : Answer) × (given ≡ Ok answer)
         × PrintsAnswer answer printer.old printer.new errors) }
@@ -249,7 +247,6 @@ pub(crate) fn answer_query<T: Threads + Sync>(
 ) -> Result<u64, NoMemory>
     requires query { is_allowed true (meaning_of command) ≡ true }
     requires numbers { number + behind_length (meaning_of command) < 2 ^ 64 }
-    requires begins { printer.old.fields ≡ [] }
     ensures printed { IfOk result
         (PrintsOne (history context.now.newest.now) number (meaning_of command.entry)
         (history context.now.newest.now) printer.old printer.new) }
@@ -269,7 +266,6 @@ pub(crate) fn answer_command<T: Threads + Wait + Sync>(
     printer: &mut AnswerWriter,
 ) -> Result<u64, NoMemory>
     requires numbers { number + behind_length (meaning_of command) < 2 ^ 64 }
-    requires begins { printer.old.fields ≡ [] }
     requires left { 2 ≤ left_in ledger.old }
     ensures printed { IfOk result
         (PrintsOne (ledger_history ledger.old) number (meaning_of command.entry)

@@ -1,7 +1,6 @@
 //! The statements of a script, one after another: commands, and blocks of commands.
 ghost use Rattle.std.specs.Prelude.{◌≡◌, ℕ, ◌+◌, ◌*◌, ◌≤◌, ◌<◌, ◌^◌, List, [], drop, length, IfErr, IfOk, Some};
 ghost use Rattle.std.specs.Io.KnownBytes.{Appends};
-ghost use Rattle.answer_core.specs.Unwritten.{nothing};
 ghost use Rattle.command_core.specs.Lines.{lines_in};
 ghost use Rattle.command_core.specs.Statement as said;
 ghost use Rattle.command_core.specs.Statement.{StandsFor, behind_of};
@@ -39,7 +38,6 @@ fn answer_statement<T: Threads + Wait + Sync>(
 ) -> Result<Outcome, NoMemory>
     requires stands { (meant : said.Statement) × StandsFor number statement meant }
     requires numbers { number + behind_of statement < 2 ^ 64 }
-    requires begins { printer.old.fields ≡ [] }
     requires left { 2 ≤ left_in ledger.old }
     ensures printed { IfOk result
         (λ told. (meant : said.Statement) → StandsFor number statement.entry meant
@@ -71,7 +69,6 @@ fn answer_next<T: Threads + Wait + Sync>(
     printer: &mut AnswerWriter,
 ) -> Result<(Outcome, usize), NoMemory>
     requires below { at < length (lines_in lines) }
-    requires begins { printer.old.fields ≡ [] }
     requires left { 2 ≤ left_in ledger.old }
     ensures printed { IfOk result (λ told. PrintsNext (drop at (lines_in lines.entry)) (at + 1)
         (ledger_history ledger.old)
@@ -96,7 +93,7 @@ fn answer_each<T: Threads + Wait + Sync, W: Write>(
     patience: &mut Patience,
 ) -> Result<Outcome, RunFault>
     requires begun { ledger_history ledger.old ≡ [] }
-    requires empty { printer.old ≡ nothing }
+    requires empty { printer.old ≡ [] }
     requires left { 2 * length records.now ≤ left_in ledger.old }
     ensures ok { IfOk result
         (AnswersAll records.now (sink_of W.contents writer.old) (sink_of W.contents writer.new)) }

@@ -59,7 +59,6 @@ fn answer_queries<T: Threads + Sync>(
     requires whole { (members : List Member) × AreMembers section.first
         (lines_in section.lines) members }
     requires numbers { section.first + length (lines_in section.lines) < 2 ^ 64 }
-    requires begins { printer.old.fields ≡ [] }
     ensures { IfOk result (PrintsSection (history context.now.newest.now) section.entry.first
         (lines_in section.entry.lines) printer.old printer.new) }
 {
@@ -138,7 +137,6 @@ fn answer_both<T: Threads + Wait + Sync>(
     requires same { history context.now.newest.now ≡ ledger_history ledger.old }
     requires whole { (members : List Member) × IsCutAt block.now members }
     requires numbers { CanBeNumbered block.now }
-    requires begins { (printer.old.fields ≡ []) × (later.old.fields ≡ []) }
     requires left { 0 < left_in ledger.old }
     ensures front { IfOk result.0
         (λ told. PrintsSection (history context.now.newest.now) block.now.front.first
@@ -152,8 +150,7 @@ fn answer_both<T: Threads + Wait + Sync>(
 {
     let mut queries = || -> Result<(Outcome, Outcome), NoMemory>
         requires { IsSync T.row × ((members : List Member) × IsCutAt block.now members)
-            × CanBeNumbered block.now
-            × ((printer.now.fields ≡ []) × (later.now.fields ≡ [])) }
+            × CanBeNumbered block.now }
         ensures front { IfOk result (λ told. PrintsSection (history context.entry.now.newest.now)
             block.entry.now.front.first
             (lines_in block.entry.now.front.lines) printer.entry.now printer.exit.now told.0) }
@@ -219,8 +216,6 @@ fn print_load<T: Threads + Sync>(
     load: Result<Answer, NoMemory>,
     later: AnswerWriter,
 ) -> Result<u64, NoMemory>
-    requires here { printer.old.fields ≡ [] }
-    requires there { later.fields ≡ [] }
     ensures printed { IfOk result (PrintsBefore load printer.old later printer.new) }
     ensures few { IfOk result (λ errors. errors ≤ 1) }
 {
@@ -239,8 +234,6 @@ fn print_behind<T: Threads + Sync>(
     later: AnswerWriter,
 ) -> Result<Outcome, NoMemory>
     requires queries { IfOk queries (λ told. CanBeJoined told.0 told.1) }
-    requires here { IfOk queries (λ told. printer.old.fields ≡ []) }
-    requires there { IfOk queries (λ told. later.fields ≡ []) }
     ensures { IfOk result (PrintsBehind queries load printer.old later printer.new) }
 {
     let (before, behind) = queries?;
@@ -261,7 +254,6 @@ fn answer_beside_load<T: Threads + Wait + Sync>(
     requires same { history context.now.newest.now ≡ ledger_history ledger.old }
     requires whole { (members : List Member) × IsCutAt block.now members }
     requires numbers { CanBeNumbered block.now }
-    requires begins { printer.old.fields ≡ [] }
     requires left { 0 < left_in ledger.old }
     ensures printed { IfOk result (λ told. (members : List Member) → IsCutAt block.now members
         → PrintsBlock (history context.now.newest.now) (placed_in false members)
@@ -288,7 +280,6 @@ fn answer_commands<T: Threads + Wait + Sync>(
     requires whole { (members : List Member) × AreMembers block.first
         (lines_in block.lines) members }
     requires numbers { block.first + length (lines_in block.lines) < 2 ^ 64 }
-    requires begins { printer.old.fields ≡ [] }
     requires left { 0 < left_in ledger.old }
     ensures printed { IfOk result (λ told. (members : List Member)
         → AreMembers block.entry.first (lines_in block.entry.lines) members
@@ -316,7 +307,6 @@ pub(crate) fn answer_together<T: Threads + Wait + Sync>(
 ) -> Result<Outcome, NoMemory>
     requires whole { (members : List Member) × AreMembers (number + 1) (lines_in body) members }
     requires numbers { number + 1 + length (lines_in body) < 2 ^ 64 }
-    requires begins { printer.old.fields ≡ [] }
     requires left { 2 ≤ left_in ledger.old }
     ensures printed { IfOk result (λ told. (members : List Member)
         → AreMembers (number + 1) (lines_in body.entry) members

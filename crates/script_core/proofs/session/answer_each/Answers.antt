@@ -2,15 +2,13 @@ use Rattle.std.proofs.Common.{◌≡◌, ◌<◌, ◌+◌, ◌++◌, ◌∙◌, 
 use Rattle.std.proofs.lemmas.Result.{err_from_is_err_and}
 use Rattle.std.specs.Io.KnownBytes.{Appends}
 use Rattle.stream_core.specs.Counted.{inner_of}
-use Rattle.answer_core.specs.Unwritten.{Unwritten}
 use Rattle.answer_core.specs.RecordBytes.{bytes_of}
 use Rattle.script_core.proofs.Progress.{commands-few, progress-begun, progress-more, progress-stopped}
 use Rattle.script_core.proofs.session.answer_each.Goals as goal
 
 -- an answer that was begun afresh is all of the text
-text_is : (old new : Unwritten) (bytes : List ℕ) → old ≡ record { text = []; fields = [] }
-    → new ≡ record { text = old.text ++ bytes; fields = [] } → new.text ≡ bytes
-text_is old new bytes fresh adds = ap (λ (d : Unwritten). d.text) adds ∙ ap (λ (d : Unwritten). d.text ++ bytes) fresh
+text_is : (old new bytes : List ℕ) → old ≡ [] → new ≡ old ++ bytes → new ≡ bytes
+text_is old new bytes fresh adds = adds ∙ ap (λ t. t ++ bytes) fresh
 
 pub returns-in_err-told-clause-fault : goal.returns-in_err-told-clause-fault
 returns-in_err-told-clause-fault g c =

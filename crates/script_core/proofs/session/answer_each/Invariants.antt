@@ -12,7 +12,7 @@ invariant-loop-at g l = record {
   fewer : l.outcome.errors ≤ l.outcome.commands;
   counts : failures_of l.fn.writer ≤ failures_of l.writer;
   tries : failures_of l.writer + l.patience.left ≤ failures_of l.fn.writer + l.fn.patience.left;
-  begins : l.printer ≡ record { text = []; fields = [] };
+  begins : l.printer ≡ [];
   progress : Progress l.records (g.W.Write.contents (inner_of l.fn.writer))
       (g.W.Write.contents (inner_of l.writer)) (ledger_history l.ledger) l.at l.outcome;
   left : 2 * length l.records ≤ left_in l.ledger + 2 * l.at;

@@ -1,8 +1,7 @@
-use Rattle.std.proofs.Common.{arith, false, subst, sym, true}
+use Rattle.std.proofs.Common.{List, ℕ, arith, false, subst, sym, true}
 use Rattle.std.proofs.lemmas.Result.{IfOk-at_ok, IfOk-weaker}
 use Rattle.command_core.specs.Lines.{lines_in}
 use Rattle.command_core.specs.Statement.{meaning_inside, placed_in}
-use Rattle.answer_core.specs.Unwritten.{Unwritten}
 use Rattle.answer_core.specs.declared.answer.Answer.{Answer}
 use Rattle.book_core.specs.History.{History}
 use Rattle.store_core.specs.Snapshots.{history}
@@ -11,7 +10,7 @@ use Rattle.script_core.specs.BlockCuts.{first_load_meaning}
 use Rattle.script_core.specs.Ledgers.{ledger_history}
 use Rattle.script_core.specs.Performing.{AsksLoad, PrintsQueries, PrintsSection}
 use Rattle.script_core.specs.declared.outcome.Outcome.{Outcome}
-use Rattle.script_core.proofs.Blocks.{block-printed, first-asks, printed-fields, sections-joined}
+use Rattle.script_core.proofs.Blocks.{block-printed, first-asks, sections-joined}
 use Rattle.script_core.proofs.together.answer_beside_load.Goals as goal
 
 pub print_behind-requires-clause-queries : goal.print_behind-requires-clause-queries
@@ -23,22 +22,6 @@ print_behind-requires-clause-queries g c = λ κs outlives.
     c.answer_both-queries.new.printer c.new-later.result c.answer_both-queries.new.later
     c.answer_both-queries.result.0 c.requires.numbers.few
     c.answer_both-queries.ensures.front c.answer_both-queries.ensures.back
-
-pub print_behind-requires-clause-here : goal.print_behind-requires-clause-here
-print_behind-requires-clause-here g c = λ κs outlives.
-    let cut = c.requires.whole.1 in
-    IfOk-weaker c.answer_both-queries.result.0 _ _
-    (λ told section. printed-fields (history c.args.context.now.newest.now) (placed_in true cut.front)
-    c.args.printer.now c.answer_both-queries.new.printer told.0 (section.printed cut.front cut.before))
-    c.answer_both-queries.ensures.front
-
-pub print_behind-requires-clause-there : goal.print_behind-requires-clause-there
-print_behind-requires-clause-there g c = λ κs outlives.
-    let cut = c.requires.whole.1 in
-    IfOk-weaker c.answer_both-queries.result.0 _ _
-    (λ told section. printed-fields (history c.args.context.now.newest.now) (placed_in true cut.back)
-    c.new-later.result c.answer_both-queries.new.later told.1 (section.printed cut.back cut.behind))
-    c.answer_both-queries.ensures.back
 
 pub returns-clause-printed : goal.returns-clause-printed
 returns-clause-printed g c =
@@ -59,7 +42,7 @@ returns-clause-printed g c =
     let second = IfOk-at_ok (λ (told : Outcome × Outcome). PrintsSection newest block.back.first
     (lines_in block.back.lines) c.new-later.result later told.1) behind.queries_are queries.back in
     let others = subst
-    (λ (u : Unwritten). PrintsQueries newest (placed_in true cut.back) u later behind.queried.1)
+    (λ (u : List ℕ). PrintsQueries newest (placed_in true cut.back) u later behind.queried.1)
     c.new-later.ensures (second.printed cut.back cut.behind) in
     let done = IfOk-at_ok (λ (a : Answer). IsAnswerTo before block.number meant a after) said.is queries.load in
     let here = subst (λ (h : History). IsAnswerTo h cut.load.number (meaning_inside false cut.load) given after)

@@ -1,7 +1,6 @@
-use Rattle.std.proofs.Common.{◌≤◌, ap, arith, length, length-drop, refl}
+use Rattle.std.proofs.Common.{◌≤◌, arith, length, length-drop, refl}
 use Rattle.command_core.specs.Command.{meaning_of}
 use Rattle.command_core.specs.Lines.{lines_in}
-use Rattle.answer_core.specs.Unwritten.{Unwritten}
 use Rattle.store_core.specs.Snapshots.{history}
 use Rattle.command_core.proofs.Cutting.{rest-from}
 use Rattle.script_core.proofs.Blocks.{queries-all, queries-more}
@@ -20,7 +19,6 @@ loop-at-preserved g c =
       within = omega (arith, next.within, length-drop at lines, c.loop-at.invariant.within);
       few = omega (arith, next.some, c.loop-at.invariant.few);
       fewer = omega (arith, c.loop-at.invariant.fewer, c.in_ok-errors.ensures.few);
-      begins = ap (λ (u : Unwritten). u.fields) one.printed;
       done = queries-more (history c.args.context.now.newest.now) c.args.section.first lines at taken c.args.printer.now
           c.loop-at.printer c.answer_query.new.printer c.loop-at.told _
           (meaning_of c.next_inside-command.result.command)

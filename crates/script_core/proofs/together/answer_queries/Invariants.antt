@@ -1,5 +1,5 @@
 -- The queries before `at` are answered.
-use Rattle.std.proofs.Common.{◌≡◌, ◌≤◌, ◌-◌, [], length}
+use Rattle.std.proofs.Common.{◌≤◌, ◌-◌, length}
 use Rattle.command_core.specs.Lines.{lines_in}
 use Rattle.store_core.specs.Snapshots.{history}
 use Rattle.script_core.proofs.Blocks.{QueriesDone}
@@ -10,7 +10,6 @@ invariant-loop-at g l = record {
   within : l.at ≤ length (lines_in l.lines);
   few : l.told.commands ≤ l.at;
   fewer : l.told.errors ≤ l.told.commands;
-  begins : l.printer.fields ≡ [];
   done : QueriesDone (history l.context.newest.now) l.first (lines_in l.lines) l.at l.fn.printer l.printer l.told;
 }
 
