@@ -282,7 +282,7 @@ OF_LIST = "A refusal's name stands in the place of an answer. The status is then
 OF_CHANGED = """The first of the two is what was before: `-` is what it has alone, `+` what the second has alone.
 Records are by their values, columns from the left and numbers by size, and then by start; those of aggregates by
 group and then by start, `-` first."""
-OF_PAGE = """It is one file that asks no network: `tools/answers page SCRIPT > audit.html`. It has what was refused
+OF_PAGE = f"""It is one file that asks no network: `{called.ANSWERS} page SCRIPT > audit.html`. It has what was refused
 and what touched nothing, commits, questions with tables and pictures, what was said then beside what is said now, and
 what each table held. Each answer is done again, and where one differs no page is made. The status is that of `list`."""
 TOOLS: Dict[str, Tool] = {

@@ -3,7 +3,7 @@ import json
 from itertools import islice
 from typing import Any, Dict, Iterator, List, NamedTuple, Optional, Sequence, Tuple, TypeVar
 
-from ruzgalt import history
+from ruzgalt import called, history
 from ruzgalt.answers import CHANGES, Answer
 from ruzgalt.errors import Misfit
 from ruzgalt.page import drawings, findings
@@ -55,14 +55,14 @@ def of(sources: Sources, diary: Optional[str]) -> Contents:
         "script": as_object(sources.script), "command": sources.command,
         "files": [as_object(file) for file in sources.files],
         "isOwn": sources.is_own, "isDoneAgain": sources.is_done_again, "hasPrinted": sources.has_printed,
-        "answers": len(sources.answers),
+        "tool": called.ANSWERS, "answers": len(sources.answers),
         "refused": as_objects(found.refused), "idle": as_objects(found.idle), "doubtful": as_objects(found.doubtful),
         "diary": diary, "newest": len(commits), "commits": parts.first(commits, COMMITS, "commits"),
         "shown": SHOWN, "questions": list(parts.questions(kept)), "pairs": list(pairs_of(kept)),
         "tables": list(parts.tables()),
     }
     if found.untold:
-        parts.left_out.append(f"{found.untold:,} findings: `tools/answers refusals` tells all")
+        parts.left_out.append(f"{found.untold:,} findings: `{called.ANSWERS} refusals` tells all")
     return Contents({**data, "leftOut": parts.left_out}, parts.lists)
 
 

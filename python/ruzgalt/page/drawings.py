@@ -4,7 +4,7 @@ import xml.etree.ElementTree
 from typing import Any, Dict, List, NamedTuple, Optional, Sequence
 from xml.etree.ElementTree import Element
 
-from ruzgalt import pictures, svg
+from ruzgalt import called, pictures, svg
 from ruzgalt.answers import Answer
 from ruzgalt.errors import Misfit
 
@@ -38,7 +38,7 @@ def of(found: Sequence[Answer], answer: Answer) -> Drawing:
     if count == 0:
         return Drawing(None)
     if count > MOST:
-        told = f"No picture: {count:,} records are more than {MOST}. `tools/answers picture` draws some of them."
+        told = f"No picture: {count:,} records are more than {MOST}. `{called.ANSWERS} picture` draws some of them."
         return Drawing(None, told)
     try:
         text = svg.draw(pictures.of(of_one_table(found, answer), answer, pictures.Wish()), WIDTH)

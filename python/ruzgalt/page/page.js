@@ -112,7 +112,7 @@ function sideOf(when, question, records) {
 function pairOf(then, now) {
   const article = make("article", {}, make("h3", {}, make("code", {}, now.command)));
   if (!then.hasAll || !now.hasAll) {
-    const command = make("code", {}, `tools/answers changed ${data.script.name} ${then.number} ${now.number}`);
+    const command = make("code", {}, `${data.tool} changed ${data.script.name} ${then.number} ${now.number}`);
     article.append(make("p", {}, "Not all records are in this page. What changed is told by ", command, "."));
     return article;
   }
@@ -199,7 +199,7 @@ function showTables() {
   const source = data.hasPrinted
     ? "What is shown here is found in this page from versions that the program printed: behind the script it was asked "
       + "between,TABLE,0,1000000 for each table."
-    : "What is shown here is found in this page from versions that tools/answers made when it did the script's changes once "
+    : `What is shown here is found in this page from versions that ${data.tool} made when it did the script's changes once `
       + "more. The program wasn't asked for them.";
   const times = "Two times are told apart: the day for which a row holds, and the commit from which on the store knew it.";
   section("tables", make("p", {}, source), make("p", {}, times));

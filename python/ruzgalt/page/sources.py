@@ -7,7 +7,7 @@ from pathlib import Path
 from typing import Counter as Counts
 from typing import Dict, List, NamedTuple, Optional, Sequence
 
-from ruzgalt import fitting
+from ruzgalt import called, fitting
 from ruzgalt.again import texts_of
 from ruzgalt.answers import Answer
 from ruzgalt.given import Found, bytes_of, read
@@ -111,7 +111,7 @@ def ask(options: Namespace) -> Sources:
 
 def command_of(options: Namespace, asked: Sequence[str]) -> str:
     files = [options.script, *(["--answers", options.answers] if options.answers else [])]
-    words = ["tools/answers", "page", *(Path(word).name if word != "-" else word for word in files)]
+    words = [called.ANSWERS, "page", *(Path(word).name if word != "-" else word for word in files)]
     words.extend(["--diary", options.diary] if options.diary else [])
     words.extend(word for question in asked for word in ("--ask", question))
     return shlex.join([*words, *(["--once"] if options.once else [])])
