@@ -127,15 +127,11 @@ impl LastEnds {
         self.ends.truncate(kept);
     }
 
-    /// Ends a placement, before which there were so many looks: where it was refused, its own don't count.
-    pub fn settle(&mut self, before: u64, placed: &Result<usize, NoMemory>)
+    /// Takes the looks of a refused placement back: there are as many as before it.
+    pub fn take_back(&mut self, before: u64)
         requires { before ≤ self.old.looks }
-        ensures placed { OnOk placed.now (self.new ≡ self.old) }
-        ensures refused { OnErr placed.now
-            (self.new ≡ record { ends = self.old.ends; looks = before }) }
+        ensures { self.new ≡ record { ends = self.old.ends; looks = before } }
     {
-        if placed.is_err() {
-            self.looks = before;
-        }
+        self.looks = before;
     }
 }

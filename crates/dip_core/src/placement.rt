@@ -11,35 +11,9 @@ use crate::{Item, NoMemory};
 use period_core::Point;
 use std::alloc::Global;
 
-/// Adds the item where the placing rule says, and answers the number of that part. On NoMemory nothing is changed, and
-/// no look counts.
+/// Adds the item where the placing rule says, and answers the number of that part. On NoMemory nothing is changed but
+/// the number of looks, as those taken still count.
 pub(crate) fn place_item(
-    alloc: Global,
-    parts: &mut Parts,
-    ends: &mut LastEnds,
-    item: &Item,
-) -> Result<usize, NoMemory>
-    requires heap { IsHeap ends.old.ends }
-    requires last_ends { HoldLastEnds parts.old ends.old.ends }
-    requires room { ends.old.looks + 2 * length parts.old + 2 < 2 ^ 64 }
-    ensures place { IfOk result (IsPlaceFor parts.old item.now.period.from) }
-    ensures added { IfOk result (λ k. parts.new ≡ added parts.old k item.now) }
-    ensures heap { OnOk result (IsHeap ends.new.ends) }
-    ensures last_ends { OnOk result (HoldLastEnds parts.new ends.new.ends) }
-    ensures looked { OnOk result (0 < length parts.old → ends.old.looks < ends.new.looks) }
-    ensures few { OnOk result ((digits : ℕ) → length parts.old < 2 ^ digits
-        → ends.new.looks ≤ ends.old.looks + 2 * digits) }
-    ensures parts_err { OnErr result (parts.new ≡ parts.old) }
-    ensures ends_err { OnErr result (ends.new ≡ ends.old) }
-{
-    let before = ends.looks();
-    let placed = join_or_open(alloc, parts, ends, item);
-    ends.settle(before, &placed);
-    placed
-}
-
-/// The same, but for a refused placement's look, which still counts.
-fn join_or_open(
     alloc: Global,
     parts: &mut Parts,
     ends: &mut LastEnds,

@@ -90,7 +90,14 @@ impl Placer {
         ensures few_looks { OnOk result ((digits : ℕ) × HasBinaryDigits (length self.old.parts) digits
             × (self.new.looks ≤ self.old.looks + 2 * digits)) }
     {
-        let number = place_item(self.alloc, &mut self.parts, &mut self.ends, &item)?;
+        let before = self.ends.looks();
+        let number = match place_item(self.alloc, &mut self.parts, &mut self.ends, &item) {
+            Ok(number) => number,
+            Err(refused) => {
+                self.ends.take_back(before);
+                return Err(refused);
+            }
+        };
         self.last = Some(item);
         self.len += 1;
         Ok(number as u32)

@@ -23,8 +23,8 @@ pub overflow_cast-result : goal.overflow_cast-result
 overflow_cast-result c =
     let few = length-le-all_of c.self.inside.parts c.self.invariant.are_placed.filled in
     let within =
-    place-within c.self.inside.parts c.args.item.period.from c.in_ok-number.number
-    c.in_ok-number.ensures.place in
+    place-within c.self.inside.parts c.args.item.period.from c.in-Ok.number
+    c.in-Ok.ensures.place in
     let small = c.self.invariant.small in
     let counted = c.self.invariant.counted in
     search (rules, few, within, small, counted)
@@ -32,7 +32,7 @@ overflow_cast-result c =
 pub invariant_of-self-2 : goal.invariant_of-self-2
 invariant_of-self-2 c =
     let parts = c.self.inside.parts in
-    let number = c.in_ok-number.number in
+    let number = c.in-Ok.number in
     let item = c.args.item in
     let was : c.self.inside.last ≡ c.args.self.now.last = ap (λ (p : Placing). p.last) c.self.view_is in
     let parts_were : parts ≡ c.args.self.now.parts = ap (λ (p : Placing). p.parts) c.self.view_is in
@@ -40,21 +40,21 @@ invariant_of-self-2 c =
     subst (λ (last : Option Item). ForSome last (λ z. IsBelow item z → ⊥)) (sym was) c.requires.rises in
     let room : length (all_of parts) < item_limit =
     subst (λ (parts : List (List Item)). length (all_of parts) < item_limit) (sym parts_were) c.requires.room in
-    let grown = c.in_ok-number.ensures.added in
+    let grown = c.in-Ok.ensures.added in
     let longer = length-all_of-added parts number item in
     let counted = c.self.invariant.counted in
     let few = length-le-all_of parts c.self.invariant.are_placed.filled in
     let looks : c.place_item.new.ends.looks ≤ c.self.inside.ends.looks + 2 * 20 =
-    c.in_ok-number.ensures.few 20 (omega (arith, few, room)) in
+    c.in-Ok.ensures.few 20 (omega (arith, few, room)) in
     let few_looks = c.self.invariant.few_looks in
     subst (λ (ps : List (List Item)). IsPlacing ps c.place_item.new.ends (Some item) (c.self.inside.len + 1)) (sym grown)
     (record {
       are_placed =
           ArePlaced-added parts c.self.inside.last number item c.self.invariant.are_placed c.self.invariant.greatest
-          above c.in_ok-number.ensures.place;
-      ordered = c.in_ok-number.ensures.heap;
+          above c.in-Ok.ensures.place;
+      ordered = c.in-Ok.ensures.heap;
       last_ends = subst (λ (ps : List (List Item)). HoldLastEnds ps c.place_item.new.ends.ends) grown
-          c.in_ok-number.ensures.last_ends;
+          c.in-Ok.ensures.last_ends;
       greatest = IsGreatest-added parts c.self.inside.last number item c.self.invariant.greatest above;
       counted = omega (arith, longer, counted);
       small = omega (arith, counted, room);
@@ -65,8 +65,8 @@ pub returns-clause-place : goal.returns-clause-place
 returns-clause-place c =
     let parts_were : c.self.inside.parts ≡ c.args.self.now.parts = ap (λ (p : Placing). p.parts) c.self.view_is in
     subst (λ (parts : List
-    (List Item)). IsPlaceFor parts c.args.item.period.from c.in_ok-number.number) parts_were
-    c.in_ok-number.ensures.place
+    (List Item)). IsPlaceFor parts c.args.item.period.from c.in-Ok.number) parts_were
+    c.in-Ok.ensures.place
 
 pub returns-clause-few_looks : goal.returns-clause-few_looks
 returns-clause-few_looks c =
@@ -80,5 +80,5 @@ returns-clause-few_looks c =
     let short : length c.args.self.now.parts < 2 ^ 20 = omega (arith, same, few, counted, small) in
     let (digits, has) = some_digits (length c.args.self.now.parts) 20 short in
     let enough = has.enough in
-    let looks = c.in_ok-number.ensures.few digits (omega (arith, same, enough)) in
+    let looks = c.in-Ok.ensures.few digits (omega (arith, same, enough)) in
     (digits, has, omega (arith, looks, looks_were))

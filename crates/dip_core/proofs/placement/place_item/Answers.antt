@@ -2,7 +2,7 @@ use Rattle.std.proofs.Common.{◌≡◌, ℕ, length, inl, inr, subst, sym}
 use Rattle.std.proofs.lemmas.Result.{IfOk-weaker}
 use Rattle.dip_core.specs.Placing.{IsBestPart}
 use Rattle.dip_core.proofs.EndsLemmas.{best-first, none-over}
-use Rattle.dip_core.proofs.placement.join_or_open.Goals as goal
+use Rattle.dip_core.proofs.placement.place_item.Goals as goal
 
 pub returns-in-Some-clause-place : goal.returns-in-Some-clause-place
 returns-in-Some-clause-place c =
