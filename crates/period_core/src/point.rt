@@ -194,19 +194,31 @@ fn two_digits(tens: u8, ones: u8) -> Option<u8>
     }
 }
 
+// The numbers that three pairs of digits write, with a byte between them.
+fn three_pairs(text: &[u8], between: u8) -> Option<(u8, u8, u8)>
+    ensures { MatchOption result ((a b c : ℕ)
+        → text.now ≢ digits 2 a ++ between ∷ digits 2 b ++ between ∷ digits 2 c)
+        (λ p. (p.0 < 100) × (p.1 < 100) × (p.2 < 100)
+        × (text.now ≡ digits 2 p.0 ++ between ∷ digits 2 p.1 ++ between ∷ digits 2 p.2)) }
+{
+    if text.len() != 8 || text[2] != between || text[5] != between {
+        return None;
+    }
+    let first = two_digits(text[0], text[1])?;
+    let second = two_digits(text[3], text[4])?;
+    let third = two_digits(text[6], text[7])?;
+    Some((first, second, third))
+}
+
 // The year, the month and the day that a text names, which there need not be.
 fn date_parts(text: &[u8]) -> Option<(u16, u8, u8)>
     ensures { MatchOption result ((d : YearMonthDay) → text.now ≢ date_text d)
         (λ p. (p.0 ≤ 9999) × (p.1 < 100) × (p.2 < 100)
         × (text.now ≡ date_text (record { year = p.0; month = p.1; day = p.2 }))) }
 {
-    if text.len() != 10 || text[4] != b'-' || text[7] != b'-' {
-        return None;
-    }
-    let century = two_digits(text[0], text[1])?;
-    let year = two_digits(text[2], text[3])?;
-    let month = two_digits(text[5], text[6])?;
-    let day = two_digits(text[8], text[9])?;
+    let (century, pairs) = text.split_at_checked(2)?;
+    let century = two_digits(century[0], century[1])?;
+    let (year, month, day) = three_pairs(pairs, b'-')?;
     Some((century as u16 * 100 + year as u16, month, day))
 }
 
@@ -223,31 +235,19 @@ fn date_of(year: u16, month: u8, day: u8) -> Option<civil::Date>
     Some(date.to_plain())
 }
 
-// The hour, the minute and the second that a text names, which there need not be.
-fn time_parts(text: &[u8]) -> Option<(u8, u8, u8)>
-    ensures { MatchOption result ((t : HourMinuteSecond) → text.now ≢ time_text t)
-        (λ p. (p.0 < 100) × (p.1 < 100) × (p.2 < 100)
-        × (text.now ≡ time_text (record { hour = p.0; minute = p.1; second = p.2 }))) }
-{
-    if text.len() != 9 || text[0] != b'T' || text[3] != b':' || text[6] != b':' {
-        return None;
-    }
-    let hour = two_digits(text[1], text[2])?;
-    let minute = two_digits(text[4], text[5])?;
-    let second = two_digits(text[7], text[8])?;
-    Some((hour, minute, second))
-}
-
 // The time that the bytes behind a date name: midnight where there are none.
 fn time_of(text: &[u8]) -> Option<(u8, u8, u8)>
     ensures { MatchOption result ((t : HourMinuteSecond) → IsTime t → IsTimeText text.now t → ⊥)
         (λ p. IsTime (record { hour = p.0; minute = p.1; second = p.2 })
         × IsTimeText text.now (record { hour = p.0; minute = p.1; second = p.2 })) }
 {
-    if text.is_empty() {
+    let Some((letter, pairs)) = text.split_first() else {
         return Some((0, 0, 0));
+    };
+    if *letter != b'T' {
+        return None;
     }
-    let (hour, minute, second) = time_parts(text)?;
+    let (hour, minute, second) = three_pairs(pairs, b':')?;
     if hour < 24 && minute < 60 && second < 60 {
         Some((hour, minute, second))
     } else {
