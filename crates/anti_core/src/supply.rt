@@ -54,9 +54,6 @@ fn run_from<R: Threads + Sync, G: Gate>(
         (λ s. AreGapsFrom pairs.now.left.now pairs.now.right.now s.first s.values) }
     ensures there { IfOk result (λ s. (s.first ≤ first) × (first < s.first + length s.values)) }
 {
-    // What is known of each division.
-    let _ = pairs.left.parts();
-    let _ = pairs.right.parts();
     let count = stretch_len(pairs.left, pairs.right, first);
     let values = run_stretch(crew, pairs, first, count)?;
     Ok(Supply { first, values })

@@ -1,9 +1,9 @@
 //! The pairs of the parts of two divisions, as a job for workers.
 
-ghost use Rattle.std.specs.Prelude.{◌≡◌, ◌*◌, ◌≤◌, ⊤, List, IfOk, length};
+ghost use Rattle.std.specs.Prelude.{◌≡◌, ◌*◌, ◌≤◌, ⊤, List, All, IfOk, length};
 ghost use Rattle.dip_core.specs.declared.item.Item.{Item};
-ghost use Rattle.dip_core.specs.Item.{item_limit};
-ghost use Rattle.dip_core.specs.Division.{part_at};
+ghost use Rattle.dip_core.specs.Item.{IsChain, item_limit};
+ghost use Rattle.dip_core.specs.Division.{all_of, part_at};
 ghost use Rattle.grid_core.specs.Grid.{grid_name, grid_place};
 ghost use Rattle.grid_core.specs.GridLaws.{grid_placed, grid_named, few_pairs, squashed_prop};
 
@@ -37,6 +37,10 @@ pub struct PartPairs<'a, W> {
     work: PhantomData<W>,
     pub ghost left_few: { length left.now ≤ item_limit },
     pub ghost right_few: { length right.now ≤ item_limit },
+    pub ghost left_small: { length (all_of left.now) ≤ item_limit },
+    pub ghost right_small: { length (all_of right.now) ≤ item_limit },
+    pub ghost left_chained: { All IsChain left.now },
+    pub ghost right_chained: { All IsChain right.now },
 }
 
 impl<'a, W> Copy for PartPairs<'a, W> {}

@@ -20,9 +20,6 @@ pub(crate) fn add_rows_of_pairs<R: Threads + Sync, G: Gate>(
         (length pairs.now.left.now * length pairs.now.right.now) rows.old.items
         rows.new.items turns) }
 {
-    // What is known of each division.
-    let _ = pairs.left.parts();
-    let _ = pairs.right.parts();
     let count = pairs.count();
     let mut turns = 0;
     let mut first = 0;

@@ -21,8 +21,8 @@ turns_of-turns-requires g c =
     let all : length w.left.now * length w.right.now ≤ pair_limit =
     few_pairs (length w.left.now) (length w.right.now) w.left_few w.right_few in
     let few : length c.in_ok-outs.outs ≤ pair_limit = omega (arith, inside, len, all) in
-    stretch-fits w.left.now w.right.now c.loop-first.first c.in_ok-outs.outs c.parts.ensures.small
-    c.parts-2.ensures.small c.in_ok-outs.ensures.each few
+    stretch-fits w.left.now w.right.now c.loop-first.first c.in_ok-outs.outs w.left_small
+    w.right_small c.in_ok-outs.ensures.each few
 
 pub overflow_add-turns : goal.overflow_add-turns
 overflow_add-turns g c =
@@ -35,7 +35,7 @@ overflow_add-turns g c =
     let few : c.loop-first.first + length c.in_ok-outs.outs ≤ pair_limit = omega (arith, inside, len, all) in
     let so_far = c.loop-first.invariant.2 in
     let fits = stretches-fit w.left.now w.right.now c.loop-first.first so_far.added c.loop-first.turns
-    c.in_ok-outs.outs so_far.are c.parts.ensures.small c.parts-2.ensures.small c.in_ok-outs.ensures.each few in
+    c.in_ok-outs.outs so_far.are w.left_small w.right_small c.in_ok-outs.ensures.each few in
     let added = c.turns_of-turns.ensures in
     omega (arith, fits, added)
 
