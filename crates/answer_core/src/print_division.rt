@@ -1,8 +1,7 @@
 //! Prints divisions, and the verdicts on claimed ones.
-ghost use Rattle.std.specs.Prelude.{◌≡◌, ◌≤◌, ◌∷◌, ◌++◌, ℤ, List, OnOk, Option, codes, decimal, drop, length, map, take};
+ghost use Rattle.std.specs.Prelude.{◌≡◌, ◌∷◌, ◌++◌, ℤ, OnOk, Option, codes, decimal, map};
 ghost use Rattle.csv.specs.Writing.{row_text};
-ghost use Rattle.share_core.specs.Pieces.{piece, piece_before, piece_from};
-ghost use Rattle.command_core.specs.Records.{Record};
+ghost use Rattle.share_core.specs.Pieces.{piece};
 ghost use Rattle.answer_core.specs.RecordBytes.{answer_writer, bytes_of, field_behind};
 ghost use Rattle.answer_core.specs.Unwritten.{Adds};
 ghost use Rattle.answer_core.specs.PrintedRecords.{dip_record, division_records, instant_text, part_record, part_records, verdict_record};
@@ -14,7 +13,7 @@ use crate::writer::AnswerWriter;
 use cert_core::Verdict;
 use dip_core::{Division, Part};
 use period_core::{NoMemory, Point};
-use share_core::{Range, Shares};
+use share_core::{Range, Shares, places_within};
 use std::thread::Threads;
 use work_core::Crew;
 
@@ -29,31 +28,6 @@ impl<'a> RecordList for PartRecords<'a> {
 
     fn print_piece(&self, text: &mut RecordText, places: Range<usize>) -> Result<(), NoMemory> {
         text.some_parts(self.division, places)
-    }
-}
-
-/// The first of so many places that is behind a range, which ends there, where an end is given.
-fn end_of(before: Option<usize>, count: u32) -> u32
-    ensures piece { (records : List Record) → length records ≡ count
-        → piece_before before records ≡ take result records }
-    ensures within { result ≤ count }
-{
-    match before {
-        Some(end) if end < count as usize => end as u32,
-        _ => count,
-    }
-}
-
-/// The first place before an end of a range, which begins there, where a first place is given.
-fn start_of(from: Option<usize>, end: u32) -> u32
-    ensures piece { (records : List Record) → length records ≤ end
-        → piece_from from records ≡ drop result records }
-    ensures within { result ≤ end }
-{
-    match from {
-        Some(start) if start < end as usize => start as u32,
-        Some(_) => end,
-        None => 0,
     }
 }
 
@@ -107,9 +81,8 @@ impl RecordText {
         ensures { OnOk result (self.new ≡ self.old
             ++ bytes_of (piece places (part_records 0 division.now))) }
     {
-        let end = end_of(places.before, division.parts());
-        let start = start_of(places.from, end);
-        for number in start..end {
+        let (start, end) = places_within(places, division.parts() as usize);
+        for number in start as u32..end as u32 {
             self.part(number, division.part(number))?;
         }
         Ok(())

@@ -1,17 +1,16 @@
 -- Records of a load that are read range by range.
-use Rattle.std.proofs.Common.{◌≡◌, ◌∙◌, ℕ, zero, suc, ◌+◌, ◌-◌, min, List, [], ◌∷◌, ◌++◌, Option, Some, None, Result, Ok, Err, Vec, Global, refl, sym, ap, arith, take, drop, length, append-nil, unwrap_or}
+use Rattle.std.proofs.Common.{◌≡◌, ◌∙◌, ℕ, zero, suc, ◌+◌, ◌-◌, min, List, [], ◌∷◌, ◌++◌, Some, None, Result, Ok, Err, Vec, Global, refl, sym, ap, arith, take, drop, length, append-nil, unwrap_or}
 use Rattle.std.specs.List.{enumerate_from}
 use Rattle.std.specs.Ordering.{nat_cmp}
 use Rattle.std.specs.declared.alloc.AllocError.{AllocError}
-use Rattle.std.proofs.lemmas.List.{drop-take, drop_min, length-take, take_all, take_min}
 use Rattle.std.proofs.lemmas.List.FromFn.{length-enumerate_from}
 use Rattle.list_core.specs.Chunks.{all_in}
-use Rattle.share_core.specs.Pieces.{piece, piece_before, piece_from}
+use Rattle.share_core.specs.Pieces.{piece}
 use Rattle.share_core.specs.Ranges.{range}
 use Rattle.share_core.specs.Shares.{Gives, GivesFrom}
 use Rattle.share_core.specs.declared.range.Range.{Range}
 use Rattle.share_core.specs.declared.shares.Cut.{Cut}
-use Rattle.share_core.proofs.PieceLemmas.{piece_cut}
+use Rattle.share_core.proofs.PieceLemmas.{piece-part, piece_cut}
 use Rattle.share_core.proofs.ShareLemmas.{all_come}
 use Rattle.row_core.specs.Refusals.{and_then, map_err, map_ok, read_each}
 use Rattle.row_core.specs.declared.draft.Draft.{Draft}
@@ -39,30 +38,6 @@ take-enumerate_from : {X : Type 0} (k n : ℕ) (xs : List X)
 take-enumerate_from zero n xs = refl
 take-enumerate_from (suc k) n [] = refl
 take-enumerate_from (suc k) n (x ∷ xs) = ap (λ l. (n, x) ∷ l) (take-enumerate_from k (n + 1) xs)
-
--- what comes before an end, which may be past the last
-piece_before-min : {X : Type 0} (before : Option ℕ) (to : ℕ) (xs : List X)
-    → to ≡ min (unwrap_or before (length xs)) (length xs) → piece_before before xs ≡ take to xs
-piece_before-min None to xs e = sym (take_all to xs (omega (arith, e)))
-piece_before-min (Some end) to xs e = sym (ap (λ n. take n xs) e ∙ take_min end xs)
-
--- what comes from a start on, which may be past the last
-piece_from-min : {X : Type 0} (start : Option ℕ) (from : ℕ) (xs : List X)
-    → from ≡ min (unwrap_or start 0) (length xs) → piece_from start xs ≡ drop from xs
-piece_from-min None from xs e = let none : from ≡ 0 = omega (arith, e) in sym (ap (λ n. drop n xs) none)
-piece_from-min (Some start) from xs e = sym (ap (λ n. drop n xs) e ∙ drop_min start xs)
-
--- a piece, by the places between which it lies
-piece-part : {X : Type 0} (places : Range ℕ) (from to : ℕ) (xs : List X)
-    → to ≡ min (unwrap_or places.before (length xs)) (length xs) → from ≡ min (unwrap_or places.from 0) to
-    → piece places xs ≡ take (to - from) (drop from xs)
-piece-part places from to xs end start =
-    let len : length (take to xs) ≡ to = omega (arith, length-take to xs, end) in
-    let whole : to ≡ from + (to - from) = omega (arith, start) in
-    ap (piece_from places.from) (piece_before-min places.before to xs end)
-    ∙ piece_from-min places.from from (take to xs) (start ∙ ap (min (unwrap_or places.from 0)) (sym len))
-    ∙ ap (λ n. drop from (take n xs)) whole
-    ∙ drop-take from (to - from) xs
 
 -- what the records of a piece give, which lies between two places
 pub told-part : {T : Type 0} (read : Record → Result T Refusal) (places : Range ℕ) (number from to n : ℕ)

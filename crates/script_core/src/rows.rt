@@ -12,7 +12,7 @@ use crate::failure::{Failure, failure_at, refused};
 use command_core::{Fault, Line, Lines, Refusal, begins};
 use period_core::NoMemory;
 use row_core::{Draft, Drafts, RowReader, Schema};
-use share_core::{Range, Shares, shared_out};
+use share_core::{Range, Shares, places_within, shared_out};
 use std::alloc::{AllocError, Global};
 use std::thread::Threads;
 use work_core::{Crew, OpenGate};
@@ -87,9 +87,7 @@ fn rows_in_range(
     ensures { IfOk result (λ read. drafts_told schema.now
         (piece places (enumerate_from number (lines_in lines.entry))) ≡ drafts_of read) }
 {
-    let len = lines.len();
-    let to = places.before.unwrap_or(len).min(len);
-    let from = places.from.unwrap_or(0).min(to);
+    let (from, to) = places_within(places, lines.len());
     match rows_of_records(alloc, schema, lines.range(from, to), number + from as u64) {
         Ok(rows) => Ok(Ok(rows)),
         Err(Failure::Refused(fault)) => Ok(Err(fault)),

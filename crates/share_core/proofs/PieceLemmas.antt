@@ -1,10 +1,12 @@
 -- Pieces of lists, one behind another.
-use Rattle.std.proofs.Common.{arith, ◌≡◌, ℕ, zero, suc, ◌≤◌, ◌++◌, List, [], ◌∷◌, Option, Some, None, refl, ap, take, drop, true}
+use Rattle.std.proofs.Common.{arith, ◌≡◌, ◌∙◌, ℕ, zero, suc, ◌+◌, ◌-◌, ◌≤◌, min, ◌++◌, List, [], ◌∷◌, Option, Some, None, refl, sym, ap, take, drop, length, unwrap_or, true}
 use Rattle.std.specs.Ordering.{nat_cmp}
 use Rattle.std.proofs.lemmas.Bool.Decides.{nat_tests}
+use Rattle.std.proofs.lemmas.List.{drop-take, drop_min, length-take, take_all, take_min}
 use Rattle.share_core.proofs.NumberLemmas.{from_is}
-use Rattle.share_core.specs.Pieces.{piece}
+use Rattle.share_core.specs.Pieces.{piece, piece_before, piece_from}
 use Rattle.share_core.specs.Ranges.{has_begun, range}
+use Rattle.share_core.specs.declared.range.Range.{Range}
 
 -- a later place doesn't come before the first one
 pub begun_upto : (from at : ℕ) → has_begun nat_cmp (Some from) at ≡ true → from ≤ at
@@ -26,3 +28,27 @@ pub piece_cut : {X : Type 0} (from : Option ℕ) (at : ℕ) (xs : List X) → ha
     → piece (range from None) xs ≡ piece (range from (Some at)) xs ++ piece (range (Some at) None) xs
 piece_cut None at xs begun = drop_take 0 at xs (omega arith)
 piece_cut (Some from) at xs begun = drop_take from at xs (begun_upto from at begun)
+
+-- what comes before an end, which may be past the last
+piece_before-min : {X : Type 0} (before : Option ℕ) (to : ℕ) (xs : List X)
+    → to ≡ min (unwrap_or before (length xs)) (length xs) → piece_before before xs ≡ take to xs
+piece_before-min None to xs e = sym (take_all to xs (omega (arith, e)))
+piece_before-min (Some end) to xs e = sym (ap (λ n. take n xs) e ∙ take_min end xs)
+
+-- what comes from a start on, which may be past the last
+piece_from-min : {X : Type 0} (start : Option ℕ) (from : ℕ) (xs : List X)
+    → from ≡ min (unwrap_or start 0) (length xs) → piece_from start xs ≡ drop from xs
+piece_from-min None from xs e = let none : from ≡ 0 = omega (arith, e) in sym (ap (λ n. drop n xs) none)
+piece_from-min (Some start) from xs e = sym (ap (λ n. drop n xs) e ∙ drop_min start xs)
+
+-- a piece, by the places between which it lies
+pub piece-part : {X : Type 0} (places : Range ℕ) (from to : ℕ) (xs : List X)
+    → to ≡ min (unwrap_or places.before (length xs)) (length xs) → from ≡ min (unwrap_or places.from 0) to
+    → piece places xs ≡ take (to - from) (drop from xs)
+piece-part places from to xs end start =
+    let len : length (take to xs) ≡ to = omega (arith, length-take to xs, end) in
+    let whole : to ≡ from + (to - from) = omega (arith, start) in
+    ap (piece_from places.from) (piece_before-min places.before to xs end)
+    ∙ piece_from-min places.from from (take to xs) (start ∙ ap (min (unwrap_or places.from 0)) (sym len))
+    ∙ ap (λ n. drop from (take n xs)) whole
+    ∙ drop-take from (to - from) xs

@@ -8,7 +8,7 @@ mod range;
 mod shared;
 mod shares;
 
-pub use pieces::piece;
+pub use pieces::{piece, places_within};
 pub use range::Range;
 pub use shared::shared_out;
 pub use shares::{Cut, Shares};

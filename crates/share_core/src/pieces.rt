@@ -1,33 +1,26 @@
 //! Pieces of lists.
 
-ghost use Rattle.std.specs.Prelude.{◌≡◌};
-ghost use Rattle.share_core.specs.Pieces.{piece, piece_before, piece_from};
+ghost use Rattle.std.specs.Prelude.{◌≡◌, ◌≤◌, min, unwrap_or};
+ghost use Rattle.share_core.specs.Pieces.{piece};
 
 use crate::range::Range;
+
+/// The places of a range, where there are so many: those from the first answer on and before the second.
+pub fn places_within(range: Range<usize>, count: usize) -> (usize, usize)
+    ensures ordered { result.0 ≤ result.1 }
+    ensures within { result.1 ≤ count }
+    ensures from { result.0 ≡ min (unwrap_or range.from 0) result.1 }
+    ensures before { result.1 ≡ min (unwrap_or range.before count) count }
+{
+    let to = range.before.unwrap_or(count).min(count);
+    let from = range.from.unwrap_or(0).min(to);
+    (from, to)
+}
 
 /// The items of a range's places.
 pub fn piece<T>(range: Range<usize>, items: &[T]) -> &[T]
     ensures { result.now ≡ piece range items.now }
 {
-    piece_from(range.from, piece_before(range.before, items))
-}
-
-/// The items before a place, where one is given.
-fn piece_before<T>(end: Option<usize>, items: &[T]) -> &[T]
-    ensures { result.now ≡ piece_before end items.now }
-{
-    match end {
-        Some(end) if end < items.len() => &items[..end],
-        _ => items,
-    }
-}
-
-/// The items from a place on, where one is given.
-fn piece_from<T>(start: Option<usize>, items: &[T]) -> &[T]
-    ensures { result.now ≡ piece_from start items.now }
-{
-    match start {
-        Some(start) => &items[start.min(items.len())..],
-        None => items,
-    }
+    let (from, to) = places_within(range, items.len());
+    &items[from..to]
 }
