@@ -32,6 +32,16 @@ impl<T> From<Vec<T>> for List<T> {
     }
 }
 
+impl<T> From<List<T>> for Vec<T> {
+    ghost use Rattle.std.specs.Prelude.{◌≡◌};
+
+    ghost from_gives = { λ list items. items.items ≡ list };
+
+    fn from(list: List<T>) -> Vec<T> {
+        list.items
+    }
+}
+
 impl<T> List<T> {
     /// The empty list, which takes no memory.
     pub fn new(alloc: Global) -> Self
