@@ -1,0 +1,14 @@
+#![tactic(auto)]
+
+//! The rows of a table, which lists of them share: a list that shows some of them has their places.
+
+mod row_ref;
+mod shared_rows;
+mod table_rows;
+mod value_ref;
+
+pub use period_core::NoMemory;
+pub use row_ref::RowRef;
+pub use shared_rows::SharedRows;
+pub use table_rows::TableRows;
+pub use value_ref::ValueRef;

@@ -1,0 +1,162 @@
+//! Rows of a table that a list shares with it.
+
+ghost use Rattle.std.specs.Prelude.{◌≡◌, ◌<◌, All, Some, filter, length, slice_get, IfOk};
+ghost use Rattle.period_core.specs.Period.{holds_at};
+ghost use Rattle.table_core.specs.Lent.{lent_row};
+ghost use Rattle.table_core.specs.Places.{AreWithin, at_places, shown_at};
+
+use crate::NoMemory;
+use crate::row_ref::RowRef;
+use period_core::Point;
+use row_core::RowList;
+use std::alloc::{AllocError, Global};
+use std::marker::Model;
+use std::sync::Arc;
+
+/// Rows of a table, by rising id, which no list copies: one that shows them all shares them, and one that
+/// shows some has their places beside. Contracts see the list of those that it shows.
+#[derive(Debug, Drop)]
+pub struct SharedRows {
+    pub(crate) rows: Arc<RowList>,
+    pub(crate) places: Option<Vec<u32>>,
+}
+
+impl Model for SharedRows {
+    ghost use Rattle.std.specs.Prelude.{List};
+    ghost use Rattle.std.specs.Arc.{arc_value};
+    ghost use Rattle.row_core.specs.declared.row.Row.{Row};
+    ghost use Rattle.table_core.specs.Places.{shown_at, AreWithin};
+
+    ghost Value = { List Row };
+
+    ghost view = { λ s. shown_at s.places (arc_value s.rows) };
+
+    ghost invariant = { λ s. AreWithin s.places (arc_value s.rows) };
+}
+
+impl SharedRows {
+    /// The rows of a list, which nothing shares yet.
+    pub fn of(alloc: Global, rows: RowList) -> Result<SharedRows, NoMemory>
+        ensures { IfOk result (λ shared. shared ≡ rows) }
+    {
+        Ok(SharedRows {
+            rows: Arc::new(alloc, rows)?,
+            places: None,
+        })
+    }
+
+    /// How many there are.
+    pub fn len(&self) -> usize
+        ensures { result ≡ length self.now }
+    {
+        count_of(&self.rows, &self.places)
+    }
+
+    /// The row at that place, from 0.
+    pub fn at(&self, place: usize) -> RowRef<'_>
+        requires { place < length self.now }
+        ensures { slice_get self.now place ≡ Some (lent_row result) }
+    {
+        row_at(&self.rows, &self.places, place)
+    }
+
+    /// A list of them, which are copied.
+    ///
+    /// # Errors
+    ///
+    /// `NoMemory` where a growth is refused.
+    pub fn list(&self, alloc: Global) -> Result<RowList, NoMemory>
+        ensures { IfOk result (λ list. list ≡ self.now) }
+    {
+        let mut list = Vec::with_capacity(alloc, self.len())?;
+        for i in 0..self.len() {
+            list.push(self.at(i).copy(alloc)?)?;
+        }
+        Ok(RowList::from(list))
+    }
+
+    /// Those that hold at the point, which are not copied.
+    ///
+    /// # Errors
+    ///
+    /// `NoMemory` where a growth is refused.
+    pub fn holding(&self, alloc: Global, point: Point) -> Result<SharedRows, NoMemory>
+        ensures { IfOk result (λ rows. rows ≡ filter (λ row. holds_at point row.period) self.now) }
+    {
+        let places = places_holding(alloc, &self.rows, &self.places, point)?;
+        Ok(SharedRows {
+            rows: Arc::try_clone(&self.rows)?,
+            places: Some(places),
+        })
+    }
+}
+
+/// How many rows a list shows: those at the places, or all.
+fn count_of(rows: &RowList, places: &Option<Vec<u32>>) -> usize
+    requires { AreWithin places.now rows.now }
+    ensures { result ≡ length (shown_at places.now rows.now) }
+{
+    match places {
+        None => rows.len(),
+        Some(places) => places.len(),
+    }
+}
+
+/// The row at that place of a list that shows the rows at those places, or all.
+fn row_at<'a>(rows: &'a RowList, places: &Option<Vec<u32>>, place: usize) -> RowRef<'a>
+    requires within { AreWithin places.now rows.now }
+    requires there { place < length (shown_at places.now rows.now) }
+    ensures { slice_get (shown_at places.now rows.entry.now) place ≡ Some (lent_row result) }
+{
+    RowRef {
+        row: &rows.as_slice()[place_among(rows, places, place)],
+    }
+}
+
+/// Where the row at that place of a list lies among all rows.
+fn place_among(rows: &RowList, places: &Option<Vec<u32>>, place: usize) -> usize
+    requires within { AreWithin places.now rows.now }
+    requires there { place < length (shown_at places.now rows.now) }
+    ensures row { slice_get rows.now result ≡ slice_get (shown_at places.now rows.now) place }
+    ensures within { result < length rows.now }
+{
+    match places {
+        None => place,
+        Some(places) => places[place] as usize,
+    }
+}
+
+/// The places of those of a list's rows that hold at the point. No table has more rows than 32 bits count.
+fn places_holding(
+    alloc: Global,
+    rows: &RowList,
+    places: &Option<Vec<u32>>,
+    point: Point,
+) -> Result<Vec<u32>, NoMemory>
+    requires within { AreWithin places.now rows.now }
+    ensures within { IfOk result (λ held. All (λ place. place < length rows.now) held.items) }
+    ensures held { IfOk result (λ held. at_places held.items rows.now
+        ≡ filter (λ row. holds_at point row.period) (shown_at places.now rows.now)) }
+{
+    let mut held = Vec::new(alloc);
+    for i in 0..count_of(rows, places) {
+        if holds_at(row_at(rows, places, i), point) {
+            held.push(as_place(place_among(rows, places, i))?)?;
+        }
+    }
+    Ok(held)
+}
+
+/// Whether the row holds at the point.
+fn holds_at(row: RowRef<'_>, point: Point) -> bool
+    ensures { result ≡ holds_at point (lent_row row.entry).period }
+{
+    row.period().holds(point)
+}
+
+/// The place in 32 bits.
+fn as_place(place: usize) -> Result<u32, NoMemory>
+    ensures { IfOk result (λ p. p ≡ place) }
+{
+    u32::try_from(place).map_err(|_| AllocError)
+}

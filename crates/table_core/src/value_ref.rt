@@ -1,0 +1,23 @@
+//! A value where it lies.
+
+ghost use Rattle.std.specs.Prelude.{◌≡◌};
+ghost use Rattle.table_core.specs.Lent.{lent_value};
+
+use row_core::Value;
+
+/// A value of a row, lent by the row.
+#[derive(Clone, Copy, Debug)]
+pub enum ValueRef<'a> {
+    Int(i64),
+    Text(&'a str),
+}
+
+/// Lends a value.
+pub(crate) fn lent(value: &Value) -> ValueRef<'_>
+    ensures { lent_value result ≡ value.now }
+{
+    match value {
+        Value::Int(number) => ValueRef::Int(*number),
+        Value::Text(text) => ValueRef::Text(text.as_str()),
+    }
+}
