@@ -9,6 +9,6 @@ mod value_ref;
 
 pub use period_core::NoMemory;
 pub use row_ref::RowRef;
-pub use shared_rows::SharedRows;
+pub use shared_rows::{SharedRows, as_place};
 pub use table_rows::TableRows;
 pub use value_ref::ValueRef;

@@ -4,7 +4,7 @@ ghost use Rattle.std.specs.Prelude.{◌≡◌, length, option_map, slice_get, If
 ghost use Rattle.table_core.specs.Lent.{lent_row, lent_value};
 
 use crate::NoMemory;
-use crate::value_ref::{ValueRef, lent};
+use crate::value_ref::ValueRef;
 use list_core::DeepCopy;
 use period_core::Period;
 use row_core::Row;
@@ -43,7 +43,7 @@ impl<'a> RowRef<'a> {
         ensures { option_map lent_value result ≡ slice_get (lent_row self.entry).values column }
     {
         match self.row.values.get(column) {
-            Some(value) => Some(lent(value)),
+            Some(value) => Some(ValueRef::of(value)),
             None => None,
         }
     }

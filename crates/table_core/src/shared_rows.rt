@@ -154,8 +154,12 @@ fn holds_at(row: RowRef<'_>, point: Point) -> bool
     row.period().holds(point)
 }
 
-/// The place in 32 bits.
-fn as_place(place: usize) -> Result<u32, NoMemory>
+/// The place in 32 bits. No table has more rows than these count.
+///
+/// # Errors
+///
+/// `NoMemory` where it is past them.
+pub fn as_place(place: usize) -> Result<u32, NoMemory>
     ensures { IfOk result (λ p. p ≡ place) }
 {
     u32::try_from(place).map_err(|_| AllocError)

@@ -1,7 +1,7 @@
 //! All rows of a table.
 
 ghost use Rattle.std.specs.Arc.{arc_value};
-ghost use Rattle.std.specs.Prelude.{◌≡◌, ◌++◌, ◌<◌, [], All, length, IfOk, OnErr, OnOk};
+ghost use Rattle.std.specs.Prelude.{◌≡◌, ◌++◌, ◌<◌, [], All, length, option_copied, slice_get, IfOk, OnErr, OnOk};
 ghost use Rattle.table_core.specs.Places.{at_places};
 
 use crate::NoMemory;
@@ -43,6 +43,13 @@ impl TableRows {
         ensures { result ≡ length self.now }
     {
         self.rows.len()
+    }
+
+    /// The row at that place; none past the last.
+    pub fn get(&self, place: usize) -> Option<&Row>
+        ensures { option_copied result ≡ slice_get self.now place }
+    {
+        self.rows.get(place)
     }
 
     /// All rows, in their order.

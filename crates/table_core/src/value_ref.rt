@@ -12,12 +12,14 @@ pub enum ValueRef<'a> {
     Text(&'a str),
 }
 
-/// Lends a value.
-pub(crate) fn lent(value: &Value) -> ValueRef<'_>
-    ensures { lent_value result ≡ value.now }
-{
-    match value {
-        Value::Int(number) => ValueRef::Int(*number),
-        Value::Text(text) => ValueRef::Text(text.as_str()),
+impl<'a> ValueRef<'a> {
+    /// Lends a value.
+    pub fn of(value: &'a Value) -> ValueRef<'a>
+        ensures { lent_value result ≡ value.entry.now }
+    {
+        match value {
+            Value::Int(number) => ValueRef::Int(*number),
+            Value::Text(text) => ValueRef::Text(text.as_str()),
+        }
     }
 }

@@ -1,6 +1,6 @@
 -- The versions that the first commits show, and the rows that one shows.
-use Rattle.std.proofs.Common.{◌≡◌, ℕ, ◌+◌, ◌<◌, List, [], ◌∷◌, ◌++◌, length, Bool, true, false, cond, Some, None, refl, ap, sym, ◌∙◌, take, get_or, ◌&&◌, leb}
-use Rattle.std.specs.List.{cons_option, filter}
+use Rattle.std.proofs.Common.{◌≡◌, ℕ, ◌+◌, ◌<◌, List, [], ◌∷◌, ◌++◌, length, map, zero, suc, Bool, true, false, cond, Some, None, refl, ap, sym, ◌∙◌, take, get_or, ◌&&◌, leb, arith}
+use Rattle.std.specs.List.{cons_option, filter, slice_get}
 use Rattle.std.proofs.lemmas.List.{append-nil, take_more}
 use Rattle.std.proofs.lemmas.List.Elements.{filter-append, filter_map-append}
 use Rattle.row_core.specs.declared.row.Row.{Row}
@@ -70,6 +70,13 @@ pub held-same : (n i : ℕ) (test : Row → Bool) (vs : List Version) (v : Versi
 held-same n i test vs v rows h e t k =
     k ∙ sym (held-take_more n i test vs v h e
     ∙ ap (λ b. filter test (shown n (take i vs)) ++ cond b (v.row ∷ []) []) t ∙ append-nil _)
+
+-- the row of the version at a place
+pub row-at : (vs : List Version) (i : ℕ) (v : Version) → i < length vs → v ≡ get_or vs i v
+    → slice_get (map (λ (w : Version). w.row) vs) i ≡ Some v.row
+row-at [] i v inside e = absurd (omega (arith, inside))
+row-at (w ∷ ws) zero v inside e = ap (λ (u : Version). Some u.row) (sym e)
+row-at (w ∷ ws) (suc i) v inside e = row-at ws i v (omega (arith, inside)) e
 
 -- all rows hold where no point is told
 pub all-held : (rows : List Row) → filter (holds_where None) rows ≡ rows

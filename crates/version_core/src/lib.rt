@@ -9,13 +9,12 @@ mod keys;
 mod making;
 mod places;
 mod portion;
-mod shared_rows;
 mod stored;
 mod version;
 mod versions;
 
 pub use change::{Change, Pairs};
 pub use keys::KeyOverlap;
-pub use shared_rows::SharedRows;
+pub use table_core::SharedRows;
 pub use version::{Version, VersionList};
 pub use versions::{VERSION_LIMIT, VersionCounts, Versions};

@@ -1,15 +1,16 @@
 //! The versions of a table as they are kept: their rows, and beside each the commits that show it.
 
-ghost use Rattle.std.specs.Prelude.{◌≡◌, ◌<◌, ◌++◌, [], length, get_or, map, option_map, replicate, slice_get, IfOk, OnErr, OnOk, None};
+ghost use Rattle.std.specs.Prelude.{◌≡◌, ◌<◌, ◌++◌, [], All, length, get_or, map, option_map, replicate, slice_get, IfOk, OnErr, OnOk, None};
+ghost use Rattle.table_core.specs.Places.{at_places};
 ghost use Rattle.version_core.specs.Made.{made};
 ghost use Rattle.version_core.specs.OpenVersions.{closed_at};
 ghost use Rattle.version_core.specs.Stored.{versions_of};
 ghost use Rattle.version_core.specs.StoredRef.{version_at};
 
-use crate::shared_rows::SharedRows;
-use row_core::{NoMemory, Row, RowList};
+use row_core::{NoMemory, Row};
 use std::alloc::Global;
 use std::marker::Model;
+use table_core::{SharedRows, TableRows};
 
 /// The commits that show a version: those from `from` on, and before `to` where it is told. There
 /// are so few that 32 bits hold one.
@@ -30,7 +31,7 @@ pub(crate) struct VersionRef<'a> {
 /// versions.
 #[derive(Drop)]
 pub(crate) struct StoredVersions {
-    rows: SharedRows,
+    rows: TableRows,
     spans: Vec<Span>,
 }
 
@@ -52,7 +53,7 @@ impl StoredVersions {
         ensures { IfOk result (λ versions. versions ≡ []) }
     {
         Ok(StoredVersions {
-            rows: SharedRows::of(alloc, RowList::new(alloc))?,
+            rows: TableRows::new(alloc)?,
             spans: Vec::new(alloc),
         })
     }
@@ -89,7 +90,7 @@ impl StoredVersions {
     pub(crate) fn get(&self, place: usize) -> Option<VersionRef<'_>>
         ensures { option_map version_at result ≡ slice_get self.now place }
     {
-        match self.rows.list().get(place) {
+        match self.rows.get(place) {
             Some(row) => Some(VersionRef {
                 row,
                 span: self.spans[place],
@@ -113,7 +114,15 @@ impl StoredVersions {
     pub(crate) fn rows(&self) -> Result<SharedRows, NoMemory>
         ensures { IfOk result (λ rows. rows ≡ map (λ v. v.row) self.now) }
     {
-        self.rows.share()
+        self.rows.all()
+    }
+
+    /// The rows at those places, which are not copied.
+    pub(crate) fn at_places(&self, places: Vec<u32>) -> Result<SharedRows, NoMemory>
+        requires { All (λ place. place < length self.now) places.items }
+        ensures { IfOk result (λ rows. rows ≡ at_places places.items (map (λ v. v.row) self.now)) }
+    {
+        self.rows.at_places(places)
     }
 
     /// Adds the versions of rows that a commit makes. On refusal there are none more.

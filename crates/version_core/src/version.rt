@@ -1,17 +1,18 @@
 //! Versions of rows, and those that a commit or a range of commits shows.
 
-ghost use Rattle.std.specs.Prelude.{◌≡◌, ◌&&◌, ◌==◌, IfOk, count_by, filter, nat_le};
+ghost use Rattle.std.specs.Prelude.{◌≡◌, ◌<◌, ◌&&◌, ◌==◌, All, IfOk, count_by, filter, length, map, nat_le};
 ghost use Rattle.period_core.specs.Period.{holds_at};
 ghost use Rattle.row_core.specs.declared.row.Row.{Row};
+ghost use Rattle.table_core.specs.Places.{at_places};
 ghost use Rattle.version_core.specs.Shown.{holds_where, shows, shown, versions_as_of, end_at, is_behind};
 ghost use Rattle.version_core.specs.Stored.{version_of};
 
-use crate::shared_rows::SharedRows;
 use crate::stored::{Span, StoredVersions};
 use list_core::{DeepCopy, List};
 use period_core::Point;
-use row_core::{NoMemory, Row, RowList};
+use row_core::{NoMemory, Row};
 use std::alloc::Global;
+use table_core::{SharedRows, as_place};
 
 /// A row with its system period: the commits from `sysfrom` on and before `systo` show it, or all
 /// from `sysfrom` on where the end is open.
@@ -29,7 +30,7 @@ fn is_shown(span: &Span, n: u64) -> bool
     span.from as u64 <= n && span.to.is_none_or(|to| n < to as u64)
 }
 
-/// The rows that commit n shows: where it shows all versions they are shared, else copied.
+/// The rows that commit n shows, which are not copied.
 pub(crate) fn rows_shown(
     alloc: Global,
     versions: &StoredVersions,
@@ -42,7 +43,7 @@ pub(crate) fn rows_shown(
     if count == spans.len() {
         versions.rows()
     } else {
-        SharedRows::of(alloc, rows_copied(alloc, versions, n, None, count)?)
+        versions.at_places(places_shown(alloc, versions, n, None, count)?)
     }
 }
 
@@ -53,7 +54,7 @@ fn count_shown(spans: &[Span], n: u64) -> usize
     spans.iter().filter(|span| is_shown(span, n)).count()
 }
 
-/// The rows that commit n shows and that hold at the point. No other row is copied.
+/// The rows that commit n shows and that hold at the point, which are not copied.
 pub(crate) fn rows_holding(
     alloc: Global,
     versions: &StoredVersions,
@@ -62,33 +63,34 @@ pub(crate) fn rows_holding(
 ) -> Result<SharedRows, NoMemory>
     ensures { IfOk result (λ rows. rows ≡ filter (λ row. holds_at point row.period) (shown n versions.now)) }
 {
-    SharedRows::of(alloc, rows_copied(alloc, versions, n, Some(point), 0)?)
+    versions.at_places(places_shown(alloc, versions, n, Some(point), 0)?)
 }
 
-/// Copies of the rows that commit n shows, where a point is told of those that hold at it. There is
+/// The places of the rows that commit n shows, where a point is told of those that hold at it. There is
 /// room for so many, so that no memory is asked for again as they grow to them.
-fn rows_copied(
+fn places_shown(
     alloc: Global,
     versions: &StoredVersions,
     n: u64,
     point: Option<Point>,
     room: usize,
-) -> Result<RowList, NoMemory>
-    ensures { IfOk result (λ rows. rows ≡ filter (holds_where point) (shown n versions.now)) }
+) -> Result<Vec<u32>, NoMemory>
+    ensures within { IfOk result (λ places. All (λ place. place < length versions.now) places.items) }
+    ensures shown { IfOk result (λ places. at_places places.items (map (λ v. v.row) versions.now)
+        ≡ filter (holds_where point) (shown n versions.now)) }
 {
     let (rows, spans) = versions.as_slices();
-    let mut copies = Vec::with_capacity(alloc, room)?;
+    let mut places = Vec::with_capacity(alloc, room)?;
     for i in 0..rows.len() {
-        let row = &rows[i];
-        if is_copied(row, &spans[i], n, point) {
-            copies.push(row.copy(alloc)?)?;
+        if is_listed(&rows[i], &spans[i], n, point) {
+            places.push(as_place(i)?)?;
         }
     }
-    Ok(RowList::from(copies))
+    Ok(places)
 }
 
 /// Whether commit n shows the version, and its row holds at the point, if one is told.
-fn is_copied(row: &Row, span: &Span, n: u64, point: Option<Point>) -> bool
+fn is_listed(row: &Row, span: &Span, n: u64, point: Option<Point>) -> bool
     ensures { result ≡ (shows n (version_of row.now span.now) && holds_where point row.now) }
 {
     point.is_none_or(|point| row.period.holds(point)) && is_shown(span, n)

@@ -30,7 +30,6 @@ use crate::keys::{KeyOverlap, collide_among, collide_among_all, may_overlap};
 use crate::making::{NewRows, rows_of};
 use crate::places::Places;
 use crate::portion::{SOUGHT_LIMIT, columns_sought, count_of, is_removed, push_parts, reaches};
-use crate::shared_rows::SharedRows;
 use crate::stored::{Span, StoredVersions};
 use crate::version::{VersionList, rows_holding, rows_shown, versions_seen};
 use list_core::DeepCopy;
@@ -38,6 +37,7 @@ use period_core::Point;
 use row_core::{Failure, NoMemory, Row, Schema};
 use std::alloc::Global;
 use std::marker::Model;
+use table_core::SharedRows;
 
 /// The most versions of a table.
 pub const VERSION_LIMIT: usize = 1_000_000;
@@ -109,7 +109,7 @@ impl Versions {
         self.items.len()
     }
 
-    /// The rows that commit n shows, by rising id. Where it shows all they are not copied.
+    /// The rows that commit n shows, by rising id, which are not copied.
     pub fn rows_shown(&self, alloc: Global, n: u64) -> Result<SharedRows, NoMemory>
         ensures { IfOk result (λ rows. rows ≡ shown n self.now) }
     {
@@ -129,7 +129,7 @@ impl Versions {
         versions_seen(alloc, &self.items, at, m, last)
     }
 
-    /// The rows that commit n shows and that hold at the point. No other row is copied.
+    /// The rows that commit n shows and that hold at the point, which are not copied.
     pub fn rows_holding(&self, alloc: Global, n: u64, point: Point) -> Result<SharedRows, NoMemory>
         ensures { IfOk result (λ rows. rows
             ≡ filter (λ (row : AnyRow). holds_at point row.period) (shown n self.now)) }

@@ -14,7 +14,8 @@ returns-then-count-spans c =
     (λ rows e. e ∙ shown-all c.args.n c.args.versions.now
     (sym counted ∙ sym c.count_shown-count.ensures ∙ c.if-count-spans.true ∙ slices.spans)) c.rows.ensures
 
-pub returns-in_ok-rows_copied : goal.returns-in_ok-rows_copied
-returns-in_ok-rows_copied c =
-    IfOk-weaker c.of.result _ _
-    (λ rows e. e ∙ c.in_ok-rows_copied.ensures ∙ all-held (shown c.args.n c.args.versions.now)) c.of.ensures
+pub returns-in_ok-places_shown : goal.returns-in_ok-places_shown
+returns-in_ok-places_shown c =
+    IfOk-weaker c.at_places.result _ _
+    (λ rows e. e ∙ c.in_ok-places_shown.ensures.shown ∙ all-held (shown c.args.n c.args.versions.now))
+    c.at_places.ensures

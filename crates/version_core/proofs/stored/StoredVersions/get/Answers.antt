@@ -6,14 +6,14 @@ use Rattle.version_core.proofs.stored.StoredVersions.get.Goals as goal
 pub index-requires : goal.index-requires
 index-requires c =
     let there : slice_get c.self.inside.rows c.args.place ≡ Some c.in-Some.row.now =
-    ap (λ l. slice_get l c.args.place) (sym c.list.ensures) ∙ sym c.get.ensures ∙ ap option_copied c.in-Some.is in
+    sym c.get.ensures ∙ ap option_copied c.in-Some.is in
     let inside = slice_get-inside c.self.inside.rows c.args.place c.in-Some.row.now there in
     omega (arith, inside, c.self.invariant, c.self.inside.spans.ok.0)
 
 pub returns-in-Some : goal.returns-in-Some
 returns-in-Some c =
     let there : slice_get c.self.inside.rows c.args.place ≡ Some c.in-Some.row.now =
-    ap (λ l. slice_get l c.args.place) (sym c.list.ensures) ∙ sym c.get.ensures ∙ ap option_copied c.in-Some.is in
+    sym c.get.ensures ∙ ap option_copied c.in-Some.is in
     slice_get-versions_of c.self.inside.rows c.self.inside.spans.items c.args.place c.in-Some.row.now
     c.index.result.now c.self.invariant there c.index.ensures
     ∙ ap (λ vs. slice_get vs c.args.place) c.self.view_is
@@ -21,6 +21,6 @@ returns-in-Some c =
 pub returns-in-None : goal.returns-in-None
 returns-in-None c =
     let past : slice_get c.self.inside.rows c.args.place ≡ None =
-    ap (λ l. slice_get l c.args.place) (sym c.list.ensures) ∙ sym c.get.ensures ∙ ap option_copied c.in-None.is in
+    sym c.get.ensures ∙ ap option_copied c.in-None.is in
     sym (slice_get-past c.self.inside.rows c.self.inside.spans.items c.args.place c.self.invariant past)
     ∙ ap (λ vs. slice_get vs c.args.place) c.self.view_is

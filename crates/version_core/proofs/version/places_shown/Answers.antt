@@ -1,0 +1,54 @@
+use Rattle.std.proofs.Common.{◌<◌, All, length, map, None, arith, sym, subst, get_or, ◌∙◌, ap, ◌++◌, ◌∷◌, [], Global, Vec, ℕ}
+use Rattle.std.specs.Prelude.{filter}
+use Rattle.std.proofs.lemmas.List.{get_or_default, take_all}
+use Rattle.std.proofs.lemmas.List.Elements.{All-push}
+use Rattle.table_core.specs.Places.{at_places}
+use Rattle.table_core.proofs.PlaceLemmas.{at_places-more}
+use Rattle.version_core.specs.Shown.{holds_where, shown}
+use Rattle.version_core.specs.Stored.{version_of}
+use Rattle.version_core.specs.declared.version.Version.{Version}
+use Rattle.version_core.proofs.Seen.{held-more, held-same, row-at}
+use Rattle.version_core.proofs.StoredLemmas.{get_or-versions_of}
+use Rattle.version_core.proofs.version.places_shown.Goals as goal
+use Rattle.version_core.proofs.version.places_shown.Goals.{then-is_listed+in_ok-as_place+in_ok-push, else-is_listed}
+
+pub loop-i-preserved : goal.loop-i-preserved
+loop-i-preserved c =
+    let vs = c.args.versions.now in
+    let all = map (λ (v : Version). v.row) vs in
+    let i = c.loop-i.i in
+    let rows = c.as_slices.result.0.now in
+    let spans = c.as_slices.result.1.now in
+    let inside : i < length vs = omega (arith, c.loop-i-test.true, c.as_slices.ensures.rows) in
+    let beside : i < length spans = omega (arith, inside, c.as_slices.ensures.spans) in
+    let span = get_or spans i (record { from = 0; to = None }) in
+    let v = version_of c.index-rows-i.result span in
+    let found = get_or-versions_of rows spans i c.index-rows-i.result span vs c.as_slices.ensures.versions
+    (omega (arith, c.loop-i-test.true)) beside c.index-rows-i.is (get_or_default spans i _ span beside) in
+    elim c.if-is_listed.branch [
+      | then-is_listed+in_ok-as_place+in_ok-push w ↦
+          let grown = ap (λ (u : Vec ℕ Global). u.items) w.places-is ∙ w.in_ok-push.ensures.items
+          ∙ ap (λ place. c.loop-i.places.items ++ place ∷ []) w.in_ok-as_place.ensures in
+          record {
+            within = subst (All (λ place. place < length vs)) (sym grown)
+                (All-push (λ place. place < length vs) c.loop-i.places.items i c.loop-i.invariant.within inside);
+            shown = ap (λ places. at_places places all) grown
+                ∙ at_places-more c.loop-i.places.items all i v.row (row-at vs i v inside found)
+                ∙ held-more c.args.n i (holds_where c.args.point) vs v (at_places c.loop-i.places.items all) inside found
+                (sym c.is_listed.ensures ∙ w.if-is_listed.true) c.loop-i.invariant.shown;
+          }
+      | else-is_listed w ↦
+          let same = ap (λ (u : Vec ℕ Global). u.items) w.places-is in
+          record {
+            within = subst (All (λ place. place < length vs)) (sym same) c.loop-i.invariant.within;
+            shown = ap (λ places. at_places places all) same
+                ∙ held-same c.args.n i (holds_where c.args.point) vs v (at_places c.loop-i.places.items all) inside found
+                (sym c.is_listed.ensures ∙ w.if-is_listed.false) c.loop-i.invariant.shown;
+          }
+    ]
+
+pub returns-clause-shown : goal.returns-clause-shown
+returns-clause-shown c =
+    c.loop-i.invariant.shown
+    ∙ ap (λ vs. filter (holds_where c.args.point) (shown c.args.n vs))
+    (take_all c.loop-i.i c.args.versions.now (omega (arith, c.loop-i-test.false, c.as_slices.ensures.rows)))
