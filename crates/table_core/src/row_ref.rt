@@ -43,7 +43,7 @@ impl<'a> RowRef<'a> {
         ensures { option_map lent_value result ≡ slice_get (lent_row self.entry).values column }
     {
         match self.row.values.get(column) {
-            Some(value) => Some(ValueRef::of(value)),
+            Some(value) => Some(ValueRef::from(value)),
             None => None,
         }
     }

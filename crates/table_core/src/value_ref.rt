@@ -1,8 +1,5 @@
 //! A value where it lies.
 
-ghost use Rattle.std.specs.Prelude.{◌≡◌};
-ghost use Rattle.table_core.specs.Lent.{lent_value};
-
 use row_core::Value;
 
 /// A value of a row, lent by the row.
@@ -12,11 +9,14 @@ pub enum ValueRef<'a> {
     Text(&'a str),
 }
 
-impl<'a> ValueRef<'a> {
-    /// Lends a value.
-    pub fn of(value: &'a Value) -> ValueRef<'a>
-        ensures { lent_value result ≡ value.entry.now }
-    {
+/// Lends a value.
+impl<'a> From<&'a Value> for ValueRef<'a> {
+    ghost use Rattle.std.specs.Prelude.{◌≡◌};
+    ghost use Rattle.table_core.specs.Lent.{lent_value};
+
+    ghost from_gives = { λ value lent. lent_value lent ≡ value.now };
+
+    fn from(value: &'a Value) -> ValueRef<'a> {
         match value {
             Value::Int(number) => ValueRef::Int(*number),
             Value::Text(text) => ValueRef::Text(text.as_str()),
