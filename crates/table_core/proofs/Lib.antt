@@ -1,1 +1,2 @@
+pub mod NumberedLemmas
 pub mod PlaceLemmas

@@ -8,7 +8,7 @@ use Rattle.table_core.specs.declared.value_ref.ValueRef.TheVariants as lent
 
 -- the row that is lent
 abbrev pub lent_row : RowRef → Row
-lent_row lent = lent.row.now
+lent_row lent = record { id = lent.id; period = lent.draft.now.period; values = lent.draft.now.values }
 
 -- the value that is lent
 abbrev pub lent_value : ValueRef → Value

@@ -1,2 +1,4 @@
 pub mod Lent
+pub mod Numbered
 pub mod Places
+pub mod Source

@@ -4,6 +4,7 @@
 
 mod row_ref;
 mod shared_rows;
+mod source;
 mod table_rows;
 mod value_ref;
 

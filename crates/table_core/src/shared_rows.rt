@@ -4,9 +4,11 @@ ghost use Rattle.std.specs.Prelude.{◌≡◌, ◌<◌, All, Some, filter, lengt
 ghost use Rattle.period_core.specs.Period.{holds_at};
 ghost use Rattle.table_core.specs.Lent.{lent_row};
 ghost use Rattle.table_core.specs.Places.{AreWithin, at_places, shown_at};
+ghost use Rattle.table_core.specs.Source.{rows_from};
 
 use crate::NoMemory;
 use crate::row_ref::RowRef;
+use crate::source::{NamedRows, Source};
 use period_core::Point;
 use row_core::RowList;
 use std::alloc::{AllocError, Global};
@@ -17,21 +19,21 @@ use std::sync::Arc;
 /// shows some has their places beside. Contracts see the list of those that it shows.
 #[derive(Debug, Drop)]
 pub struct SharedRows {
-    pub(crate) rows: Arc<RowList>,
+    pub(crate) source: Source,
     pub(crate) places: Option<Vec<u32>>,
 }
 
 impl Model for SharedRows {
     ghost use Rattle.std.specs.Prelude.{List};
-    ghost use Rattle.std.specs.Arc.{arc_value};
     ghost use Rattle.row_core.specs.declared.row.Row.{Row};
     ghost use Rattle.table_core.specs.Places.{shown_at, AreWithin};
+    ghost use Rattle.table_core.specs.Source.{rows_from};
 
     ghost Value = { List Row };
 
-    ghost view = { λ s. shown_at s.places (arc_value s.rows) };
+    ghost view = { λ s. shown_at s.places (rows_from s.source) };
 
-    ghost invariant = { λ s. AreWithin s.places (arc_value s.rows) };
+    ghost invariant = { λ s. AreWithin s.places (rows_from s.source) };
 }
 
 impl SharedRows {
@@ -40,7 +42,7 @@ impl SharedRows {
         ensures { IfOk result (λ shared. shared ≡ rows) }
     {
         Ok(SharedRows {
-            rows: Arc::new(alloc, rows)?,
+            source: Source::Named(Arc::new(alloc, NamedRows::of(alloc, rows)?)?),
             places: None,
         })
     }
@@ -49,7 +51,7 @@ impl SharedRows {
     pub fn len(&self) -> usize
         ensures { result ≡ length self.now }
     {
-        count_of(&self.rows, &self.places)
+        count_of(&self.source, &self.places)
     }
 
     /// The row at that place, from 0.
@@ -57,7 +59,7 @@ impl SharedRows {
         requires { place < length self.now }
         ensures { slice_get self.now place ≡ Some (lent_row result) }
     {
-        row_at(&self.rows, &self.places, place)
+        row_at(&self.source, &self.places, place)
     }
 
     /// A list of them, which are copied.
@@ -83,42 +85,40 @@ impl SharedRows {
     pub fn holding(&self, alloc: Global, point: Point) -> Result<SharedRows, NoMemory>
         ensures { IfOk result (λ rows. rows ≡ filter (λ row. holds_at point row.period) self.now) }
     {
-        let places = places_holding(alloc, &self.rows, &self.places, point)?;
+        let places = places_holding(alloc, &self.source, &self.places, point)?;
         Ok(SharedRows {
-            rows: Arc::try_clone(&self.rows)?,
+            source: self.source.share()?,
             places: Some(places),
         })
     }
 }
 
 /// How many rows a list shows: those at the places, or all.
-fn count_of(rows: &RowList, places: &Option<Vec<u32>>) -> usize
-    requires { AreWithin places.now rows.now }
-    ensures { result ≡ length (shown_at places.now rows.now) }
+fn count_of(source: &Source, places: &Option<Vec<u32>>) -> usize
+    requires { AreWithin places.now (rows_from source.now) }
+    ensures { result ≡ length (shown_at places.now (rows_from source.now)) }
 {
     match places {
-        None => rows.len(),
+        None => source.len(),
         Some(places) => places.len(),
     }
 }
 
 /// The row at that place of a list that shows the rows at those places, or all.
-fn row_at<'a>(rows: &'a RowList, places: &Option<Vec<u32>>, place: usize) -> RowRef<'a>
-    requires within { AreWithin places.now rows.now }
-    requires there { place < length (shown_at places.now rows.now) }
-    ensures { slice_get (shown_at places.now rows.entry.now) place ≡ Some (lent_row result) }
+fn row_at<'a>(source: &'a Source, places: &Option<Vec<u32>>, place: usize) -> RowRef<'a>
+    requires within { AreWithin places.now (rows_from source.now) }
+    requires there { place < length (shown_at places.now (rows_from source.now)) }
+    ensures { slice_get (shown_at places.now (rows_from source.entry.now)) place ≡ Some (lent_row result) }
 {
-    RowRef {
-        row: &rows.as_slice()[place_among(rows, places, place)],
-    }
+    source.at(place_among(source, places, place))
 }
 
 /// Where the row at that place of a list lies among all rows.
-fn place_among(rows: &RowList, places: &Option<Vec<u32>>, place: usize) -> usize
-    requires within { AreWithin places.now rows.now }
-    requires there { place < length (shown_at places.now rows.now) }
-    ensures row { slice_get rows.now result ≡ slice_get (shown_at places.now rows.now) place }
-    ensures within { result < length rows.now }
+fn place_among(source: &Source, places: &Option<Vec<u32>>, place: usize) -> usize
+    requires within { AreWithin places.now (rows_from source.now) }
+    requires there { place < length (shown_at places.now (rows_from source.now)) }
+    ensures row { slice_get (rows_from source.now) result ≡ slice_get (shown_at places.now (rows_from source.now)) place }
+    ensures within { result < length (rows_from source.now) }
 {
     match places {
         None => place,
@@ -129,19 +129,19 @@ fn place_among(rows: &RowList, places: &Option<Vec<u32>>, place: usize) -> usize
 /// The places of those of a list's rows that hold at the point. No table has more rows than 32 bits count.
 fn places_holding(
     alloc: Global,
-    rows: &RowList,
+    source: &Source,
     places: &Option<Vec<u32>>,
     point: Point,
 ) -> Result<Vec<u32>, NoMemory>
-    requires within { AreWithin places.now rows.now }
-    ensures within { IfOk result (λ held. All (λ place. place < length rows.now) held.items) }
-    ensures held { IfOk result (λ held. at_places held.items rows.now
-        ≡ filter (λ row. holds_at point row.period) (shown_at places.now rows.now)) }
+    requires within { AreWithin places.now (rows_from source.now) }
+    ensures within { IfOk result (λ held. All (λ place. place < length (rows_from source.now)) held.items) }
+    ensures held { IfOk result (λ held. at_places held.items (rows_from source.now)
+        ≡ filter (λ row. holds_at point row.period) (shown_at places.now (rows_from source.now))) }
 {
     let mut held = Vec::new(alloc);
-    for i in 0..count_of(rows, places) {
-        if holds_at(row_at(rows, places, i), point) {
-            held.push(as_place(place_among(rows, places, i))?)?;
+    for i in 0..count_of(source, places) {
+        if holds_at(row_at(source, places, i), point) {
+            held.push(as_place(place_among(source, places, i))?)?;
         }
     }
     Ok(held)

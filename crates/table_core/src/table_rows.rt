@@ -1,31 +1,37 @@
 //! All rows of a table.
 
 ghost use Rattle.std.specs.Arc.{arc_value};
-ghost use Rattle.std.specs.Prelude.{◌≡◌, ◌++◌, ◌<◌, [], All, length, option_copied, slice_get, IfOk, OnErr, OnOk};
+ghost use Rattle.std.specs.Prelude.{◌≡◌, ◌++◌, ◌<◌, [], All, length, option_map, slice_get, IfOk, OnErr, OnOk};
+ghost use Rattle.table_core.specs.Lent.{lent_row};
+ghost use Rattle.table_core.specs.Numbered.{numbered};
 ghost use Rattle.table_core.specs.Places.{at_places};
 
 use crate::NoMemory;
+use crate::row_ref::RowRef;
 use crate::shared_rows::SharedRows;
+use crate::source::{Source, numbered_at};
 use list_core::DeepCopy;
-use row_core::{Row, RowList};
+use row_core::{Draft, Drafts};
 use std::alloc::Global;
 use std::marker::Model;
 use std::sync::Arc;
 
-/// All rows that a table has ever had, by rising id. Lists share them. Contracts see the list.
+/// All rows that a table has ever had, whose ids are their places from 1 on. Lists share them.
+/// Contracts see the list.
 #[derive(Drop)]
 pub struct TableRows {
-    rows: Arc<RowList>,
+    drafts: Arc<Drafts>,
 }
 
 impl Model for TableRows {
     ghost use Rattle.std.specs.Prelude.{List};
     ghost use Rattle.std.specs.Arc.{arc_value};
     ghost use Rattle.row_core.specs.declared.row.Row.{Row};
+    ghost use Rattle.table_core.specs.Numbered.{numbered};
 
     ghost Value = { List Row };
 
-    ghost view = { λ t. arc_value t.rows };
+    ghost view = { λ t. numbered 0 (arc_value t.drafts) };
 }
 
 impl TableRows {
@@ -34,7 +40,7 @@ impl TableRows {
         ensures { IfOk result (λ rows. rows ≡ []) }
     {
         Ok(TableRows {
-            rows: Arc::new(alloc, RowList::new(alloc))?,
+            drafts: Arc::new(alloc, Drafts::new(alloc))?,
         })
     }
 
@@ -42,21 +48,26 @@ impl TableRows {
     pub fn len(&self) -> usize
         ensures { result ≡ length self.now }
     {
-        self.rows.len()
+        self.drafts.len()
     }
 
     /// The row at that place; none past the last.
-    pub fn get(&self, place: usize) -> Option<&Row>
-        ensures { option_copied result ≡ slice_get self.now place }
+    pub fn get(&self, place: usize) -> Option<RowRef<'_>>
+        ensures { option_map lent_row result ≡ slice_get self.now place }
     {
-        self.rows.get(place)
+        if place < self.drafts.len() {
+            Some(numbered_at(self.drafts.as_slice(), place))
+        } else {
+            None
+        }
     }
 
-    /// All rows, in their order.
-    pub fn as_slice(&self) -> &[Row]
-        ensures { result.now ≡ self.now }
+    /// All rows without their ids, in their order.
+    #[inline(always)]
+    pub fn as_slice(&self) -> &[Draft]
+        ensures { numbered 0 result.now ≡ self.now }
     {
-        self.rows.as_slice()
+        self.drafts.as_slice()
     }
 
     /// The same rows, which are not copied.
@@ -64,7 +75,7 @@ impl TableRows {
         ensures { IfOk result (λ rows. rows ≡ self.now) }
     {
         Ok(TableRows {
-            rows: Arc::try_clone(&self.rows)?,
+            drafts: Arc::try_clone(&self.drafts)?,
         })
     }
 
@@ -73,7 +84,7 @@ impl TableRows {
         ensures { IfOk result (λ rows. rows ≡ self.now) }
     {
         Ok(SharedRows {
-            rows: Arc::try_clone(&self.rows)?,
+            source: Source::Numbered(Arc::try_clone(&self.drafts)?),
             places: None,
         })
     }
@@ -84,32 +95,32 @@ impl TableRows {
         ensures { IfOk result (λ rows. rows ≡ at_places places.items self.now) }
     {
         Ok(SharedRows {
-            rows: Arc::try_clone(&self.rows)?,
+            source: Source::Numbered(Arc::try_clone(&self.drafts)?),
             places: Some(places),
         })
     }
 
-    /// Adds rows at the end. Where lists share those that are there, these are copied first. On
-    /// refusal there are none more.
-    pub fn append(&mut self, alloc: Global, more: Vec<Row>) -> Result<(), NoMemory>
-        ensures ok { OnOk result (self.new ≡ self.old ++ more.items) }
+    /// Adds rows at the end, with the ids that follow. Where lists share those that are there, these
+    /// are copied first. On refusal there are none more.
+    pub fn append(&mut self, alloc: Global, more: Vec<Draft>) -> Result<(), NoMemory>
+        ensures ok { OnOk result (self.new ≡ self.old ++ numbered (length self.old) more.items) }
         ensures err { OnErr result (self.new ≡ self.old) }
     {
-        append(alloc, &mut self.rows, more)
+        append(alloc, &mut self.drafts, more)
     }
 }
 
-/// Adds rows to those that are shared.
-fn append(alloc: Global, shared: &mut Arc<RowList>, more: Vec<Row>) -> Result<(), NoMemory>
+/// Adds drafts to those that are shared.
+fn append(alloc: Global, shared: &mut Arc<Drafts>, more: Vec<Draft>) -> Result<(), NoMemory>
     ensures ok { OnOk result (arc_value shared.new ≡ arc_value shared.old ++ more.items) }
     ensures err { OnErr result (arc_value shared.new ≡ arc_value shared.old) }
 {
     match Arc::get_mut(shared) {
-        Some(rows) => rows.append(more),
+        Some(drafts) => drafts.append(more),
         None => {
-            let mut rows = shared.copy(alloc)?;
-            rows.append(more)?;
-            *shared = Arc::new(alloc, rows)?;
+            let mut drafts = shared.copy(alloc)?;
+            drafts.append(more)?;
+            *shared = Arc::new(alloc, drafts)?;
             Ok(())
         }
     }

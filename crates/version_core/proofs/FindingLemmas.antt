@@ -13,7 +13,8 @@ use Rattle.row_core.specs.declared.schema.Column.{Column}
 use Rattle.version_core.specs.Finding.{AreCandidates, ListsOpen, any_row, passes}
 use Rattle.version_core.specs.OpenVersions.{closed, current, is_open, is_taken, places_from, versions_after}
 use Rattle.version_core.specs.Made.{made}
-use Rattle.version_core.specs.Rows.{drafts_of, numbered, parts_of_all, removes}
+use Rattle.table_core.specs.Numbered.{numbered}
+use Rattle.version_core.specs.Rows.{drafts_of, parts_of_all, removes}
 use Rattle.version_core.specs.Limits.{version_limit}
 use Rattle.version_core.specs.declared.change.Change.{Change}
 use Rattle.version_core.specs.declared.version.Version.{Version}

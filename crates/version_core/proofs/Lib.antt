@@ -3,8 +3,8 @@ pub mod IndexLemmas
 pub mod KeyIndexLemmas
 pub mod KeyLemmas
 pub mod ListLemmas
-pub mod MakingLemmas
 pub mod OpenLemmas
+pub mod PartLemmas
 pub mod Seen
 pub mod SoughtLemmas
 pub mod StoredLemmas

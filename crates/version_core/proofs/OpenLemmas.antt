@@ -17,14 +17,15 @@ use Rattle.row_core.specs.declared.value.Value.{Value}
 use Rattle.row_core.specs.declared.row.Row.{Row}
 use Rattle.row_core.specs.declared.draft.Draft.{Draft}
 use Rattle.row_core.specs.declared.schema.Column.{Column}
-use Rattle.version_core.specs.Rows.{drafts_of, numbered, part, parts_of_all, parts_of, removes, set_at}
+use Rattle.table_core.specs.Numbered.{numbered}
+use Rattle.version_core.specs.Rows.{drafts_of, part, parts_of_all, parts_of, removes, set_at, with_parts}
 use Rattle.version_core.specs.Finding.{passes}
 use Rattle.version_core.specs.OpenVersions.{closed, closed_at, current, is_open, is_taken, places_from, versions_after}
-use Rattle.version_core.specs.Made.{made, AddsDrafts, Making, made_of}
+use Rattle.version_core.specs.Made.{made}
 use Rattle.version_core.specs.declared.change.Change.{Change}
 use Rattle.version_core.specs.declared.change.Change.TheVariants.{Make, Load, Update, Delete}
 use Rattle.version_core.specs.declared.version.Version.{Version}
-use Rattle.version_core.proofs.MakingLemmas.{length-numbered}
+use Rattle.table_core.proofs.NumberedLemmas.{length-numbered}
 
 -- places lie inside
 
@@ -205,6 +206,14 @@ none-taken at (v ∷ vs) =
       | false ↦ none-taken (at + 1) vs
     ]
 
+-- where no row is taken out there are no parts
+abbrev nothing_of : Row → List Draft
+nothing_of row = []
+
+pub no-parts : (rows : List Row) → flat_map nothing_of (filter (λ (row : Row). false) rows) ≡ []
+no-parts [] = refl
+no-parts (row ∷ rows) = no-parts rows
+
 pub length-taken : (c : Change) (schema : List Column) (vs : List Version)
     → length (places_from (is_taken c schema) 0 vs) ≡ count_by (removes c schema) (current vs)
 length-taken c schema vs = count_taken c schema 0 vs
@@ -368,25 +377,25 @@ place-no vs p places i v old new h inside e test was now =
     ∙ append-nil (filter (passes vs p) (take i places)))
 
 -- what is made for the places that are taken
-abbrev pub made_so_far : ℕ → Change → List Column → List Version → List ℕ → Making
-made_so_far before c schema vs taken =
-    record { before = before; drafts = parts_at c schema vs taken }
+pub made-push : (c : Change) (schema : List Column) (vs : List Version) (taken more : List ℕ) (place : ℕ)
+    (v : Version) (old new : List Draft) → place < length vs → v ≡ get_or vs place v
+    → old ≡ parts_at c schema vs taken → new ≡ old ++ parts_of c schema v.row
+    → more ≡ taken ++ place ∷ [] → new ≡ parts_at c schema vs more
+made-push c schema vs taken more place v old new inside e was now grown =
+    now ∙ ap (λ ds. ds ++ parts_of c schema v.row) was
+    ∙ sym (ap (parts_at c schema vs) grown ∙ parts_at-push c schema vs taken place v inside e)
 
-pub made-push : (before : ℕ) (c : Change) (schema : List Column) (vs : List Version) (taken more : List ℕ)
-    (place : ℕ) (v : Version) (old new : Making) → place < length vs → v ≡ get_or vs place v
-    → old ≡ made_so_far before c schema vs taken → AddsDrafts old new (parts_of c schema v.row)
-    → more ≡ taken ++ place ∷ [] → new ≡ made_so_far before c schema vs more
-made-push before c schema vs taken more place v old new inside e was now grown =
-    now ∙ ap (λ (m : Making). record m { drafts = m.drafts ++ parts_of c schema v.row }) was
-    ∙ ap (λ ds. record { before = before; drafts = ds })
-    (sym (ap (parts_at c schema vs) grown ∙ parts_at-push c schema vs taken place v inside e))
+-- all new rows of a change are its parts of rows, or those of a load
+pub with_parts-all : (c : Change) (schema : List Column) (rows : List Row)
+    → with_parts c (parts_of_all c schema rows) ≡ drafts_of c schema rows
+with_parts-all (Make table columns) schema rows = no-parts rows
+with_parts-all (Load table drafts) schema rows = refl
+with_parts-all (Update table portion sets conds) schema rows = refl
+with_parts-all (Delete table portion conds) schema rows = refl
 
-pub made-all : (before : ℕ) (c : Change) (schema : List Column) (vs : List Version) (taken : List ℕ)
-    (new : Making) → taken ≡ places_from (is_taken c schema) 0 vs
-    → new ≡ made_so_far before c schema vs taken
-    → made_of new ≡ numbered before (parts_of_all c schema (current vs))
-made-all before c schema vs taken new e same =
-    ap made_of same ∙ ap (numbered before) (parts_at-taken c schema vs taken e)
+pub newly : (c : Change) (schema : List Column) (vs : List Version) (parts new : List Draft)
+    → new ≡ with_parts c parts → parts ≡ parts_of_all c schema (current vs) → new ≡ drafts_of c schema (current vs)
+newly c schema vs parts new made e = made ∙ ap (with_parts c) e ∙ with_parts-all c schema (current vs)
 
 -- the versions that a change leaves
 
@@ -401,8 +410,3 @@ versions_after-by n c schema vs fresh grown new taken t f g e =
 
 pub length-fresh : (n before : ℕ) (ds : List Draft) → length (made n (numbered before ds)) ≡ length ds
 length-fresh n before ds = length-map (numbered before ds) _ ∙ length-numbered before ds
-
-pub fresh-count : (c : Change) (schema : List Column) (vs : List Version) (rows : List Row)
-    → rows ≡ numbered (length vs) (drafts_of c schema (current vs))
-    → length rows ≡ length (drafts_of c schema (current vs))
-fresh-count c schema vs rows f = ap length f ∙ length-numbered (length vs) (drafts_of c schema (current vs))

@@ -3,7 +3,11 @@ use Rattle.std.proofs.Common.{◌≡◌, ℕ, ◌<◌, ◌≤◌, List, [], ◌�
 use Rattle.std.specs.Prelude.{count_by, option_map, slice_get, slice_set, unwrap_or}
 use Rattle.std.specs.List.{cons_option}
 use Rattle.list_core.proofs.MadeLemmas.{count-cons}
+use Rattle.std.proofs.lemmas.Option.{get_or_from_slice_get}
+use Rattle.row_core.specs.declared.draft.Draft.{Draft}
 use Rattle.row_core.specs.declared.row.Row.{Row}
+use Rattle.table_core.specs.Numbered.{numbered, row_of}
+use Rattle.table_core.proofs.NumberedLemmas.{length-numbered, slice_get-numbered}
 use Rattle.version_core.specs.Made.{made}
 use Rattle.version_core.specs.OpenVersions.{closed_at}
 use Rattle.version_core.specs.Shown.{is_behind, shown, shows}
@@ -48,6 +52,19 @@ get_or-versions_of (x ∷ xs) (y ∷ ys) zero row span vs e inside beside r s =
 get_or-versions_of (x ∷ xs) (y ∷ ys) (suc place) row span vs e inside beside r s =
     get_or-versions_of xs ys place row span (versions_of xs ys) refl (omega (arith, inside)) (omega (arith, beside)) r s
     ∙ ap (λ l. get_or l (suc place) (version_of row span)) e
+
+-- the version of the draft at a place
+pub version-at : (drafts : List Draft) (spans : List Span) (place : ℕ) (draft : Draft) (row : Row) (span : Span)
+    (vs : List Version) → versions_of (numbered 0 drafts) spans ≡ vs → place < length drafts → place < length spans
+    → draft ≡ get_or drafts place draft → row ≡ row_of (place + 1) draft → span ≡ get_or spans place span
+    → version_of row span ≡ get_or vs place (version_of row span)
+version-at drafts spans place draft row span vs e inside beside d r s =
+    let within : place < length (numbered 0 drafts) = omega (arith, inside, length-numbered 0 drafts) in
+    let first : 0 + place + 1 ≡ place + 1 = omega arith in
+    let there : slice_get (numbered 0 drafts) place ≡ Some row =
+    slice_get-numbered 0 drafts place draft inside d ∙ ap (λ n. Some (row_of n draft)) first ∙ ap Some (sym r) in
+    get_or-versions_of (numbered 0 drafts) spans place row span vs e within beside
+    (sym (get_or_from_slice_get (numbered 0 drafts) place row row there)) s
 
 pub slice_get-past : (rows : List Row) (spans : List Span) (place : ℕ) → length rows ≡ length spans
     → slice_get rows place ≡ None → slice_get (versions_of rows spans) place ≡ None

@@ -2,7 +2,8 @@
 use Rattle.std.specs.Prelude.{ℕ, ◌+◌, List, [], ◌∷◌, ◌++◌, length, map, Bool, ◌&&◌, if◌then◌else◌, Some, is_none, filter, option_map, slice_get, slice_set, unwrap_or}
 use Rattle.row_core.specs.declared.row.Row.{Row}
 use Rattle.row_core.specs.declared.schema.Column.{Column}
-use Rattle.version_core.specs.Rows.{numbered, drafts_of, removes}
+use Rattle.table_core.specs.Numbered.{numbered}
+use Rattle.version_core.specs.Rows.{drafts_of, removes}
 use Rattle.version_core.specs.Made.{made}
 use Rattle.version_core.specs.declared.change.Change.{Change}
 use Rattle.version_core.specs.declared.version.Version.{Version}

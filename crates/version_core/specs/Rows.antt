@@ -1,5 +1,5 @@
 -- Which rows a change of a table takes out, and what it puts in their place.
-use Rattle.std.specs.Prelude.{ℕ, ◌+◌, List, [], ◌∷◌, ◌++◌, filter, fold, Bool, false, ◌&&◌, Option, Some, None, is_some, option_map, option_and_then, slice_get, slice_set, flat_map, unwrap_or}
+use Rattle.std.specs.Prelude.{ℕ, List, [], ◌∷◌, ◌++◌, filter, fold, Bool, false, ◌&&◌, Option, Some, None, is_some, option_map, option_and_then, slice_get, slice_set, flat_map, unwrap_or}
 use Rattle.std.specs.List.{list_all}
 use Rattle.period_core.specs.Period.{before, meet, after as later}
 use Rattle.period_core.specs.declared.period.Period.{Period}
@@ -61,10 +61,10 @@ drafts_of (Make table schema) columns rows = []
 drafts_of (Load table drafts) columns rows = drafts
 drafts_of c columns rows = parts_of_all c columns rows
 
--- drafts as rows, with the ids that follow the used ones
-abbrev pub numbered : ℕ → List Draft → List Row
-numbered used [] = []
-numbered used (d ∷ ds) = record { id = used + 1; period = d.period; values = d.values } ∷ numbered (used + 1) ds
+-- all new rows of a change whose parts of rows are these
+abbrev pub with_parts : Change → List Draft → List Draft
+with_parts (Load table drafts) parts = drafts
+with_parts c parts = parts
 
 -- a row without its id
 abbrev pub unnumbered : Row → Draft

@@ -122,7 +122,7 @@ fn bucket_in(column: u32, version: &VersionRef<'_>) -> Option<usize>
     if version.span.to.is_some() {
         return None;
     }
-    match version.row.values.get(column as usize) {
+    match version.row.values().get(column as usize) {
         Some(value) => Some(bucket_of(value)),
         None => None,
     }

@@ -3,6 +3,7 @@
 ghost use Rattle.std.specs.Prelude.{◌≡◌, ◌+◌, ◌≤◌, ◌<◌, ◌≤ℤ◌, true, false, length, map, take, IfOk, OnOk};
 ghost use Rattle.std.specs.List.{list_any};
 ghost use Rattle.key_core.specs.Keys.{collide, have_collision, same_key};
+ghost use Rattle.table_core.specs.Lent.{lent_row};
 ghost use Rattle.version_core.specs.KeyIndex.{IsKeyIndex, IsLastNear, entry_of, key_number, mixed, number_in, number_of, number_of_bytes};
 ghost use Rattle.version_core.specs.Keys.{rows_left};
 ghost use Rattle.version_core.specs.OpenVersions.{current, is_open};
@@ -16,9 +17,10 @@ use crate::portion::columns_sought;
 use crate::stored::{StoredVersions, VersionRef};
 use key_core::same_key;
 use period_core::Point;
-use row_core::{NoMemory, Row, Schema, Value};
+use row_core::{Draft, NoMemory, Schema, Value};
 use std::alloc::{AllocError, Global};
 use std::collections::BTreeSet;
+use table_core::RowRef;
 
 /// What spreads the numbers of texts, and of the columns of a key, over 64 bits.
 const FACTOR: u64 = 1_099_511_628_211;
@@ -122,12 +124,12 @@ impl KeyIndex {
         schema: &Schema,
         change: &Change,
         versions: &StoredVersions,
-        new: &Row,
+        new: &Draft,
     ) -> bool
         requires index { IsKeyIndex versions.now self.now }
         requires unbroken { have_collision self.now.columns.items
             (map unnumbered (current versions.now)) ≡ false }
-        ensures { result ≡ list_any (λ left. collide self.now.columns.items left (unnumbered new.now))
+        ensures { result ≡ list_any (λ left. collide self.now.columns.items left new.now)
             (rows_left change.now schema.now (current versions.now)) }
     {
         let key = self.columns.as_slice();
@@ -148,18 +150,18 @@ impl KeyIndex {
 }
 
 /// The entry of the version of a row at that place.
-fn entry_of(key: &[u32], place: usize, row: &Row) -> Entry
-    ensures { (v : Version) → v.row ≡ row.now → result ≡ entry_of key.now place v }
+fn entry_of(key: &[u32], place: usize, row: RowRef<'_>) -> Entry
+    ensures { (v : Version) → v.row ≡ lent_row row.entry → result ≡ entry_of key.now place v }
 {
     Entry {
-        number: key_number(key, row.values.as_slice()),
-        from: row.period.from,
+        number: key_number(key, row.values().as_slice()),
+        from: row.period().from,
         place,
     }
 }
 
 /// Where a search ends that is for rows of its key: they begin before its end.
-fn end_of(key: &[u32], row: &Row) -> Entry
+fn end_of(key: &[u32], row: &Draft) -> Entry
     ensures number { result.number ≡ key_number key.now row.now.values }
     ensures from { result.from ≡ row.now.period.to }
 {
@@ -177,11 +179,11 @@ fn is_last_near(
     versions: &StoredVersions,
     entry: &Entry,
     number: u64,
-    new: &Row,
+    new: &Draft,
 ) -> bool
     requires number { number ≡ key_number key.now new.now.values }
     requires unbroken { have_collision key.now (map unnumbered (current versions.now)) ≡ false }
-    ensures { result ≡ true → IsLastNear key.now (unnumbered new.now) versions.now entry.now }
+    ensures { result ≡ true → IsLastNear key.now new.now versions.now entry.now }
 {
     if entry.number != number {
         return entry.number < number;
@@ -194,16 +196,16 @@ fn is_last_near(
 
 /// Whether the version is open, of the new row's key, and begins where the entry says, which is no
 /// later than the new row does.
-fn is_open_before(key: &[u32], version: &VersionRef<'_>, from: Point, new: &Row) -> bool
+fn is_open_before(key: &[u32], version: &VersionRef<'_>, from: Point, new: &Draft) -> bool
     ensures open { result ≡ true → is_open (version_at version.now) ≡ true }
-    ensures begins { result ≡ true → version.now.row.now.period.from ≡ from }
+    ensures begins { result ≡ true → (lent_row version.now.row).period.from ≡ from }
     ensures before { result ≡ true → from ≤ℤ new.now.period.from }
-    ensures key { result ≡ true → same_key key.now version.now.row.now.values new.now.values ≡ true }
+    ensures key { result ≡ true → same_key key.now (lent_row version.now.row).values new.now.values ≡ true }
 {
     version.span.to.is_none()
-        && version.row.period.from == from
+        && version.row.period().from == from
         && from <= new.period.from
-        && same_key(key, version.row.values.as_slice(), new.values.as_slice())
+        && same_key(key, version.row.values().as_slice(), new.values.as_slice())
 }
 
 /// A number of the values in the key's columns. Values of one key have one number.

@@ -5,6 +5,7 @@ ghost use Rattle.std.specs.List.{list_any};
 ghost use Rattle.key_core.specs.Keys.{collide, have_collision};
 ghost use Rattle.key_core.specs.Order.{tested_row};
 ghost use Rattle.row_core.specs.Schema.{key_of};
+ghost use Rattle.table_core.specs.Lent.{lent_row};
 ghost use Rattle.version_core.specs.Finding.{ListsOpen, any_row, AreSought, passes};
 ghost use Rattle.version_core.specs.Keys.{collides_left, is_column_of, is_left, overlap_after, rows_left, sets_key, break_key};
 ghost use Rattle.version_core.specs.OpenVersions.{current};
@@ -16,8 +17,10 @@ use crate::change::Change;
 use crate::portion::{SOUGHT_LIMIT, columns_sought, is_removed};
 use crate::stored::{StoredVersions, VersionRef};
 use key_core::{KeyedRow, collide, have_collision};
-use row_core::{Name, NoMemory, Row, Schema, Value};
+use period_core::Period;
+use row_core::{Draft, Name, NoMemory, Schema, Value, Values};
 use std::alloc::{AllocError, Global};
+use table_core::RowRef;
 use thiserror::Error;
 
 /// Two rows of one key would share an instant.
@@ -78,11 +81,11 @@ pub(crate) fn collide_among_all(
     key: &[u32],
     versions: &StoredVersions,
     open_at: &[u32],
-    new: &[Row],
+    new: &[Draft],
 ) -> Result<bool, NoMemory>
     requires { ListsOpen versions.now any_row open_at.now }
     ensures { IfOk result (λ overlap. overlap ≡ have_collision key.now
-        (rows_left change.now schema.now (current versions.now) ++ map unnumbered new.now)) }
+        (rows_left change.now schema.now (current versions.now) ++ new.now)) }
 {
     let mut rows = rows_left(alloc, schema, change, versions, open_at)?;
     push_rows(&mut rows, new)?;
@@ -90,9 +93,8 @@ pub(crate) fn collide_among_all(
 }
 
 /// Whether two of the rows collide.
-pub(crate) fn collide_among(alloc: Global, key: &[u32], new: &[Row]) -> Result<bool, NoMemory>
-    ensures { IfOk result (λ overlap. overlap
-        ≡ have_collision key.now (map unnumbered new.now)) }
+pub(crate) fn collide_among(alloc: Global, key: &[u32], new: &[Draft]) -> Result<bool, NoMemory>
+    ensures { IfOk result (λ overlap. overlap ≡ have_collision key.now new.now) }
 {
     let mut rows = Vec::new(alloc);
     push_rows(&mut rows, new)?;
@@ -116,7 +118,7 @@ fn rows_left<'a>(
     for place in open_at {
         let version = versions.at(*place as usize);
         if is_left(schema, change, &columns, &version) {
-            if let Err(_) = rows.push(keyed(version.row)) {
+            if let Err(_) = rows.push(keyed_row(version.row)) {
                 return Err(AllocError);
             }
         }
@@ -137,23 +139,30 @@ fn is_left(
     version.span.to.is_none() && !is_removed(schema, change, columns, version.row)
 }
 
-/// The row, as its key is tested.
-fn keyed(row: &Row) -> KeyedRow<'_>
-    ensures { tested_row result ≡ unnumbered row.now }
+/// The row of a version, as its key is tested.
+fn keyed_row(row: RowRef<'_>) -> KeyedRow<'_>
+    ensures { tested_row result ≡ unnumbered (lent_row row.entry) }
+{
+    keyed(row.period(), row.values())
+}
+
+/// The row of that period and those values, as its key is tested.
+fn keyed(period: Period, values: &Values) -> KeyedRow<'_>
+    ensures { tested_row result ≡ record { period = period; values = values.now } }
 {
     KeyedRow {
-        values: row.values.as_slice(),
-        period: row.period,
+        values: values.as_slice(),
+        period,
     }
 }
 
 /// Adds the rows.
-fn push_rows<'a>(rows: &mut Vec<KeyedRow<'a>>, new: &'a [Row]) -> Result<(), NoMemory>
+fn push_rows<'a>(rows: &mut Vec<KeyedRow<'a>>, new: &'a [Draft]) -> Result<(), NoMemory>
     ensures { OnOk result (map tested_row rows.new.items
-        ≡ map tested_row rows.old.items ++ map unnumbered new.now) }
+        ≡ map tested_row rows.old.items ++ new.now) }
 {
     for row in new {
-        if let Err(_) = rows.push(keyed(row)) {
+        if let Err(_) = rows.push(keyed(row.period, &row.values)) {
             return Err(AllocError);
         }
     }
@@ -169,11 +178,11 @@ pub(crate) fn collides_at(
     key: &[u32],
     versions: &StoredVersions,
     place: usize,
-    new: &Row,
+    new: &Draft,
 ) -> bool
     requires { AreSought schema.now (conds_of change.now) columns.now }
     ensures { result ≡ passes versions.now
-        (collides_left change.now schema.now key.now (unnumbered new.now)) place }
+        (collides_left change.now schema.now key.now new.now) place }
 {
     match versions.get(place) {
         Some(version) => collides_left(schema, change, columns, key, &version, new),
@@ -188,11 +197,15 @@ fn collides_left(
     columns: &[Option<u32>; SOUGHT_LIMIT],
     key: &[u32],
     version: &VersionRef<'_>,
-    new: &Row,
+    new: &Draft,
 ) -> bool
     requires { AreSought schema.now (conds_of change.now) columns.now }
-    ensures { result ≡ collides_left change.now schema.now key.now (unnumbered new.now)
-        (version_at version.now) }
+    ensures { result ≡ collides_left change.now schema.now key.now new.now (version_at version.now) }
 {
-    is_left(schema, change, columns, version) && collide(key, &keyed(version.row), &keyed(new))
+    is_left(schema, change, columns, version)
+        && collide(
+            key,
+            &keyed_row(version.row),
+            &keyed(new.period, &new.values),
+        )
 }

@@ -6,7 +6,6 @@ mod change;
 mod index;
 mod key_index;
 mod keys;
-mod making;
 mod places;
 mod portion;
 mod stored;

@@ -1,42 +1,44 @@
 //! Changes of a portion of time: which rows they take out, and what comes in the place of each.
 
-ghost use Rattle.std.specs.Prelude.{◌≡◌, ◌+◌, ◌≤◌, ◌<◌, ◌++◌, ◌&&◌, List, false, length, fold, flat_map, is_some, option_map, option_and_then, slice_get, slice_set, unwrap_or, if◌then◌else◌, IfOk, IfSome, OnOk, bytes_eq};
+ghost use Rattle.std.specs.Prelude.{◌≡◌, ◌+◌, ◌≤◌, ◌<◌, ◌++◌, ◌&&◌, List, [], ◌∷◌, false, length, fold, flat_map, is_some, option_map, option_and_then, slice_get, slice_set, unwrap_or, if◌then◌else◌, IfOk, IfSome, OnOk, bytes_eq};
 ghost use Rattle.std.specs.List.{list_all};
 ghost use Rattle.period_core.specs.Period.{before, meet, after as later};
 ghost use Rattle.row_core.specs.Schema.{column_of};
 ghost use Rattle.row_core.specs.ValueOrder.{same_value};
 ghost use Rattle.row_core.specs.declared.schema.Column.{Column};
+ghost use Rattle.table_core.specs.Lent.{lent_row};
 ghost use Rattle.version_core.specs.Finding.{AreSought, reaches};
-ghost use Rattle.version_core.specs.Made.{AddsDrafts};
 ghost use Rattle.version_core.specs.Rows.{conds_of, is_touched, is_equal_at, removes, part, parts_of, set_at};
 
 use crate::change::Change;
-use crate::making::NewRows;
 use list_core::{DeepCopy, copy_each};
 use period_core::Period;
-use row_core::{Name, NoMemory, Row, Schema, Text, Value, Values};
+use row_core::{Draft, Name, NoMemory, Schema, Text, Value, Values};
 use std::alloc::Global;
+use table_core::RowRef;
 
 /// How many conditions' columns are looked up before the rows are gone through. There may be more
 /// conditions, but a table has no more columns.
 pub(crate) const SOUGHT_LIMIT: usize = 16;
 
 /// How many parts of the row the change leaves or makes.
-pub(crate) fn count_of(change: &Change, row: &Row) -> usize
+pub(crate) fn count_of(change: &Change, row: RowRef<'_>) -> usize
     ensures parts { (columns : List Column)
-        → result ≡ length (parts_of change.now columns row.now) }
+        → result ≡ length (parts_of change.now columns (lent_row row.entry)) }
     ensures few { result ≤ 3 }
 {
     match change {
         Change::Make { .. } => 0,
         Change::Load { .. } => 0,
         Change::Update { portion, .. } => {
-            let (before, after) = row.period.minus(portion);
-            let inside = row.period.meet(portion);
+            let period = row.period();
+            let (before, after) = period.minus(portion);
+            let inside = period.meet(portion);
             one_if(before) + one_if(inside) + one_if(after)
         }
         Change::Delete { portion, .. } => {
-            let (before, after) = row.period.minus(portion);
+            let period = row.period();
+            let (before, after) = period.minus(portion);
             one_if(before) + one_if(after)
         }
     }
@@ -55,12 +57,12 @@ fn one_if(period: Option<Period>) -> usize
 /// Adds what comes in the place of a row that the change takes out.
 pub(crate) fn push_parts(
     alloc: Global,
-    new: &mut NewRows,
+    new: &mut Vec<Draft>,
     schema: &Schema,
     change: &Change,
-    row: &Row,
+    row: RowRef<'_>,
 ) -> Result<(), NoMemory>
-    ensures { OnOk result (AddsDrafts new.old new.new (parts_of change.now schema.now row.now)) }
+    ensures { OnOk result (new.new.items ≡ new.old.items ++ (parts_of change.now schema.now (lent_row row.entry))) }
 {
     match change {
         Change::Make { .. } => Ok(()),
@@ -75,66 +77,77 @@ pub(crate) fn push_parts(
 /// Adds the parts of a row before, inside and after the portion, with the settings inside.
 fn push_changed(
     alloc: Global,
-    new: &mut NewRows,
+    new: &mut Vec<Draft>,
     schema: &Schema,
     portion: &Period,
     sets: &[(Name, Value)],
-    row: &Row,
+    row: RowRef<'_>,
 ) -> Result<(), NoMemory>
-    ensures { OnOk result (AddsDrafts new.old new.new (
-        part (before row.now.period portion.now) row.now.values
-        ++ (part (meet row.now.period portion.now)
-        (fold (set_at schema.now) row.now.values sets.now)
-        ++ part (later row.now.period portion.now) row.now.values))) }
+    ensures { OnOk result (new.new.items ≡ new.old.items ++ (
+        part (before (lent_row row.entry).period portion.now) (lent_row row.entry).values
+        ++ (part (meet (lent_row row.entry).period portion.now)
+        (fold (set_at schema.now) (lent_row row.entry).values sets.now)
+        ++ part (later (lent_row row.entry).period portion.now) (lent_row row.entry).values))) }
 {
-    let (earlier, rest) = row.period.minus(portion);
-    let values = values_set(alloc, schema, &row.values, sets)?;
-    push_part(alloc, new, earlier, &row.values)?;
-    push_values(new, row.period.meet(portion), values)?;
-    push_part(alloc, new, rest, &row.values)?;
+    let period = row.period();
+    let (earlier, rest) = period.minus(portion);
+    let values = values_set(alloc, schema, row.values(), sets)?;
+    push_part(alloc, new, earlier, row.values())?;
+    push_values(new, period.meet(portion), values)?;
+    push_part(alloc, new, rest, row.values())?;
     Ok(())
 }
 
 /// Adds the parts of a row before and after the portion.
 fn push_outside(
     alloc: Global,
-    new: &mut NewRows,
+    new: &mut Vec<Draft>,
     portion: &Period,
-    row: &Row,
+    row: RowRef<'_>,
 ) -> Result<(), NoMemory>
-    ensures { OnOk result (AddsDrafts new.old new.new (
-        part (before row.now.period portion.now) row.now.values
-        ++ part (later row.now.period portion.now) row.now.values)) }
+    ensures { OnOk result (new.new.items ≡ new.old.items ++ (
+        part (before (lent_row row.entry).period portion.now) (lent_row row.entry).values
+        ++ part (later (lent_row row.entry).period portion.now) (lent_row row.entry).values)) }
 {
-    let (before, after) = row.period.minus(portion);
-    push_part(alloc, new, before, &row.values)?;
-    push_part(alloc, new, after, &row.values)?;
+    let period = row.period();
+    let (before, after) = period.minus(portion);
+    push_part(alloc, new, before, row.values())?;
+    push_part(alloc, new, after, row.values())?;
     Ok(())
 }
 
 /// Adds the period, if there is one, with a copy of the values.
 fn push_part(
     alloc: Global,
-    new: &mut NewRows,
+    new: &mut Vec<Draft>,
     period: Option<Period>,
     values: &Values,
 ) -> Result<(), NoMemory>
-    ensures { OnOk result (AddsDrafts new.old new.new (part period values.now)) }
+    ensures { OnOk result (new.new.items ≡ new.old.items ++ (part period values.now)) }
 {
     match period {
-        Some(period) => new.push(period, values.copy(alloc)?),
+        Some(period) => push_draft(new, period, values.copy(alloc)?),
         None => Ok(()),
     }
 }
 
 /// Adds the period, if there is one, with the values.
-fn push_values(new: &mut NewRows, period: Option<Period>, values: Values) -> Result<(), NoMemory>
-    ensures { OnOk result (AddsDrafts new.old new.new (part period values)) }
+fn push_values(new: &mut Vec<Draft>, period: Option<Period>, values: Values) -> Result<(), NoMemory>
+    ensures { OnOk result (new.new.items ≡ new.old.items ++ (part period values)) }
 {
     match period {
-        Some(period) => new.push(period, values),
+        Some(period) => push_draft(new, period, values),
         None => Ok(()),
     }
+}
+
+/// Adds a row of the period with the values.
+fn push_draft(new: &mut Vec<Draft>, period: Period, values: Values) -> Result<(), NoMemory>
+    ensures { OnOk result (new.new.items
+        ≡ new.old.items ++ record { period = period; values = values } ∷ []) }
+{
+    new.push(Draft { period, values })?;
+    Ok(())
 }
 
 /// The values after the settings, from left to right.
@@ -189,17 +202,17 @@ fn columns_named(schema: &Schema, pairs: &[(Name, Value)]) -> [Option<u32>; SOUG
     columns
 }
 
-/// Whether the change is one of a portion that shares an instant with the period. It takes out no row where it
+/// Whether the change is one of a portion that shares an instant with the row. It takes out none where it
 /// isn't.
 #[inline(always)]
-pub(crate) fn reaches(change: &Change, period: &Period) -> bool
-    ensures { result ≡ reaches change.now period.now }
+pub(crate) fn reaches(change: &Change, row: RowRef<'_>) -> bool
+    ensures { result ≡ reaches change.now (lent_row row.entry).period }
 {
     match change {
         Change::Make { .. } => false,
         Change::Load { .. } => false,
-        Change::Update { portion, .. } => period.meet(portion).is_some(),
-        Change::Delete { portion, .. } => period.meet(portion).is_some(),
+        Change::Update { portion, .. } => row.period().meet(portion).is_some(),
+        Change::Delete { portion, .. } => row.period().meet(portion).is_some(),
     }
 }
 
@@ -210,10 +223,10 @@ pub(crate) fn is_removed(
     schema: &Schema,
     change: &Change,
     columns: &[Option<u32>; SOUGHT_LIMIT],
-    row: &Row,
+    row: RowRef<'_>,
 ) -> bool
     requires { AreSought schema.now (conds_of change.now) columns.now }
-    ensures { result ≡ removes change.now schema.now row.now }
+    ensures { result ≡ removes change.now schema.now (lent_row row.entry) }
 {
     match change {
         Change::Make { .. } => false,
@@ -234,12 +247,12 @@ fn is_touched(
     portion: &Period,
     conds: &[(Name, Value)],
     columns: &[Option<u32>; SOUGHT_LIMIT],
-    row: &Row,
+    row: RowRef<'_>,
 ) -> bool
     requires { AreSought schema.now conds.now columns.now }
-    ensures { result ≡ is_touched schema.now portion.now conds.now row.now }
+    ensures { result ≡ is_touched schema.now portion.now conds.now (lent_row row.entry) }
 {
-    meets_all(schema, &row.values, conds, columns) && row.period.meet(portion).is_some()
+    meets_all(schema, row.values(), conds, columns) && row.period().meet(portion).is_some()
 }
 
 /// Whether the values meet all conditions. Where there are none, all rows do.

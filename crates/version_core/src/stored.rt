@@ -1,16 +1,17 @@
 //! The versions of a table as they are kept: their rows, and beside each the commits that show it.
 
 ghost use Rattle.std.specs.Prelude.{◌≡◌, ◌<◌, ◌++◌, [], All, length, get_or, map, option_map, replicate, slice_get, IfOk, OnErr, OnOk, None};
+ghost use Rattle.table_core.specs.Numbered.{numbered};
 ghost use Rattle.table_core.specs.Places.{at_places};
 ghost use Rattle.version_core.specs.Made.{made};
 ghost use Rattle.version_core.specs.OpenVersions.{closed_at};
 ghost use Rattle.version_core.specs.Stored.{versions_of};
 ghost use Rattle.version_core.specs.StoredRef.{version_at};
 
-use row_core::{NoMemory, Row};
+use row_core::{Draft, NoMemory};
 use std::alloc::Global;
 use std::marker::Model;
-use table_core::{SharedRows, TableRows};
+use table_core::{RowRef, SharedRows, TableRows};
 
 /// The commits that show a version: those from `from` on, and before `to` where it is told. There
 /// are so few that 32 bits hold one.
@@ -23,7 +24,7 @@ pub(crate) struct Span {
 /// A version where it is kept.
 #[derive(Clone, Copy)]
 pub(crate) struct VersionRef<'a> {
-    pub row: &'a Row,
+    pub row: RowRef<'a>,
     pub span: Span,
 }
 
@@ -99,11 +100,11 @@ impl StoredVersions {
         }
     }
 
-    /// The rows, and at the same places the commits that show each, so that a pass over many fetches
-    /// either list once.
+    /// The rows without their ids, and at the same places the commits that show each, so that a pass over
+    /// many fetches either list once.
     #[inline(always)]
-    pub(crate) fn as_slices(&self) -> (&[Row], &[Span])
-        ensures versions { versions_of result.0.now result.1.now ≡ self.now }
+    pub(crate) fn as_slices(&self) -> (&[Draft], &[Span])
+        ensures versions { versions_of (numbered 0 result.0.now) result.1.now ≡ self.now }
         ensures rows { length result.0.now ≡ length self.now }
         ensures spans { length result.1.now ≡ length self.now }
     {
@@ -129,10 +130,11 @@ impl StoredVersions {
     pub(crate) fn append(
         &mut self,
         alloc: Global,
-        rows: Vec<Row>,
+        rows: Vec<Draft>,
         commit: u32,
     ) -> Result<(), NoMemory>
-        ensures ok { OnOk result (self.new ≡ self.old ++ made commit rows.items) }
+        ensures ok { OnOk result (self.new ≡ self.old
+            ++ made commit (numbered (length self.old) rows.items)) }
         ensures err { OnErr result (self.new ≡ self.old) }
     {
         let before = self.spans.len();

@@ -3,16 +3,17 @@
 ghost use Rattle.std.specs.Prelude.{◌≡◌, ◌<◌, ◌&&◌, ◌==◌, All, IfOk, count_by, filter, length, map, nat_le};
 ghost use Rattle.period_core.specs.Period.{holds_at};
 ghost use Rattle.row_core.specs.declared.row.Row.{Row};
+ghost use Rattle.table_core.specs.Lent.{lent_row};
 ghost use Rattle.table_core.specs.Places.{at_places};
 ghost use Rattle.version_core.specs.Shown.{holds_where, shows, shown, versions_as_of, end_at, is_behind};
 ghost use Rattle.version_core.specs.Stored.{version_of};
 
 use crate::stored::{Span, StoredVersions};
-use list_core::{DeepCopy, List};
-use period_core::Point;
+use list_core::List;
+use period_core::{Period, Point};
 use row_core::{NoMemory, Row};
 use std::alloc::Global;
-use table_core::{SharedRows, as_place};
+use table_core::{RowRef, SharedRows, as_place};
 
 /// A row with its system period: the commits from `sysfrom` on and before `systo` show it, or all
 /// from `sysfrom` on where the end is open.
@@ -79,10 +80,10 @@ fn places_shown(
     ensures shown { IfOk result (λ places. at_places places.items (map (λ v. v.row) versions.now)
         ≡ filter (holds_where point) (shown n versions.now)) }
 {
-    let (rows, spans) = versions.as_slices();
+    let (drafts, spans) = versions.as_slices();
     let mut places = Vec::with_capacity(alloc, room)?;
-    for i in 0..rows.len() {
-        if is_listed(&rows[i], &spans[i], n, point) {
+    for i in 0..drafts.len() {
+        if is_listed(RowRef::of_draft(i, &drafts[i]), &spans[i], n, point) {
             places.push(as_place(i)?)?;
         }
     }
@@ -90,10 +91,21 @@ fn places_shown(
 }
 
 /// Whether commit n shows the version, and its row holds at the point, if one is told.
-fn is_listed(row: &Row, span: &Span, n: u64, point: Option<Point>) -> bool
-    ensures { result ≡ (shows n (version_of row.now span.now) && holds_where point row.now) }
+fn is_listed(row: RowRef<'_>, span: &Span, n: u64, point: Option<Point>) -> bool
+    ensures { result ≡ (shows n (version_of (lent_row row.entry) span.now)
+        && holds_where point (lent_row row.entry)) }
 {
-    point.is_none_or(|point| row.period.holds(point)) && is_shown(span, n)
+    holds_where(row.period(), point) && is_shown(span, n)
+}
+
+/// Whether the period holds the point, if one is told.
+fn holds_where(period: Period, point: Option<Point>) -> bool
+    ensures { (row : Row) → row.period ≡ period → result ≡ holds_where point row }
+{
+    match point {
+        None => true,
+        Some(point) => period.holds(point),
+    }
 }
 
 /// Versions of one table, by rising id.
@@ -109,10 +121,10 @@ pub(crate) fn versions_seen(
 ) -> Result<VersionList, NoMemory>
     ensures { IfOk result (λ list. list ≡ versions_as_of at m last versions.now) }
 {
-    let (rows, spans) = versions.as_slices();
+    let (drafts, spans) = versions.as_slices();
     let mut seen = VersionList::new(alloc);
-    for i in 0..rows.len() {
-        let row = &rows[i];
+    for i in 0..drafts.len() {
+        let row = RowRef::of_draft(i, &drafts[i]);
         let span = &spans[i];
         let end = end_at(at, span.to);
         if is_seen(span.from as u64, end, at, m, last) {

@@ -8,6 +8,8 @@ ghost use Rattle.row_core.specs.Schema.{key_of};
 ghost use Rattle.row_core.specs.declared.failure.Failure.TheVariants.{NoMemory};
 ghost use Rattle.row_core.specs.declared.row.Row.{Row as AnyRow};
 ghost use Rattle.row_core.specs.declared.schema.Column.{Column};
+ghost use Rattle.table_core.specs.Lent.{lent_row};
+ghost use Rattle.table_core.specs.Numbered.{numbered};
 ghost use Rattle.version_core.specs.Finding.{AreCandidates, IsIndex, IsLookupOf, AreSought};
 ghost use Rattle.version_core.specs.KeyIndex.{IsKeyIndex};
 ghost use Rattle.version_core.specs.Keys.{overlap_after, rows_left, break_key};
@@ -15,7 +17,7 @@ ghost use Rattle.version_core.specs.Limits.{bucket_count, version_limit};
 ghost use Rattle.version_core.specs.Made.{made};
 ghost use Rattle.version_core.specs.OpenVersions.{closed_at, current, is_taken, places_from, versions_after};
 ghost use Rattle.version_core.specs.Plans.{IsPlanOf};
-ghost use Rattle.version_core.specs.Rows.{conds_of, drafts_of, numbered, parts_of_all, removes, unnumbered};
+ghost use Rattle.version_core.specs.Rows.{conds_of, drafts_of, parts_of_all, removes, unnumbered, with_parts};
 ghost use Rattle.version_core.specs.Shown.{shown, versions_as_of};
 ghost use Rattle.version_core.specs.Stored.{version_of};
 ghost use Rattle.version_core.specs.declared.change.Change.{Change};
@@ -27,17 +29,16 @@ use crate::index::{
 };
 use crate::key_index::KeyIndex;
 use crate::keys::{KeyOverlap, collide_among, collide_among_all, may_overlap};
-use crate::making::{NewRows, rows_of};
 use crate::places::Places;
 use crate::portion::{SOUGHT_LIMIT, columns_sought, count_of, is_removed, push_parts, reaches};
 use crate::stored::{Span, StoredVersions};
 use crate::version::{VersionList, rows_holding, rows_shown, versions_seen};
 use list_core::DeepCopy;
 use period_core::Point;
-use row_core::{Failure, NoMemory, Row, Schema};
+use row_core::{Draft, Failure, NoMemory, Schema};
 use std::alloc::Global;
 use std::marker::Model;
-use table_core::SharedRows;
+use table_core::{RowRef, SharedRows};
 
 /// The most versions of a table.
 pub const VERSION_LIMIT: usize = 1_000_000;
@@ -163,26 +164,26 @@ impl Versions {
         alloc: Global,
         schema: &Schema,
         commit: u32,
-        change: &Change,
+        change: Change,
     ) -> Result<VersionCounts, Failure<KeyOverlap>>
         requires room { length self.old
-            + length (drafts_of change.now schema.now (current self.old)) ≤ version_limit }
+            + length (drafts_of change schema.now (current self.old)) ≤ version_limit }
         requires unbroken { break_key (key_of schema.now) (map unnumbered (current self.old)) ≡ false }
-        ensures ok { OnOk result (self.new ≡ versions_after commit change.now schema.now self.old) }
+        ensures ok { OnOk result (self.new ≡ versions_after commit change schema.now self.old) }
         ensures counts { IfOk result (λ counts.
-            (counts.added ≡ length (drafts_of change.now schema.now (current self.old)))
-            × (counts.closed ≡ count_by (removes change.now schema.now) (current self.old))) }
-        ensures apart { OnOk result (overlap_after change.now schema.now self.old ≡ false) }
+            (counts.added ≡ length (drafts_of change schema.now (current self.old)))
+            × (counts.closed ≡ count_by (removes change schema.now) (current self.old))) }
+        ensures apart { OnOk result (overlap_after change schema.now self.old ≡ false) }
         ensures overlap { IfErr result (λ failure. failure ≢ NoMemory
-            → overlap_after change.now schema.now self.old ≡ true) }
+            → overlap_after change schema.now self.old ≡ true) }
         ensures err { OnErr result (self.new ≡ self.old) }
     {
         let key = schema.key_places(alloc)?;
-        make_indexes(alloc, &mut self.indexes, &self.items, schema, change);
-        let lookup = lookup_of(&self.indexes, schema, change);
+        make_indexes(alloc, &mut self.indexes, &self.items, schema, &change);
+        let lookup = lookup_of(&self.indexes, schema, &change);
         self.drop_closed(lookup);
-        let plan = self.plan(alloc, schema, change, lookup)?;
-        self.prepare_key_index(alloc, schema, change, &key, &plan);
+        let plan = self.plan(alloc, schema, &change, lookup)?;
+        self.prepare_key_index(alloc, schema, &change, &key, &plan);
         self.carry_out(alloc, schema, &key, commit, change, plan)
     }
 
@@ -233,7 +234,8 @@ impl Versions {
         requires { key.now ≡ key_of schema.now }
         ensures { self.new ≡ self.old }
     {
-        if !is_small(plan, self.items.len()) {
+        let new = rows_made(change, &plan.parts);
+        if !is_small(new, &plan.taken, self.items.len()) {
             self.key_index = None;
         } else if self.key_index_by(key).is_none() && may_overlap(schema, change, key) {
             self.key_index = KeyIndex::of(alloc, &self.items, key).ok();
@@ -258,28 +260,29 @@ impl Versions {
         schema: &Schema,
         key: &[u32],
         commit: u32,
-        change: &Change,
+        change: Change,
         plan: Plan,
     ) -> Result<VersionCounts, Failure<KeyOverlap>>
         requires key { key.now ≡ key_of schema.now }
         requires room { length self.old
-            + length (drafts_of change.now schema.now (current self.old)) ≤ version_limit }
+            + length (drafts_of change schema.now (current self.old)) ≤ version_limit }
         requires unbroken { break_key (key_of schema.now) (map unnumbered (current self.old)) ≡ false }
-        requires plan { IsPlanOf change.now schema.now self.old plan }
-        ensures ok { OnOk result (self.new ≡ versions_after commit change.now schema.now self.old) }
+        requires plan { IsPlanOf change schema.now self.old plan }
+        ensures ok { OnOk result (self.new ≡ versions_after commit change schema.now self.old) }
         ensures counts { IfOk result (λ counts.
-            (counts.added ≡ length (drafts_of change.now schema.now (current self.old)))
-            × (counts.closed ≡ count_by (removes change.now schema.now) (current self.old))) }
-        ensures apart { OnOk result (overlap_after change.now schema.now self.old ≡ false) }
+            (counts.added ≡ length (drafts_of change schema.now (current self.old)))
+            × (counts.closed ≡ count_by (removes change schema.now) (current self.old))) }
+        ensures apart { OnOk result (overlap_after change schema.now self.old ≡ false) }
         ensures overlap { IfErr result (λ failure. failure ≢ NoMemory
-            → overlap_after change.now schema.now self.old ≡ true) }
+            → overlap_after change schema.now self.old ≡ true) }
         ensures err { OnErr result (self.new ≡ self.old) }
     {
-        if self.leaves_overlap(alloc, schema, key, change, &plan.new)? {
+        if self.leaves_overlap(alloc, schema, key, &change, &plan.parts)? {
             return Err(Failure::Refused(KeyOverlap));
         }
         let before = self.items.len();
-        let Plan { new, taken } = plan;
+        let Plan { parts, taken } = plan;
+        let new = new_rows(change, parts);
         let counts = VersionCounts {
             added: new.len() as u64,
             closed: taken.len() as u64,
@@ -304,15 +307,15 @@ impl Versions {
         schema: &Schema,
         columns: &[u32],
         change: &Change,
-        new: &[Row],
+        parts: &[Draft],
     ) -> Result<bool, NoMemory>
         requires columns { columns.now ≡ key_of schema.now }
         requires unbroken { break_key (key_of schema.now) (map unnumbered (current self.now)) ≡ false }
-        requires new { map unnumbered new.now ≡ drafts_of change.now schema.now (current self.now) }
+        requires parts { parts.now ≡ parts_of_all change.now schema.now (current self.now) }
         ensures { IfOk result (λ overlap. overlap ≡ overlap_after change.now schema.now self.now) }
     {
         if may_overlap(schema, change, columns) {
-            self.find_overlap(alloc, schema, columns, change, new)
+            self.find_overlap(alloc, schema, columns, change, rows_made(change, parts))
         } else {
             Ok(false)
         }
@@ -326,11 +329,11 @@ impl Versions {
         schema: &Schema,
         columns: &[u32],
         change: &Change,
-        new: &[Row],
+        new: &[Draft],
     ) -> Result<bool, NoMemory>
         requires unbroken { have_collision columns.now (map unnumbered (current self.now)) ≡ false }
         ensures { IfOk result (λ overlap. overlap ≡ have_collision columns.now
-            (rows_left change.now schema.now (current self.now) ++ map unnumbered new.now)) }
+            (rows_left change.now schema.now (current self.now) ++ new.now)) }
     {
         match self.key_index_by(columns) {
             Some(index) => {
@@ -345,13 +348,13 @@ impl Versions {
     }
 
     /// Whether a new row collides with one that the change leaves.
-    fn any_meets(&self, schema: &Schema, change: &Change, index: &KeyIndex, new: &[Row]) -> bool
+    fn any_meets(&self, schema: &Schema, change: &Change, index: &KeyIndex, new: &[Draft]) -> bool
         requires index { IsKeyIndex self.now index.now }
         requires unbroken { have_collision index.now.columns.items
             (map unnumbered (current self.now)) ≡ false }
         ensures { result ≡ list_any (λ other. list_any
             (λ left. collide index.now.columns.items left other)
-            (rows_left change.now schema.now (current self.now))) (map unnumbered new.now) }
+            (rows_left change.now schema.now (current self.now))) new.now }
     {
         for row in new {
             if index.any_collides(schema, change, &self.items, row) {
@@ -362,23 +365,47 @@ impl Versions {
     }
 }
 
-/// What a change does to versions: the rows that it makes, and the places of the open ones that it
-/// takes out.
+/// What a change of a portion does to versions: what comes in the place of the rows that it takes out,
+/// and the places of these.
 #[derive(Drop)]
 struct Plan {
-    new: Vec<Row>,
+    parts: Vec<Draft>,
     taken: Vec<u32>,
 }
 
-/// Among so many versions of a table a small plan adds or closes one.
+/// Among so many versions of a table a small change adds or closes one.
 const VERSIONS_FOR_ONE: usize = 8;
 
-/// Whether a plan is small beside that many versions of its table. The key of a small one is tested by
+/// Whether a change is small beside that many versions of its table. The key of a small one is tested by
 /// the index, and its versions are added there and taken out, each in a time that grows as the logarithm
 /// of the open ones. A larger one is done sooner where all open rows are put in order, and no index is
 /// kept; and it costs so much itself that the index may be made anew behind it.
-fn is_small(plan: &Plan, versions: usize) -> bool {
-    plan.new.len().saturating_add(plan.taken.len()) <= versions / VERSIONS_FOR_ONE
+fn is_small(new: &[Draft], taken: &[u32], versions: usize) -> bool {
+    new.len().saturating_add(taken.len()) <= versions / VERSIONS_FOR_ONE
+}
+
+/// All new rows of a change whose parts of rows are these.
+fn rows_made<'a>(change: &'a Change, parts: &'a [Draft]) -> &'a [Draft]
+    ensures { result.now ≡ with_parts change.entry.now parts.entry.now }
+{
+    match change {
+        Change::Load { rows, .. } => rows.as_slice(),
+        Change::Make { .. } => parts,
+        Change::Update { .. } => parts,
+        Change::Delete { .. } => parts,
+    }
+}
+
+/// The same, taken out of the change.
+fn new_rows(change: Change, parts: Vec<Draft>) -> Vec<Draft>
+    ensures { result.items ≡ with_parts change parts.items }
+{
+    match change {
+        Change::Load { rows, .. } => Vec::from(rows),
+        Change::Make { .. } => parts,
+        Change::Update { .. } => parts,
+        Change::Delete { .. } => parts,
+    }
 }
 
 /// Works out a change without making it, so that a refusal leaves all as it was.
@@ -394,24 +421,21 @@ fn plan_change(
     ensures { IfOk result (IsPlanOf change.now schema.now versions.now) }
 {
     match change {
-        Change::Make { .. } => Ok(Plan::of(alloc, Vec::new(alloc))),
-        Change::Load { rows, .. } => {
-            let new = rows_of(alloc, versions.len(), rows.as_slice())?;
-            Ok(Plan::of(alloc, new))
-        }
+        Change::Make { .. } => Ok(Plan::empty(alloc)),
+        Change::Load { .. } => Ok(Plan::empty(alloc)),
         Change::Update { .. } => plan_portion(alloc, schema, versions, places, change),
         Change::Delete { .. } => plan_portion(alloc, schema, versions, places, change),
     }
 }
 
 impl Plan {
-    /// The plan that makes these rows and takes out none.
-    fn of(alloc: Global, new: Vec<Row>) -> Self
-        ensures new { result.new ≡ new }
+    /// The plan that takes out no row.
+    fn empty(alloc: Global) -> Self
+        ensures parts { result.parts.items ≡ [] }
         ensures taken { result.taken.items ≡ [] }
     {
         Plan {
-            new,
+            parts: Vec::new(alloc),
             taken: Vec::new(alloc),
         }
     }
@@ -427,26 +451,23 @@ fn plan_portion(
 ) -> Result<Plan, NoMemory>
     requires few { length versions.now ≤ version_limit }
     requires places { AreCandidates change.now schema.now versions.now places.now }
-    ensures new { IfOk result (λ plan. plan.new.items
-        ≡ numbered (length versions.now) (parts_of_all change.now schema.now (current versions.now))) }
+    ensures parts { IfOk result (λ plan. plan.parts.items
+        ≡ parts_of_all change.now schema.now (current versions.now)) }
     ensures taken { IfOk result (λ plan. plan.taken.items
         ≡ places_from (is_taken change.now schema.now) 0 versions.now) }
 {
-    let mut new = NewRows::new(alloc, versions.len());
+    let mut parts = Vec::new(alloc);
     let mut taken = Vec::new(alloc);
     let columns = columns_sought(schema, change);
-    let (rows, spans) = versions.as_slices();
+    let (drafts, spans) = versions.as_slices();
     for place in places {
-        let row = &rows[*place as usize];
+        let row = RowRef::of_draft(*place as usize, &drafts[*place as usize]);
         if is_taken(schema, change, &columns, row, &spans[*place as usize]) {
-            push_parts(alloc, &mut new, schema, change, row)?;
+            push_parts(alloc, &mut parts, schema, change, row)?;
             taken.push(*place)?;
         }
     }
-    Ok(Plan {
-        new: new.into_items(),
-        taken,
-    })
+    Ok(Plan { parts, taken })
 }
 
 /// How many rows come in the place of those that the change takes out.
@@ -457,9 +478,9 @@ fn count_parts(schema: &Schema, versions: &StoredVersions, places: &[u32], chang
 {
     let mut count = 0;
     let columns = columns_sought(schema, change);
-    let (rows, spans) = versions.as_slices();
+    let (drafts, spans) = versions.as_slices();
     for place in places {
-        let row = &rows[*place as usize];
+        let row = RowRef::of_draft(*place as usize, &drafts[*place as usize]);
         if is_taken(schema, change, &columns, row, &spans[*place as usize]) {
             count += count_of(change, row);
         }
@@ -474,13 +495,13 @@ fn is_taken(
     schema: &Schema,
     change: &Change,
     columns: &[Option<u32>; SOUGHT_LIMIT],
-    row: &Row,
+    row: RowRef<'_>,
     span: &Span,
 ) -> bool
     requires { AreSought schema.now (conds_of change.now) columns.now }
-    ensures { result ≡ is_taken change.now schema.now (version_of row.now span.now) }
+    ensures { result ≡ is_taken change.now schema.now (version_of (lent_row row.entry) span.now) }
 {
-    reaches(change, &row.period) && span.to.is_none() && is_removed(schema, change, columns, row)
+    reaches(change, row) && span.to.is_none() && is_removed(schema, change, columns, row)
 }
 
 /// Adds the versions from that place on to all indexes. Those at the places, which are closed, stay in
@@ -529,11 +550,12 @@ fn add_versions(
     alloc: Global,
     versions: &mut StoredVersions,
     places: &mut Places,
-    new: Vec<Row>,
+    new: Vec<Draft>,
     commit: u32,
 ) -> Result<(), NoMemory>
     requires { length versions.old + length new.items ≤ version_limit }
-    ensures ok { OnOk result (versions.new ≡ versions.old ++ made commit new.items) }
+    ensures ok { OnOk result (versions.new ≡ versions.old
+        ++ made commit (numbered (length versions.old) new.items)) }
     ensures places { OnOk result (places.new
         ≡ places.old ++ range_with_len (length versions.old) (length new.items)) }
     ensures err { OnErr result (versions.new ≡ versions.old) }

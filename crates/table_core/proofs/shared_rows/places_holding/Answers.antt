@@ -5,13 +5,14 @@ use Rattle.period_core.specs.Period.{holds_at}
 use Rattle.row_core.specs.declared.row.Row.{Row}
 use Rattle.table_core.specs.Lent.{lent_row}
 use Rattle.table_core.specs.Places.{at_places, shown_at}
+use Rattle.table_core.specs.Source.{rows_from}
 use Rattle.table_core.proofs.PlaceLemmas.{filter-more, filter-same, at_places-more}
 use Rattle.table_core.proofs.shared_rows.places_holding.Goals as goal
 use Rattle.table_core.proofs.shared_rows.places_holding.Goals.{then-holds_at+in_ok-as_place+in_ok-push, else-holds_at}
 
 pub loop-i-preserved : goal.loop-i-preserved
 loop-i-preserved c =
-    let rows = c.args.rows.now in
+    let rows = rows_from c.args.source.now in
     let shown = shown_at c.args.places.now rows in
     let row = lent_row c.row_at.result in
     let test = λ (r : Row). holds_at c.args.point r.period in

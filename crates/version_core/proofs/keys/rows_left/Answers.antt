@@ -23,9 +23,9 @@ loop-place-preserved c =
     elim c.if-is_left.branch [
       | then-is_left+in_default w ↦
           ap (λ rows. map tested_row rows.items) w.rows-is ∙ ap (map tested_row) w.in_default.ensures.items
-          ∙ left-yes vs left places i version c.loop-place.rows.items w.keyed.result c.loop-place-test.true inside
+          ∙ left-yes vs left places i version c.loop-place.rows.items w.keyed_row.result c.loop-place-test.true inside
           c.at-version.ensures
-          (sym c.is_left.ensures ∙ w.if-is_left.true) w.keyed.ensures c.loop-place.invariant
+          (sym c.is_left.ensures ∙ w.if-is_left.true) w.keyed_row.ensures c.loop-place.invariant
       | else-is_left w ↦
           ap (λ rows. map tested_row rows.items) w.rows-is
           ∙ left-no vs left places i version c.loop-place.rows.items c.loop-place-test.true inside

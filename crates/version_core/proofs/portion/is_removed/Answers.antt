@@ -1,4 +1,5 @@
 use Rattle.std.proofs.Common.{◌∙◌, ap, refl, sym, subst}
+use Rattle.table_core.specs.Lent.{lent_row}
 use Rattle.version_core.specs.Finding.{AreSought}
 use Rattle.version_core.specs.Rows.{conds_of, is_touched}
 use Rattle.version_core.proofs.portion.is_removed.Goals as goal
@@ -23,10 +24,10 @@ pub returns-in-Update : goal.returns-in-Update
 returns-in-Update c =
     rw c.in-Update.is
     (c.is_touched.ensures
-    ∙ ap (λ conds. is_touched c.args.schema.now c.in-Update.portion conds c.args.row.now) c.as_slice.ensures)
+    ∙ ap (λ conds. is_touched c.args.schema.now c.in-Update.portion conds (lent_row c.args.row)) c.as_slice.ensures)
 
 pub returns-in-Delete : goal.returns-in-Delete
 returns-in-Delete c =
     rw c.in-Delete.is
     (c.is_touched-in-Delete.ensures
-    ∙ ap (λ conds. is_touched c.args.schema.now c.in-Delete.portion conds c.args.row.now) c.as_slice-in-Delete.ensures)
+    ∙ ap (λ conds. is_touched c.args.schema.now c.in-Delete.portion conds (lent_row c.args.row)) c.as_slice-in-Delete.ensures)

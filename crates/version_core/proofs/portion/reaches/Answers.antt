@@ -1,5 +1,6 @@
 use Rattle.std.proofs.Common.{◌∙◌, ap, refl}
 use Rattle.std.specs.Prelude.{is_some}
+use Rattle.period_core.specs.Period.{meet}
 use Rattle.version_core.proofs.portion.reaches.Goals as goal
 
 pub returns-in-Make : goal.returns-in-Make
@@ -9,7 +10,11 @@ pub returns-in-Load : goal.returns-in-Load
 returns-in-Load c = rw c.in-Load.is refl
 
 pub returns-in-Update : goal.returns-in-Update
-returns-in-Update c = rw c.in-Update.is (c.is_some.ensures ∙ ap is_some c.meet.ensures.ends)
+returns-in-Update c =
+    rw c.in-Update.is (c.is_some.ensures ∙ ap is_some c.meet.ensures.ends
+    ∙ ap (λ p. is_some (meet p c.in-Update.portion)) c.period.ensures)
 
 pub returns-in-Delete : goal.returns-in-Delete
-returns-in-Delete c = rw c.in-Delete.is (c.is_some-in-Delete.ensures ∙ ap is_some c.meet-in-Delete.ensures.ends)
+returns-in-Delete c =
+    rw c.in-Delete.is (c.is_some-in-Delete.ensures ∙ ap is_some c.meet-in-Delete.ensures.ends
+    ∙ ap (λ p. is_some (meet p c.in-Delete.portion)) c.period-in-Delete.ensures)

@@ -4,11 +4,12 @@ use Rattle.std.proofs.lemmas.List.{get_or_default, take_all}
 use Rattle.std.proofs.lemmas.List.Elements.{All-push}
 use Rattle.table_core.specs.Places.{at_places}
 use Rattle.table_core.proofs.PlaceLemmas.{at_places-more}
+use Rattle.table_core.specs.Lent.{lent_row}
 use Rattle.version_core.specs.Shown.{holds_where, shown}
 use Rattle.version_core.specs.Stored.{version_of}
 use Rattle.version_core.specs.declared.version.Version.{Version}
 use Rattle.version_core.proofs.Seen.{held-more, held-same, row-at}
-use Rattle.version_core.proofs.StoredLemmas.{get_or-versions_of}
+use Rattle.version_core.proofs.StoredLemmas.{version-at}
 use Rattle.version_core.proofs.version.places_shown.Goals as goal
 use Rattle.version_core.proofs.version.places_shown.Goals.{then-is_listed+in_ok-as_place+in_ok-push, else-is_listed}
 
@@ -17,14 +18,16 @@ loop-i-preserved c =
     let vs = c.args.versions.now in
     let all = map (λ (v : Version). v.row) vs in
     let i = c.loop-i.i in
-    let rows = c.as_slices.result.0.now in
+    let drafts = c.as_slices.result.0.now in
     let spans = c.as_slices.result.1.now in
     let inside : i < length vs = omega (arith, c.loop-i-test.true, c.as_slices.ensures.rows) in
     let beside : i < length spans = omega (arith, inside, c.as_slices.ensures.spans) in
     let span = get_or spans i (record { from = 0; to = None }) in
-    let v = version_of c.index-rows-i.result span in
-    let found = get_or-versions_of rows spans i c.index-rows-i.result span vs c.as_slices.ensures.versions
-    (omega (arith, c.loop-i-test.true)) beside c.index-rows-i.is (get_or_default spans i _ span beside) in
+    let row = lent_row c.of_draft.result in
+    let v = version_of row span in
+    let found = version-at drafts spans i c.index-drafts-i.result row span vs c.as_slices.ensures.versions
+    (omega (arith, c.loop-i-test.true)) beside c.index-drafts-i.is c.of_draft.ensures
+    (get_or_default spans i _ span beside) in
     elim c.if-is_listed.branch [
       | then-is_listed+in_ok-as_place+in_ok-push w ↦
           let grown = ap (λ (u : Vec ℕ Global). u.items) w.places-is ∙ w.in_ok-push.ensures.items

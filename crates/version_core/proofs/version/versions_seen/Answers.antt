@@ -1,8 +1,9 @@
 use Rattle.std.proofs.Common.{◌<◌, length, None, get_or, arith, sym, ◌∙◌, ap, ◌++◌, ◌∷◌, [], ◌&&◌, leb}
 use Rattle.std.proofs.lemmas.List.{get_or_default, take_all}
+use Rattle.table_core.specs.Lent.{lent_row}
 use Rattle.version_core.specs.Shown.{is_behind, versions_as_of}
 use Rattle.version_core.specs.Stored.{version_of}
-use Rattle.version_core.proofs.StoredLemmas.{get_or-versions_of}
+use Rattle.version_core.proofs.StoredLemmas.{version-at}
 use Rattle.version_core.proofs.Seen.{versions_as_of-more, versions_as_of-same}
 use Rattle.version_core.proofs.version.versions_seen.Goals as goal
 use Rattle.version_core.proofs.version.versions_seen.Goals.{then-is_seen+in_ok-copy+in_ok-push, else-is_seen}
@@ -11,14 +12,16 @@ pub loop-i-preserved : goal.loop-i-preserved
 loop-i-preserved c =
     let vs = c.args.versions.now in
     let i = c.loop-i.i in
-    let rows = c.as_slices.result.0.now in
+    let drafts = c.as_slices.result.0.now in
     let spans = c.as_slices.result.1.now in
     let inside : i < length vs = omega (arith, c.loop-i-test.true, c.as_slices.ensures.rows) in
     let beside : i < length spans = omega (arith, inside, c.as_slices.ensures.spans) in
     let span = get_or spans i (record { from = 0; to = None }) in
-    let v = version_of c.index-rows-i.result span in
-    let found = get_or-versions_of rows spans i c.index-rows-i.result span vs c.as_slices.ensures.versions
-    (omega (arith, c.loop-i-test.true)) beside c.index-rows-i.is (get_or_default spans i _ span beside) in
+    let row = lent_row c.of_draft-row.result in
+    let v = version_of row span in
+    let found = version-at drafts spans i c.index-drafts-i.result row span vs c.as_slices.ensures.versions
+    (omega (arith, c.loop-i-test.true)) beside c.index-drafts-i.is c.of_draft-row.ensures
+    (get_or_default spans i _ span beside) in
     let test = ap (λ end. leb v.sysfrom c.args.at && (leb v.sysfrom c.args.last && is_behind end c.args.m))
     (sym c.end_at-end.ensures) ∙ sym c.is_seen.ensures in
     elim c.if-is_seen.branch [

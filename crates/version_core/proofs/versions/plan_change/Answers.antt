@@ -1,20 +1,18 @@
-use Rattle.std.proofs.Common.{◌∙◌, ap, length, sym}
-use Rattle.version_core.specs.Rows.{numbered}
-use Rattle.version_core.proofs.OpenLemmas.{none-taken}
+use Rattle.std.proofs.Common.{◌∙◌, sym}
+use Rattle.version_core.specs.OpenVersions.{current}
+use Rattle.version_core.proofs.OpenLemmas.{no-parts, none-taken}
 use Rattle.version_core.proofs.versions.plan_change.Goals as goal
 
 pub returns-in-Make : goal.returns-in-Make
 returns-in-Make c =
     rw c.in-Make.is (record {
-      new = ap (λ v. v.items) c.of.ensures.new ∙ c.new.ensures.items;
-      taken = c.of.ensures.taken ∙ sym (none-taken 0 c.args.versions.now);
+      parts = c.empty.ensures.parts ∙ sym (no-parts (current c.args.versions.now));
+      taken = c.empty.ensures.taken ∙ sym (none-taken 0 c.args.versions.now);
     })
 
-pub returns-in_ok-new-in-Load : goal.returns-in_ok-new-in-Load
-returns-in_ok-new-in-Load c =
+pub returns-in-Load : goal.returns-in-Load
+returns-in-Load c =
     rw c.in-Load.is (record {
-      new = ap (λ v. v.items) c.of-in-Load.ensures.new ∙ c.in_ok-new-in-Load.ensures
-          ∙ ap (λ n. numbered n c.as_slice.result.now) c.len.ensures
-          ∙ ap (numbered (length c.args.versions.now)) c.as_slice.ensures;
-      taken = c.of-in-Load.ensures.taken ∙ sym (none-taken 0 c.args.versions.now);
+      parts = c.empty-in-Load.ensures.parts ∙ sym (no-parts (current c.args.versions.now));
+      taken = c.empty-in-Load.ensures.taken ∙ sym (none-taken 0 c.args.versions.now);
     })

@@ -3,14 +3,15 @@ use Rattle.std.specs.Prelude.{filter}
 use Rattle.std.proofs.lemmas.List.{get_or_default, take_all}
 use Rattle.version_core.specs.Finding.{passes}
 use Rattle.version_core.specs.OpenVersions.{is_taken, places_from}
+use Rattle.table_core.specs.Lent.{lent_row}
 use Rattle.version_core.specs.Stored.{version_of}
-use Rattle.version_core.proofs.StoredLemmas.{get_or-versions_of}
-use Rattle.version_core.proofs.OpenLemmas.{made-all, made-push, made_so_far, place-no, place-yes}
+use Rattle.version_core.proofs.StoredLemmas.{version-at}
+use Rattle.version_core.proofs.OpenLemmas.{made-push, parts_at, parts_at-taken, place-no, place-yes}
 use Rattle.version_core.proofs.versions.plan_portion.Goals as goal
 use Rattle.version_core.proofs.versions.plan_portion.Goals.{then-is_taken+in_ok-push_parts+in_ok-push, else-is_taken}
 
-pub bounds-rows-place : goal.bounds-rows-place
-bounds-rows-place c =
+pub bounds-drafts-place : goal.bounds-drafts-place
+bounds-drafts-place c =
     let inside = c.requires.places.inside c.loop-place.place-index 0 c.loop-place-test.true in
     omega (arith, inside, c.as_slices.ensures.rows)
 
@@ -25,25 +26,25 @@ loop-place-preserved c =
     let places = c.args.places.now in
     let i = c.loop-place.place-index in
     let span = get_or c.as_slices.result.1.now (get_or places i 0) (record { from = 0; to = None }) in
-    let version = version_of c.index-rows-place.result span in
+    let row = lent_row c.of_draft-row.result in
+    let version = version_of row span in
     let taken = is_taken c.args.change.now c.args.schema.now in
     let inside : get_or places i 0 < length vs = c.requires.places.inside i 0 c.loop-place-test.true in
     let beside : get_or places i 0 < length c.as_slices.result.1.now =
     omega (arith, inside, c.as_slices.ensures.spans) in
-    let found = get_or-versions_of
-    c.as_slices.result.0.now c.as_slices.result.1.now (get_or places i 0) c.index-rows-place.result span vs
-    c.as_slices.ensures.versions (omega (arith, inside, c.as_slices.ensures.rows)) beside
-    c.index-rows-place.is (get_or_default c.as_slices.result.1.now (get_or places i 0) _ span beside) in
+    let found = version-at c.as_slices.result.0.now c.as_slices.result.1.now (get_or places i 0)
+    c.index-drafts-place.result row span vs c.as_slices.ensures.versions
+    (omega (arith, inside, c.as_slices.ensures.rows)) beside c.index-drafts-place.is c.of_draft-row.ensures
+    (get_or_default c.as_slices.result.1.now (get_or places i 0) _ span beside) in
     elim c.if-is_taken.branch [
       | then-is_taken+in_ok-push_parts+in_ok-push w ↦
           let test = sym c.is_taken.ensures ∙ w.if-is_taken.true in
           let grown = ap (λ v. v.items) w.taken-is ∙ w.in_ok-push.ensures.items in
           record {
-            made = made-push
-                (length vs) c.args.change.now c.args.schema.now vs c.loop-place.taken.items
-                c.if-is_taken.taken.items
-                (get_or places i 0) version c.loop-place.new c.if-is_taken.new inside found
-                c.loop-place.invariant.made (w.new-is ∙ w.in_ok-push_parts.ensures) grown;
+            made = made-push c.args.change.now c.args.schema.now vs c.loop-place.taken.items
+                c.if-is_taken.taken.items (get_or places i 0) version c.loop-place.parts.items
+                c.if-is_taken.parts.items inside found c.loop-place.invariant.made
+                (ap (λ v. v.items) w.parts-is ∙ w.in_ok-push_parts.ensures) grown;
             taken = place-yes vs taken places i version c.loop-place.taken.items c.if-is_taken.taken.items
                 c.loop-place-test.true inside found test c.loop-place.invariant.taken grown;
           }
@@ -51,15 +52,15 @@ loop-place-preserved c =
           let test = sym c.is_taken.ensures ∙ w.if-is_taken.false in
           let same = ap (λ v. v.items) w.taken-is in
           record {
-            made = w.new-is ∙ c.loop-place.invariant.made
-                ∙ ap (made_so_far (length vs) c.args.change.now c.args.schema.now vs) (sym same);
+            made = ap (λ v. v.items) w.parts-is ∙ c.loop-place.invariant.made
+                ∙ ap (parts_at c.args.change.now c.args.schema.now vs) (sym same);
             taken = place-no vs taken places i version c.loop-place.taken.items c.if-is_taken.taken.items
                 c.loop-place-test.true inside found test c.loop-place.invariant.taken same;
           }
     ]
 
 -- all that the change takes
-whole : (c : goal.After-into_items)
+whole : (c : goal.After-loop-place)
     → c.loop-place.taken.items ≡ places_from (is_taken c.args.change.now c.args.schema.now) 0 c.args.versions.now
 whole c =
     c.loop-place.invariant.taken
@@ -67,12 +68,10 @@ whole c =
     (take_all c.loop-place.place-index c.args.places.now (omega arith))
     ∙ c.requires.places.taken
 
-pub returns-clause-new : goal.returns-clause-new
-returns-clause-new c =
-    c.into_items.ensures
-    ∙ made-all
-    (length c.args.versions.now) c.args.change.now c.args.schema.now c.args.versions.now
-    c.loop-place.taken.items c.loop-place.new (whole c) c.loop-place.invariant.made
+pub returns-clause-parts : goal.returns-clause-parts
+returns-clause-parts c =
+    c.loop-place.invariant.made
+    ∙ parts_at-taken c.args.change.now c.args.schema.now c.args.versions.now c.loop-place.taken.items (whole c)
 
 pub returns-clause-taken : goal.returns-clause-taken
 returns-clause-taken c = whole c

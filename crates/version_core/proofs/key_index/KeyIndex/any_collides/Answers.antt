@@ -7,7 +7,6 @@ use Rattle.std.proofs.lemmas.List.Kept.{IsStrictlySortedBy-filter}
 use Rattle.version_core.specs.Finding.{passes}
 use Rattle.version_core.specs.KeyIndex.{entry_cmp, key_number}
 use Rattle.version_core.specs.Keys.{collides_left}
-use Rattle.version_core.specs.Rows.{unnumbered}
 use Rattle.version_core.proofs.KeyIndexLemmas.{left-all, left-fewer, some-passes, walked-far, walked-out}
 use Rattle.version_core.proofs.KeyLemmas.{any-left}
 use Rattle.version_core.proofs.key_index.KeyIndex.any_collides.Goals as goal
@@ -18,20 +17,20 @@ loop-entry-init c = left-all _ c.into_iter-entry-iterator.result.iter
 pub returns-then-collides_at : goal.returns-then-collides_at
 returns-then-collides_at c =
     let key = c.args.self.now.columns.items in
-    let hits = collides_left c.args.change.now c.args.schema.now key (unnumbered c.args.new.now) in
+    let hits = collides_left c.args.change.now c.args.schema.now key c.args.new.now in
     let hit : passes c.args.versions.now hits c.in-Some.entry.now.place ≡ true =
-    ap (λ k. passes c.args.versions.now (collides_left c.args.change.now c.args.schema.now k (unnumbered c.args.new.now))
+    ap (λ k. passes c.args.versions.now (collides_left c.args.change.now c.args.schema.now k c.args.new.now)
     c.in-Some.entry.now.place) (sym c.as_slice-key.ensures.value) ∙ sym c.collides_at.ensures ∙ c.if-collides_at.true in
     sym (some-passes hits c.args.versions.now c.in-Some.entry.now.place hit)
-    ∙ any-left c.args.change.now c.args.schema.now key (unnumbered c.args.new.now) c.args.versions.now
+    ∙ any-left c.args.change.now c.args.schema.now key c.args.new.now c.args.versions.now
 
 pub returns-then-is_last_near : goal.returns-then-is_last_near
 returns-then-is_last_near c =
     let key = c.args.self.now.columns.items in
     let number = c.end_of-end.ensures.number ∙ ap (λ k. key_number k c.args.new.now.values) c.as_slice-key.ensures.value in
     let miss : passes c.args.versions.now
-    (collides_left c.args.change.now c.args.schema.now key (unnumbered c.args.new.now)) c.in-Some.entry.now.place ≡ false =
-    ap (λ k. passes c.args.versions.now (collides_left c.args.change.now c.args.schema.now k (unnumbered c.args.new.now))
+    (collides_left c.args.change.now c.args.schema.now key c.args.new.now) c.in-Some.entry.now.place ≡ false =
+    ap (λ k. passes c.args.versions.now (collides_left c.args.change.now c.args.schema.now k c.args.new.now)
     c.in-Some.entry.now.place) (sym c.as_slice-key.ensures.value) ∙ sym c.collides_at.ensures ∙ c.if-collides_at.false in
     let near : c.into_iter-entry-iterator.result.iter ≡ filter
     (range_contains entry_cmp Unbounded (Excluded c.end_of-end.result)) c.args.self.now.entries.keys =
@@ -40,22 +39,22 @@ returns-then-is_last_near c =
     let up : IsStrictlySortedBy entry_cmp c.into_iter-entry-iterator.result.iter =
     rw near (IsStrictlySortedBy-filter entry_cmp (range_contains entry_cmp Unbounded (Excluded c.end_of-end.result))
     c.args.self.now.entries.keys c.range.ensures.ordered) in
-    sym (walked-far c.args.change.now c.args.schema.now (unnumbered c.args.new.now) c.args.versions.now c.args.self.now
+    sym (walked-far c.args.change.now c.args.schema.now c.args.new.now c.args.versions.now c.args.self.now
     c.end_of-end.result c.into_iter-entry-iterator.result.iter c.requires.index number c.end_of-end.ensures.from near
     c.loop-entry.entry-iterator.iter c.next.new.self.iter c.in-Some.entry.now c.in-Some.ensures.steps miss
     (rw c.as_slice-key.ensures.value at (c.is_last_near.ensures c.if-is_last_near.true)) up c.loop-entry.invariant)
-    ∙ any-left c.args.change.now c.args.schema.now key (unnumbered c.args.new.now) c.args.versions.now
+    ∙ any-left c.args.change.now c.args.schema.now key c.args.new.now c.args.versions.now
 
 pub loop-entry-preserved : goal.loop-entry-preserved
 loop-entry-preserved c =
     let key = c.args.self.now.columns.items in
     let miss : passes c.args.versions.now
-    (collides_left c.args.change.now c.args.schema.now key (unnumbered c.args.new.now)) c.in-Some.entry.now.place ≡ false =
-    ap (λ k. passes c.args.versions.now (collides_left c.args.change.now c.args.schema.now k (unnumbered c.args.new.now))
+    (collides_left c.args.change.now c.args.schema.now key c.args.new.now) c.in-Some.entry.now.place ≡ false =
+    ap (λ k. passes c.args.versions.now (collides_left c.args.change.now c.args.schema.now k c.args.new.now)
     c.in-Some.entry.now.place) (sym c.as_slice-key.ensures.value) ∙ sym c.collides_at.ensures ∙ c.if-collides_at.false in
     left-fewer
     (λ e. passes c.args.versions.now
-    (collides_left c.args.change.now c.args.schema.now key (unnumbered c.args.new.now)) e.place)
+    (collides_left c.args.change.now c.args.schema.now key c.args.new.now) e.place)
     c.into_iter-entry-iterator.result.iter c.loop-entry.entry-iterator.iter c.next.new.self.iter c.in-Some.entry.now
     c.in-Some.ensures.steps miss c.loop-entry.invariant
 
@@ -67,7 +66,7 @@ returns c =
     (range_contains entry_cmp Unbounded (Excluded c.end_of-end.result)) c.args.self.now.entries.keys =
     ap (λ r. r.iter) c.into_iter-entry-iterator.ensures.into_iter_gives ∙ c.rev-entry-items.ensures.source
     ∙ c.range.ensures.between tt in
-    sym (walked-out c.args.change.now c.args.schema.now (unnumbered c.args.new.now) c.args.versions.now c.args.self.now
+    sym (walked-out c.args.change.now c.args.schema.now c.args.new.now c.args.versions.now c.args.self.now
     c.end_of-end.result c.into_iter-entry-iterator.result.iter c.requires.index number c.end_of-end.ensures.from near
     c.loop-entry.entry-iterator.iter c.in-None.ensures.steps.0 c.loop-entry.invariant)
-    ∙ any-left c.args.change.now c.args.schema.now key (unnumbered c.args.new.now) c.args.versions.now
+    ∙ any-left c.args.change.now c.args.schema.now key c.args.new.now c.args.versions.now

@@ -1,11 +1,40 @@
-use Rattle.std.proofs.Common.{◌∙◌, ◌++◌, ap, arith}
+use Rattle.std.proofs.Common.{◌≡◌, ◌∙◌, ◌++◌, None, ap, length, length-append, replicate, arith}
+use Rattle.std.proofs.lemmas.List.{length-replicate}
+use Rattle.table_core.specs.Numbered.{numbered}
+use Rattle.table_core.proofs.NumberedLemmas.{length-numbered}
 use Rattle.version_core.specs.Made.{made}
-use Rattle.version_core.proofs.StoredLemmas.{versions_of-grown}
+use Rattle.version_core.specs.Stored.{versions_of}
+use Rattle.version_core.specs.declared.stored.Span.{Span}
+use Rattle.version_core.proofs.StoredLemmas.{length-versions_of, versions_of-grown}
 use Rattle.version_core.proofs.stored.StoredVersions.append.Goals as goal
+
+pub invariant_of-self-in_default : goal.invariant_of-self-in_default
+invariant_of-self-in_default c =
+    let rows = c.self.inside.rows in
+    let spans = c.self.inside.spans.items in
+    let more = c.args.rows.items in
+    let span : Span = record { from = c.args.commit; to = None } in
+    omega (
+      arith,
+      c.self.invariant,
+      ap length c.in_default.ensures.ok,
+      length-append rows (numbered (length rows) more),
+      length-numbered (length rows) more,
+      ap length c.in_ok-push_spans.ensures.ok,
+      length-append spans (replicate c.len.result span),
+      length-replicate c.len.result span,
+      c.args.rows.ok.0,
+    )
 
 pub returns-clause-ok : goal.returns-clause-ok
 returns-clause-ok c =
-    versions_of-grown c.args.commit c.self.inside.rows c.args.rows.items c.append.new.self c.self.inside.spans.items
+    let rows = c.self.inside.rows in
+    let spans = c.self.inside.spans.items in
+    let more = c.args.rows.items in
+    let used : length rows ≡ length c.args.self.now =
+    omega (arith, c.self.invariant, length-versions_of rows spans c.self.invariant, ap length c.self.view_is) in
+    versions_of-grown c.args.commit rows (numbered (length rows) more) c.append.new.self spans
     c.push_spans.new.spans.items c.len.result c.self.invariant c.in_default.ensures.ok
-    (omega (arith, c.args.rows.ok.0)) c.in_ok-push_spans.ensures.ok
-    ∙ ap (λ vs. vs ++ made c.args.commit c.args.rows.items) c.self.view_is
+    (omega (arith, c.args.rows.ok.0, length-numbered (length rows) more)) c.in_ok-push_spans.ensures.ok
+    ∙ ap (λ n. versions_of rows spans ++ made c.args.commit (numbered n more)) used
+    ∙ ap (λ vs. vs ++ made c.args.commit (numbered (length c.args.self.now) more)) c.self.view_is

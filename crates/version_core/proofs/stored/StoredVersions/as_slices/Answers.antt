@@ -1,10 +1,11 @@
 use Rattle.std.proofs.Common.{◌∙◌, ap, sym, length}
+use Rattle.table_core.proofs.NumberedLemmas.{length-numbered}
 use Rattle.version_core.proofs.StoredLemmas.{length-versions_of}
 use Rattle.version_core.proofs.stored.StoredVersions.as_slices.Goals as goal
 
 pub returns-clause-rows : goal.returns-clause-rows
 returns-clause-rows c =
-    ap length c.as_slice.ensures ∙ c.self.invariant
+    sym (length-numbered 0 c.as_slice.result.now) ∙ ap length c.as_slice.ensures ∙ c.self.invariant
     ∙ sym (length-versions_of c.self.inside.rows c.self.inside.spans.items c.self.invariant)
     ∙ ap length c.self.view_is
 

@@ -1,13 +1,12 @@
-use Rattle.std.proofs.Common.{◌≡◌, false, take, map}
+use Rattle.std.proofs.Common.{◌≡◌, false, take}
 use Rattle.std.specs.List.{list_any}
 use Rattle.key_core.specs.Keys.{collide}
 use Rattle.version_core.specs.Keys.{rows_left}
 use Rattle.version_core.specs.OpenVersions.{current}
-use Rattle.version_core.specs.Rows.{unnumbered}
 use Rattle.version_core.proofs.versions.Versions.any_meets.Given as goal
 
 -- none so far
 abbrev pub invariant-loop-row : goal.invariant-loop-row
 invariant-loop-row l =
     list_any (λ other. list_any (λ left. collide l.index.columns.items left other) (rows_left l.change l.schema (current l.self)))
-    (map unnumbered (take l.row-index l.new)) ≡ false
+    (take l.row-index l.new) ≡ false

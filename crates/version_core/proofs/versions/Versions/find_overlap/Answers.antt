@@ -1,10 +1,9 @@
-use Rattle.std.proofs.Common.{◌∙◌, ◌||◌, ◌++◌, ap, sym, map}
+use Rattle.std.proofs.Common.{◌∙◌, ◌||◌, ◌++◌, ap, sym}
 use Rattle.std.proofs.lemmas.Result.{IfOk-weaker}
 use Rattle.key_core.specs.Keys.{collide, have_collision}
 use Rattle.key_core.proofs.Added.{have_meeting, pairs-added}
 use Rattle.version_core.specs.Keys.{rows_left}
 use Rattle.version_core.specs.OpenVersions.{current}
-use Rattle.version_core.specs.Rows.{unnumbered}
 use Rattle.version_core.proofs.KeyLemmas.{left-apart}
 use Rattle.version_core.proofs.versions.Versions.find_overlap.Goals as goal
 
@@ -15,20 +14,20 @@ pub returns-then-among_new : goal.returns-then-among_new
 returns-then-among_new c =
     c.if-among_new.true
     ∙ ap (λ t. t || have_meeting (collide c.args.columns.now)
-    (rows_left c.args.change.now c.args.schema.now (current c.args.self.now)) (map unnumbered c.args.new.now))
+    (rows_left c.args.change.now c.args.schema.now (current c.args.self.now)) c.args.new.now)
     (sym (sym c.in_ok-among_new-in-Some.ensures ∙ c.if-among_new.true))
     ∙ pairs-added (collide c.args.columns.now)
-    (rows_left c.args.change.now c.args.schema.now (current c.args.self.now)) (map unnumbered c.args.new.now)
+    (rows_left c.args.change.now c.args.schema.now (current c.args.self.now)) c.args.new.now
     (left-apart c.args.change.now c.args.schema.now c.args.columns.now (current c.args.self.now) c.requires.unbroken)
 
 pub returns-else-among_new : goal.returns-else-among_new
 returns-else-among_new c =
     rw c.in-Some.ensures.key at c.any_meets.ensures
     ∙ ap (λ t. t || have_meeting (collide c.args.columns.now)
-    (rows_left c.args.change.now c.args.schema.now (current c.args.self.now)) (map unnumbered c.args.new.now))
+    (rows_left c.args.change.now c.args.schema.now (current c.args.self.now)) c.args.new.now)
     (sym (sym c.in_ok-among_new-in-Some.ensures ∙ c.if-among_new.false))
     ∙ pairs-added (collide c.args.columns.now)
-    (rows_left c.args.change.now c.args.schema.now (current c.args.self.now)) (map unnumbered c.args.new.now)
+    (rows_left c.args.change.now c.args.schema.now (current c.args.self.now)) c.args.new.now
     (left-apart c.args.change.now c.args.schema.now c.args.columns.now (current c.args.self.now) c.requires.unbroken)
 
 pub collide_among_all-requires : goal.collide_among_all-requires
@@ -39,6 +38,6 @@ returns-in-None c =
     IfOk-weaker c.collide_among_all.result _ _
     (λ overlap e. e
     ∙ ap (λ vs. have_collision c.args.columns.now
-    (rows_left c.args.change.now c.args.schema.now (current vs) ++ map unnumbered c.args.new.now))
+    (rows_left c.args.change.now c.args.schema.now (current vs) ++ c.args.new.now))
     c.self.view_is)
     c.collide_among_all.ensures

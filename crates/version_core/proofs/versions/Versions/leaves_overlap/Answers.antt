@@ -6,6 +6,7 @@ use Rattle.version_core.specs.Keys.{rows_left}
 use Rattle.version_core.specs.OpenVersions.{current}
 use Rattle.version_core.specs.Rows.{drafts_of, unnumbered}
 use Rattle.version_core.proofs.KeyLemmas.{keyed-breaks}
+use Rattle.version_core.proofs.OpenLemmas.{newly}
 use Rattle.version_core.proofs.versions.Versions.leaves_overlap.Goals as goal
 
 pub find_overlap-requires : goal.find_overlap-requires
@@ -23,7 +24,10 @@ returns-then-may_overlap c =
     let left = rows_left c.args.change.now c.args.schema.now (current c.args.self.now) in
     let made = drafts_of c.args.change.now c.args.schema.now (current c.args.self.now) in
     IfOk-weaker c.find_overlap.result _ _
-    (λ overlap e. e ∙ ap (λ l. have_collision c.args.columns.now (left ++ l)) c.requires.new
+    (λ overlap e. e
+    ∙ ap (λ l. have_collision c.args.columns.now (left ++ l))
+    (newly c.args.change.now c.args.schema.now c.args.self.now c.args.parts.now c.rows_made.result.now
+    c.rows_made.ensures c.requires.parts)
     ∙ ap (λ key. have_collision key (left ++ made)) c.requires.columns
     ∙ sym (keyed-breaks key (left ++ made) (c.may_overlap.ensures.keyed c.if-may_overlap.true)))
     c.find_overlap.ensures

@@ -1,0 +1,19 @@
+-- Rows of drafts.
+use Rattle.std.specs.Prelude.{ℕ, ◌+◌, List, [], ◌∷◌}
+use Rattle.row_core.specs.declared.draft.Draft.{Draft}
+use Rattle.row_core.specs.declared.row.Row.{Row}
+
+-- the row of a draft, with an id
+abbrev pub row_of : ℕ → Draft → Row
+row_of id draft = record { id = id; period = draft.period; values = draft.values }
+
+-- drafts as rows, with the ids that follow the used ones
+abbrev pub numbered : ℕ → List Draft → List Row
+numbered used [] = []
+numbered used (d ∷ ds) = row_of (used + 1) d ∷ numbered (used + 1) ds
+
+-- drafts as rows with these ids
+abbrev pub named : List ℕ → List Draft → List Row
+named [] drafts = []
+named (id ∷ ids) [] = []
+named (id ∷ ids) (d ∷ ds) = row_of id d ∷ named ids ds

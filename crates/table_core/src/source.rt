@@ -1,0 +1,128 @@
+//! The rows that lists share.
+
+ghost use Rattle.std.specs.Prelude.{◌≡◌, ◌<◌, ◌++◌, ◌∷◌, [], Some, length, slice_get, IfOk, OnOk};
+ghost use Rattle.table_core.specs.Lent.{lent_row};
+ghost use Rattle.table_core.specs.Numbered.{numbered};
+ghost use Rattle.table_core.specs.Source.{rows_from};
+
+use crate::NoMemory;
+use crate::row_ref::RowRef;
+use row_core::{Draft, Drafts, Row, RowList};
+use std::alloc::Global;
+use std::marker::Model;
+use std::sync::Arc;
+
+/// Rows that have ids of their own. Contracts see the list.
+#[derive(Debug, Drop)]
+pub(crate) struct NamedRows {
+    ids: Vec<u64>,
+    drafts: Vec<Draft>,
+}
+
+impl Model for NamedRows {
+    ghost use Rattle.std.specs.Prelude.{◌≡◌, List, length};
+    ghost use Rattle.row_core.specs.declared.row.Row.{Row};
+    ghost use Rattle.table_core.specs.Numbered.{named};
+
+    ghost Value = { List Row };
+
+    ghost view = { λ n. named n.ids.items n.drafts.items };
+
+    ghost invariant = { λ n. length n.ids.items ≡ length n.drafts.items };
+}
+
+impl NamedRows {
+    /// Those of a list.
+    pub(crate) fn of(alloc: Global, list: RowList) -> Result<NamedRows, NoMemory>
+        ensures { IfOk result (λ rows. rows ≡ list) }
+    {
+        let mut rows = NamedRows {
+            ids: Vec::new(alloc),
+            drafts: Vec::new(alloc),
+        };
+        for row in Vec::from(list) {
+            rows.push(row)?;
+        }
+        Ok(rows)
+    }
+
+    /// Adds a row.
+    fn push(&mut self, row: Row) -> Result<(), NoMemory>
+        ensures { OnOk result (self.new ≡ self.old ++ row ∷ []) }
+    {
+        let Row { id, period, values } = row;
+        self.ids.push(id)?;
+        if let Err(error) = self.drafts.push(Draft { period, values }) {
+            self.ids.pop();
+            return Err(error.into());
+        }
+        Ok(())
+    }
+
+    /// How many there are.
+    fn len(&self) -> usize
+        ensures { result ≡ length self.now }
+    {
+        self.ids.len()
+    }
+
+    /// The row at that place.
+    fn at(&self, place: usize) -> RowRef<'_>
+        requires { place < length self.now }
+        ensures { slice_get self.now place ≡ Some (lent_row result) }
+    {
+        RowRef {
+            id: self.ids[place],
+            draft: &self.drafts[place],
+        }
+    }
+}
+
+/// Rows that lists share: those of a table, whose ids are their places from 1 on, or a caller's, which
+/// have ids of their own.
+#[derive(Debug, Drop)]
+pub(crate) enum Source {
+    Numbered(Arc<Drafts>),
+    Named(Arc<NamedRows>),
+}
+
+impl Source {
+    /// One more owner.
+    pub(crate) fn share(&self) -> Result<Source, NoMemory>
+        ensures { IfOk result (λ source. rows_from source ≡ rows_from self.now) }
+    {
+        match self {
+            Source::Numbered(drafts) => Ok(Source::Numbered(Arc::try_clone(drafts)?)),
+            Source::Named(rows) => Ok(Source::Named(Arc::try_clone(rows)?)),
+        }
+    }
+
+    /// How many rows there are.
+    pub(crate) fn len(&self) -> usize
+        ensures { result ≡ length (rows_from self.now) }
+    {
+        match self {
+            Source::Numbered(drafts) => drafts.len(),
+            Source::Named(rows) => rows.len(),
+        }
+    }
+
+    /// The row at that place.
+    pub(crate) fn at(&self, place: usize) -> RowRef<'_>
+        requires { place < length (rows_from self.now) }
+        ensures { slice_get (rows_from self.now) place ≡ Some (lent_row result) }
+    {
+        match self {
+            Source::Numbered(drafts) => numbered_at(drafts.as_slice(), place),
+            Source::Named(rows) => rows.at(place),
+        }
+    }
+}
+
+/// The row of the draft at that place of a table.
+pub(crate) fn numbered_at(drafts: &[Draft], place: usize) -> RowRef<'_>
+    requires { place < length drafts.now }
+    ensures { slice_get (numbered 0 drafts.entry.now) place ≡ Some (lent_row result) }
+{
+    RowRef::of_draft(place, &drafts[place])
+}
