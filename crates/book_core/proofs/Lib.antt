@@ -10,10 +10,10 @@ pub mod Past
 pub mod Portions
 pub mod Reading
 pub mod Refusals
-pub mod Restored
 pub mod RiseLemmas
 pub mod Shown
 pub mod Sound
+pub mod Steps
 pub mod Tables
 pub mod VersionsExistence
 pub mod VersionsUniqueness

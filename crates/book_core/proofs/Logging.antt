@@ -62,6 +62,14 @@ entries_from-push h n (d ∷ ds) c =
     omega arith in ap (λ l. entry_at h n d ∷ l)
     (entries_from-push h (n + 1) ds c ∙ ap (λ m. entries_from h (n + 1) ds ++ entry_at h m c ∷ []) e)
 
+length-entries_from : (h : History) (n : ℕ) (cs : History) → length (entries_from h n cs) ≡ length cs
+length-entries_from h n [] = refl
+length-entries_from h n (c ∷ cs) = ap suc (length-entries_from h (n + 1) cs)
+
+-- a log has an entry for each commit
+pub length-log_of : (h : History) (log : List Entry) → log ≡ log_of h → length log ≡ length h
+length-log_of h log e = ap length e ∙ length-entries_from h 0 h
+
 log_of-push : (h : History) (c : Commit) → log_of (h ++ c ∷ []) ≡ log_of h ++ entry_at (h ++ c ∷ []) (length h) c ∷ []
 log_of-push h c =
     entries_from-push (h ++ c ∷ []) 0 h c

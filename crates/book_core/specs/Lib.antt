@@ -1,7 +1,6 @@
 pub mod History
 pub mod Limits
 pub mod State
-pub mod StoredHistory
 pub mod StoredTables
 pub mod Versions
 pub mod Words

@@ -16,7 +16,7 @@ ghost use Rattle.book_core.specs.StoredTables.{IsTableOf};
 ghost use Rattle.book_core.specs.Versions.{AreBetween, AreFromTo, log_of};
 
 use crate::apply::{COMMIT_LIMIT, change_tables, refusal_in};
-use crate::commit::{Commit, without_rows};
+use crate::commit::{Commit, Commits};
 use crate::log::{Entry, Log, entry_of};
 use crate::refusal::{BookRefused, NoTable, RowsRefused, VersionsRefused, overlap_failure};
 use crate::table::{Table, find_table};
@@ -35,23 +35,21 @@ const TABLE_LIMIT: usize = 64;
 #[derive(Drop)]
 pub struct Book {
     alloc: Global,
-    /// The changes. Of a load its table alone: its rows are those of the versions that it made.
-    history: Vec<Commit>,
+    /// What was accepted. The log and the tables have what code reads of it.
+    history: Commits,
     tables: Vec<Table>,
     log: Vec<Entry>,
 }
 
 impl Model for Book {
     ghost use Rattle.book_core.specs.History.{History};
-    ghost use Rattle.book_core.specs.StoredHistory.{restored_from};
     ghost use Rattle.book_core.specs.StoredTables.{IsBook};
 
     ghost Value = { History };
 
-    ghost view = { λ b. restored_from 0 b.tables.items b.history.items };
+    ghost view = { λ b. b.history.all };
 
-    ghost invariant = { λ b.
-        IsBook (restored_from 0 b.tables.items b.history.items) b.tables.items b.log.items };
+    ghost invariant = { λ b. IsBook b.history.all b.tables.items b.log.items };
 }
 
 /// A book is shown by its name alone.
@@ -68,7 +66,7 @@ impl Book {
     {
         Book {
             alloc,
-            history: Vec::new(alloc),
+            history: Commits::new(),
             tables: Vec::new(alloc),
             log: Vec::new(alloc),
         }
@@ -80,7 +78,7 @@ impl Book {
     {
         Ok(Book {
             alloc,
-            history: copy_each(alloc, &self.history)?,
+            history: self.history.copy(),
             tables: copy_each(alloc, &self.tables)?,
             log: Vec::from_slice(alloc, &self.log)?,
         })
@@ -94,7 +92,7 @@ impl Book {
         // Each of them was accepted in its place.
         ensures legal { IsLegal self.now }
     {
-        self.history.len() as u64
+        self.log.len() as u64
     }
 
     /// Makes a change of the caller with the number `by`, and answers the commit's number, from 1
@@ -122,19 +120,15 @@ impl Book {
             return Err(Failure::Refused(refused));
         }
         let commits = self.commits();
-        self.history.reserve(1)?;
         self.log.reserve(1)?;
         let counts = match change_tables(self.alloc, &mut self.tables, commits, &change) {
             Ok(counts) => counts,
             Err(why) => return Err(overlap_failure(why)),
         };
         let entry = entry_of(commits, by, &change, counts);
-        let change = without_rows(self.alloc, change);
+        self.history = self.history.followed_by(&Commit { by, change });
         match self.log.push(entry) {
-            Ok(()) => match self.history.push(Commit { by, change }) {
-                Ok(()) => Ok(commits + 1),
-                Err(_) => unreachable!(),
-            },
+            Ok(()) => Ok(commits + 1),
             Err(_) => unreachable!(),
         }
     }

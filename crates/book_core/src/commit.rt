@@ -1,12 +1,10 @@
 //! Commits: changes that were accepted.
 
-ghost use Rattle.std.specs.Prelude.{◌≡◌, ℕ, List};
-ghost use Rattle.book_core.specs.StoredHistory.{restored};
-ghost use Rattle.book_core.specs.StoredTables.{StoredTable};
+ghost use Rattle.std.specs.Prelude.{◌≡◌, [], ◌∷◌, ◌++◌};
+ghost use Rattle.std.specs.Borrow.{ftrue};
+ghost use Rattle.book_core.specs.History.{History};
 
-use list_core::DeepCopy;
-use row_core::{Drafts, NoMemory};
-use std::alloc::Global;
+use std::marker::Model;
 use version_core::Change;
 
 /// A change that was accepted, and by whom.
@@ -16,25 +14,40 @@ pub struct Commit {
     pub change: Change,
 }
 
-impl DeepCopy for Commit {
-    fn copy(&self, alloc: Global) -> Result<Commit, NoMemory> {
-        Ok(Commit {
-            by: self.by,
-            change: self.change.copy(alloc)?,
-        })
+/// The commits of a book, oldest first. Contracts alone see them: a value of it has no bytes.
+#[derive(Drop)]
+pub(crate) struct Commits {
+    pub ghost all: { History },
+}
+
+impl Model for Commits {
+    ghost also_owns = { λ _. ftrue };
+}
+
+impl Commits {
+    /// None.
+    pub fn new() -> Commits
+        ensures { result.all ≡ [] }
+    {
+        Commits {}
+    }
+
+    /// The same ones.
+    pub fn copy(&self) -> Commits
+        ensures { result.all ≡ self.now.all }
+    {
+        Commits {}
+    }
+
+    /// These, and another one behind them.
+    pub fn followed_by(&self, _commit: &Commit) -> Commits
+        ensures { result.all ≡ self.now.all ++ _commit.now ∷ [] }
+    {
+        Commits {}
     }
 }
 
-/// What a book keeps of a change: a load without its rows, which stand in its tables.
-pub(crate) fn without_rows(alloc: Global, change: Change) -> Change
-    ensures { (n : ℕ) (tables : List StoredTable)
-        → restored n tables result ≡ restored n tables change }
-{
-    match change {
-        Change::Load { table, .. } => Change::Load {
-            table,
-            rows: Drafts::new(alloc),
-        },
-        other => other,
-    }
-}
+// A value has no bytes, so any thread may have it.
+unsafe impl Send for Commits {}
+
+unsafe impl Sync for Commits {}

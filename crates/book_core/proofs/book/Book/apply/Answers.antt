@@ -1,16 +1,14 @@
 use Rattle.std.proofs.Common.{◌≡◌, ◌∷◌, ◌++◌, [], sym, ◌∙◌, ap, length, arith, Err, None}
 use Rattle.book_core.specs.State.{first_refusal, refusal_of, table_named}
 use Rattle.book_core.specs.History.{state_after}
-use Rattle.book_core.specs.StoredHistory.{restored_from}
 use Rattle.book_core.specs.StoredTables.{kept_tables_after}
 use Rattle.book_core.proofs.Accepted.{IsFailed, accepted-both, failed}
 use Rattle.book_core.proofs.Applying.{few, room, AreKept-push, newest_of}
-use Rattle.book_core.proofs.Restored.{restored-push}
 use Rattle.book_core.proofs.Tables.{well_named}
 use Rattle.book_core.proofs.Logging.{entry_same, log-push, new_entry}
 use Rattle.book_core.proofs.KeyFound.{overlap-named, unbroken-named}
 use Rattle.book_core.proofs.book.Book.apply.Goals as goal
-use Rattle.book_core.proofs.book.Book.apply.Goals.{In-Ok-push-2}
+use Rattle.book_core.proofs.book.Book.apply.Goals.{In-Ok-push}
 
 pub change_tables-requires-clause-few : goal.change_tables-requires-clause-few
 change_tables-requires-clause-few c =
@@ -54,7 +52,7 @@ change_tables-requires-clause-unbroken c =
     (table_named c.args.change) c.self.invariant.kept c.self.view_is
 
 -- a failure is told as it is
-failure : (c : goal.Joined-change-4)
+failure : (c : goal.Joined-change-3)
     → IsFailed
     (refusal_of (length c.args.self.now) (state_after c.args.self.now) c.args.change) (Err c.overlap_failure.result)
 failure c =
@@ -74,7 +72,7 @@ pub returns-in-Err-clause-accepted : goal.returns-in-Err-clause-accepted
 returns-in-Err-clause-accepted c = (failure c).accepted
 
 -- the change is accepted
-accepted : (c : In-Ok-push-2)
+accepted : (c : In-Ok-push)
     → refusal_of (length c.args.self.now) (state_after c.args.self.now) c.args.change ≡ None
 accepted c =
     let commits = c.commits-commits.ensures.count ∙ ap length (sym c.self.view_is) in
@@ -86,26 +84,8 @@ accepted c =
 pub returns-clause-refused : goal.returns-clause-refused
 returns-clause-refused c = rw (accepted c) tt
 
--- the history with the change, of which a load is kept without its rows
-grown : (c : In-Ok-push-2)
-    → restored_from 0 c.change_tables.new.tables.items c.push-in-Ok-push.new.self.items
-    ≡ restored_from 0 c.self.inside.tables.items c.self.inside.history.items
-    ++ record { by = c.args.by; change = c.args.change } ∷ []
-grown c =
-    restored-push c.args.self.now c.self.inside.tables.items c.change_tables.new.tables.items
-    c.self.inside.history.items c.push-in-Ok-push.new.self.items c.args.by c.args.change c.without_rows-change.result
-    c.self.invariant.kept c.self.view_is (sym c.refusal.ensures ∙ c.in_default.is)
-    (c.in-Ok.ensures.ok ∙ ap (λ m. kept_tables_after m c.self.inside.tables.items c.args.change) c.commits-commits.ensures.count)
-    (c.in-Ok-push-2.ensures.items
-    ∙ ap (λ l. l ++ record { by = c.args.by; change = c.without_rows-change.result } ∷ []) c.reserve.ensures.items)
-    c.without_rows-change.ensures
-
-pub returns-clause-ok : goal.returns-clause-ok
-returns-clause-ok c =
-    grown c ∙ ap (λ l. l ++ record { by = c.args.by; change = c.args.change } ∷ []) c.self.view_is
-
-pub invariant_of-self-in-Ok-push : goal.invariant_of-self-in-Ok-push
-invariant_of-self-in-Ok-push c =
+pub invariant_of-self-2 : goal.invariant_of-self-2
+invariant_of-self-2 c =
     let commits = c.commits-commits.ensures.count ∙ ap length (sym c.self.view_is) in
     let entry : c.entry_of-entry.result ≡ new_entry
     _ c.args.by c.args.change c.self.inside.tables.items =
@@ -118,11 +98,11 @@ invariant_of-self-in-Ok-push c =
           c.self.inside.tables.items c.change_tables.new.tables.items (record { by = c.args.by; change = c.args.change })
           c.self.invariant.kept c.self.view_is (accepted c)
           (c.in-Ok.ensures.ok ∙ ap (λ m. kept_tables_after m c.self.inside.tables.items c.args.change) commits)
-          (grown c);
+          c.followed_by-self-inside.ensures;
       logged = log-push _ c.args.self.now _
           c.self.inside.tables.items c.self.inside.log.items c.push.new.self.items
           (record { by = c.args.by; change = c.args.change }) c.self.invariant
-          c.self.view_is (accepted c) (grown c)
-          (c.in-Ok-push.ensures.items ∙ ap (λ l. l ++ c.entry_of-entry.result ∷ []) c.reserve-2.ensures.items
+          c.self.view_is (accepted c) c.followed_by-self-inside.ensures
+          (c.in-Ok-push.ensures.items ∙ ap (λ l. l ++ c.entry_of-entry.result ∷ []) c.reserve.ensures.items
           ∙ ap (λ e. c.self.inside.log.items ++ e ∷ []) entry);
     }
