@@ -1,24 +1,17 @@
 -- Why a book refuses a change, and what the exit of a `?` answers then.
-use Rattle.std.proofs.Common.{◌≡◌, ◌⊎◌, ℕ, Bool, true, false, length, inl, inr, Option, Some, None, Result, Ok, Err, IfErr, IfSome, IfNone, IsOkUnless, refl, ap, ◌∙◌, sym, subst}
+use Rattle.std.proofs.Common.{◌≡◌, ℕ, inl, inr, Option, Some, None, Result, Ok, Err, IfErr, IfSome, IfNone, IsOkUnless, refl, ap, ◌∙◌, sym, subst}
 use Rattle.row_core.specs.declared.failure.Failure.{Failure}
 use Rattle.row_core.specs.declared.failure.Failure.TheVariants.{Refused, NoMemory}
 use Rattle.version_core.specs.declared.change.Change.{Change}
-use Rattle.book_core.specs.History.{History, state_after}
-use Rattle.book_core.specs.State.{IsRefusedAs, first_refusal, leaves_overlap, or_overlap, table_named, table_of}
+use Rattle.book_core.specs.History.{History}
+use Rattle.book_core.specs.State.{IsRefusedAs}
 use Rattle.book_core.specs.declared.refusal.BookRefused.{BookRefused}
-use Rattle.book_core.specs.declared.refusal.BookRefused.TheVariants.{KeyOverlap}
 use Rattle.store_core.specs.Histories.{refusal_after, RefusesCommit}
 
 name_in : BookRefused → Result ℕ (Failure BookRefused) → BookRefused
 name_in other (Ok x) = other
 name_in other (Err (Refused why)) = why
 name_in other (Err NoMemory) = other
-
-no_name_but_keys : (o : Option BookRefused) (overlap : Bool) → o ≡ None
-    → (or_overlap o overlap ≡ None) ⊎ (or_overlap o overlap ≡ Some KeyOverlap)
-no_name_but_keys None true none = inr refl
-no_name_but_keys None false none = inl refl
-no_name_but_keys (Some refused) overlap none = absurd (cc)
 
 module _ (h : History) (change : Change) where
   by-name : (why : Failure BookRefused) (o : Option BookRefused) → refusal_after h change ≡ o
@@ -36,12 +29,6 @@ module _ (h : History) (change : Change) where
   pub RefusesCommit-of : (why : Failure BookRefused) → IfSome (refusal_after h change) (IsRefusedAs {T = ℕ} (Err why))
       → IfNone (refusal_after h change) (IsOkUnless {T = ℕ} (Err why) NoMemory) → RefusesCommit h change why
   RefusesCommit-of why some none = by-name why (refusal_after h change) refl some none
-
-  -- what isn't refused before its rows' keys are tested may be refused memory
-  pub RefusesCommit-unrefused : first_refusal (length h) (state_after h) change ≡ None → RefusesCommit h change NoMemory
-  RefusesCommit-unrefused none =
-      no_name_but_keys (first_refusal (length h) (state_after h) change)
-      (leaves_overlap change (table_of (state_after h) (table_named change))) none
 
 none_of : (o : Option BookRefused) (n : ℕ) → IfSome o (IsRefusedAs {T = ℕ} (Ok n)) → o ≡ None
 none_of None n some = refl
