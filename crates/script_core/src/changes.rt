@@ -10,6 +10,7 @@ ghost use Rattle.script_core.specs.Effects.{change_in, delete_in, load_in, load_
 use crate::failure::{Failure, failure_at, refused};
 use crate::ledger::Ledger;
 use crate::pairs::read_pairs;
+use crate::performing::QueryContext;
 use crate::rows::loaded_rows;
 use answer_core::Answer;
 use book_core::Change;
@@ -76,16 +77,15 @@ fn rows_of_load<T: Threads + Sync>(
 }
 
 /// Adds the rows of a load's records to a table, the first of them with the number behind this one; they are read by
-/// the columns that a snapshot of all commits shows.
+/// the columns that the context's snapshot shows.
 pub(crate) fn load_by<T: Threads + Wait + Sync>(
-    crew: &Crew<'_, T, OpenGate>,
+    context: &QueryContext<'_, T>,
     ledger: &mut Ledger,
-    newest: &Snapshot,
     number: u64,
     table: Name,
     body: Lines<'_>,
 ) -> Result<Answer, Failure>
-    requires newest { history newest.now ≡ ledger_history ledger.old }
+    requires newest { history context.now.newest.now ≡ ledger_history ledger.old }
     requires numbers { number + 1 + length (lines_in body) < 2 ^ 64 }
     requires left { 0 < left_in ledger.old }
     ensures changes { Changes
@@ -93,6 +93,7 @@ pub(crate) fn load_by<T: Threads + Wait + Sync>(
         (ledger_history ledger.old) (ledger_history ledger.new) result }
     ensures left { left_in ledger.old ≤ left_in ledger.new + 1 }
 {
+    let QueryContext { crew, newest } = *context;
     let rows = rows_of_load(crew, newest, number, table, body)?;
     apply(crew.rt, ledger, number, Change::Load { table, rows })
 }

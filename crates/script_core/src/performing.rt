@@ -16,7 +16,8 @@ use crate::changes::{RowPortion, delete, load, make, update};
 use crate::failure::{Failure, refused};
 use crate::ledger::Ledger;
 use crate::queries::{
-    agg_table, anti_tables, between, check, divide, from_to, join_tables, rows, rows_on,
+    ClaimedTable, agg_table, anti_tables, between, check, divide, from_to, join_tables, rows,
+    rows_on,
 };
 use answer_core::{Answer, AnswerWriter};
 use cert_core::Certificate;
@@ -119,7 +120,8 @@ fn query_shown<T: Threads + Sync>(
             ..
         } => {
             let certificate = Certificate { parts, instant };
-            check(crew.alloc, shown, number, table, certificate, body)
+            let claimed = ClaimedTable { table, body };
+            check(crew.alloc, shown, number, claimed, certificate)
         }
         _ => unreachable!(),
     }

@@ -282,22 +282,29 @@ fn verdict_on(
     Ok(Answer::Verdict(verdict))
 }
 
+/// A table, and the records of a division that is claimed of it.
+#[derive(Clone, Copy)]
+pub(crate) struct ClaimedTable<'a> {
+    pub table: Name,
+    pub body: Lines<'a>,
+}
+
 /// The verdict on a claimed division of a table's rows, the body's first record being of the number
 /// behind the command's.
 pub(crate) fn check(
     alloc: Global,
     snapshot: &Snapshot,
     number: u64,
-    table: Name,
+    claimed: ClaimedTable<'_>,
     certificate: Certificate,
-    body: Lines<'_>,
 ) -> Result<Answer, Failure>
-    requires { number + 1 + length (lines_in body) < 2 ^ 64 }
+    requires { number + 1 + length (lines_in claimed.body) < 2 ^ 64 }
     ensures { Gives
-        (both_ok (rows_told number (history snapshot.now) (commit_shown snapshot.now) table)
-        (claim_of (number + 1) (lines_in body.entry)))
+        (both_ok (rows_told number (history snapshot.now) (commit_shown snapshot.now) claimed.entry.table)
+        (claim_of (number + 1) (lines_in claimed.entry.body)))
         (λ read answer. IsVerdictOn (items_of read.0) read.1 certificate answer) result }
 {
+    let ClaimedTable { table, body } = claimed;
     let (_, rows) = shown_table(snapshot, number, table)?;
     let claim = read_claim(alloc, body, number + 1)?;
     Ok(verdict_on(alloc, rows.list(), &claim, &certificate)?)

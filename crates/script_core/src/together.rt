@@ -110,14 +110,9 @@ fn answer_load<T: Threads + Wait + Sync>(
     ensures left { left_in ledger.old ≤ left_in ledger.new + 1 }
 {
     match load {
-        FirstLoad::Rows { table, body } => answer_of(load_by(
-            context.crew,
-            ledger,
-            context.newest,
-            number,
-            *table,
-            *body,
-        )),
+        FirstLoad::Rows { table, body } => {
+            answer_of(load_by(context, ledger, number, *table, *body))
+        }
         FirstLoad::Refused(fault) => Ok(Answer::Refused(*fault)),
     }
 }

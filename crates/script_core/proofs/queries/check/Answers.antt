@@ -15,8 +15,8 @@ both_ok-Ok one other x y e f = ap (λ r. both_ok r other) e ∙ ap (λ r. both_o
 
 pub returns : goal.returns
 returns c =
-    let told = rows_told c.args.number (history c.args.snapshot.now) (commit_shown c.args.snapshot.now) c.args.table in
-    let claimed = claim_of (c.args.number + 1) (lines_in c.args.body) in
+    let told = rows_told c.args.number (history c.args.snapshot.now) (commit_shown c.args.snapshot.now) c.args.claimed.table in
+    let claimed = claim_of (c.args.number + 1) (lines_in c.args.claimed.body) in
     let claim = c.in_ok-claim.claim in
     let given = c.in_ok-verdict_on.field-0 in
     let h = c.in_ok-rows.ensures.gives in (
