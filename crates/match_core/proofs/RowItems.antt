@@ -8,7 +8,7 @@ use Rattle.row_core.specs.declared.row.Row.{Row}
 use Rattle.dip_core.specs.declared.item.Item.{Item}
 use Rattle.list_core.proofs.RisingLemmas.{AllPairs-head, Contains-cons, Contains-cons_cases, Contains-head, Contains-none}
 use Rattle.list_core.proofs.WantedLemmas.{AllPairs-before}
-use Rattle.match_core.specs.Items.{item_with, items_in_range, items_with}
+use Rattle.match_core.specs.Items.{item_with, items_in_range, items_of, items_with}
 use Rattle.share_core.specs.Pieces.{piece, piece_before, piece_from}
 use Rattle.share_core.specs.Ranges.{has}
 use Rattle.share_core.specs.declared.range.Range.{Range}
@@ -111,6 +111,15 @@ items_with-more (q ∷ rows) (c ∷ classes) (suc i) r h k =
     let e : suc i + 1 ≡ suc (i + 1) = omega arith in
     ap (λ n. items_with (take n (q ∷ rows)) (take n (c ∷ classes))) e
     ∙ ap (λ l. item_with q c ∷ l) (items_with-more rows classes i r (omega arith) (omega arith))
+
+-- one more row as an item of one class
+pub items_of-more : (rows : List Row) (i : ℕ) (r : Row) → slice_get rows i ≡ Some r
+    → items_of (take (i + 1) rows) ≡ items_of (take i rows) ++ item_with r 0 ∷ []
+items_of-more [] i r h = absurd (cc)
+items_of-more (q ∷ rows) zero r h = let e : q ≡ r = cc in ap (λ (x : Row). item_with x 0 ∷ []) e
+items_of-more (q ∷ rows) (suc i) r h =
+    let e : suc i + 1 ≡ suc (i + 1) = omega arith in
+    ap (λ n. items_of (take n (q ∷ rows))) e ∙ ap (λ l. item_with q 0 ∷ l) (items_of-more rows i r h)
 
 -- the first rows, where they are all
 pub items_with-front : (rows : List Row) (classes : List ℕ) (n : ℕ) → length rows ≤ n → length rows ≤ length classes

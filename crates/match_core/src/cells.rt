@@ -4,6 +4,7 @@ ghost use Rattle.std.specs.Prelude.{◌≡◌, ◌<◌, All, Some, IfOk, length,
 ghost use Rattle.std.specs.Thread.{IsSync};
 ghost use Rattle.list_core.specs.Chunks.{all_in};
 ghost use Rattle.share_core.specs.Ranges.{has};
+ghost use Rattle.table_core.specs.Lent.{lent_row, lent_value};
 ghost use Rattle.match_core.specs.Cells.{
   AreCells,
   AreSorted,
@@ -20,12 +21,12 @@ ghost use Rattle.match_core.specs.Cells.{
 
 use crate::NoMemory;
 use crate::side_column::SideColumn;
-use row_core::{Row, Value};
 use share_core::{Range, Shares, shared_out};
 use sort_core::sort_unstable;
 use std::alloc::Global;
 use std::hash::{FoldHasher, Hasher};
 use std::thread::Threads;
+use table_core::{RowRef, SharedRows, ValueRef};
 
 /// A row's value in a column, with the class of the row so far, so that no value is looked up while they are
 /// sorted, and none is copied. Numbers have the empty text. Texts have a hash as their number, which mostly
@@ -139,37 +140,40 @@ fn class_at(side: SideColumn<'_, '_>, i: usize) -> u64
 }
 
 /// The value of row i at that place.
-fn value_at(rows: &[Row], place: usize, i: usize) -> &Value
+fn value_at(rows: &SharedRows, place: usize, i: usize) -> ValueRef<'_>
     requires within { i < length rows.now }
     requires wide { All (λ row. place < length row.values) rows.now }
-    ensures { slice_get (column_at place rows.now) i ≡ Some (Some result.now) }
+    ensures { slice_get (column_at place rows.now) i ≡ Some (Some (lent_value result)) }
 {
-    value_in(&rows[i], place)
+    value_in(rows.at(i), place)
 }
 
 /// The row's value at that place.
-fn value_in(row: &Row, place: usize) -> &Value
-    requires { place < length row.now.values }
-    ensures { slice_get row.now.values place ≡ Some result.now }
+fn value_in<'a>(row: RowRef<'a>, place: usize) -> ValueRef<'a>
+    requires { place < length (lent_row row).values }
+    ensures { slice_get (lent_row row.entry).values place ≡ Some (lent_value result) }
 {
-    &row.values.as_slice()[place]
+    let Some(value) = row.value(place) else {
+        unreachable!()
+    };
+    value
 }
 
 /// The cell of a value.
-fn cell_of<'a>(class: u64, value: &'a Value, place: usize) -> Cell<'a>
-    ensures { IsCell class value.now place result }
+fn cell_of<'a>(class: u64, value: ValueRef<'a>, place: usize) -> Cell<'a>
+    ensures { IsCell class (lent_value value.entry) place result }
 {
     match value {
-        Value::Int(number) => Cell {
+        ValueRef::Int(number) => Cell {
             class,
-            number: *number,
+            number,
             text: "",
             place,
         },
-        Value::Text(text) => Cell {
+        ValueRef::Text(text) => Cell {
             class,
-            number: (hash_of(text.as_str()) >> 1) as i64,
-            text: text.as_str(),
+            number: (hash_of(text) >> 1) as i64,
+            text,
             place,
         },
     }

@@ -99,12 +99,12 @@ fn split_by<R: Threads + Sync>(
         unreachable!()
     };
     let lefts = SideColumn {
-        rows: left.rows.as_slice(),
+        rows: left.rows,
         classes: left_classes,
         place: left_place as usize,
     };
     let rights = SideColumn {
-        rows: right.rows.as_slice(),
+        rows: right.rows,
         classes: right_classes,
         place: right_place as usize,
     };

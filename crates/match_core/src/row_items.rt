@@ -2,29 +2,27 @@
 
 ghost use Rattle.std.specs.Prelude.{◌≡◌, ◌≤◌, IfOk, length};
 ghost use Rattle.match_core.specs.Items.{item_with, items_in_range, items_of, items_with};
+ghost use Rattle.table_core.specs.Lent.{lent_row};
 
 use crate::NoMemory;
 use dip_core::Item;
-use row_core::{Row, RowList};
 use share_core::Range;
 use std::alloc::Global;
+use table_core::{RowRef, SharedRows};
 
 /// The rows as items of one class, in their order.
 ///
 /// # Errors
 ///
 /// `NoMemory` where a growth is refused.
-pub fn items(alloc: Global, rows: &RowList) -> Result<Vec<Item>, NoMemory>
+pub fn items(alloc: Global, rows: &SharedRows) -> Result<Vec<Item>, NoMemory>
     ensures { IfOk result (λ items. items.items ≡ items_of rows.now) }
 {
-    items_of(alloc, rows.as_slice())
-}
-
-/// The rows as items of one class.
-fn items_of(alloc: Global, rows: &[Row]) -> Result<Vec<Item>, NoMemory>
-    ensures { IfOk result (λ items. items.items ≡ items_of rows.now) }
-{
-    rows.iter().map(|row| item_with(row, 0)).collect(alloc)
+    let mut items = Vec::with_capacity(alloc, rows.len())?;
+    for i in 0..rows.len() {
+        items.push(item_with(rows.at(i), 0))?;
+    }
+    Ok(items)
 }
 
 /// The rows as items in their order, each of the class that stands at its place.
@@ -32,13 +30,13 @@ fn items_of(alloc: Global, rows: &[Row]) -> Result<Vec<Item>, NoMemory>
 /// # Errors
 ///
 /// `NoMemory` where a growth is refused.
-pub fn items_with(alloc: Global, rows: &[Row], classes: &[u64]) -> Result<Vec<Item>, NoMemory>
+pub fn items_with(alloc: Global, rows: &SharedRows, classes: &[u64]) -> Result<Vec<Item>, NoMemory>
     requires { length rows.now ≤ length classes.now }
     ensures { IfOk result (λ items. items.items ≡ items_with rows.now classes.now) }
 {
     let mut items = Vec::with_capacity(alloc, rows.len())?;
     for i in 0..rows.len() {
-        items.push(item_with(&rows[i], classes[i]))?;
+        items.push(item_with(rows.at(i), classes[i]))?;
     }
     Ok(items)
 }
@@ -50,7 +48,7 @@ pub fn items_with(alloc: Global, rows: &[Row], classes: &[u64]) -> Result<Vec<It
 /// `NoMemory` where a growth is refused.
 pub fn items_in_range(
     alloc: Global,
-    rows: &[Row],
+    rows: &SharedRows,
     classes: &[u64],
     range: Range<u64>,
 ) -> Result<Vec<Item>, NoMemory>
@@ -61,7 +59,7 @@ pub fn items_in_range(
     for i in 0..rows.len() {
         let class = classes[i];
         if range.has(&class) {
-            items.push(item_with(&rows[i], class))?;
+            items.push(item_with(rows.at(i), class))?;
         }
     }
     Ok(items)
@@ -76,12 +74,12 @@ fn count_in(range: Range<u64>, classes: &[u64]) -> usize {
 }
 
 /// The row as an item of that class.
-fn item_with(row: &Row, class: u64) -> Item
-    ensures { result ≡ item_with row.now class }
+fn item_with(row: RowRef<'_>, class: u64) -> Item
+    ensures { result ≡ item_with (lent_row row.entry) class }
 {
     Item {
-        period: row.period,
-        id: row.id,
+        period: row.period(),
+        id: row.id(),
         class,
         amount: 0,
     }

@@ -3,12 +3,12 @@
 ghost use Rattle.std.specs.Prelude.{◌≡◌, ◌<◌, All, length};
 ghost use Rattle.std.specs.Option.{ForSome};
 
-use row_core::Row;
+use table_core::SharedRows;
 
 /// The rows of a side, and the place of the column that they are compared by.
 #[derive(Clone, Copy)]
 pub(crate) struct SideColumn<'a, 'c> {
-    pub rows: &'a [Row],
+    pub rows: &'a SharedRows,
     /// The class of each row so far; None where all are of one.
     pub classes: Option<&'c [u64]>,
     pub place: usize,

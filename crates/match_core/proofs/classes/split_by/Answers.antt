@@ -1,6 +1,5 @@
 use Rattle.std.proofs.Common.{◌≡◌, ◌++◌, sym, subst, List}
 use Rattle.std.specs.Prelude.{IfOk, Option}
-use Rattle.row_core.specs.declared.row.Row.{Row}
 use Rattle.row_core.specs.declared.value.Value.{Value}
 use Rattle.match_core.specs.declared.classes.Classes.{Classes}
 use Rattle.match_core.specs.Classes.{values_under}
@@ -22,9 +21,7 @@ refine-requires-clause-kind g c κs within =
     (allowed left right pair c.requires.allowed) c.args.left.fit c.args.right.fit in
     let named : values_under left right lefts rights pair ≡ values_at l r lefts rights =
     values_under-places left right lefts rights pair l r (sym c.in-Some.ensures) (sym c.in-Some-column.ensures) in
-    let there : AreOneKind (values_at l r lefts rights) = subst AreOneKind named one in
-    subst (λ (rows : List Row). AreOneKind (values_at l r c.as_slice.result.now rows)) (sym c.as_slice-2.ensures)
-    (subst (λ (rows : List Row). AreOneKind (values_at l r rows rights)) (sym c.as_slice.ensures) there)
+    subst AreOneKind named one
 
 pub returns-clause-split : goal.returns-clause-split
 returns-clause-split g c =
@@ -37,9 +34,8 @@ returns-clause-split g c =
     let r = c.in-Some-column.right_place in
     let named : values_under left right lefts rights pair ≡ values_at l r lefts rights =
     values_under-places left right lefts rights pair l r (sym c.in-Some.ensures) (sym c.in-Some-column.ensures) in
-    let P : List Row → List Row → List (Option Value) → Type 0 = λ xs ys column. IfOk c.refine.result (λ (new : Classes).
-    Refines (so_far c.args.left_classes xs ++ so_far c.args.right_classes ys) column (new.left.items ++ new.right.items)) in
-    subst (P lefts rights) (sym named)
-    (subst (λ (ys : List Row). P lefts ys (values_at l r lefts ys)) c.as_slice-2.ensures
-    (subst (λ (xs : List Row). P xs c.as_slice-2.result.now (values_at l r xs c.as_slice-2.result.now)) c.as_slice.ensures
-    c.refine.ensures.split))
+    subst
+    (λ (column : List (Option Value)). IfOk c.refine.result (λ (new : Classes).
+    Refines (so_far c.args.left_classes lefts ++ so_far c.args.right_classes rights) column
+    (new.left.items ++ new.right.items)))
+    (sym named) c.refine.ensures.split

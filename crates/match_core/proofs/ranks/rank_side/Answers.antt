@@ -22,7 +22,8 @@ returns g c =
     let len : length new ≡ length old = c.rank_cells.auto.ranks ∙ ap length c.deref_mut.ensures.value in
     let kept = written_back old new c.in_ok-ranks.ranks.len len (sym c.in_ok-ranks.ranks.ok.0) in
     let count : length new ≡ length column =
-    len ∙ sym c.in_ok-ranks.ranks.ok.0 ∙ c.in_ok-ranks.ensures.len ∙ sym (length-map rows (λ (row : Row). slice_get row.values c.args.side.place)) in
+    len ∙ sym c.in_ok-ranks.ranks.ok.0 ∙ c.in_ok-ranks.ensures.len ∙ c.len.ensures
+    ∙ sym (length-map rows (λ (row : Row). slice_get row.values c.args.side.place)) in
     let told : AreRanksOf cells new firsts =
     subst (λ (l : List (Vec Cell)). AreRanksOf (all_in l) new firsts) c.deref.ensures.value c.in_ok-firsts.ensures.ranks in
     subst (λ l. AreRanked classes column l firsts) (sym kept)
