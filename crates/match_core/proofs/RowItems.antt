@@ -1,14 +1,16 @@
 -- Rows and their items.
-use Rattle.std.proofs.Common.{◌≡◌, ◌<◌, ◌≤◌, ℕ, zero, suc, ◌+◌, Bool, false, cond, List, length, [], ◌∷◌, get_or, take, drop, ◌++◌, Option, Some, None, refl, subst, ap, ◌∙◌, inl, inr, arith, append-nil}
+use Rattle.std.proofs.Common.{◌≡◌, ◌<◌, ◌≤◌, ℕ, zero, suc, ◌+◌, Bool, true, false, cond, List, length, [], ◌∷◌, get_or, take, drop, ◌++◌, Option, Some, None, refl, subst, sym, ap, ◌∙◌, inl, inr, arith, append-nil}
 use Rattle.std.specs.Prelude.{slice_get, AllPairs, Contains, filter}
 use Rattle.std.specs.Ordering.{nat_cmp}
 use Rattle.std.proofs.lemmas.List.Elements.{filter-append}
+use Rattle.std.proofs.lemmas.Option.{slice_get-get_or}
 use Rattle.row_core.specs.Rows.{RowsRise}
 use Rattle.row_core.specs.declared.row.Row.{Row}
 use Rattle.dip_core.specs.declared.item.Item.{Item}
 use Rattle.list_core.proofs.RisingLemmas.{AllPairs-head, Contains-cons, Contains-cons_cases, Contains-head, Contains-none}
 use Rattle.list_core.proofs.WantedLemmas.{AllPairs-before}
-use Rattle.match_core.specs.Items.{item_with, items_in_range, items_of, items_with}
+use Rattle.match_core.specs.Items.{item_with, items_of, items_with}
+use Rattle.match_core.proofs.PieceEndLemmas.{one_more}
 use Rattle.share_core.specs.Pieces.{piece, piece_before, piece_from}
 use Rattle.share_core.specs.Ranges.{has}
 use Rattle.share_core.specs.declared.range.Range.{Range}
@@ -164,25 +166,50 @@ items_with-piece places rows classes =
 abbrev is_in : Range ℕ → Item → Bool
 is_in range x = has nat_cmp range x.class
 
--- one more row, and its item, if the range has that
-pub items_in_range-more : (range : Range ℕ) (rows : List Row) (classes : List ℕ) (i : ℕ) (r : Row) → i < length rows
-    → i < length classes
-    → items_in_range range (take (i + 1) rows) (take (i + 1) classes)
-    ≡ items_in_range range (take i rows) (take i classes) ++ cond (has nat_cmp range (get_or classes i 0))
-    (item_with (get_or rows i r) (get_or classes i 0) ∷ []) []
-items_in_range-more range rows classes i r h k =
-    ap (filter (is_in range)) (items_with-more rows classes i r h k)
-    ∙ filter-append (is_in range) (items_with (take i rows) (take i classes))
-    (item_with (get_or rows i r) (get_or classes i 0) ∷ [])
+-- the item of a row stands at its place
+slice_get-items_with : (rows : List Row) (classes : List ℕ) (i : ℕ) (r : Row) → slice_get rows i ≡ Some r
+    → i < length classes → slice_get (items_with rows classes) i ≡ Some (item_with r (get_or classes i 0))
+slice_get-items_with [] classes i r here k = absurd (cc)
+slice_get-items_with (q ∷ rows) [] i r here k = absurd (omega (arith, k))
+slice_get-items_with (q ∷ rows) (c ∷ classes) zero r here k =
+    let e : q ≡ r = cc in ap (λ (x : Row). Some (item_with x c)) e
+slice_get-items_with (q ∷ rows) (c ∷ classes) (suc i) r here k =
+    slice_get-items_with rows classes i r here (omega (arith, k))
 
--- one more row, whose item the range hasn't
-pub items_in_range-same : (range : Range ℕ) (rows : List Row) (classes : List ℕ) (i : ℕ) → i < length rows
-    → i < length classes → has nat_cmp range (get_or classes i 0) ≡ false
-    → items_in_range range (take (i + 1) rows) (take (i + 1) classes)
-    ≡ items_in_range range (take i rows) (take i classes)
-items_in_range-same range [] classes i h k off = absurd (omega arith)
-items_in_range-same range (q ∷ rows) classes i h k off =
-    items_in_range-more range (q ∷ rows) classes i q h k
-    ∙ ap (λ b. items_in_range range (take i (q ∷ rows)) (take i classes) ++ cond b
-    (item_with (get_or (q ∷ rows) i q) (get_or classes i 0) ∷ []) []) off
-    ∙ append-nil (items_in_range range (take i (q ∷ rows)) (take i classes))
+-- the items so far, from a place on: those that a range has
+abbrev pub items_from : Range ℕ → List Row → List ℕ → ℕ → ℕ → List Item
+items_from range rows classes start i = filter (is_in range) (drop start (take i (items_with rows classes)))
+
+-- one more row, and its item, if the range has that
+items_from-one : (range : Range ℕ) (rows : List Row) (classes : List ℕ) (start i : ℕ) (r : Row) → start ≤ i
+    → slice_get rows i ≡ Some r → i < length classes
+    → items_from range rows classes start (i + 1)
+    ≡ items_from range rows classes start i ++ cond (has nat_cmp range (get_or classes i 0))
+    (item_with r (get_or classes i 0) ∷ []) []
+items_from-one range rows classes start i r from here k =
+    ap (filter (is_in range))
+    (one_more start i (items_with rows classes) (item_with r (get_or classes i 0)) from
+    (slice_get-items_with rows classes i r here k))
+    ∙ filter-append (is_in range) (drop start (take i (items_with rows classes)))
+    (item_with r (get_or classes i 0) ∷ [])
+
+-- one whose item it has
+pub items_from-more : (range : Range ℕ) (rows : List Row) (classes : List ℕ) (start i : ℕ) (r : Row) → start ≤ i
+    → slice_get rows i ≡ Some r → i < length classes → has nat_cmp range (get_or classes i 0) ≡ true
+    → items_from range rows classes start i ++ item_with r (get_or classes i 0) ∷ []
+    ≡ items_from range rows classes start (i + 1)
+items_from-more range rows classes start i r from here k on =
+    ap (λ b. items_from range rows classes start i ++ cond b (item_with r (get_or classes i 0) ∷ []) []) (sym on)
+    ∙ sym (items_from-one range rows classes start i r from here k)
+
+-- one whose item it hasn't
+pub items_from-same : (range : Range ℕ) (rows : List Row) (classes : List ℕ) (start i : ℕ) → start ≤ i
+    → i < length rows → i < length classes → has nat_cmp range (get_or classes i 0) ≡ false
+    → items_from range rows classes start i ≡ items_from range rows classes start (i + 1)
+items_from-same range [] classes start i from h k off = absurd (omega (arith, h))
+items_from-same range (q ∷ rows) classes start i from h k off =
+    let all = q ∷ rows in
+    let r = get_or all i q in
+    sym (append-nil (items_from range all classes start i))
+    ∙ ap (λ b. items_from range all classes start i ++ cond b (item_with r (get_or classes i 0) ∷ []) []) (sym off)
+    ∙ sym (items_from-one range all classes start i r from (slice_get-get_or all i q h) k)

@@ -2,11 +2,13 @@
 
 ghost use Rattle.std.specs.Prelude.{◌≡◌, ◌≤◌, IfOk, length};
 ghost use Rattle.match_core.specs.Items.{item_with, items_in_range, items_of, items_with};
+ghost use Rattle.share_core.specs.Pieces.{piece};
 ghost use Rattle.table_core.specs.Lent.{lent_row};
 
 use crate::NoMemory;
+use crate::pieces::piece_ends;
 use dip_core::Item;
-use share_core::Range;
+use share_core::{Range, piece};
 use std::alloc::Global;
 use table_core::{RowRef, SharedRows};
 
@@ -55,8 +57,32 @@ pub fn items_in_range(
     requires { length rows.now ≤ length classes.now }
     ensures { IfOk result (λ items. items.items ≡ items_in_range range rows.now classes.now) }
 {
-    let mut items = Vec::with_capacity(alloc, count_in(range, classes))?;
-    for i in 0..rows.len() {
+    let whole = Range {
+        from: None,
+        before: None,
+    };
+    items_in_piece(alloc, rows, classes, range, whole)
+}
+
+/// The same of the rows at some places.
+///
+/// # Errors
+///
+/// `NoMemory` where a growth is refused.
+pub fn items_in_piece(
+    alloc: Global,
+    rows: &SharedRows,
+    classes: &[u64],
+    range: Range<u64>,
+    places: Range<usize>,
+) -> Result<Vec<Item>, NoMemory>
+    requires { length rows.now ≤ length classes.now }
+    ensures { IfOk result (λ items. items.items
+        ≡ items_in_range range (piece places rows.now) (piece places classes.now)) }
+{
+    let (start, end) = piece_ends(places, rows.len());
+    let mut items = Vec::with_capacity(alloc, count_in(range, piece(places, classes)))?;
+    for i in start..end {
         let class = classes[i];
         if range.has(&class) {
             items.push(item_with(rows.at(i), class))?;
