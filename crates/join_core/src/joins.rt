@@ -70,7 +70,7 @@ fn join_rows<R: Threads + Sync, G: Gate>(
         → IsWithin k m (length left.entry.rows.now) (length right.entry.rows.now) answer.turns) }
 {
     let classes = classes_of(crew.rt, crew.alloc, left, right, on, crew.workers)?;
-    let lefts = items_with(crew.alloc, left.rows.as_slice(), &classes.left)?;
-    let rights = items_with(crew.alloc, right.rows.as_slice(), &classes.right)?;
+    let lefts = items_with(crew.alloc, left.rows, &classes.left)?;
+    let rights = items_with(crew.alloc, right.rows, &classes.right)?;
     join_items(crew, lefts, rights)
 }

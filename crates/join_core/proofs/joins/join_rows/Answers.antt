@@ -1,4 +1,4 @@
-use Rattle.std.proofs.Common.{◌≤◌, ℕ, List, length, sym, subst, arith}
+use Rattle.std.proofs.Common.{◌≤◌, ℕ, List, length, refl, sym, subst, arith}
 use Rattle.dip_core.specs.declared.item.Item.{Item}
 use Rattle.dip_core.specs.Division.{IsLeast}
 use Rattle.match_core.specs.Items.{items_with}
@@ -19,8 +19,8 @@ join_items-requires-clause-left_few g c =
     let rights = c.args.right.rows.now in
     let ones = c.in_ok-classes.classes.left.items in
     let others = c.in_ok-classes.classes.right.items in
-    let one = side_made lefts c.as_slice.result.now ones c.deref.result.now c.in_ok-lefts.lefts.items
-    c.in_ok-lefts.ensures c.as_slice.ensures c.deref.ensures.value c.in_ok-classes.ensures.left in
+    let one = side_made lefts lefts ones c.deref.result.now c.in_ok-lefts.lefts.items
+    c.in_ok-lefts.ensures refl c.deref.ensures.value c.in_ok-classes.ensures.left in
     let few : length lefts ≤ item_limit = c.args.left.few in
     omega (arith, side_len lefts ones c.in_ok-lefts.lefts.items one, few)
 
@@ -30,8 +30,8 @@ join_items-requires-clause-right_few g c =
     let rights = c.args.right.rows.now in
     let ones = c.in_ok-classes.classes.left.items in
     let others = c.in_ok-classes.classes.right.items in
-    let other = side_made rights c.as_slice-2.result.now others c.deref-2.result.now c.in_ok-rights.rights.items
-    c.in_ok-rights.ensures c.as_slice-2.ensures c.deref-2.ensures.value c.in_ok-classes.ensures.right in
+    let other = side_made rights rights others c.deref-2.result.now c.in_ok-rights.rights.items
+    c.in_ok-rights.ensures refl c.deref-2.ensures.value c.in_ok-classes.ensures.right in
     let few : length rights ≤ item_limit = c.args.right.few in
     omega (arith, side_len rights others c.in_ok-rights.rights.items other, few)
 
@@ -41,8 +41,8 @@ join_items-requires-clause-left_ids g c = λ κs outlives. (
     let rights = c.args.right.rows.now in
     let ones = c.in_ok-classes.classes.left.items in
     let others = c.in_ok-classes.classes.right.items in
-    let one = side_made lefts c.as_slice.result.now ones c.deref.result.now c.in_ok-lefts.lefts.items
-    c.in_ok-lefts.ensures c.as_slice.ensures c.deref.ensures.value c.in_ok-classes.ensures.left in
+    let one = side_made lefts lefts ones c.deref.result.now c.in_ok-lefts.lefts.items
+    c.in_ok-lefts.ensures refl c.deref.ensures.value c.in_ok-classes.ensures.left in
     side-distinct lefts ones c.in_ok-lefts.lefts.items one c.args.left.rise)
 
 pub join_items-requires-clause-right_ids : goal.join_items-requires-clause-right_ids
@@ -51,8 +51,8 @@ join_items-requires-clause-right_ids g c = λ κs outlives. (
     let rights = c.args.right.rows.now in
     let ones = c.in_ok-classes.classes.left.items in
     let others = c.in_ok-classes.classes.right.items in
-    let other = side_made rights c.as_slice-2.result.now others c.deref-2.result.now c.in_ok-rights.rights.items
-    c.in_ok-rights.ensures c.as_slice-2.ensures c.deref-2.ensures.value c.in_ok-classes.ensures.right in
+    let other = side_made rights rights others c.deref-2.result.now c.in_ok-rights.rights.items
+    c.in_ok-rights.ensures refl c.deref-2.ensures.value c.in_ok-classes.ensures.right in
     side-distinct rights others c.in_ok-rights.rights.items other c.args.right.rise)
 
 pub returns-clause-rows : goal.returns-clause-rows
@@ -61,10 +61,10 @@ returns-clause-rows g c =
     let rights = c.args.right.rows.now in
     let ones = c.in_ok-classes.classes.left.items in
     let others = c.in_ok-classes.classes.right.items in
-    let one = side_made lefts c.as_slice.result.now ones c.deref.result.now c.in_ok-lefts.lefts.items
-    c.in_ok-lefts.ensures c.as_slice.ensures c.deref.ensures.value c.in_ok-classes.ensures.left in
-    let other = side_made rights c.as_slice-2.result.now others c.deref-2.result.now c.in_ok-rights.rights.items
-    c.in_ok-rights.ensures c.as_slice-2.ensures c.deref-2.ensures.value c.in_ok-classes.ensures.right in
+    let one = side_made lefts lefts ones c.deref.result.now c.in_ok-lefts.lefts.items
+    c.in_ok-lefts.ensures refl c.deref.ensures.value c.in_ok-classes.ensures.left in
+    let other = side_made rights rights others c.deref-2.result.now c.in_ok-rights.rights.items
+    c.in_ok-rights.ensures refl c.deref-2.ensures.value c.in_ok-classes.ensures.right in
     let left = c.args.left.schema.now in
     let right = c.args.right.schema.now in
     let on = c.args.on.now in
@@ -82,10 +82,10 @@ returns-clause-turns g c =
     let rights = c.args.right.rows.now in
     let ones = c.in_ok-classes.classes.left.items in
     let others = c.in_ok-classes.classes.right.items in
-    let one = side_made lefts c.as_slice.result.now ones c.deref.result.now c.in_ok-lefts.lefts.items
-    c.in_ok-lefts.ensures c.as_slice.ensures c.deref.ensures.value c.in_ok-classes.ensures.left in
-    let other = side_made rights c.as_slice-2.result.now others c.deref-2.result.now c.in_ok-rights.rights.items
-    c.in_ok-rights.ensures c.as_slice-2.ensures c.deref-2.ensures.value c.in_ok-classes.ensures.right in
+    let one = side_made lefts lefts ones c.deref.result.now c.in_ok-lefts.lefts.items
+    c.in_ok-lefts.ensures refl c.deref.ensures.value c.in_ok-classes.ensures.left in
+    let other = side_made rights rights others c.deref-2.result.now c.in_ok-rights.rights.items
+    c.in_ok-rights.ensures refl c.deref-2.ensures.value c.in_ok-classes.ensures.right in
     let ul = side-unclassed lefts ones c.in_ok-lefts.lefts.items one in
     let ur = side-unclassed rights others c.in_ok-rights.rights.items other in
     let nl = side_len lefts ones c.in_ok-lefts.lefts.items one in
