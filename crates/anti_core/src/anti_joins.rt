@@ -60,11 +60,11 @@ fn anti_rows<R: Threads + Sync, G: Gate>(
 {
     let classes = classes_of(crew.rt, crew.alloc, left, right, on, crew.workers)?;
     let lefts = ClassedRows {
-        rows: left.rows.as_slice(),
+        rows: left.rows,
         classes: &classes.left,
     };
     let rights = ClassedRows {
-        rows: right.rows.as_slice(),
+        rows: right.rows,
         classes: &classes.right,
     };
     anti_sides(crew, &lefts, &rights)

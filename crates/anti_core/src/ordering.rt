@@ -11,23 +11,23 @@ ghost use Rattle.anti_core.specs.Ordering.{IsRowOf};
 use crate::rows::{AntiRow, AntiRows};
 use list_core::in_one_list;
 use period_core::NoMemory;
-use row_core::Row;
 use share_core::{Range, Shares, shared_out};
 use std::alloc::Global;
 use std::thread::Threads;
+use table_core::SharedRows;
 use work_core::Crew;
 
 /// The rows of some lists, in order. The left rows tell where the ids are cut.
 pub(crate) fn ordered<R: Threads + Sync, G>(
     crew: &Crew<'_, R, G>,
     lists: Vec<Vec<AntiRow>>,
-    left: &[Row],
+    left: &SharedRows,
 ) -> Result<AntiRows, NoMemory>
     requires { AllPairs (λ a b. a ≢ b) (all_in lists.items) }
     ensures { IfOk result (λ rows. IsListOf AntiRowBefore (Contains (all_in lists.items)) rows) }
 {
     let (rt, alloc) = (crew.rt, crew.alloc);
-    let shares = Shares::of(alloc, left.len(), crew.workers, &|i: usize| left[i].id)?;
+    let shares = Shares::of(alloc, left.len(), crew.workers, &|i: usize| left.at(i).id())?;
     if shares.len() == 1 {
         let rows = in_one_list(alloc, lists)?;
         return in_order(alloc, rows);

@@ -13,10 +13,10 @@ use dip_core::Item;
 use grid_core::order_by_class;
 use match_core::items_in_range;
 use period_core::NoMemory;
-use row_core::Row;
 use share_core::Range;
 use std::alloc::Global;
 use std::thread::{Threads, join};
+use table_core::SharedRows;
 use work_core::Crew;
 
 /// Of fewer rows one side's items would be there before the other side's thread has started.
@@ -70,7 +70,7 @@ pub(crate) fn items_of_sides<R: Threads + Sync, G>(
 fn left_items<R: Threads + Sync>(
     rt: &R,
     alloc: Global,
-    rows: &[Row],
+    rows: &SharedRows,
     classes: &[u64],
     range: Range<u64>,
 ) -> Result<Vec<Item>, NoMemory>

@@ -9,12 +9,12 @@ ghost use Rattle.anti_core.specs.United.{RunsInto, IsMerged, IsPlain, IsUnion, S
 use crate::classed_rows::ClassedRows;
 use dip_core::Item;
 use list_core::in_one_list;
-use match_core::items_in_range;
+use match_core::{items_in_piece, items_in_range};
 use period_core::{NoMemory, Period};
-use row_core::Row;
-use share_core::{Range, Shares, piece, shared_out};
+use share_core::{Range, Shares, shared_out};
 use std::alloc::Global;
 use std::thread::Threads;
+use table_core::SharedRows;
 
 /// The longest periods in which some row of each class of a range holds, as items of their class, by class and start.
 /// They have no ids: each has the id 0, and the amount 0. Where rows are many, each worker unites a piece of them, and
@@ -33,7 +33,7 @@ pub(crate) fn united_rows<R: Threads + Sync>(
     let ClassedRows { rows, classes, .. } = *side;
     let shares = Shares::of(alloc, rows.len(), workers, &|i: usize| i)?;
     if shares.len() == 1 {
-        return united_piece(alloc, rows, classes, range);
+        return Ok(united_items(items_in_range(alloc, rows, classes, range)?));
     }
     let unions = shared_out(
         rt,
@@ -43,23 +43,24 @@ pub(crate) fn united_rows<R: Threads + Sync>(
             requires { length rows.now ≤ length classes.now }
             ensures { IfOk result (λ united. IsUnion (items_in_range range
                 (piece places rows.entry.now) (piece places classes.entry.now)) united.items) }
-        { united_piece(alloc, piece(places, rows), piece(places, classes), range) },
+        { united_piece(alloc, rows, classes, range, places) },
     )?;
     united_again(alloc, unions)
 }
 
-/// The union of some rows' items, those of a range's classes.
+/// The union of the items of the rows at some places, those of a range's classes.
 fn united_piece(
     alloc: Global,
-    rows: &[Row],
+    rows: &SharedRows,
     classes: &[u64],
     range: Range<u64>,
+    places: Range<usize>,
 ) -> Result<Vec<Item>, NoMemory>
     requires { length rows.now ≤ length classes.now }
-    ensures { IfOk result (λ united.
-        IsUnion (items_in_range range rows.now classes.now) united.items) }
+    ensures { IfOk result (λ united. IsUnion (items_in_range range
+        (piece places rows.now) (piece places classes.now)) united.items) }
 {
-    let items = items_in_range(alloc, rows, classes, range)?;
+    let items = items_in_piece(alloc, rows, classes, range, places)?;
     Ok(united_items(items))
 }
 

@@ -15,25 +15,25 @@ use Rattle.anti_core.proofs.anti_joins.anti_rows.Given.{Over}
 -- the items of the left rows
 left_items : (g : Over) (c : After-deref-2 g)
     → IsSide c.args.left.rows.now c.in_ok-classes.classes.left.items
-    (items_with c.as_slice.result.now c.deref.result.now)
+    (items_with c.args.left.rows.now c.deref.result.now)
 left_items g c =
-    side_made c.args.left.rows.now c.as_slice.result.now c.in_ok-classes.classes.left.items c.deref.result.now
-    (items_with c.as_slice.result.now c.deref.result.now) refl c.as_slice.ensures c.deref.ensures.value
+    side_made c.args.left.rows.now c.args.left.rows.now c.in_ok-classes.classes.left.items c.deref.result.now
+    (items_with c.args.left.rows.now c.deref.result.now) refl refl c.deref.ensures.value
     c.in_ok-classes.ensures.left
 
 -- the items of the right rows
 right_items : (g : Over) (c : After-deref-2 g)
     → IsSide c.args.right.rows.now c.in_ok-classes.classes.right.items
-    (items_with c.as_slice-2.result.now c.deref-2.result.now)
+    (items_with c.args.right.rows.now c.deref-2.result.now)
 right_items g c =
-    side_made c.args.right.rows.now c.as_slice-2.result.now c.in_ok-classes.classes.right.items
-    c.deref-2.result.now (items_with c.as_slice-2.result.now c.deref-2.result.now) refl c.as_slice-2.ensures
+    side_made c.args.right.rows.now c.args.right.rows.now c.in_ok-classes.classes.right.items
+    c.deref-2.result.now (items_with c.args.right.rows.now c.deref-2.result.now) refl refl
     c.deref-2.ensures.value c.in_ok-classes.ensures.right
 
 pub anti_sides-requires-clause-ids : goal.anti_sides-requires-clause-ids
 anti_sides-requires-clause-ids g c = λ κs outlives.
     side-distinct c.args.left.rows.now c.in_ok-classes.classes.left.items
-    (items_with c.as_slice.result.now c.deref.result.now)
+    (items_with c.args.left.rows.now c.deref.result.now)
     (left_items g (goal.at.anti_sides-requires-clause-ids g c).After-deref-2) c.args.left.rise
 
 pub returns : goal.returns
@@ -54,5 +54,5 @@ returns g c =
     (classes_tell left right lefts rights on ones others c.in_ok-classes.ensures.left c.in_ok-classes.ensures.tell) rows
     (subst (λ (b : List Item). IsItemsAnti (items_with lefts ones) b rows) other.are
     (subst (λ (a : List Item).
-    IsItemsAnti a (items_with c.as_slice-2.result.now c.deref-2.result.now) rows) one.are lists)))
+    IsItemsAnti a (items_with c.args.right.rows.now c.deref-2.result.now) rows) one.are lists)))
     c.anti_sides.ensures
