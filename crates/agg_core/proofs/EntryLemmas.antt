@@ -18,7 +18,7 @@ use Rattle.agg_core.specs.declared.entries.Entry.{Entry}
 use Rattle.share_core.specs.declared.range.Range.{Range}
 use Rattle.agg_core.specs.declared.keys.Key.{Key}
 use Rattle.agg_core.specs.Groups.{rows_of_group}
-use Rattle.agg_core.specs.Entries.{AreEntries, AreEntriesSorted, AreInGroups, AreKeyed, IsEntry, entry_row, sort_value, value_at_place}
+use Rattle.agg_core.specs.Entries.{AreEntries, AreEntriesSorted, AreInGroups, IsEntry, entry_row, entry_value, value_at_place}
 use Rattle.agg_core.specs.KeyRanges.{in_range, rows_in_range}
 use Rattle.agg_core.proofs.OrderLemmas.{not_after, not_after-from, value_lt}
 
@@ -37,7 +37,7 @@ AllZip-more {A} {B} R xs i x ys new y inside at put r all =
 
 -- what each entry keeps wherever it stands
 abbrev IsKept : ℕ → Entry → Type 0
-IsKept place e = (slice_get e.row.now.values place ≡ Some e.value.now) × (sort_value e ≡ e.value.now)
+IsKept place e = slice_get (entry_row e).values place ≡ Some (entry_value e)
 
 -- each entry has its row's value
 entries_kept : (place : ℕ) (rows : List Row) (es : List Entry) → AreEntries place rows es → All (IsKept place) es
@@ -46,7 +46,7 @@ entries_kept place [] (e ∷ es) all = absurd all
 entries_kept place (r ∷ rows) [] all = absurd all
 entries_kept place (r ∷ rows) (e ∷ es) all =
     All-cons (IsKept place) e es
-    (ap (λ (x : Row). slice_get x.values place) all.0.row_is ∙ all.0.value_is, all.0.key_is)
+    (ap (λ (x : Row). slice_get x.values place) all.0.row_is ∙ all.0.value_is)
     (entries_kept place rows es all.1)
 
 -- the rows of the entries are the rows
@@ -127,7 +127,7 @@ filter_first {A} p (x ∷ xs) = split (p x) refl (filter_first p xs)
 
 -- the entry is of the group
 abbrev in_group : Option Value → Entry → Bool
-in_group group e = same_maybe (Some (sort_value e)) group
+in_group group e = same_maybe (Some (entry_value e)) group
 
 -- where both are denied, both are false
 neither : (p q : Bool) → not p && not q ≡ true → (p ≡ false) × (q ≡ false)
@@ -136,63 +136,58 @@ neither false true e = cc
 neither false false e = (refl, refl)
 
 -- two entries tie where they are of one group
-tie_decides : (x m : Entry) → Decides (ties value_lt x m) (Some (sort_value m) ≡ Some (sort_value x))
+tie_decides : (x m : Entry) → Decides (ties value_lt x m) (Some (entry_value m) ≡ Some (entry_value x))
 tie_decides x m = (
   λ e. (let n = neither (value_lt x m) (value_lt m x) e in
-      elim (not_after (Some (sort_value m)) (Some (sort_value x)) n.0) [
+      elim (not_after (Some (entry_value m)) (Some (entry_value x)) n.0) [
         | inl less ↦ absurd (let bad : true ≡ false = ap is_lt (sym less) ∙ n.1 in cc)
         | inr same ↦ same
       ]),
-  λ e. ap (λ t. not t && not (value_lt m x)) (not_after-from (Some (sort_value m)) (Some (sort_value x)) (inr e))
-      ∙ ap (λ t. not t) (not_after-from (Some (sort_value x)) (Some (sort_value m)) (inr (sym e))),
+  λ e. ap (λ t. not t && not (value_lt m x)) (not_after-from (Some (entry_value m)) (Some (entry_value x)) (inr e))
+      ∙ ap (λ t. not t) (not_after-from (Some (entry_value x)) (Some (entry_value m)) (inr (sym e))),
 )
 
 -- entries tie with those of their group
-tie_is : (x m : Entry) → ties value_lt x m ≡ in_group (Some (sort_value x)) m
+tie_is : (x m : Entry) → ties value_lt x m ≡ in_group (Some (entry_value x)) m
 tie_is x m =
-    same_from_decides (ties value_lt x m) (in_group (Some (sort_value x)) m) (tie_decides x m)
-    (maybe_decides (Some (sort_value m)) (Some (sort_value x)))
+    same_from_decides (ties value_lt x m) (in_group (Some (entry_value x)) m) (tie_decides x m)
+    (maybe_decides (Some (entry_value m)) (Some (entry_value x)))
 
 -- the entries of a group stand in the order in which they stood
-group_stable : (old new : List Entry) → IsStableByKey sort_value value_cmp old new → (group : Option Value)
+group_stable : (old new : List Entry) → IsStableByKey entry_value value_cmp old new → (group : Option Value)
     → filter (in_group group) new ≡ filter (in_group group) old
 group_stable old new stable group = elim (filter_first (in_group group) new) [
-  | inr f ↦ by f.0 ((maybe_decides (Some (sort_value f.0)) group).0 f.1)
+  | inr f ↦ by f.0 ((maybe_decides (Some (entry_value f.0)) group).0 f.1)
   | inl none ↦ elim (filter_first (in_group group) old) [
-    | inr f ↦ by f.0 ((maybe_decides (Some (sort_value f.0)) group).0 f.1)
+    | inr f ↦ by f.0 ((maybe_decides (Some (entry_value f.0)) group).0 f.1)
     | inl also ↦ none ∙ sym also
   ]
 ]
   where
-    tied : (x : Entry) (zs : List Entry) → Some (sort_value x) ≡ group
+    tied : (x : Entry) (zs : List Entry) → Some (entry_value x) ≡ group
         → filter (in_group group) zs ≡ filter (ties value_lt x) zs
     tied x zs e =
         filter_alike (in_group group) (ties value_lt x) zs
         (λ k d h. ap (λ (v : Option Value). in_group v (get_or zs k d)) (sym e) ∙ sym (tie_is x (get_or zs k d)))
 
-    by : (x : Entry) → Some (sort_value x) ≡ group → filter (in_group group) new ≡ filter (in_group group) old
+    by : (x : Entry) → Some (entry_value x) ≡ group → filter (in_group group) new ≡ filter (in_group group) old
     by x e = tied x new e ∙ stable x ∙ sym (tied x old e)
 
 -- a group's rows are those of its entries
 group_rows : (group_of : Row → Option Value) (group : Option Value) (es : List Entry) → AreInGroups group_of es
-    → AreKeyed es
     → rows_of_group group_of group (map entry_row es) ≡ map entry_row (filter (in_group group) es)
-group_rows group_of group es grouped keyed =
+group_rows group_of group es grouped =
     filter-map entry_row (λ (r : Row). same_maybe (group_of r) group) es
     ∙ ap (map entry_row)
     (filter_alike (λ (e : Entry). same_maybe (group_of (entry_row e)) group) (in_group group) es
-    (λ k d h. ap (λ (v : Option Value). same_maybe v group) (grouped k d h ∙ ap Some (sym (keyed k d h)))))
+    (λ k d h. ap (λ (v : Option Value). same_maybe v group) (grouped k d h)))
 
 -- ---- what is known of the entries of rows
-
--- their keys are their values'
-pub keyed_entries : (place : ℕ) (rows : List Row) (es : List Entry) → AreEntries place rows es → AreKeyed es
-keyed_entries place rows es all = λ k d h. (entries_kept place rows es all k d h).1
 
 -- their rows are of their values' groups
 pub grouped_entries : (place : ℕ) (rows : List Row) (es : List Entry) → AreEntries place rows es
     → AreInGroups (value_at_place (Some place)) es
-grouped_entries place rows es all = λ k d h. (entries_kept place rows es all k d h).0
+grouped_entries place rows es all = entries_kept place rows es all
 
 -- there are as many as rows
 pub length-entries : (place : ℕ) (rows : List Row) (es : List Entry) → AreEntries place rows es
@@ -203,19 +198,15 @@ length-entries place rows es all =
 -- ---- sorted entries
 
 -- entries that a stable sort has moved
-pub entries_sorted : (old new : List Entry) → AreKeyed old → IsPermutation old new
-    → IsSortedByKey sort_value value_cmp new → IsStableByKey sort_value value_cmp old new → AreEntriesSorted old new
-entries_sorted old new keyed moved sorted stable =
-    let is : AreKeyed new = All-permutation (λ (e : Entry). sort_value e ≡ e.value.now) old new moved keyed in
-    record {
-      rise = λ i j d below inside.
-          ap (λ (v : Value). is_lt (value_cmp v (get_or new i d).value.now)) (sym (is j d inside))
-          ∙ ap (λ (v : Value). is_lt (value_cmp (sort_value (get_or new j d)) v)) (sym (is i d (omega arith)))
-          ∙ sorted_far value_lt (ranks_by value_total sort_value) new sorted i j d (omega arith) inside;
-      moved = moved;
-      kept = λ group_of grouped group.
-          group_rows group_of group new
-          (All-permutation (λ (e : Entry). group_of e.row.now ≡ Some e.value.now) old new moved grouped) is
-          ∙ ap (map entry_row) (group_stable old new stable group)
-          ∙ sym (group_rows group_of group old grouped keyed);
-    }
+pub entries_sorted : (old new : List Entry) → IsPermutation old new
+    → IsSortedByKey entry_value value_cmp new → IsStableByKey entry_value value_cmp old new → AreEntriesSorted old new
+entries_sorted old new moved sorted stable = record {
+  rise = λ i j d below inside.
+      sorted_far value_lt (ranks_by value_total entry_value) new sorted i j d (omega arith) inside;
+  moved = moved;
+  kept = λ group_of grouped group.
+      group_rows group_of group new
+      (All-permutation (λ (e : Entry). group_of (entry_row e) ≡ Some (entry_value e)) old new moved grouped)
+      ∙ ap (map entry_row) (group_stable old new stable group)
+      ∙ sym (group_rows group_of group old grouped);
+}

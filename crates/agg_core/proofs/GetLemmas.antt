@@ -36,15 +36,6 @@ row_later shares rest share i e past =
     ap (λ l. slice_get (rows_in_shares l) i) e ∙ ap (slice_get (rows_in share ++ rows_in_shares rest)) whole
     ∙ slice_get-append_right (rows_in share) (rows_in_shares rest) (i - length share.plateaus)
 
--- what another element of a list is mapped to
-pub mapped-more : {X Y : Type 0} (f : X → Y) (xs : List X) (i : ℕ) (x : X) (old new : List Y) → i < length xs
-    → x ≡ get_or xs i x → old ≡ map f (take i xs) → new ≡ old ++ f x ∷ [] → new ≡ map f (take (i + 1) xs)
-mapped-more {X} {Y} f xs i x old new inside at was is =
-    let step : take (i + 1) xs ≡ take i xs ++ x ∷ [] =
-    ap (λ n. take n xs) (add-one i) ∙ take-suc xs i x inside ∙ ap (λ y. take i xs ++ y ∷ []) (sym at) in
-    is ∙ ap (λ (l : List Y). l ++ f x ∷ []) was ∙ sym (map-append f (take i xs) (x ∷ []))
-    ∙ ap (λ (l : List X). map f l) (sym step)
-
 -- one share alone
 pub rows-alone : (shares : List AggShare) (share : AggShare) → shares ≡ share ∷ []
     → rows_in_shares shares ≡ rows_in share

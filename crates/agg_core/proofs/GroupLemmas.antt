@@ -1,11 +1,10 @@
 -- Groups are numbered by rising value, and rows are items of the numbers of their groups.
 use Rattle.std.proofs.Common.{◌≡◌, ◌⊎◌, ◌<◌, ◌≤◌, ◌+◌, ◌-◌, ◌==◌, ℕ, ℤ, zero, suc, Bool, true, false, cond, List, [], ◌∷◌, ◌++◌, length, map, take, get_or, All, AllPairs, Option, Some, None, inl, inr, refl, sym, ap, subst, ◌∙◌, arith, length-append}
 use Rattle.std.specs.Prelude.{slice_get, unwrap_or, Contains}
-use Rattle.std.specs.Borrow.{Bor}
 use Rattle.std.specs.List.{AllZip}
 use Rattle.std.specs.Ordering.{is_lt}
 use Rattle.std.proofs.lemmas.Bool.Decides.{Decides-eqb, same_from_decides}
-use Rattle.std.proofs.lemmas.List.{get_or-take, get_or_default, length-map, map-append, length-take-le, take_more}
+use Rattle.std.proofs.lemmas.List.{get_or-take, get_or_default, length-map, length-take-le, take_more}
 use Rattle.std.proofs.lemmas.List.Elements.{All-map, All-cons, All-nil, All-contains, Contains-get_or, Contains-append_left, Contains-push, Contains-push_cases}
 use Rattle.std.proofs.lemmas.Option.{slice_get_within, slice_get-get_or, get_or_from_slice_get}
 use Rattle.std.proofs.lemmas.Slice.Zip.{AllZip-long}
@@ -22,8 +21,8 @@ use Rattle.list_core.proofs.PlaceLemmas.{slice_get-append_left, slice_get-seam}
 use Rattle.round_core.specs.Plateaus.{of_class}
 use Rattle.agg_core.specs.declared.entries.Entry.{Entry}
 use Rattle.agg_core.specs.Groups.{rows_of_group}
-use Rattle.agg_core.specs.Entries.{AreInGroups, AreRising, entry_row, value_at_place}
-use Rattle.agg_core.specs.Grouping.{AreNotAfter, GroupBefore, IsClassOf, IsGrouping, IsLast, AreItemsByGroup, IsNumberedItem, RisesByGroup, groups_of, amount_item}
+use Rattle.agg_core.specs.Entries.{AreInGroups, AreRising, entry_row, entry_value, value_at_place}
+use Rattle.agg_core.specs.Grouping.{AreNotAfter, GroupBefore, IsClassOf, IsGrouping, IsLast, AreItemsByGroup, IsNumberedItem, RisesByGroup, amount_item}
 use Rattle.agg_core.proofs.OrderLemmas.{not_after}
 use Rattle.agg_core.proofs.EntryLemmas.{AllZip-more}
 
@@ -88,7 +87,7 @@ AllPairs-one : {X : Type 0} (R : X → X → Type 0) (x : X) → AllPairs R (x �
 AllPairs-one R x i j d less inside = absurd (omega arith)
 
 -- the value's group is added behind the others
-class_of_added : (value : Value) (old new : List (Option Value)) (class : ℕ) → RisesByGroup old
+pub class_of_added : (value : Value) (old new : List (Option Value)) (class : ℕ) → RisesByGroup old
     → AreNotAfter old (Some value) → (IsLast old (Some value) → ⊥) → new ≡ old ++ Some value ∷ [] → class ≡ length old
     → IsClassOf value old new class
 class_of_added value old new class rise upto not_last put e =
@@ -110,39 +109,25 @@ class_of_added value old new class rise upto not_last put e =
       ];
     })
 
--- the group of one value more
-groups_of-push : (values new : List (Bor Value)) (value : Bor Value) → new ≡ values ++ value ∷ []
-    → groups_of new ≡ groups_of values ++ Some value.now ∷ []
-groups_of-push values new value put =
-    ap groups_of put ∙ map-append (λ (v : Bor Value). Some v.now) values (value ∷ [])
-
--- the group that is added is that of a value behind a reference
-pub class_pushed : (old new : List (Bor Value)) (value : Bor Value) (class : ℕ) → RisesByGroup (groups_of old)
-    → AreNotAfter (groups_of old) (Some value.now) → (IsLast (groups_of old) (Some value.now) → ⊥)
-    → new ≡ old ++ value ∷ [] → class ≡ length old → IsClassOf value.now (groups_of old) (groups_of new) class
-class_pushed old new value class rise upto not_last put e =
-    class_of_added value.now (groups_of old) (groups_of new) class rise upto not_last (groups_of-push old new value put)
-    (e ∙ sym (length-map old (λ (v : Bor Value). Some v.now)))
-
 -- ---- numbered rows
 
 -- no group so far comes after the value of the next entry
 pub upto_next : (amount_of : Row → ℤ) (entries : List Entry) (i : ℕ) (e : Entry) (items : List Item)
     (groups : List (Option Value)) → AreRising entries → i < length entries → e ≡ get_or entries i e
-    → AreItemsByGroup amount_of (take i entries) items groups → AreNotAfter groups (Some e.value.now)
+    → AreItemsByGroup amount_of (take i entries) items groups → AreNotAfter groups (Some (entry_value e))
 upto_next amount_of entries i e items groups rising inside at numbered k d h =
     let (before, (j, near, is), same) = numbered.listed (get_or groups k d) (Contains-get_or groups k d h) in
-    subst (λ (g : Option Value). is_lt (maybe_cmp (Some e.value.now) g) ≡ false) same (earlier before j near is)
+    subst (λ (g : Option Value). is_lt (maybe_cmp (Some (entry_value e)) g) ≡ false) same (earlier before j near is)
   where
     earlier : (before : Entry) (j : ℕ) → j < length (take i entries) → get_or (take i entries) j before ≡ before
-        → is_lt (value_cmp e.value.now before.value.now) ≡ false
+        → is_lt (value_cmp (entry_value e) (entry_value before)) ≡ false
     earlier before j near is =
         let long : length (take i entries) ≡ i = length-take-le i entries (omega arith) in
         let less : j < i = omega (arith, near, long) in
         let there : get_or entries j before ≡ before = sym (get_or-take i entries j before less) ∙ is in
         let here : get_or entries i before ≡ e = get_or_default entries i before e inside ∙ sym at in
-        subst (λ (x : Entry). is_lt (value_cmp x.value.now before.value.now) ≡ false) here
-        (subst (λ (x : Entry). is_lt (value_cmp (get_or entries i before).value.now x.value.now) ≡ false) there
+        subst (λ (x : Entry). is_lt (value_cmp (entry_value x) (entry_value before)) ≡ false) here
+        (subst (λ (x : Entry). is_lt (value_cmp (entry_value (get_or entries i before)) (entry_value x)) ≡ false) there
         (rising j i before less inside))
 
 -- numbers stay where groups are added
@@ -153,7 +138,7 @@ each_kept amount_of old new [] [] kept all = tt
 each_kept amount_of old new [] (x ∷ items) kept all = absurd all
 each_kept amount_of old new (e ∷ es) [] kept all = absurd all
 each_kept amount_of old new (e ∷ es) (x ∷ items) kept all = (
-  record { is = all.0.is; at = kept x.class (Some e.value.now) all.0.at },
+  record { is = all.0.is; at = kept x.class (Some (entry_value e)) all.0.at },
   each_kept amount_of old new es items kept all.1,
 )
 
@@ -165,12 +150,12 @@ classes_within amount_of groups [] (x ∷ items) all = absurd all
 classes_within amount_of groups (e ∷ es) [] all = absurd all
 classes_within amount_of groups (e ∷ es) (x ∷ items) all =
     All-cons (λ (y : Item). y.class < length groups) x items
-    (slice_get_within groups x.class (Some e.value.now) all.0.at) (classes_within amount_of groups es items all.1)
+    (slice_get_within groups x.class (Some (entry_value e)) all.0.at) (classes_within amount_of groups es items all.1)
 
 -- one entry more
 pub numbered_more : (amount_of : Row → ℤ) (entries : List Entry) (i : ℕ) (e : Entry) (items new : List Item) (x : Item)
     (groups groups' : List (Option Value)) (class : ℕ) → i < length entries → e ≡ get_or entries i e
-    → IsClassOf e.value.now groups groups' class → x ≡ amount_item amount_of class e.row.now → new ≡ items ++ x ∷ []
+    → IsClassOf (entry_value e) groups groups' class → x ≡ amount_item amount_of class (entry_row e) → new ≡ items ++ x ∷ []
     → AreItemsByGroup amount_of (take i entries) items groups
     → AreItemsByGroup amount_of (take (i + 1) entries) new groups'
 numbered_more amount_of entries i e items new x groups groups' class inside at is made put was = record {
@@ -180,7 +165,7 @@ numbered_more amount_of entries i e items new x groups groups' class inside at i
   rise = is.rise;
   each = AllZip-more (IsNumberedItem amount_of groups') entries i e items new x inside at put
       (record {
-        is = made ∙ ap (λ c. amount_item amount_of c e.row.now) (sym classed);
+        is = made ∙ ap (λ c. amount_item amount_of c (entry_row e)) (sym classed);
         at = ap (slice_get groups') classed ∙ is.at;
       })
       (each_kept amount_of groups groups' (take i entries) items is.kept was.each);
@@ -225,51 +210,51 @@ cond-item f x r b false items rows same is all = ap (λ t. cond t (x ∷ items) 
 -- the items of a group's number are the rows of that group
 of_class-rows : (amount_of : Row → ℤ) (group_of : Row → Option Value) (groups : List (Option Value))
     (es : List Entry) (items : List Item) (c : ℕ) (g : Option Value) → RisesByGroup groups → slice_get groups c ≡ Some g
-    → ((e : Entry) → Contains es e → group_of e.row.now ≡ Some e.value.now)
+    → ((e : Entry) → Contains es e → group_of (entry_row e) ≡ Some (entry_value e))
     → AllZip (IsNumberedItem amount_of groups) es items
     → of_class c items ≡ map (amount_item amount_of c) (rows_of_group group_of g (map entry_row es))
 of_class-rows amount_of group_of groups [] [] c g rise at grouped all = refl
 of_class-rows amount_of group_of groups [] (x ∷ items) c g rise at grouped all = absurd all
 of_class-rows amount_of group_of groups (e ∷ es) [] c g rise at grouped all = absurd all
 of_class-rows amount_of group_of groups (e ∷ es) (x ∷ items) c g rise at grouped all =
-    cond-item (amount_item amount_of c) x e.row.now (x.class == c) (same_maybe (group_of e.row.now) g)
+    cond-item (amount_item amount_of c) x (entry_row e) (x.class == c) (same_maybe (group_of (entry_row e)) g)
     (of_class c items)
     (rows_of_group group_of g (map entry_row es)) alike
-    (λ t. all.0.is ∙ ap (λ n. amount_item amount_of n e.row.now)
-    (to_class ((maybe_decides (group_of e.row.now) g).0 t)))
+    (λ t. all.0.is ∙ ap (λ n. amount_item amount_of n (entry_row e))
+    (to_class ((maybe_decides (group_of (entry_row e)) g).0 t)))
     (of_class-rows amount_of group_of groups es items c g rise at
     (λ b h. grouped b (Contains-cons e es b h)) all.1)
   where
-    here : group_of e.row.now ≡ Some e.value.now
+    here : group_of (entry_row e) ≡ Some (entry_value e)
     here = grouped e (Contains-head e es)
 
-    to_class : group_of e.row.now ≡ g → x.class ≡ c
+    to_class : group_of (entry_row e) ≡ g → x.class ≡ c
     to_class same = place_once groups x.class c g rise (all.0.at ∙ ap Some (sym here ∙ same)) at
 
-    to_group : x.class ≡ c → group_of e.row.now ≡ g
+    to_group : x.class ≡ c → group_of (entry_row e) ≡ g
     to_group same =
-        let one : Some (Some e.value.now) ≡ Some g = sym all.0.at ∙ ap (slice_get groups) same ∙ at in
+        let one : Some (Some (entry_value e)) ≡ Some g = sym all.0.at ∙ ap (slice_get groups) same ∙ at in
         here ∙ ap (λ (o : Option (Option Value)). unwrap_or o g) one
 
-    alike : (x.class == c) ≡ same_maybe (group_of e.row.now) g
+    alike : (x.class == c) ≡ same_maybe (group_of (entry_row e)) g
     alike =
-        same_from_decides (x.class == c) (same_maybe (group_of e.row.now) g)
+        same_from_decides (x.class == c) (same_maybe (group_of (entry_row e)) g)
         (λ t. to_group ((Decides-eqb x.class c).0 t), λ same. (Decides-eqb x.class c).1 (to_class same))
-        (maybe_decides (group_of e.row.now) g)
+        (maybe_decides (group_of (entry_row e)) g)
 
 -- ---- rows by group
 
 -- some item has the number of an entry's group
 entry_listed : (amount_of : Row → ℤ) (groups : List (Option Value)) (es : List Entry) (items : List Item)
     → AllZip (IsNumberedItem amount_of groups) es items → (e : Entry) → Contains es e
-    → Contains groups (Some e.value.now)
+    → Contains groups (Some (entry_value e))
 entry_listed amount_of groups [] items all e h = absurd (Contains-none e h)
 entry_listed amount_of groups (b ∷ es) [] all e h = absurd all
 entry_listed amount_of groups (b ∷ es) (x ∷ items) all e h = elim (Contains-cons_cases b es e h) [
-  | inl same ↦ subst (λ (d : Entry). Contains groups (Some d.value.now)) same
-      (subst (Contains groups) (get_or_from_slice_get groups x.class (Some b.value.now) (Some b.value.now) all.0.at)
-      (Contains-get_or groups x.class (Some b.value.now)
-      (slice_get_within groups x.class (Some b.value.now) all.0.at)))
+  | inl same ↦ subst (λ (d : Entry). Contains groups (Some (entry_value d))) same
+      (subst (Contains groups) (get_or_from_slice_get groups x.class (Some (entry_value b)) (Some (entry_value b)) all.0.at)
+      (Contains-get_or groups x.class (Some (entry_value b))
+      (slice_get_within groups x.class (Some (entry_value b)) all.0.at)))
   | inr later ↦ entry_listed amount_of groups es items all.1 e later
 ]
 
@@ -289,8 +274,8 @@ grouping_of amount_of group_of es items groups grouped numbered = record {
   of_classes = λ c g at. of_class-rows amount_of group_of groups es items c g numbered.rise at own numbered.each;
 }
   where
-    own : (e : Entry) → Contains es e → group_of e.row.now ≡ Some e.value.now
-    own e there = All-contains (λ (b : Entry). group_of b.row.now ≡ Some b.value.now) es e grouped there
+    own : (e : Entry) → Contains es e → group_of (entry_row e) ≡ Some (entry_value e)
+    own e there = All-contains (λ (b : Entry). group_of (entry_row b) ≡ Some (entry_value b)) es e grouped there
 
 -- ---- one group of all rows
 

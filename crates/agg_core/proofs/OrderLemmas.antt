@@ -17,7 +17,7 @@ use Rattle.agg_core.specs.declared.rows.AggRow.{AggRow}
 use Rattle.agg_core.specs.contracts.keys.KeyOrd.TheImpl.{ghosts}
 use Rattle.agg_core.specs.Agg.{AggHasOneList, IsAggRow, amount_in, measure_of, value_in}
 use Rattle.agg_core.specs.Groups.{AggRowBefore, agg_row_cmp}
-use Rattle.agg_core.specs.Entries.{sort_value, value_of_key}
+use Rattle.agg_core.specs.Entries.{entry_value, value_of_key}
 use Rattle.agg_core.specs.Grouping.{GroupBefore}
 
 -- ---- groups
@@ -61,7 +61,7 @@ key_lt x y = is_lt (ghosts.cmp x.key y.key)
 
 -- an entry's value is below another's
 abbrev pub value_lt : Entry → Entry → Bool
-value_lt x y = is_lt (value_cmp (sort_value x) (sort_value y))
+value_lt x y = is_lt (value_cmp (entry_value x) (entry_value y))
 
 -- both tests are one
 pub key_lt-value : key_lt ≡ value_lt

@@ -29,7 +29,7 @@ use Rattle.agg_core.specs.contracts.keys.KeyOrd.TheImpl.{ghosts}
 use Rattle.agg_core.specs.declared.rows.AggRow.{AggRow}
 use Rattle.agg_core.specs.Agg.{AreAggRows, HoldAndComeTo, IsAggRow}
 use Rattle.agg_core.specs.Groups.{AggRowBefore, rows_of_group}
-use Rattle.agg_core.specs.Entries.{AreEntries, AreEntriesSorted, AreInGroups, entry_row, value_at_place}
+use Rattle.agg_core.specs.Entries.{AreEntries, AreEntriesSorted, AreInGroups, entry_row, entry_value, value_at_place}
 use Rattle.agg_core.specs.Grouping.{AreItemsByGroup, ArePlateauRows, GroupBefore}
 use Rattle.agg_core.specs.KeyRanges.{group_of_key, in_range, rows_in_range}
 use Rattle.agg_core.specs.Shares.{rows_in, rows_in_shares}
@@ -368,7 +368,7 @@ answer_of_entries measure amount_of place rows made sorted items groups answer a
     let group_of = value_at_place (Some place) in
     let grouped : AreInGroups group_of made = grouped_entries place rows made are in
     let moved : AreInGroups group_of sorted =
-    All-permutation (λ (e : Entry). group_of e.row.now ≡ Some e.value.now) made sorted by_value.moved grouped in
+    All-permutation (λ (e : Entry). group_of (entry_row e) ≡ Some (entry_value e)) made sorted by_value.moved grouped in
     subst (λ (l : List Row). AreAggRows measure amount_of group_of l answer) (rows_in_entries place rows made are)
     (same_answer measure amount_of group_of (map entry_row sorted) (map entry_row made) answer
     (by_value.kept group_of grouped)

@@ -8,6 +8,7 @@ use Rattle.row_core.specs.declared.row.Row.{Row}
 use Rattle.row_core.specs.declared.schema.Column.{Column}
 use Rattle.row_core.specs.declared.value.Value.{Value}
 use Rattle.row_core.specs.declared.value.Value.TheVariants as value
+use Rattle.table_core.specs.Lent.{lent_row}
 use Rattle.agg_core.specs.Agg.{amount_of_value}
 use Rattle.agg_core.specs.Groups.{rows_of_group}
 use Rattle.agg_core.specs.declared.entries.Entry.{Entry}
@@ -31,19 +32,18 @@ abbrev pub value_of_key : Key → Value
 value_of_key (Number number) = value.Int number
 value_of_key (Text text) = value.Text text.now
 
--- the value by which an entry is sorted
-abbrev pub sort_value : Entry → Value
-sort_value entry = value_of_key entry.key
+-- the value by which an entry's row is grouped
+abbrev pub entry_value : Entry → Value
+entry_value entry = value_of_key entry.key
 
 -- an entry's row
 abbrev pub entry_row : Entry → Row
-entry_row entry = entry.row.now
+entry_row entry = lent_row entry.row
 
 -- the entry of a row, by its value at the place
 pub record IsEntry (place : ℕ) (row : Row) (entry : Entry) : Type 0 where
-  pub row_is : entry.row.now ≡ row
-  pub value_is : slice_get row.values place ≡ Some entry.value.now
-  pub key_is : value_of_key entry.key ≡ entry.value.now
+  pub row_is : entry_row entry ≡ row
+  pub value_is : slice_get row.values place ≡ Some (entry_value entry)
 
 -- the entries of rows, in their order
 abbrev pub AreEntries : ℕ → List Row → List Entry → Type 0
@@ -51,15 +51,11 @@ AreEntries place rows entries = AllZip (IsEntry place) rows entries
 
 -- no value is before that of an earlier entry
 abbrev pub AreRising : List Entry → Type 0
-AreRising entries = AllPairs (λ (a b : Entry). is_lt (value_cmp b.value.now a.value.now) ≡ false) entries
-
--- the key of each entry is its value's
-abbrev pub AreKeyed : List Entry → Type 0
-AreKeyed entries = All (λ (e : Entry). sort_value e ≡ e.value.now) entries
+AreRising entries = AllPairs (λ (a b : Entry). is_lt (value_cmp (entry_value b) (entry_value a)) ≡ false) entries
 
 -- each entry's row is of the group of the entry's value
 abbrev pub AreInGroups : (Row → Option Value) → List Entry → Type 0
-AreInGroups group_of entries = All (λ (e : Entry). group_of e.row.now ≡ Some e.value.now) entries
+AreInGroups group_of entries = All (λ (e : Entry). group_of (entry_row e) ≡ Some (entry_value e)) entries
 
 -- the entries by rising value, so that each group's rows stand in the order in which they stood
 pub record AreEntriesSorted (old new : List Entry) : Type 0 where

@@ -1,6 +1,5 @@
 -- Rows as items whose classes are the numbers of their groups.
 use Rattle.std.specs.Prelude.{None, slice_index_or, ◌≡◌, ◌+◌, ◌-◌, ◌<◌, ◌≤◌, ◌⊎◌, ℕ, ℤ, List, length, map, All, AllPairs, Contains, false, Option, Some, slice_get, IfSome}
-use Rattle.std.specs.Borrow.{Bor}
 use Rattle.std.specs.List.{AllZip}
 use Rattle.std.specs.declared.cmp.Ordering.TheVariants.{Less}
 use Rattle.std.specs.Ordering.{is_lt}
@@ -11,6 +10,7 @@ use Rattle.dip_core.specs.declared.item.Item.{Item}
 use Rattle.round_core.specs.declared.plateau.Plateau.{Plateau}
 use Rattle.round_core.specs.declared.measure.Measure.{Measure}
 use Rattle.round_core.specs.Plateaus.{ArePlateaus, of_class}
+use Rattle.agg_core.specs.Entries.{entry_row, entry_value}
 use Rattle.agg_core.specs.Groups.{rows_of_group}
 use Rattle.agg_core.specs.declared.entries.Entry.{Entry}
 use Rattle.agg_core.specs.declared.rows.AggRow.{AggRow}
@@ -49,8 +49,8 @@ pub record IsClassOf (value : Value) (old new : List (Option Value)) (class : �
 
 -- an entry's row as an item, whose class is the number of the group of the entry's value
 pub record IsNumberedItem (amount_of : Row → ℤ) (groups : List (Option Value)) (entry : Entry) (x : Item) : Type 0 where
-  pub is : x ≡ amount_item amount_of x.class entry.row.now
-  pub at : slice_get groups x.class ≡ Some (Some entry.value.now)
+  pub is : x ≡ amount_item amount_of x.class (entry_row entry)
+  pub at : slice_get groups x.class ≡ Some (Some (entry_value entry))
 
 -- the rows of entries as items, by rising class, and the groups of their values
 pub record AreItemsByGroup (amount_of : Row → ℤ) (entries : List Entry) (items : List Item)
@@ -59,7 +59,7 @@ pub record AreItemsByGroup (amount_of : Row → ℤ) (entries : List Entry) (ite
   pub classes : AllPairs (λ (a b : Item). a.class ≤ b.class) items
   pub rise : RisesByGroup groups
   pub each : AllZip (IsNumberedItem amount_of groups) entries items
-  pub listed : (g : Option Value) → Contains groups g → (e : Entry) × Contains entries e × (Some e.value.now ≡ g)
+  pub listed : (g : Option Value) → Contains groups g → (e : Entry) × Contains entries e × (Some (entry_value e) ≡ g)
 
 -- rows as items, by rising class: class c is that of the rows of group number c, and each row is of one of the groups,
 -- which rise
@@ -72,10 +72,6 @@ pub record IsGrouping (amount_of : Row → ℤ) (group_of : Row → Option Value
   pub listed : (row : Row) → Contains rows row → Contains groups (group_of row)
   pub of_classes : (c : ℕ) (g : Option Value) → slice_get groups c ≡ Some g
       → of_class c items ≡ map (amount_item amount_of c) (rows_of_group group_of g rows)
-
--- the groups of the values behind references
-abbrev pub groups_of : List (Bor Value) → List (Option Value)
-groups_of values = map (λ (value : Bor Value). Some value.now) values
 
 -- the row of a plateau: its class is the number of its group
 abbrev pub agg_row_of : List (Option Value) → Plateau → AggRow

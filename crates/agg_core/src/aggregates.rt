@@ -14,9 +14,10 @@ use crate::one_group::rows_of_one_group;
 use crate::rows::AggRows;
 use match_core::{QueryRefused, Side};
 use period_core::NoMemory;
-use row_core::{Failure, Name, Row, Schema};
+use row_core::{Failure, Name, Schema};
 use std::alloc::Global;
 use std::thread::Threads;
+use table_core::SharedRows;
 use work_core::{Crew, Gate};
 
 /// For each group of rows, those that are equal in the named column, the maximal periods at each instant of which
@@ -49,17 +50,16 @@ pub fn agg<R: Threads + Sync, G: Gate>(
     }
     let amount = place_in(side.schema, number_column(&func));
     let by = place_in(side.schema, group);
-    let rows = side.rows.as_slice();
     let measure = measure_of(&func);
     let crew = Crew::new(rt, alloc, workers, gate);
-    Ok(agg_rows(&crew, Asked { measure, amount }, rows, by)?)
+    Ok(agg_rows(&crew, Asked { measure, amount }, side.rows, by)?)
 }
 
 /// The aggregate of rows by the values at one place, or as one group where there is none.
 fn agg_rows<R: Threads + Sync, G: Gate>(
     crew: &Crew<'_, R, G>,
     asked: Asked,
-    rows: &[Row],
+    rows: &SharedRows,
     by: Option<u32>,
 ) -> Result<AggRows, NoMemory>
     requires few { length rows.now ≤ item_limit }

@@ -3,24 +3,24 @@
 ghost use Rattle.std.specs.Prelude.{◌≡◌, ◌<◌, All, IfOk, IsPermutation, IsSortedByKey, OnOk, Some, length};
 ghost use Rattle.std.specs.List.Sorted.{IsStableByKey};
 ghost use Rattle.row_core.specs.ValueOrder.{value_cmp};
-ghost use Rattle.agg_core.specs.Entries.{AreEntries, AreEntriesSorted, AreKeyed, sort_value, value_at_place, value_of_key};
+ghost use Rattle.agg_core.specs.Entries.{AreEntries, AreEntriesSorted, entry_value, value_at_place, value_of_key};
+ghost use Rattle.table_core.specs.Lent.{lent_row, lent_value};
 ghost use Rattle.agg_core.specs.KeyRanges.{rows_in_range};
 
 use crate::keys::{Key, has_key};
 use list_core::room_for_half;
 use period_core::NoMemory;
-use row_core::{Row, Value};
 use share_core::Range;
 use sort_core::sort_by_key;
 use std::alloc::{AllocError, Global};
 use std::thread::Threads;
+use table_core::{RowRef, SharedRows, ValueRef};
 
-/// A row, with the value by which it is grouped, and that value's key.
+/// A row, with the key of the value by which it is grouped.
 #[derive(Clone, Copy)]
 pub(crate) struct Entry<'a> {
     pub key: Key<'a>,
-    pub value: &'a Value,
-    pub row: &'a Row,
+    pub row: RowRef<'a>,
 }
 
 /// Room for the entries of a range: for all rows where it has no end, else for somewhat more than half of them.
@@ -35,7 +35,7 @@ fn room_for(range: &Range<Key<'_>>, rows: usize) -> usize {
 /// An entry for each row whose value is in the range, in their order.
 pub(crate) fn entries_of<'a>(
     alloc: Global,
-    rows: &'a [Row],
+    rows: &'a SharedRows,
     place: u32,
     range: &Range<Key<'a>>,
 ) -> Result<Vec<Entry<'a>>, NoMemory>
@@ -45,11 +45,11 @@ pub(crate) fn entries_of<'a>(
         entries.items) }
 {
     let mut entries = Vec::with_capacity(alloc, room_for(range, rows.len()))?;
-    for row in rows {
-        let value = value_at_place(row, place);
-        let key = key_of(value);
+    for i in 0..rows.len() {
+        let row = rows.at(i);
+        let key = key_at_place(row, place);
         if has_key(range, &key) {
-            if let Err(_) = entries.push(Entry { key, value, row }) {
+            if let Err(_) = entries.push(Entry { key, row }) {
                 return Err(AllocError);
             }
         }
@@ -58,27 +58,23 @@ pub(crate) fn entries_of<'a>(
 }
 
 /// The key of the row's value at that place.
-pub(crate) fn key_at_place(row: &Row, place: u32) -> Key<'_>
-    requires { place < length row.now.values }
+pub(crate) fn key_at_place<'a>(row: RowRef<'a>, place: u32) -> Key<'a>
+    requires { place < length (lent_row row).values }
+    ensures { value_at_place (Some place) (lent_row row.entry) ≡ Some (value_of_key result) }
 {
-    key_of(value_at_place(row, place))
-}
-
-/// The row's value at that place.
-fn value_at_place(row: &Row, place: u32) -> &Value
-    requires { place < length row.now.values }
-    ensures { value_at_place (Some place) row.now ≡ Some result.now }
-{
-    &row.values.as_slice()[place as usize]
+    let Some(value) = row.value(place as usize) else {
+        unreachable!()
+    };
+    key_of(value)
 }
 
 /// The value's key.
-fn key_of(value: &Value) -> Key<'_>
-    ensures { value_of_key result ≡ value.now }
+fn key_of<'a>(value: ValueRef<'a>) -> Key<'a>
+    ensures { value_of_key result ≡ lent_value value.entry }
 {
     match value {
-        Value::Int(number) => Key::Number(*number),
-        Value::Text(text) => Key::Text(text.as_str()),
+        ValueRef::Int(number) => Key::Number(number),
+        ValueRef::Text(text) => Key::Text(text),
     }
 }
 
@@ -90,8 +86,8 @@ fn sort_entries<R: Threads + Sync>(
     workers: u32,
 ) -> Result<(), NoMemory>
     ensures permutation { IsPermutation entries.old.items entries.new.items }
-    ensures sorted { OnOk result (IsSortedByKey sort_value value_cmp entries.new.items) }
-    ensures stable { IsStableByKey sort_value value_cmp entries.old.items entries.new.items }
+    ensures sorted { OnOk result (IsSortedByKey entry_value value_cmp entries.new.items) }
+    ensures stable { IsStableByKey entry_value value_cmp entries.old.items entries.new.items }
 {
     sort_by_key(rt, alloc, entries, |entry| entry.key, workers)
 }
@@ -103,7 +99,6 @@ pub(crate) fn sorted<'a, R: Threads + Sync>(
     mut entries: Vec<Entry<'a>>,
     workers: u32,
 ) -> Result<Vec<Entry<'a>>, NoMemory>
-    requires { AreKeyed entries.items }
     ensures { IfOk result (λ sorted. AreEntriesSorted entries.entry.items sorted.items) }
 {
     sort_entries(rt, alloc, &mut entries, workers)?;

@@ -16,16 +16,16 @@ use crate::groups::group_entries;
 use crate::keys::Key;
 use crate::rows::{AggRows, AggShare, share_of_groups};
 use period_core::NoMemory;
-use row_core::Row;
 use share_core::{Range, Shares, shared_out};
 use std::thread::Threads;
+use table_core::SharedRows;
 use work_core::{Crew, Gate};
 
 /// The share of the groups of one range's values.
 fn share_of_range<R: Threads + Sync, G: Gate>(
     crew: &Crew<'_, R, G>,
     asked: Asked,
-    rows: &[Row],
+    rows: &SharedRows,
     place: u32,
     range: &Range<Key<'_>>,
 ) -> Result<AggShare, NoMemory>
@@ -38,15 +38,15 @@ fn share_of_range<R: Threads + Sync, G: Gate>(
 {
     let entries = entries_of(crew.alloc, rows, place, range)?;
     let entries = sorted(crew.rt, crew.alloc, entries, crew.workers)?;
-    let grouped = group_entries(crew.alloc, &entries, asked.amount)?;
-    share_of_groups(crew, asked.measure, &grouped)
+    let grouped = group_entries(crew.alloc, &entries, place, asked.amount)?;
+    share_of_groups(crew, asked.measure, grouped)
 }
 
 /// The rows of the groups of rows, those that are of one value at a place.
 pub(crate) fn rows_by_group<R: Threads + Sync, G: Gate>(
     crew: &Crew<'_, R, G>,
     asked: Asked,
-    rows: &[Row],
+    rows: &SharedRows,
     place: u32,
 ) -> Result<AggRows, NoMemory>
     requires few { length rows.now ≤ item_limit }
@@ -67,7 +67,7 @@ pub(crate) fn rows_by_group<R: Threads + Sync, G: Gate>(
         crew.workers,
         &|i: usize| -> Key<'_>
             requires { (i < length rows.now) × All (λ row. place < length row.values) rows.now }
-        { key_at_place(&rows[i], place) },
+        { key_at_place(rows.at(i), place) },
     )?;
     let found = shared_out(
         rt,

@@ -12,22 +12,29 @@ use crate::groups::amount_item;
 use crate::rows::{AggRows, AggShare};
 use dip_core::Item;
 use list_core::in_one_list;
+use match_core::piece_ends;
 use period_core::NoMemory;
 use round_core::plateaus_of;
-use row_core::Row;
-use share_core::{Range, Shares, piece, shared_out};
+use share_core::{Range, Shares, shared_out};
 use std::alloc::Global;
 use std::thread::Threads;
+use table_core::SharedRows;
 use work_core::{Crew, Gate};
 
-/// Some rows as items of one class, with the numbers that they have at the place.
-fn items_of_piece(alloc: Global, rows: &[Row], amount: Option<u32>) -> Result<Vec<Item>, NoMemory>
+/// The rows at some places as items of one class, with the numbers that they have in a column.
+fn items_of_piece(
+    alloc: Global,
+    rows: &SharedRows,
+    places: Range<usize>,
+    amount: Option<u32>,
+) -> Result<Vec<Item>, NoMemory>
     ensures { IfOk result (λ items.
-        items.items ≡ map (amount_item (amount_at amount) 0) rows.now) }
+        items.items ≡ map (amount_item (amount_at amount) 0) (piece places rows.now)) }
 {
-    let mut items = Vec::with_capacity(alloc, rows.len())?;
-    for row in rows {
-        items.push(amount_item(row, amount, 0))?;
+    let (start, end) = piece_ends(places, rows.len());
+    let mut items = Vec::with_capacity(alloc, end - start)?;
+    for i in start..end {
+        items.push(amount_item(rows.at(i), amount, 0))?;
     }
     Ok(items)
 }
@@ -35,7 +42,7 @@ fn items_of_piece(alloc: Global, rows: &[Row], amount: Option<u32>) -> Result<Ve
 /// Rows as items of one class, with the numbers that they have at the place. Workers share them out by their places.
 fn items_of_rows<R: Threads + Sync, G>(
     crew: &Crew<'_, R, G>,
-    rows: &[Row],
+    rows: &SharedRows,
     amount: Option<u32>,
 ) -> Result<Vec<Item>, NoMemory>
     ensures { IfOk result (λ items.
@@ -50,7 +57,7 @@ fn items_of_rows<R: Threads + Sync, G>(
         &|places: Range<usize>, _workers: u32| -> Result<Vec<Item>, NoMemory>
             ensures { IfOk result (λ items. items.items
                 ≡ map (amount_item (amount_at amount) 0) (piece places rows.entry.now)) }
-        { items_of_piece(alloc, piece(places, rows), amount) },
+        { items_of_piece(alloc, rows, places, amount) },
     )?;
     in_one_list(alloc, lists)
 }
@@ -59,7 +66,7 @@ fn items_of_rows<R: Threads + Sync, G>(
 pub(crate) fn rows_of_one_group<R: Threads + Sync, G: Gate>(
     crew: &Crew<'_, R, G>,
     asked: Asked,
-    rows: &[Row],
+    rows: &SharedRows,
 ) -> Result<AggRows, NoMemory>
     requires few { length rows.now ≤ item_limit }
     ensures { IfOk result (λ answer.

@@ -3,7 +3,7 @@
 ghost use Rattle.std.specs.Prelude.{◌≡◌, ◌≤◌, ◌++◌, AllPairs, IfOk, IfSome, OnOk, length, map, option_map, slice_get};
 ghost use Rattle.std.specs.Option.{option_copied};
 ghost use Rattle.dip_core.specs.Item.{item_limit};
-ghost use Rattle.agg_core.specs.Grouping.{ArePlateauRows, agg_row_of, groups_of};
+ghost use Rattle.agg_core.specs.Grouping.{ArePlateauRows, agg_row_of};
 ghost use Rattle.agg_core.specs.Shares.{lent_row, rows_in, rows_in_shares};
 
 use crate::groups::GroupedRows;
@@ -203,27 +203,16 @@ fn push_chunk(
 pub(crate) fn share_of_groups<R: Threads + Sync, G: Gate>(
     crew: &Crew<'_, R, G>,
     measure: Measure,
-    grouped: &GroupedRows<'_>,
+    grouped: GroupedRows,
 ) -> Result<AggShare, NoMemory>
-    requires few { length grouped.now.items.items ≤ item_limit }
-    requires classes { AllPairs (λ a b. a.class ≤ b.class) grouped.now.items.items }
-    ensures { IfOk result (λ share. ArePlateauRows measure grouped.now.items.items
-        (groups_of grouped.now.groups.items) (rows_in share)) }
+    requires few { length grouped.items.items ≤ item_limit }
+    requires classes { AllPairs (λ a b. a.class ≤ b.class) grouped.items.items }
+    ensures { IfOk result (λ share. ArePlateauRows measure grouped.items.items
+        grouped.groups.items (rows_in share)) }
 {
-    let plateaus = plateaus_of(crew, measure, &grouped.items)?;
-    let groups = copy_groups(crew.alloc, &grouped.groups)?;
+    let GroupedRows { items, groups } = grouped;
+    let plateaus = plateaus_of(crew, measure, &items)?;
     Ok(AggShare { groups, plateaus })
-}
-
-/// The groups, each with a value of its own.
-fn copy_groups(alloc: Global, values: &[&Value]) -> Result<Vec<Option<Value>>, NoMemory>
-    ensures { IfOk result (λ groups. groups.items ≡ groups_of values.now) }
-{
-    let mut groups = Vec::with_capacity(alloc, values.len())?;
-    for value in values {
-        groups.push(Some(value.copy(alloc)?))?;
-    }
-    Ok(groups)
 }
 
 /// The group with a value of its own.

@@ -1,9 +1,6 @@
 use Rattle.std.proofs.Common.{sym, ap, ◌∙◌}
 use Rattle.agg_core.specs.Entries.{place_in}
 use Rattle.agg_core.proofs.PlateauLemmas.{agg_by_names, group-values}
-use Rattle.std.proofs.Common.{List, subst}
-use Rattle.agg_core.specs.Grouping.{HaveValues}
-use Rattle.row_core.specs.declared.row.Row.{Row}
 use Rattle.agg_core.proofs.aggregates.agg.Goals as goal
 
 pub returns : goal.returns
@@ -12,17 +9,16 @@ returns g c = (
   agg_by_names c.args.side.schema.now c.args.func c.args.group c.args.side.rows.now c.measure_of-measure.result
       c.place_in-amount.result c.place_in-by.result c.in_ok-agg_rows.field-0 c.measure_of-measure.ensures
       (c.place_in-amount.ensures ∙ ap (place_in c.args.side.schema.now) c.number_column.ensures) c.place_in-by.ensures
-      (rw c.as_slice-rows.ensures at c.in_ok-agg_rows.ensures),
+      c.in_ok-agg_rows.ensures,
 )
 
 pub returns-in-Some : goal.returns-in-Some
 returns-in-Some g c = sym c.agg_refusal.ensures ∙ c.in-Some.is
 
 pub agg_rows-requires-clause-few : goal.agg_rows-requires-clause-few
-agg_rows-requires-clause-few g c = λ κs outlives. rw c.as_slice-rows.ensures c.args.side.few
+agg_rows-requires-clause-few g c = λ κs outlives. c.args.side.few
 
 pub agg_rows-requires-clause-values : goal.agg_rows-requires-clause-values
 agg_rows-requires-clause-values g c = λ κs outlives.
-    subst (λ (rows : List Row). HaveValues c.place_in-by.result rows) (sym c.as_slice-rows.ensures)
-    (group-values c.args.side.schema.now c.args.side.rows.now c.args.group c.place_in-by.result c.place_in-by.ensures
-    c.args.side.fit)
+    group-values c.args.side.schema.now c.args.side.rows.now c.args.group c.place_in-by.result c.place_in-by.ensures
+    c.args.side.fit

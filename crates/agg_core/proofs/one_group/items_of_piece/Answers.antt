@@ -1,23 +1,38 @@
-use Rattle.std.proofs.Common.{List, ◌++◌, ◌∷◌, [], map, ap, ◌∙◌}
-use Rattle.std.proofs.lemmas.List.{take_all}
-use Rattle.row_core.specs.declared.row.Row.{Row}
+use Rattle.std.proofs.Common.{◌≡◌, ◌≤◌, List, ◌++◌, ◌∷◌, [], drop, map, take, ap, sym, ◌∙◌, arith}
+use Rattle.std.proofs.lemmas.List.{map-append}
+use Rattle.table_core.specs.Lent.{lent_row}
 use Rattle.dip_core.specs.declared.item.Item.{Item}
+use Rattle.match_core.specs.PieceEnds.{piece_end}
+use Rattle.match_core.proofs.PieceEndLemmas.{one_more, piece_is}
 use Rattle.agg_core.specs.Entries.{amount_at}
 use Rattle.agg_core.specs.Grouping.{amount_item}
-use Rattle.agg_core.proofs.GetLemmas.{mapped-more}
 use Rattle.agg_core.proofs.one_group.items_of_piece.Goals as goal
 
-pub loop-row-init : goal.loop-row-init
-loop-row-init c = c.in_ok-items.ensures.items
-
-pub loop-row-preserved : goal.loop-row-preserved
-loop-row-preserved c =
-    mapped-more (amount_item (amount_at c.args.amount) 0) c.args.rows.now c.loop-row.row-index c.row-item.result
-    c.loop-row.items.items c.push.new.self.items c.loop-row-test.true c.row-item.is c.loop-row.invariant
-    (c.in_ok-push.ensures.items ∙ ap (λ (x : Item). c.loop-row.items.items ++ x ∷ []) c.amount_item.ensures)
+pub loop-i-preserved : goal.loop-i-preserved
+loop-i-preserved c =
+    let rows = c.args.rows.now in
+    let start = c.piece_ends-start.result.0 in
+    let i = c.loop-i.i in
+    let make = amount_item (amount_at c.args.amount) 0 in
+    let before = drop start (take i rows) in
+    let row = lent_row c.at.result in
+    let from : start ≤ i = c.loop-i.invariant.from in
+    record {
+      from = omega (arith, from);
+      upto = omega (arith, c.loop-i-test.true);
+      are = c.in_ok-push.ensures.items
+          ∙ ap (λ (l : List Item). l ++ c.amount_item.result ∷ []) c.loop-i.invariant.are
+          ∙ ap (λ (x : Item). map make before ++ x ∷ []) c.amount_item.ensures
+          ∙ sym (map-append make before (row ∷ []))
+          ∙ ap (map make) (sym (one_more start i rows row from c.at.ensures));
+    }
 
 pub returns : goal.returns
 returns c =
-    c.loop-row.invariant
-    ∙ ap (λ (rows : List Row). map (amount_item (amount_at c.args.amount) 0) rows)
-    (take_all c.loop-row.row-index c.args.rows.now c.loop-row-test.false)
+    let rows = c.args.rows.now in
+    let make = amount_item (amount_at c.args.amount) 0 in
+    let end : c.loop-i.i ≡ c.piece_ends-start.result.1 = omega (arith, c.loop-i.invariant.upto, c.loop-i-test.false) in
+    c.loop-i.invariant.are
+    ∙ ap (λ n. map make (drop c.piece_ends-start.result.0 (take n rows))) (end ∙ c.piece_ends-start.ensures.end)
+    ∙ ap (λ n. map make (drop n (take (piece_end c.args.places c.len.result) rows))) c.piece_ends-start.ensures.start
+    ∙ ap (map make) (sym (piece_is c.args.places rows c.len.result (sym c.len.ensures)))
