@@ -1,19 +1,13 @@
 -- Rows that are found by their ids.
 use Rattle.std.proofs.Common.{◌≡◌, ◌≢◌, ℕ, zero, suc, ◌+◌, ◌-◌, ◌<◌, ◌≤◌, true, false, cond, List, [], ◌∷◌, length, get_or, set, Some, None, refl, sym, subst, ap, ◌∙◌, inl, inr, arith, eq-eqb, get_or-set_same, get_or-set_other}
-use Rattle.std.specs.Prelude.{All, AllPairs, Contains, find, ◌==◌, Result, Ok, Err}
-use Rattle.std.specs.Result.{result_ok}
-use Rattle.std.specs.List.Sorted.{IsBinarySearchResult, IsSearchInRange}
-use Rattle.std.specs.declared.cmp.Ordering.TheVariants.{Less, Equal, Greater}
-use Rattle.std.specs.Ordering.{nat_cmp, MatchOrdering}
+use Rattle.std.specs.Prelude.{All, AllPairs, Contains, find, ◌==◌, slice_get}
 use Rattle.std.proofs.lemmas.Bool.{cases_eq, cases_lt, ne_eqb}
-use Rattle.std.proofs.lemmas.Cmp.{nat_cmp_total, ranked}
 use Rattle.std.proofs.lemmas.List.{get_or_read, length-set}
 use Rattle.std.proofs.lemmas.List.Elements.{Contains-get_or}
-use Rattle.std.proofs.lemmas.List.Sorted.{searchable_from_sorted}
+use Rattle.std.proofs.lemmas.Option.{get_or_from_slice_get}
 use Rattle.row_core.specs.Rows.{RowsRise}
 use Rattle.row_core.specs.declared.row.Row.{Row}
 use Rattle.list_core.proofs.RisingLemmas.{AllPairs-head, AllPairs-tail, Contains-cons_cases, Contains-none}
-use Rattle.list_core.proofs.OrderedLemmas.{sorted-from_rise}
 use Rattle.match_core.proofs.RowItems.{ids_rise}
 
 -- ---- rows by rising id
@@ -147,30 +141,69 @@ placed_less rows places first i at x within here is outside before k d lt room =
       | inr ne ↦ before k d (omega arith) room
     ]
 
--- ---- searches
+-- ---- a search by halves
 
--- a search by halves finds the place of the row of the id
-pub place_searched : (rows : List Row) (id : ℕ) (r : Result ℕ ℕ) → RowsRise rows → IsSearchInRange r (length rows)
-    → IsBinarySearchResult (λ x. nat_cmp x.id id) rows r
-    → (k : ℕ) (d : Row) → k < length rows → (get_or rows k d).id ≡ id → result_ok r ≡ Some k
-place_searched rows id (Ok p) rise within found k d lt same =
-    let equal : MatchOrdering Equal ((get_or rows p d).id < id) ((get_or rows p d).id ≡ id)
-    (id < (get_or rows p d).id) =
-    ranked (get_or rows p d).id id Equal (sym (found d)) in
-    let one : p ≡ k = one_place rows rise p k d within lt (equal ∙ sym same) in
-    ap (λ n. Some n) one
-place_searched rows id (Err i) rise within found k d lt same =
-    let sorted = sorted-from_rise (λ (x : Row). x.id) rows rise in
-    let point = found (searchable_from_sorted nat_cmp_total (λ x. x.id) rows id sorted) in
-    elim (cases_lt k i) [
-      | inl less ↦
-          let below : MatchOrdering Less ((get_or rows k d).id < id) ((get_or rows k d).id ≡ id)
-          (id < (get_or rows k d).id) =
-          ranked (get_or rows k d).id id Less (sym (point.0 k d (omega arith) less)) in
-          absurd (omega (arith, below, same))
-      | inr more ↦
-          let above : MatchOrdering Greater ((get_or rows k d).id < id) ((get_or rows k d).id ≡ id)
-          (id < (get_or rows k d).id) =
-          ranked (get_or rows k d).id id Greater (sym (point.1 k d more lt)) in
-          absurd (omega (arith, above, same))
-    ]
+-- the row that is looked for stands from the one place on and before the other, if there is one
+pub record IsBetween (rows : List Row) (id low high : ℕ) : Type 0 where
+  pub ordered : low ≤ high
+  pub within : high ≤ length rows
+  pub below : (k : ℕ) (d : Row) → k < low → (get_or rows k d).id < id
+  pub above : (k : ℕ) (d : Row) → high ≤ k → k < length rows → id ≤ (get_or rows k d).id
+
+-- at first it stands anywhere
+pub between_all : (rows : List Row) (id high : ℕ) → high ≡ length rows → IsBetween rows id 0 high
+between_all rows id high e = record {
+  ordered = omega arith;
+  within = omega (arith, e);
+  below = λ k d lt. absurd (omega (arith, lt));
+  above = λ k d from lt. absurd (omega (arith, from, lt, e));
+}
+
+-- behind a row of a lower id
+pub between_later : (rows : List Row) (id low high middle : ℕ) (x : Row) → RowsRise rows → middle < high
+    → slice_get rows middle ≡ Some x → x.id < id → IsBetween rows id low high → IsBetween rows id (middle + 1) high
+between_later rows id low high middle x rise before here less was = record {
+  ordered = omega (arith, before);
+  within = was.within;
+  below = λ k d lt.
+      let there = ap (λ (r : Row). r.id) (get_or_from_slice_get rows middle x d here) in
+      let inside : middle < length rows = omega (arith, before, was.within) in
+      elim (cases_eq k middle) [
+        | inl e ↦ let same = ap (λ n. (get_or rows n d).id) e in omega (arith, same, there, less)
+        | inr ne ↦ let rising = ids_rise rows rise k middle d (omega (arith, lt, ne)) inside in
+            omega (arith, rising, there, less)
+      ];
+  above = was.above;
+}
+
+-- no later than a row of no lower id
+pub between_earlier : (rows : List Row) (id low high middle : ℕ) (x : Row) → RowsRise rows → low ≤ middle
+    → middle < high → slice_get rows middle ≡ Some x → id ≤ x.id → IsBetween rows id low high
+    → IsBetween rows id low middle
+between_earlier rows id low high middle x rise from before here more was = record {
+  ordered = from;
+  within = omega (arith, before, was.within);
+  below = was.below;
+  above = λ k d on lt.
+      let there = ap (λ (r : Row). r.id) (get_or_from_slice_get rows middle x d here) in
+      elim (cases_eq k middle) [
+        | inl e ↦ let same = ap (λ n. (get_or rows n d).id) e in omega (arith, same, there, more)
+        | inr ne ↦ let rising = ids_rise rows rise middle k d (omega (arith, on, ne)) lt in
+            omega (arith, rising, there, more)
+      ];
+}
+
+-- where the places meet, it stands there
+pub place_met : (rows : List Row) (id low high : ℕ) → RowsRise rows → high ≤ low → IsBetween rows id low high
+    → (k : ℕ) (d : Row) → k < length rows → (get_or rows k d).id ≡ id → low ≡ k
+place_met rows id low high rise met was k d lt same = elim (cases_lt k low) [
+  | inl less ↦ let under = was.below k d less in absurd (omega (arith, under, same))
+  | inr from ↦ elim (cases_eq low k) [
+    | inl e ↦ e
+    | inr ne ↦ absurd (
+        let inside : low < length rows = omega (arith, from, ne, lt) in
+        let first = was.above low d met inside in
+        let rising = ids_rise rows rise low k d (omega (arith, from, ne)) lt in
+        omega (arith, first, rising, same))
+  ]
+]

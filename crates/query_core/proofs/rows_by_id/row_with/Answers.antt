@@ -1,36 +1,32 @@
-use Rattle.std.proofs.Common.{◌≡◌, ℕ, ◌≤◌, length, get_or, sym, ap, ◌∙◌, arith, Some}
-use Rattle.std.specs.Prelude.{Option}
-use Rattle.std.proofs.lemmas.List.{get_or_read}
+use Rattle.std.proofs.Common.{◌≡◌, ◌<◌, length, get_or, sym, ap, ◌∙◌, arith}
+use Rattle.std.proofs.lemmas.Option.{get_or_from_slice_get}
 use Rattle.row_core.specs.declared.row.Row.{Row}
+use Rattle.table_core.specs.Lent.{lent_row}
 use Rattle.query_core.proofs.FoundRows.{find_at_place, find_nowhere}
 use Rattle.query_core.proofs.rows_by_id.row_with.Goals as goal
 
--- one thing is there
-one_answer : (o : Option ℕ) (p k : ℕ) → o ≡ Some p → o ≡ Some k → p ≡ k
-one_answer o p k e f = let same : ◌≡◌ {A = Option ℕ} (Some p) (Some k) = sym e ∙ f in cc
-
-pub returns-in_default : goal.returns-in_default
-returns-in_default c = find_nowhere c.args.rows.now c.args.id
-    (λ k d lt same. c.in_default.not-Some k (c.place_of.ensures k d lt same))
-
-pub returns-then-place-rows : goal.returns-then-place-rows
-returns-then-place-rows c = find_nowhere c.args.rows.now c.args.id
+pub returns-then-place-len : goal.returns-then-place-len
+returns-then-place-len c = find_nowhere c.args.rows.now c.args.id
     (λ k d lt same.
-    let place = one_answer c.place_of.result c.in-Some.place k c.in-Some.is (c.place_of.ensures k d lt same) in
-    let outside : length c.args.rows.now ≤ c.in-Some.place = c.if-place-rows.true in
-    omega (arith, place, lt, outside))
+    let place = c.place_of-place.ensures k d lt same in
+    omega (arith, place, lt, c.if-place-len.true, c.len.ensures))
 
-pub returns-then-row-id : goal.returns-then-row-id
-returns-then-row-id c =
-    find_at_place c.args.rows.now c.in-Some.place c.args.id c.index-rows-place.result c.requires.rise
-    c.if-place-rows.false c.index-rows-place.is c.if-row-id.true
+pub returns-then-id : goal.returns-then-id
+returns-then-id c =
+    let rows = c.args.rows.now in
+    let place = c.place_of-place.result in
+    let row = lent_row c.at-row.result in
+    let inside : place < length rows = omega (arith, c.if-place-len.false, c.len.ensures) in
+    find_at_place rows place c.args.id row c.requires.rise inside
+    (sym (get_or_from_slice_get rows place row row c.at-row.ensures)) (sym c.id.ensures ∙ c.if-id.true)
 
-pub returns-else-row-id : goal.returns-else-row-id
-returns-else-row-id c = find_nowhere c.args.rows.now c.args.id
+pub returns-else-id : goal.returns-else-id
+returns-else-id c = find_nowhere c.args.rows.now c.args.id
     (λ k d lt same.
-    let row = c.index-rows-place.result in
-    let place = one_answer c.place_of.result c.in-Some.place k c.in-Some.is (c.place_of.ensures k d lt same) in
-    let there : row ≡ get_or c.args.rows.now c.in-Some.place d =
-    get_or_read c.args.rows.now c.in-Some.place row c.if-place-rows.false c.index-rows-place.is d in
-    c.if-row-id.false
-    (ap (λ (r : Row). r.id) there ∙ ap (λ n. (get_or c.args.rows.now n d).id) place ∙ same))
+    let rows = c.args.rows.now in
+    let at = c.place_of-place.result in
+    let row = lent_row c.at-row.result in
+    let place = c.place_of-place.ensures k d lt same in
+    let there : get_or rows at d ≡ row = get_or_from_slice_get rows at row d c.at-row.ensures in
+    c.if-id.false
+    (c.id.ensures ∙ ap (λ (r : Row). r.id) (sym there) ∙ ap (λ n. (get_or rows n d).id) place ∙ same))
