@@ -4,9 +4,10 @@ use crate::fixtures::{name, period, schema, text};
 use book_core::{Book, Change, ChangeKind, Entry, Pairs, RowsRefused, Version, VersionsRefused};
 use list_core::DeepCopy;
 use period_core::Period;
-use row_core::{Draft, Drafts, Failure, Kind, Name, Row, Value, Values};
+use row_core::{Draft, Drafts, Failure, Kind, Name, Value, Values};
 use std::alloc::Global;
 use std::process::Abort;
+use table_core::{RowRef, SharedRows, ValueRef};
 
 // The pairs of the column `v` with a text, and of the column `k` with a number.
 fn pairs(rt: &(impl Abort + Alloc<A = Global>), v: Option<&[u8]>, k: Option<i64>) -> Pairs {
@@ -92,22 +93,35 @@ fn updated_book(rt: &(impl Abort + Alloc<A = Global>)) -> Book {
 }
 
 // Whether the rows have these ids and periods.
-fn are_portions(rows: &[Row], want: &[(u64, Period)]) -> bool {
-    rows.len() == want.len()
-        && rows
-            .iter()
-            .zip(want)
-            .all(|(row, want)| (row.id, row.period) == *want)
+fn are_portions(rows: &SharedRows, want: &[(u64, Period)]) -> bool {
+    if rows.len() != want.len() {
+        return false;
+    }
+    for place in 0..rows.len() {
+        let row = rows.at(place);
+        if (row.id(), row.period()) != want[place] {
+            return false;
+        }
+    }
+    true
 }
 
 // Whether the rows' texts are these.
-fn are_texts(rows: &[Row], want: &[&[u8]]) -> bool {
-    rows.len() == want.len() && rows.iter().zip(want).all(|(row, want)| is_text(row, want))
+fn are_texts(rows: &SharedRows, want: &[&[u8]]) -> bool {
+    if rows.len() != want.len() {
+        return false;
+    }
+    for place in 0..rows.len() {
+        if !is_text(rows.at(place), want[place]) {
+            return false;
+        }
+    }
+    true
 }
 
-fn is_text(row: &Row, want: &[u8]) -> bool {
-    match row.values.get(0) {
-        Some(Value::Text(text)) => text.as_bytes() == want,
+fn is_text(row: RowRef<'_>, want: &[u8]) -> bool {
+    match row.value(0) {
+        Some(ValueRef::Text(text)) => text.as_bytes() == want,
         _ => false,
     }
 }
@@ -121,8 +135,8 @@ fn check_rows(
     texts: &[&[u8]],
 ) {
     let rows = book.rows_at(commit, name(rt, b"u")).expect(rt, "rows");
-    assert!(rt; are_portions(rows.as_slice(), portions));
-    assert!(rt; are_texts(rows.as_slice(), texts));
+    assert!(rt; are_portions(&rows, portions));
+    assert!(rt; are_texts(&rows, texts));
 }
 
 #[test]
