@@ -77,7 +77,7 @@ fn ask_versions(book: &Book, table: Name) -> Result<(), Ended> {
 fn ask(alloc: Global, book: &mut Book) -> Result<(), Ended> {
     let table = name(b"u")?;
     let rows = book.rows_at(2, table)?;
-    holds(rows.len() == 1 && rows.list().get(0).is_some_and(|row| row.id == 1))?;
+    holds(rows.len() == 1 && rows.at(0).id() == 1)?;
     ask_versions(book, table)?;
     holds(book.log()?.len() == 3)?;
     refuses(book.rows_at(4, table), RowsRefused::Future)?;
