@@ -1,12 +1,16 @@
 -- Answers, printed record by record.
-use Rattle.std.proofs.Common.{◌≡◌, ℕ, zero, suc, ◌+◌, ◌<◌, ◌≤◌, ℤ, drop, take, length-take, List, [], ◌∷◌, ◌++◌, Option, false, length, refl, sym, ap, ◌∙◌, arith, append_assoc, append-nil, cond, map}
-use Rattle.std.specs.Prelude.{codes, get_or}
+use Rattle.std.proofs.Common.{◌≡◌, ℕ, zero, suc, ◌+◌, ◌-◌, ◌<◌, ◌≤◌, ℤ, drop, take, min, unwrap_or, length-take, List, [], ◌∷◌, ◌++◌, Option, Some, false, length, refl, sym, ap, ◌∙◌, arith, append_assoc, append-nil, cond, map}
+use Rattle.std.specs.Prelude.{codes, get_or, slice_get}
 use Rattle.std.proofs.lemmas.List.Concat.{flat_map-append}
 use Rattle.std.proofs.lemmas.List.Sums.{sum_by-cons}
-use Rattle.std.proofs.Math.Seq.{take-suc}
-use Rattle.std.proofs.lemmas.List.{drop-append-le}
+use Rattle.std.proofs.lemmas.List.{drop-append-le, drop-take}
+use Rattle.std.proofs.lemmas.Option.{slice_get-get_or, slice_get_within}
 use Rattle.csv.specs.Writing.{row_text}
+use Rattle.share_core.proofs.PieceLemmas.{piece-part}
+use Rattle.share_core.specs.Pieces.{piece}
+use Rattle.share_core.specs.declared.range.Range.{Range}
 use Rattle.row_core.specs.declared.row.Row.{Row}
+use Rattle.table_core.proofs.PlaceLemmas.{take-one_more}
 use Rattle.book_core.specs.declared.log.Entry.{Entry}
 use Rattle.version_core.specs.declared.version.Version.{Version}
 use Rattle.cert_core.specs.declared.verdict.Verdict.{Verdict}
@@ -68,32 +72,49 @@ errors_in-division rows parts instant =
       errors_in-part_records 0 parts,
     )
 
--- from a place on, the bytes of one more part
-pub bytes-part : (a b c : List ℕ) (parts : List (List Item)) (from k : ℕ) (items : List Item)
-    → from ≤ k → k < length parts → items ≡ part_at parts k
-    → b ≡ a ++ bytes_of (drop from (take k (part_records 0 parts)))
-    → c ≡ b ++ row_text answer_writer (part_record k items)
-    → c ≡ a ++ bytes_of (drop from (take (k + 1) (part_records 0 parts)))
-bytes-part a b c parts from k items le lt is first second =
-    let records = part_records 0 parts in
+-- from a place on, the bytes of one more record
+pub bytes-next : (a b c : List ℕ) (records : List Record) (from k : ℕ) (line : Record)
+    → from ≤ k → slice_get records k ≡ Some line
+    → b ≡ a ++ bytes_of (drop from (take k records))
+    → c ≡ b ++ row_text answer_writer line
+    → c ≡ a ++ bytes_of (drop from (take (k + 1) records))
+bytes-next a b c records from k line le is first second =
     let front = drop from (take k records) in
-    let next : k + 1 ≡ suc k = omega arith in
-    let within : k < length records = omega (arith, lt, length-part_records 0 parts) in
+    let within : k < length records = slice_get_within records k line is in
     let enough : from ≤ length (take k records) = omega (arith, le, within, length-take k records) in
-    let same : 0 + k ≡ k = omega arith in
-    let last : get_or records k [] ≡ part_record k items =
-    part_records-at 0 parts k lt ∙ ap (λ n. part_record n (part_at parts k)) same ∙ ap (part_record k) (sym is) in
-    let all : drop from (take (k + 1) records) ≡ front ++ part_record k items ∷ [] =
-    ap (λ n. drop from (take n records)) next
-    ∙ ap (drop from) (take-suc records k [] within ∙ ap (λ (r : Record). take k records ++ r ∷ []) last)
-    ∙ drop-append-le from (take k records) (part_record k items ∷ []) enough in
+    let all : drop from (take (k + 1) records) ≡ front ++ line ∷ [] =
+    ap (drop from) (sym (take-one_more records k line is)) ∙ drop-append-le from (take k records) (line ∷ []) enough in
     second
-    ∙ (ap (λ t. t ++ row_text answer_writer (part_record k items)) first
-    ∙ (append_assoc a (bytes_of front) (row_text answer_writer (part_record k items))
+    ∙ (ap (λ t. t ++ row_text answer_writer line) first
+    ∙ (append_assoc a (bytes_of front) (row_text answer_writer line)
     ∙ ap (λ t. a ++ t)
-    (ap (λ t. bytes_of front ++ t) (sym (append-nil (row_text answer_writer (part_record k items))))
-    ∙ (sym (flat_map-append (row_text answer_writer) front (part_record k items ∷ []))
+    (ap (λ t. bytes_of front ++ t) (sym (append-nil (row_text answer_writer line)))
+    ∙ (sym (flat_map-append (row_text answer_writer) front (line ∷ []))
     ∙ ap bytes_of (sym all)))))
+
+-- the record of a part stands at its place
+pub part_records-get : (parts : List (List Item)) (k : ℕ) (items : List Item)
+    → k < length parts → items ≡ part_at parts k
+    → slice_get (part_records 0 parts) k ≡ Some (part_record k items)
+part_records-get parts k items lt is =
+    let records = part_records 0 parts in
+    let within : k < length records = omega (arith, lt, length-part_records 0 parts) in
+    let same : 0 + k ≡ k = omega arith in
+    slice_get-get_or records k [] within
+    ∙ ap Some (part_records-at 0 parts k lt ∙ ap (λ n. part_record n (part_at parts k)) same ∙ ap (part_record k) (sym is))
+
+-- from a place on to another, the bytes of a range's records
+pub bytes-piece : (a b : List ℕ) (records : List Record) (places : Range ℕ) (start end : ℕ)
+    → b ≡ a ++ bytes_of (drop start (take end records)) → start ≤ end
+    → end ≡ min (unwrap_or places.before (length records)) (length records)
+    → start ≡ min (unwrap_or places.from 0) end
+    → b ≡ a ++ bytes_of (piece places records)
+bytes-piece a b records places start end all ordered before from =
+    let whole : end ≡ start + (end - start) = omega (arith, ordered) in
+    all
+    ∙ ap (λ some. a ++ bytes_of some)
+    (ap (λ n. drop start (take n records)) whole ∙ drop-take start (end - start) records
+    ∙ sym (piece-part places start end records before from))
 
 -- a list of records of which none tells of a refusal, and its end
 errors_in-list : {T : Type 0} (record_of : T → Record) → ((x : T) → begins (codes "error") (record_of x) ≡ false)

@@ -6,10 +6,11 @@ ghost use Rattle.answer_core.specs.PrintedRecords.{IsPrintedAs, errors_in};
 use crate::joined::Joined;
 use crate::unmatched::Unmatched;
 use agg_core::AggRows;
-use book_core::{Log, SharedRows, VersionList};
+use book_core::{Log, VersionList};
 use cert_core::Verdict;
 use command_core::Fault;
 use dip_core::Division;
+use table_core::SharedRows;
 
 /// What a command is answered.
 #[derive(Drop)]

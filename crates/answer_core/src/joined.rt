@@ -3,11 +3,11 @@ ghost use Rattle.std.specs.Prelude.{◌≡◌, IfOk};
 ghost use Rattle.row_core.specs.Rows.{RowsRise};
 
 use crate::row_values::RowValues;
-use book_core::SharedRows;
 use join_core::{JoinRow, JoinRows};
 use period_core::NoMemory;
 use std::alloc::Global;
 use std::marker::Model;
+use table_core::SharedRows;
 
 /// The rows of two tables, by rising id, and which of them were joined.
 #[derive(Drop)]
@@ -48,13 +48,13 @@ impl Joined {
     pub(crate) fn left_values(&self, alloc: Global) -> Result<RowValues<'_>, NoMemory>
         ensures { IfOk result (λ values. values ≡ self.now.left) }
     {
-        RowValues::new(alloc, self.left.list())
+        RowValues::new(alloc, &self.left)
     }
 
     /// Those of the right table's.
     pub(crate) fn right_values(&self, alloc: Global) -> Result<RowValues<'_>, NoMemory>
         ensures { IfOk result (λ values. values ≡ self.now.right) }
     {
-        RowValues::new(alloc, self.right.list())
+        RowValues::new(alloc, &self.right)
     }
 }

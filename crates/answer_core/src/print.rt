@@ -1,6 +1,8 @@
 //! Prints answers: refusals, accepted changes, rows and versions here.
 ghost use Rattle.std.specs.Prelude.{◌≡◌, [], ◌∷◌, ◌++◌, List, OnErr, OnOk, map};
 ghost use Rattle.csv.specs.Writing.{row_text};
+ghost use Rattle.share_core.specs.Pieces.{piece};
+ghost use Rattle.table_core.specs.Lent.{lent_row};
 ghost use Rattle.answer_core.specs.PrintedRecords.{IsPrintedAs, commit_records, end_record, end_text, error_record, ok_record, row_record, row_records, together_record, verdict_record, version_record, version_records};
 ghost use Rattle.answer_core.specs.RecordBytes.{answer_writer, bytes_of, field_behind};
 ghost use Rattle.answer_core.specs.Unwritten.{Adds};
@@ -10,26 +12,26 @@ use crate::answer::Answer;
 use crate::ranges::RecordList;
 use crate::record_text::RecordText;
 use crate::writer::AnswerWriter;
-use book_core::{Log, SharedRows, Version, VersionList};
+use book_core::{Log, Version, VersionList};
 use cert_core::Verdict;
 use command_core::Fault;
 use period_core::NoMemory;
-use row_core::Row;
-use share_core::{Range, piece};
+use share_core::{Range, piece, places_within};
 use std::thread::Threads;
+use table_core::{RowRef, SharedRows};
 use work_core::Crew;
 
 /// The records of rows.
 #[derive(Drop)]
 struct RowRecords<'a> {
-    rows: &'a [Row],
+    rows: &'a SharedRows,
 }
 
 impl<'a> RecordList for RowRecords<'a> {
     ghost records = { λ r. map row_record r.rows.now };
 
     fn print_piece(&self, text: &mut RecordText, places: Range<usize>) -> Result<(), NoMemory> {
-        text.rows(piece(places, self.rows))
+        text.some_rows(self.rows, places)
     }
 }
 
@@ -143,10 +145,7 @@ impl AnswerWriter {
     ) -> Result<(), NoMemory>
         ensures { OnOk result (Adds self.old self.new (row_records rows.now)) }
     {
-        let records = RowRecords {
-            rows: rows.as_slice(),
-        };
-        self.by_places(crew, rows.len(), &records)?;
+        self.by_places(crew, rows.len(), &RowRecords { rows })?;
         self.end(rows.len() as u64)
     }
 
@@ -196,22 +195,26 @@ impl RecordText {
         self.end()
     }
 
-    fn rows(&mut self, rows: &[Row]) -> Result<(), NoMemory>
-        ensures { OnOk result (self.new ≡ self.old ++ bytes_of (map row_record rows.now)) }
+    /// The rows of a range of places.
+    fn some_rows(&mut self, rows: &SharedRows, places: Range<usize>) -> Result<(), NoMemory>
+        ensures { OnOk result (self.new ≡ self.old
+            ++ bytes_of (piece places (map row_record rows.now))) }
     {
-        for row in rows {
-            self.row(row)?;
+        let (start, end) = places_within(places, rows.len());
+        for place in start..end {
+            self.row(rows.at(place))?;
         }
         Ok(())
     }
 
-    fn row(&mut self, row: &Row) -> Result<(), NoMemory>
-        ensures { OnOk result (self.new ≡ self.old ++ row_text answer_writer (row_record row.now)) }
+    fn row(&mut self, row: RowRef<'_>) -> Result<(), NoMemory>
+        ensures { OnOk result (self.new
+            ≡ self.old ++ row_text answer_writer (row_record (lent_row row.entry))) }
     {
         self.begin(b"row")?;
-        self.number(row.id)?;
-        self.period(&row.period)?;
-        self.values(row.values.as_slice())?;
+        self.number(row.id())?;
+        self.period(&row.period())?;
+        self.lent_values(row)?;
         self.end()
     }
 

@@ -16,6 +16,7 @@ use period_core::NoMemory;
 use row_core::Value;
 use share_core::{Range, piece};
 use std::thread::Threads;
+use table_core::ValueRef;
 use work_core::Crew;
 
 /// The records of some plateaus of a share.
@@ -111,7 +112,7 @@ impl RecordText {
             ++ fields_text answer_writer (group_fields (option_copied group.entry))) }
     {
         match group {
-            Some(value) => self.value(value),
+            Some(value) => self.value(ValueRef::from(value)),
             None => Ok(()),
         }
     }

@@ -80,7 +80,7 @@ impl RecordText {
         self.begin(b"row")?;
         self.number(row.id)?;
         self.period(&row.period)?;
-        self.values(left.of(row.id))?;
+        self.values_of(left.of(row.id))?;
         self.end()
     }
 }

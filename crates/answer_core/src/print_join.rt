@@ -79,8 +79,8 @@ impl RecordText {
             ≡ self.old ++ row_text answer_writer (join_record left.now right.now row.now)) }
     {
         self.join_front(row)?;
-        self.values(left.of(row.left))?;
-        self.values(right.of(row.right))?;
+        self.values_of(left.of(row.left))?;
+        self.values_of(right.of(row.right))?;
         self.end()
     }
 

@@ -2,8 +2,10 @@
 //! the quotes that they call for.
 ghost use Rattle.std.specs.Prelude.{◌≡◌, ◌∷◌, ◌++◌, [], OnOk, decimal, false, map, true};
 ghost use Rattle.std.specs.Fmt.{signed_decimal};
+ghost use Rattle.std.specs.Option.{option_map_or};
 ghost use Rattle.csv.specs.Writing.{escaped, fields_text, needs_byte, needs_quotes};
 ghost use Rattle.period_core.specs.Point.{point_text};
+ghost use Rattle.table_core.specs.Lent.{lent_row, lent_value};
 ghost use Rattle.answer_core.specs.PrintedRecords.{value_text};
 ghost use Rattle.answer_core.specs.RecordBytes.{answer_writer, field_behind};
 
@@ -13,6 +15,7 @@ use period_core::{NoMemory, Period, Point};
 use row_core::Value;
 use std::alloc::Global;
 use std::marker::Model;
+use table_core::{RowRef, ValueRef};
 
 /// The text of records, one behind another, of which the last may not have ended. Contracts see its bytes.
 #[derive(Drop)]
@@ -119,15 +122,16 @@ impl RecordText {
     }
 
     /// Adds a value.
-    pub(crate) fn value(&mut self, value: &Value) -> Result<(), NoMemory>
-        ensures { OnOk result (self.new ≡ self.old ++ field_behind (value_text value.now)) }
+    pub(crate) fn value(&mut self, value: ValueRef<'_>) -> Result<(), NoMemory>
+        ensures { OnOk result
+            (self.new ≡ self.old ++ field_behind (value_text (lent_value value.entry))) }
     {
         match value {
-            Value::Int(number) => {
+            ValueRef::Int(number) => {
                 let mut digits = Buffer::new();
-                push_field(&mut self.bytes, digits.format(*number).as_bytes())
+                push_field(&mut self.bytes, digits.format(number).as_bytes())
             }
-            Value::Text(text) => push_field(&mut self.bytes, text.as_bytes()),
+            ValueRef::Text(text) => push_field(&mut self.bytes, text.as_bytes()),
         }
     }
 
@@ -137,9 +141,34 @@ impl RecordText {
             (self.new ≡ self.old ++ fields_text answer_writer (map value_text values.now)) }
     {
         for value in values {
+            self.value(ValueRef::from(value))?;
+        }
+        Ok(())
+    }
+
+    /// Adds the values of a row.
+    pub(crate) fn lent_values(&mut self, row: RowRef<'_>) -> Result<(), NoMemory>
+        ensures { OnOk result (self.new ≡ self.old
+            ++ fields_text answer_writer (map value_text (lent_row row.entry).values)) }
+    {
+        for column in 0..row.width() {
+            let Some(value) = row.value(column) else {
+                unreachable!()
+            };
             self.value(value)?;
         }
         Ok(())
+    }
+
+    /// Adds the values of a row, where there is one.
+    pub(crate) fn values_of(&mut self, row: Option<RowRef<'_>>) -> Result<(), NoMemory>
+        ensures { OnOk result (self.new ≡ self.old ++ fields_text answer_writer (map value_text
+            (option_map_or (λ row. (lent_row row).values) row.entry []))) }
+    {
+        match row {
+            Some(row) => self.lent_values(row),
+            None => Ok(()),
+        }
     }
 }
 

@@ -1,13 +1,15 @@
 //! The values of rows, by the rows' ids.
 ghost use Rattle.std.specs.Prelude.{◌≡◌, [], All, IfOk, IsTrue};
+ghost use Rattle.std.specs.Option.{option_map_or};
 ghost use Rattle.row_core.specs.Rows.{RowsRise};
+ghost use Rattle.table_core.specs.Lent.{lent_row};
 ghost use Rattle.answer_core.specs.JoinedRows.{values_with};
 
 use period_core::NoMemory;
 use query_core::RowsById;
-use row_core::{Row, RowList, Value};
 use std::alloc::Global;
 use std::marker::Model;
+use table_core::{RowRef, SharedRows};
 
 /// Rows whose values are found by their ids. Contracts see the list of the rows.
 #[derive(Drop)]
@@ -30,33 +32,36 @@ impl<'a> Model for RowValues<'a> {
 
 impl<'a> RowValues<'a> {
     /// The values of these rows.
-    pub(crate) fn new(alloc: Global, rows: &'a RowList) -> Result<RowValues<'a>, NoMemory>
+    pub(crate) fn new(alloc: Global, rows: &'a SharedRows) -> Result<RowValues<'a>, NoMemory>
         requires { RowsRise rows.now }
         ensures { IfOk result (λ values. values ≡ rows.entry.now) }
     {
         Ok(RowValues {
             rows: RowsById::new(alloc, rows)?,
-            bare: are_bare(rows.as_slice()),
+            bare: are_bare(rows),
         })
     }
 
-    /// The values of the row of that id; none where there is no such row.
-    pub(crate) fn of(&self, id: u64) -> &[Value]
-        ensures { result.now ≡ values_with self.now id }
+    /// The row of that id, which has its values; none where no row has values, or none has that id.
+    pub(crate) fn of(&self, id: u64) -> Option<RowRef<'a>>
+        ensures { option_map_or (λ row. (lent_row row).values) result []
+            ≡ values_with self.now id }
     {
         if self.bare {
-            return &[];
+            return None;
         }
-        match self.rows.get(id) {
-            Some(row) => row.values.as_slice(),
-            None => &[],
-        }
+        self.rows.get(id)
     }
 }
 
 /// Whether no row has values, as in a table without columns.
-fn are_bare(rows: &[Row]) -> bool
+fn are_bare(rows: &SharedRows) -> bool
     ensures { IsTrue result → All (λ row. row.values ≡ []) rows.now }
 {
-    rows.iter().all(|row| row.values.as_slice().is_empty())
+    for place in 0..rows.len() {
+        if rows.at(place).width() > 0 {
+            return false;
+        }
+    }
+    true
 }

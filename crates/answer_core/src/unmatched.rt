@@ -4,10 +4,10 @@ ghost use Rattle.row_core.specs.Rows.{RowsRise};
 
 use crate::row_values::RowValues;
 use anti_core::AntiRows;
-use book_core::SharedRows;
 use period_core::NoMemory;
 use std::alloc::Global;
 use std::marker::Model;
+use table_core::SharedRows;
 
 /// The left table's rows, by rising id, and when each held with no right row that matched it.
 #[derive(Drop)]
@@ -47,6 +47,6 @@ impl Unmatched {
     pub(crate) fn left_values(&self, alloc: Global) -> Result<RowValues<'_>, NoMemory>
         ensures { IfOk result (λ values. values ≡ self.now.left) }
     {
-        RowValues::new(alloc, self.left.list())
+        RowValues::new(alloc, &self.left)
     }
 }

@@ -17,8 +17,9 @@ loop-value-preserved c =
     let old = c.args.self.now in
     let front = fields_text answer_writer (map value_text (take i values)) in
     c.in_ok-value.ensures
+    ∙ (ap (λ x. c.loop-value.self ++ field_behind (value_text x)) c.from.ensures
     ∙ (ap (λ t. t ++ field_behind (value_text v)) c.loop-value.invariant
     ∙ (append_assoc old front (field_behind (value_text v))
     ∙ ap (λ t. old ++ t)
     (ap (λ x. front ++ field_behind (value_text x)) c.value-item.is
-    ∙ sym (fields_so_far value_text values i v c.loop-value-test.true))))
+    ∙ sym (fields_so_far value_text values i v c.loop-value-test.true)))))

@@ -1,8 +1,10 @@
-use Rattle.std.proofs.Common.{◌≡◌, ◌==◌, ℕ, List, [], ◌∷◌, Bool, true, false, cond, Option, Some, refl, rules}
-use Rattle.std.specs.Prelude.{All, find}
+use Rattle.std.proofs.Common.{◌≡◌, ◌==◌, ◌∙◌, ℕ, List, [], ◌∷◌, Bool, true, false, cond, Option, None, Some, ap, refl, rules}
+use Rattle.std.specs.Prelude.{All, find, option_map}
 use Rattle.std.specs.Option.{option_map_or}
 use Rattle.std.proofs.lemmas.List.Elements.{All-head, All-tail}
 use Rattle.row_core.specs.declared.row.Row.{Row}
+use Rattle.table_core.specs.Lent.{lent_row}
+use Rattle.table_core.specs.declared.row_ref.RowRef.{RowRef}
 use Rattle.answer_core.specs.JoinedRows.{values_with}
 use Rattle.answer_core.proofs.row_values.RowValues.of.Goals as goal
 
@@ -22,3 +24,15 @@ bare_values (r ∷ rs) id bare =
 pub returns-then-self : goal.returns-then-self
 returns-then-self c =
     let none = bare_values c.self.inside.rows c.args.id (c.self.invariant c.if-self.true) in search rules
+
+-- the values of a row that is lent
+lent_values : (row : Option RowRef)
+    → option_map_or (λ (r : RowRef). (lent_row r).values) row []
+    ≡ option_map_or (λ (r : Row). r.values) (option_map lent_row row) []
+lent_values None = refl
+lent_values (Some row) = refl
+
+pub returns : goal.returns
+returns c =
+    let same = lent_values c.get.result ∙ ap (λ row. option_map_or (λ (r : Row). r.values) row []) c.get.ensures in
+    search rules
