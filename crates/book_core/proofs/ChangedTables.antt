@@ -7,7 +7,8 @@ use Rattle.list_core.proofs.MadeLemmas.{count-cons}
 use Rattle.row_core.specs.declared.row.Row.{Row}
 use Rattle.row_core.specs.declared.schema.Column.{Column}
 use Rattle.version_core.specs.Limits.{version_limit}
-use Rattle.version_core.specs.Rows.{drafts_of, numbered, removes}
+use Rattle.table_core.specs.Numbered.{numbered}
+use Rattle.version_core.specs.Rows.{drafts_of, removes}
 use Rattle.version_core.specs.OpenVersions.{closed, current, versions_after}
 use Rattle.version_core.specs.Made.{made}
 use Rattle.version_core.specs.Shown.{shown}

@@ -14,6 +14,7 @@ use Rattle.book_core.specs.History.{History, state_after, rows_at}
 use Rattle.book_core.specs.Versions.{new_ids, change_kind, entry_at, entries_from, log_of}
 use Rattle.book_core.specs.StoredTables.{kept_table, StoredTable, IsBook, table_at, kept_tables_from, IsWellKept, added_in, closed_in}
 use Rattle.book_core.specs.declared.commit.Commit.{Commit}
+use Rattle.book_core.specs.declared.log.ChangeKind.{ChangeKind}
 use Rattle.book_core.specs.declared.log.Entry.{Entry}
 use Rattle.book_core.specs.declared.refusal.BookRefused.TheVariants.{TableExists, TooMany, Full}
 use Rattle.book_core.proofs.Accepted.{first-none}
@@ -231,6 +232,17 @@ new_entry n by c ts =
           (kept_table (table_named c) ts);
       closed = closed_in n c (kept_table (table_named c) ts);
     }
+
+-- an entry of the change's kind and table
+pub named_entry : (n by added took : ℕ) (c : Change) (kind : ChangeKind) (table : List ℕ) (entry : Entry)
+    → kind ≡ change_kind c → table ≡ table_named c
+    → entry ≡ record { number = n + 1; by = by; kind = kind; table = table; added = added; closed = took }
+    → entry
+    ≡ record { number = n + 1; by = by; kind = change_kind c; table = table_named c; added = added; closed = took }
+named_entry n by added took c kind table entry k t h =
+    h
+    ∙ ap (λ w. record { number = n + 1; by = by; kind = w; table = table; added = added; closed = took }) k
+    ∙ ap (λ w. record { number = n + 1; by = by; kind = change_kind c; table = w; added = added; closed = took }) t
 
 -- an entry of those counts
 pub entry_same : (n m by added took : ℕ) (c : Change) (ts : List StoredTable) (entry : Entry) → n ≡ m

@@ -4,7 +4,8 @@ use Rattle.std.specs.Prelude.{filter, fold, option_map, unwrap_or, bytes_eq}
 use Rattle.std.specs.List.{AllByRecursion}
 use Rattle.row_core.specs.Rows.{RowsRise}
 use Rattle.row_core.specs.declared.row.Row.{Row}
-use Rattle.version_core.specs.Rows.{drafts_of, numbered, removes}
+use Rattle.table_core.specs.Numbered.{numbered}
+use Rattle.version_core.specs.Rows.{drafts_of, removes}
 use Rattle.version_core.specs.declared.change.Change.{Change}
 use Rattle.version_core.specs.declared.change.Change.TheVariants.{Make, Load, Update, Delete}
 use Rattle.book_core.specs.History.{History, rows_at, state_after}

@@ -19,7 +19,8 @@ use Rattle.row_core.specs.declared.value.Value.{Value}
 use Rattle.key_core.proofs.Replaced.{append-all, append-parts}
 use Rattle.version_core.specs.Limits.{version_limit}
 use Rattle.book_core.specs.Limits.{commit_limit}
-use Rattle.version_core.specs.Rows.{Pair, drafts_of, is_touched, numbered, part, parts_of, removes, set_at}
+use Rattle.table_core.specs.Numbered.{numbered}
+use Rattle.version_core.specs.Rows.{Pair, drafts_of, is_touched, part, parts_of, removes, set_at}
 use Rattle.version_core.specs.OpenVersions.{closed}
 use Rattle.version_core.specs.Made.{made}
 use Rattle.version_core.specs.Shown.{shown, shows}

@@ -15,6 +15,7 @@ ghost use Rattle.book_core.specs.Limits.{commit_limit};
 ghost use Rattle.book_core.specs.State.{changed, tests_of, pair_tests, full_tests, table_named};
 ghost use Rattle.book_core.specs.StoredTables.{IsUnbroken, overlap_in, kept_table, table_at, at_kept, kept_tables_after, kept_table_after, added_in, closed_in, HasRoom, IsTimely, IsWellKept};
 
+use crate::log::table_of;
 use crate::pairs::pairs_refusal;
 use crate::refusal::BookRefused;
 use crate::table::{Table, place_of};
@@ -117,30 +118,31 @@ pub(crate) fn change_tables(
     alloc: Global,
     tables: &mut Vec<Table>,
     commits: u64,
-    change: &Change,
+    change: Change,
 ) -> Result<VersionCounts, Failure<KeyOverlap>>
     requires few { commits < commit_limit }
-    requires room { HasRoom commits change.now tables.old.items }
-    requires well { IfSome (kept_table (table_named change.now) tables.old.items)
+    requires room { HasRoom commits change tables.old.items }
+    requires well { IfSome (kept_table (table_named change) tables.old.items)
         (IsWellKept commits) }
-    requires unbroken { IfSome (kept_table (table_named change.now) tables.old.items) IsUnbroken }
-    ensures ok { OnOk result (tables.new.items ≡ kept_tables_after commits tables.old.items change.now) }
+    requires unbroken { IfSome (kept_table (table_named change) tables.old.items) IsUnbroken }
+    ensures ok { OnOk result (tables.new.items ≡ kept_tables_after commits tables.old.items change) }
     ensures added { IfOk result (λ counts. counts.added
-        ≡ added_in commits change.now (kept_table (table_named change.now) tables.old.items)) }
+        ≡ added_in commits change (kept_table (table_named change) tables.old.items)) }
     ensures closed { IfOk result (λ counts. counts.closed
-        ≡ closed_in commits change.now (kept_table (table_named change.now) tables.old.items)) }
-    ensures apart { OnOk result (overlap_in commits change.now
-        (kept_table (table_named change.now) tables.old.items) ≡ false) }
+        ≡ closed_in commits change (kept_table (table_named change) tables.old.items)) }
+    ensures apart { OnOk result (overlap_in commits change
+        (kept_table (table_named change) tables.old.items) ≡ false) }
     ensures overlap { IfErr result (λ failure. failure ≢ NoMemory
-        → overlap_in commits change.now
-        (kept_table (table_named change.now) tables.old.items) ≡ true) }
+        → overlap_in commits change
+        (kept_table (table_named change) tables.old.items) ≡ true) }
     ensures err { OnErr result (tables.new.items ≡ tables.old.items) }
 {
-    match change {
-        Change::Make { table, schema } => Ok(add_table(alloc, tables, *table, schema)?),
-        Change::Load { table, .. } => change_table(alloc, tables, commits, *table, change),
-        Change::Update { table, .. } => change_table(alloc, tables, commits, *table, change),
-        Change::Delete { table, .. } => change_table(alloc, tables, commits, *table, change),
+    let name = table_of(&change);
+    match &change {
+        Change::Make { schema, .. } => Ok(add_table(alloc, tables, name, schema)?),
+        Change::Load { .. } => change_table(alloc, tables, commits, name, change),
+        Change::Update { .. } => change_table(alloc, tables, commits, name, change),
+        Change::Delete { .. } => change_table(alloc, tables, commits, name, change),
     }
 }
 
@@ -175,23 +177,23 @@ fn change_table(
     tables: &mut Vec<Table>,
     commits: u64,
     name: Name,
-    change: &Change,
+    change: Change,
 ) -> Result<VersionCounts, Failure<KeyOverlap>>
     requires few { commits < commit_limit }
     requires room { IfSome (kept_table name tables.old.items)
-        (λ t. (changed change.now (table_at commits t)).used ≤ version_limit) }
+        (λ t. (changed change (table_at commits t)).used ≤ version_limit) }
     requires well { IfSome (kept_table name tables.old.items) (IsWellKept commits) }
     requires unbroken { IfSome (kept_table name tables.old.items) IsUnbroken }
     ensures ok { OnOk result (tables.new.items
-        ≡ at_kept name (kept_table_after commits change.now) tables.old.items) }
+        ≡ at_kept name (kept_table_after commits change) tables.old.items) }
     ensures added { IfOk result (λ counts. counts.added
-        ≡ added_in commits change.now (kept_table name tables.old.items)) }
+        ≡ added_in commits change (kept_table name tables.old.items)) }
     ensures closed { IfOk result (λ counts. counts.closed
-        ≡ closed_in commits change.now (kept_table name tables.old.items)) }
+        ≡ closed_in commits change (kept_table name tables.old.items)) }
     ensures apart { OnOk result
-        (overlap_in commits change.now (kept_table name tables.old.items) ≡ false) }
+        (overlap_in commits change (kept_table name tables.old.items) ≡ false) }
     ensures overlap { IfErr result (λ failure. failure ≢ NoMemory
-        → overlap_in commits change.now (kept_table name tables.old.items) ≡ true) }
+        → overlap_in commits change (kept_table name tables.old.items) ≡ true) }
     ensures err { OnErr result (tables.new.items ≡ tables.old.items) }
 {
     let Some(at) = place_of(tables, name) else {
@@ -212,21 +214,21 @@ fn change_versions(
     shared: &mut Arc<Versions>,
     schema: &Schema,
     commit: u32,
-    change: &Change,
+    change: Change,
 ) -> Result<VersionCounts, Failure<KeyOverlap>>
     requires room { length (arc_value shared.old)
-        + length (drafts_of change.now schema.now (current (arc_value shared.old))) ≤ version_limit }
+        + length (drafts_of change schema.now (current (arc_value shared.old))) ≤ version_limit }
     requires unbroken { break_key (key_of schema.now)
         (map unnumbered (current (arc_value shared.old))) ≡ false }
     ensures ok { OnOk result (arc_value shared.new
-        ≡ versions_after commit change.now schema.now (arc_value shared.old)) }
+        ≡ versions_after commit change schema.now (arc_value shared.old)) }
     ensures counts { IfOk result (λ counts.
-        (counts.added ≡ length (drafts_of change.now schema.now (current (arc_value shared.old))))
+        (counts.added ≡ length (drafts_of change schema.now (current (arc_value shared.old))))
         × (counts.closed
-        ≡ count_by (removes change.now schema.now) (current (arc_value shared.old)))) }
-    ensures apart { OnOk result (overlap_after change.now schema.now (arc_value shared.old) ≡ false) }
+        ≡ count_by (removes change schema.now) (current (arc_value shared.old)))) }
+    ensures apart { OnOk result (overlap_after change schema.now (arc_value shared.old) ≡ false) }
     ensures overlap { IfErr result (λ failure. failure ≢ NoMemory
-        → overlap_after change.now schema.now (arc_value shared.old) ≡ true) }
+        → overlap_after change schema.now (arc_value shared.old) ≡ true) }
     ensures err { OnErr result (arc_value shared.new ≡ arc_value shared.old) }
 {
     match Arc::get_mut(shared) {

@@ -17,7 +17,7 @@ ghost use Rattle.book_core.specs.Versions.{AreBetween, AreFromTo, log_of};
 
 use crate::apply::{COMMIT_LIMIT, change_tables, refusal_in};
 use crate::commit::{Commit, Commits};
-use crate::log::{Entry, Log, entry_of};
+use crate::log::{Entry, Log, change_kind, entry_of, table_of};
 use crate::refusal::{BookRefused, NoTable, RowsRefused, VersionsRefused, overlap_failure};
 use crate::table::{Table, find_table};
 use list_core::copy_each;
@@ -121,12 +121,16 @@ impl Book {
         }
         let commits = self.commits();
         self.log.reserve(1)?;
-        let counts = match change_tables(self.alloc, &mut self.tables, commits, &change) {
+        let kind = change_kind(&change);
+        let table = table_of(&change);
+        let commit = Commit { by, change };
+        let history = self.history.followed_by(&commit);
+        let counts = match change_tables(self.alloc, &mut self.tables, commits, commit.change) {
             Ok(counts) => counts,
             Err(why) => return Err(overlap_failure(why)),
         };
-        let entry = entry_of(commits, by, &change, counts);
-        self.history = self.history.followed_by(&Commit { by, change });
+        self.history = history;
+        let entry = entry_of(commits, by, kind, table, counts);
         match self.log.push(entry) {
             Ok(()) => Ok(commits + 1),
             Err(_) => unreachable!(),

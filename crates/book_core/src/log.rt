@@ -58,13 +58,19 @@ pub struct Entry {
 pub type Log = List<Entry>;
 
 /// What the log has of one more commit.
-pub(crate) fn entry_of(commits: u64, by: u32, change: &Change, counts: VersionCounts) -> Entry
+pub(crate) fn entry_of(
+    commits: u64,
+    by: u32,
+    kind: ChangeKind,
+    table: Name,
+    counts: VersionCounts,
+) -> Entry
     requires { commits < commit_limit }
     ensures { result ≡ record {
       number = commits + 1;
       by = by;
-      kind = change_kind change.now;
-      table = table_named change.now;
+      kind = kind;
+      table = table;
       added = counts.added;
       closed = counts.closed;
     } }
@@ -72,15 +78,15 @@ pub(crate) fn entry_of(commits: u64, by: u32, change: &Change, counts: VersionCo
     Entry {
         number: commits + 1,
         by,
-        kind: change_kind(change),
-        table: table_of(change),
+        kind,
+        table,
         added: counts.added,
         closed: counts.closed,
     }
 }
 
 /// What the log calls the change.
-fn change_kind(change: &Change) -> ChangeKind
+pub(crate) fn change_kind(change: &Change) -> ChangeKind
     ensures { result ≡ change_kind change.now }
 {
     match change {
@@ -92,7 +98,7 @@ fn change_kind(change: &Change) -> ChangeKind
 }
 
 /// The name of the table that a change makes or changes.
-fn table_of(change: &Change) -> Name
+pub(crate) fn table_of(change: &Change) -> Name
     ensures { result ≡ table_named change.now }
 {
     match change {

@@ -1,4 +1,4 @@
-use Rattle.std.proofs.Common.{◌≡◌, ◌≤◌, ◌+◌, ◌∙◌, ap, sym, subst, length, None, Some, List}
+use Rattle.std.proofs.Common.{◌≡◌, ◌≤◌, ◌+◌, ◌∙◌, ap, sym, subst, length, Some, List}
 use Rattle.std.specs.Arc.{arc_value}
 use Rattle.std.specs.Prelude.{position, count_by, bytes_eq}
 use Rattle.std.proofs.lemmas.Result.{IfErr-weaker, IfOk-weaker, on_ok_weaker}
@@ -13,25 +13,29 @@ use Rattle.book_core.proofs.ChangedTables.{added-current, at_kept-absent, at_kep
 use Rattle.book_core.proofs.KeyFound.{overlap-in}
 use Rattle.book_core.proofs.apply.change_table.Goals as goal
 
--- no table has the name
-absent : (c : goal.In_default) → position (λ t. bytes_eq t.name c.args.name) c.args.tables.now.items ≡ None
-absent c = sym (c.place_of.ensures ∙ ap (position (λ t. bytes_eq t.name c.args.name)) c.deref.ensures.value)
-    ∙ c.in_default.is
-
 pub returns-in_default-clause-ok : goal.returns-in_default-clause-ok
-returns-in_default-clause-ok c = at_kept-absent c.args.name _ c.args.tables.now.items (absent c)
+returns-in_default-clause-ok c =
+    let none = sym (c.place_of.ensures ∙ ap (position (λ t. bytes_eq t.name c.args.name)) c.deref.ensures.value)
+    ∙ c.in_default.is in
+    at_kept-absent c.args.name _ c.args.tables.now.items none
 
 pub returns-in_default-clause-added : goal.returns-in_default-clause-added
 returns-in_default-clause-added c =
-    ap (added_in c.args.commits c.args.change.now) (sym (find-absent c.args.name c.args.tables.now.items (absent c)))
+    let none = sym (c.place_of.ensures ∙ ap (position (λ t. bytes_eq t.name c.args.name)) c.deref.ensures.value)
+    ∙ c.in_default.is in
+    ap (added_in c.args.commits c.args.change) (sym (find-absent c.args.name c.args.tables.now.items none))
 
 pub returns-in_default-clause-closed : goal.returns-in_default-clause-closed
 returns-in_default-clause-closed c =
-    ap (closed_in c.args.commits c.args.change.now) (sym (find-absent c.args.name c.args.tables.now.items (absent c)))
+    let none = sym (c.place_of.ensures ∙ ap (position (λ t. bytes_eq t.name c.args.name)) c.deref.ensures.value)
+    ∙ c.in_default.is in
+    ap (closed_in c.args.commits c.args.change) (sym (find-absent c.args.name c.args.tables.now.items none))
 
 pub returns-in_default-clause-apart : goal.returns-in_default-clause-apart
 returns-in_default-clause-apart c =
-    ap (overlap_in c.args.commits c.args.change.now) (find-absent c.args.name c.args.tables.now.items (absent c))
+    let none = sym (c.place_of.ensures ∙ ap (position (λ t. bytes_eq t.name c.args.name)) c.deref.ensures.value)
+    ∙ c.in_default.is in
+    ap (overlap_in c.args.commits c.args.change) (find-absent c.args.name c.args.tables.now.items none)
 
 -- the table that is found, as the commits before leave it
 module _ (c : goal.After-tables-1) where
@@ -51,15 +55,15 @@ module _ (c : goal.After-tables-1) where
   found = find-place c.args.name c.args.tables.now.items c.in-Some.at c.index_mut-table.result.now at
       c.index_mut-table.ensures.value
 
-  overlap : overlap_after c.args.change.now c.table.inside.schema (arc_value c.table.inside.versions) ≡ overlap_in c.args.commits
-      c.args.change.now (kept_table c.args.name c.args.tables.now.items)
+  overlap : overlap_after c.args.change c.table.inside.schema (arc_value c.table.inside.versions) ≡ overlap_in c.args.commits
+      c.args.change (kept_table c.args.name c.args.tables.now.items)
   overlap =
-      ap (λ (t : StoredTable). overlap_after c.args.change.now t.schema t.versions) c.table.view_is
-      ∙ overlap-in c.args.commits c.args.change.now c.index_mut-table.result.now _ well unbroken found
+      ap (λ (t : StoredTable). overlap_after c.args.change t.schema t.versions) c.table.view_is
+      ∙ overlap-in c.args.commits c.args.change c.index_mut-table.result.now _ well unbroken found
 
 pub change_versions-requires-clause-room : goal.change_versions-requires-clause-room
 change_versions-requires-clause-room c =
-    let change = c.args.change.now in
+    let change = c.args.change in
     let at = sym (c.place_of.ensures ∙ ap (position (λ t. bytes_eq t.name c.args.name)) c.deref.ensures.value)
     ∙ c.in-Some.is in
     let t = c.index_mut-table.result.now in
@@ -86,7 +90,7 @@ with_versions t versions = record t { versions = versions }
 
 pub returns-clause-ok : goal.returns-clause-ok
 returns-clause-ok c =
-    let change = c.args.change.now in
+    let change = c.args.change in
     on_ok_weaker c.change_versions.result
     (λ e. at_kept-place c.args.name
     (kept_table_after c.args.commits change) c.args.tables.now.items c.in-Some.at c.index_mut-table.result.now _
@@ -102,16 +106,16 @@ pub returns-clause-added : goal.returns-clause-added
 returns-clause-added c =
     IfOk-weaker c.change_versions.result _ _
     (λ counts e. e.0
-    ∙ ap (λ (t : StoredTable). length (drafts_of c.args.change.now t.schema (current t.versions))) c.table.view_is
-    ∙ added-current c.args.commits c.args.change.now c.index_mut-table.result.now _ (well c) (found c))
+    ∙ ap (λ (t : StoredTable). length (drafts_of c.args.change t.schema (current t.versions))) c.table.view_is
+    ∙ added-current c.args.commits c.args.change c.index_mut-table.result.now _ (well c) (found c))
     c.change_versions.ensures.counts
 
 pub returns-clause-closed : goal.returns-clause-closed
 returns-clause-closed c =
     IfOk-weaker c.change_versions.result _ _
     (λ counts e. e.1
-    ∙ ap (λ (t : StoredTable). count_by (removes c.args.change.now t.schema) (current t.versions)) c.table.view_is
-    ∙ taken-current c.args.commits c.args.change.now c.index_mut-table.result.now _ (well c) (found c))
+    ∙ ap (λ (t : StoredTable). count_by (removes c.args.change t.schema) (current t.versions)) c.table.view_is
+    ∙ taken-current c.args.commits c.args.change c.index_mut-table.result.now _ (well c) (found c))
     c.change_versions.ensures.counts
 
 pub returns-clause-apart : goal.returns-clause-apart
