@@ -12,10 +12,9 @@ use crate::groups::amount_item;
 use crate::rows::{AggRows, AggShare};
 use dip_core::Item;
 use list_core::in_one_list;
-use match_core::piece_ends;
 use period_core::NoMemory;
 use round_core::plateaus_of;
-use share_core::{Range, Shares, shared_out};
+use share_core::{Range, Shares, places_within, shared_out};
 use std::alloc::Global;
 use std::thread::Threads;
 use table_core::SharedRows;
@@ -31,7 +30,7 @@ fn items_of_piece(
     ensures { IfOk result (λ items.
         items.items ≡ map (amount_item (amount_at amount) 0) (piece places rows.now)) }
 {
-    let (start, end) = piece_ends(places, rows.len());
+    let (start, end) = places_within(places, rows.len());
     let mut items = Vec::with_capacity(alloc, end - start)?;
     for i in start..end {
         items.push(amount_item(rows.at(i), amount, 0))?;

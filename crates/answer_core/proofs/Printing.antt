@@ -1,12 +1,12 @@
 -- Answers, printed record by record.
-use Rattle.std.proofs.Common.{◌≡◌, ℕ, zero, suc, ◌+◌, ◌-◌, ◌<◌, ◌≤◌, ℤ, drop, take, min, unwrap_or, length-take, List, [], ◌∷◌, ◌++◌, Option, Some, false, length, refl, sym, ap, ◌∙◌, arith, append_assoc, append-nil, cond, map}
+use Rattle.std.proofs.Common.{◌≡◌, ℕ, zero, suc, ◌+◌, ◌<◌, ◌≤◌, ℤ, drop, take, min, unwrap_or, length-take, List, [], ◌∷◌, ◌++◌, Option, Some, false, length, refl, sym, ap, ◌∙◌, arith, append_assoc, append-nil, cond, map}
 use Rattle.std.specs.Prelude.{codes, get_or, slice_get}
 use Rattle.std.proofs.lemmas.List.Concat.{flat_map-append}
 use Rattle.std.proofs.lemmas.List.Sums.{sum_by-cons}
-use Rattle.std.proofs.lemmas.List.{drop-append-le, drop-take}
+use Rattle.std.proofs.lemmas.List.{drop-append-le}
 use Rattle.std.proofs.lemmas.Option.{slice_get-get_or, slice_get_within}
 use Rattle.csv.specs.Writing.{row_text}
-use Rattle.share_core.proofs.PieceLemmas.{piece-part}
+use Rattle.share_core.proofs.PieceLemmas.{piece-between}
 use Rattle.share_core.specs.Pieces.{piece}
 use Rattle.share_core.specs.declared.range.Range.{Range}
 use Rattle.row_core.specs.declared.row.Row.{Row}
@@ -105,16 +105,12 @@ part_records-get parts k items lt is =
 
 -- from a place on to another, the bytes of a range's records
 pub bytes-piece : (a b : List ℕ) (records : List Record) (places : Range ℕ) (start end : ℕ)
-    → b ≡ a ++ bytes_of (drop start (take end records)) → start ≤ end
+    → b ≡ a ++ bytes_of (drop start (take end records))
     → end ≡ min (unwrap_or places.before (length records)) (length records)
     → start ≡ min (unwrap_or places.from 0) end
     → b ≡ a ++ bytes_of (piece places records)
-bytes-piece a b records places start end all ordered before from =
-    let whole : end ≡ start + (end - start) = omega (arith, ordered) in
-    all
-    ∙ ap (λ some. a ++ bytes_of some)
-    (ap (λ n. drop start (take n records)) whole ∙ drop-take start (end - start) records
-    ∙ sym (piece-part places start end records before from))
+bytes-piece a b records places start end all before from =
+    all ∙ ap (λ some. a ++ bytes_of some) (sym (piece-between places start end records before from))
 
 -- a list of records of which none tells of a refusal, and its end
 errors_in-list : {T : Type 0} (record_of : T → Record) → ((x : T) → begins (codes "error") (record_of x) ≡ false)

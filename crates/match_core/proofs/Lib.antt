@@ -4,7 +4,7 @@ pub mod ItemIds
 pub mod LotLemmas
 pub mod MadeCells
 pub mod Matching
-pub mod PieceEndLemmas
+pub mod PartLemmas
 pub mod RankLemmas
 pub mod NumberLemmas
 pub mod RefinedClasses

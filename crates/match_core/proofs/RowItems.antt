@@ -10,7 +10,7 @@ use Rattle.dip_core.specs.declared.item.Item.{Item}
 use Rattle.list_core.proofs.RisingLemmas.{AllPairs-head, Contains-cons, Contains-cons_cases, Contains-head, Contains-none}
 use Rattle.list_core.proofs.WantedLemmas.{AllPairs-before}
 use Rattle.match_core.specs.Items.{item_with, items_of, items_with}
-use Rattle.match_core.proofs.PieceEndLemmas.{one_more}
+use Rattle.match_core.proofs.PartLemmas.{one_more}
 use Rattle.share_core.specs.Pieces.{piece, piece_before, piece_from}
 use Rattle.share_core.specs.Ranges.{has}
 use Rattle.share_core.specs.declared.range.Range.{Range}

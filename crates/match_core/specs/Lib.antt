@@ -4,4 +4,3 @@ pub mod Items
 pub mod Cells
 pub mod Lots
 pub mod StandIns
-pub mod PieceEnds

@@ -6,9 +6,8 @@ ghost use Rattle.share_core.specs.Pieces.{piece};
 ghost use Rattle.table_core.specs.Lent.{lent_row};
 
 use crate::NoMemory;
-use crate::pieces::piece_ends;
 use dip_core::Item;
-use share_core::{Range, piece};
+use share_core::{Range, piece, places_within};
 use std::alloc::Global;
 use table_core::{RowRef, SharedRows};
 
@@ -80,7 +79,7 @@ pub fn items_in_piece(
     ensures { IfOk result (λ items. items.items
         ≡ items_in_range range (piece places rows.now) (piece places classes.now)) }
 {
-    let (start, end) = piece_ends(places, rows.len());
+    let (start, end) = places_within(places, rows.len());
     let mut items = Vec::with_capacity(alloc, count_in(range, piece(places, classes)))?;
     for i in start..end {
         let class = classes[i];

@@ -41,14 +41,21 @@ piece_from-min : {X : Type 0} (start : Option ℕ) (from : ℕ) (xs : List X)
 piece_from-min None from xs e = let none : from ≡ 0 = omega (arith, e) in sym (ap (λ n. drop n xs) none)
 piece_from-min (Some start) from xs e = sym (ap (λ n. drop n xs) e ∙ drop_min start xs)
 
+-- a piece is what stands from its first place to its end
+pub piece-between : {X : Type 0} (places : Range ℕ) (from to : ℕ) (xs : List X)
+    → to ≡ min (unwrap_or places.before (length xs)) (length xs) → from ≡ min (unwrap_or places.from 0) to
+    → piece places xs ≡ drop from (take to xs)
+piece-between places from to xs end start =
+    let len : length (take to xs) ≡ to = omega (arith, length-take to xs, end) in
+    ap (piece_from places.from) (piece_before-min places.before to xs end)
+    ∙ piece_from-min places.from from (take to xs) (start ∙ ap (min (unwrap_or places.from 0)) (sym len))
+
 -- a piece, by the places between which it lies
 pub piece-part : {X : Type 0} (places : Range ℕ) (from to : ℕ) (xs : List X)
     → to ≡ min (unwrap_or places.before (length xs)) (length xs) → from ≡ min (unwrap_or places.from 0) to
     → piece places xs ≡ take (to - from) (drop from xs)
 piece-part places from to xs end start =
-    let len : length (take to xs) ≡ to = omega (arith, length-take to xs, end) in
     let whole : to ≡ from + (to - from) = omega (arith, start) in
-    ap (piece_from places.from) (piece_before-min places.before to xs end)
-    ∙ piece_from-min places.from from (take to xs) (start ∙ ap (min (unwrap_or places.from 0)) (sym len))
+    piece-between places from to xs end start
     ∙ ap (λ n. drop from (take n xs)) whole
     ∙ drop-take from (to - from) xs

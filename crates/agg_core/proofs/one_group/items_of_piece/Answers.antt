@@ -1,9 +1,9 @@
-use Rattle.std.proofs.Common.{◌≡◌, ◌≤◌, List, ◌++◌, ◌∷◌, [], drop, map, take, ap, sym, ◌∙◌, arith}
+use Rattle.std.proofs.Common.{◌≡◌, ◌≤◌, List, ◌++◌, ◌∷◌, [], drop, map, min, unwrap_or, take, ap, sym, ◌∙◌, arith}
 use Rattle.std.proofs.lemmas.List.{map-append}
 use Rattle.table_core.specs.Lent.{lent_row}
 use Rattle.dip_core.specs.declared.item.Item.{Item}
-use Rattle.match_core.specs.PieceEnds.{piece_end}
-use Rattle.match_core.proofs.PieceEndLemmas.{one_more, piece_is}
+use Rattle.share_core.proofs.PieceLemmas.{piece-between}
+use Rattle.match_core.proofs.PartLemmas.{one_more}
 use Rattle.agg_core.specs.Entries.{amount_at}
 use Rattle.agg_core.specs.Grouping.{amount_item}
 use Rattle.agg_core.proofs.one_group.items_of_piece.Goals as goal
@@ -11,7 +11,7 @@ use Rattle.agg_core.proofs.one_group.items_of_piece.Goals as goal
 pub loop-i-preserved : goal.loop-i-preserved
 loop-i-preserved c =
     let rows = c.args.rows.now in
-    let start = c.piece_ends-start.result.0 in
+    let start = c.places_within-start.result.0 in
     let i = c.loop-i.i in
     let make = amount_item (amount_at c.args.amount) 0 in
     let before = drop start (take i rows) in
@@ -31,8 +31,13 @@ pub returns : goal.returns
 returns c =
     let rows = c.args.rows.now in
     let make = amount_item (amount_at c.args.amount) 0 in
-    let end : c.loop-i.i ≡ c.piece_ends-start.result.1 = omega (arith, c.loop-i.invariant.upto, c.loop-i-test.false) in
+    let places = c.args.places in
+    let start = c.places_within-start.result.0 in
+    let end = c.places_within-start.result.1 in
+    let last : c.loop-i.i ≡ end = omega (arith, c.loop-i.invariant.upto, c.loop-i-test.false) in
     c.loop-i.invariant.are
-    ∙ ap (λ n. map make (drop c.piece_ends-start.result.0 (take n rows))) (end ∙ c.piece_ends-start.ensures.end)
-    ∙ ap (λ n. map make (drop n (take (piece_end c.args.places c.len.result) rows))) c.piece_ends-start.ensures.start
-    ∙ ap (map make) (sym (piece_is c.args.places rows c.len.result (sym c.len.ensures)))
+    ∙ ap (λ n. map make (drop start (take n rows))) last
+    ∙ ap (map make)
+    (sym (piece-between places start end rows
+    (c.places_within-start.ensures.before ∙ ap (λ n. min (unwrap_or places.before n) n) c.len.ensures)
+    c.places_within-start.ensures.from))

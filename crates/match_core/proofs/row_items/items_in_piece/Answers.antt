@@ -1,11 +1,10 @@
-use Rattle.std.proofs.Common.{◌≡◌, ◌∙◌, ◌<◌, ◌≤◌, ◌++◌, Global, List, [], ◌∷◌, Vec, length, filter, sym, ap, arith}
+use Rattle.std.proofs.Common.{◌≡◌, ◌∙◌, ◌<◌, ◌≤◌, ◌++◌, Global, List, [], ◌∷◌, Vec, length, filter, min, unwrap_or, sym, ap, arith}
 use Rattle.std.specs.Ordering.{nat_cmp}
 use Rattle.dip_core.specs.declared.item.Item.{Item}
 use Rattle.share_core.specs.Ranges.{has}
+use Rattle.share_core.proofs.PieceLemmas.{piece-between}
 use Rattle.table_core.specs.Lent.{lent_row}
 use Rattle.match_core.specs.Items.{items_with}
-use Rattle.match_core.specs.PieceEnds.{piece_end}
-use Rattle.match_core.proofs.PieceEndLemmas.{end_within, piece_is}
 use Rattle.match_core.proofs.RowItems.{items_from, items_from-more, items_from-same, items_with-piece, length-items_with}
 use Rattle.match_core.proofs.row_items.items_in_piece.Goals as goal
 use Rattle.match_core.proofs.row_items.items_in_piece.Goals.{then-has+in_ok-push, else-has}
@@ -15,12 +14,11 @@ loop-i-preserved c =
     let range = c.args.range in
     let rows = c.args.rows.now in
     let classes = c.args.classes.now in
-    let start = c.piece_ends-start.result.0 in
+    let start = c.places_within-start.result.0 in
     let i = c.loop-i.i in
     let enough : length rows ≤ length classes = c.requires in
-    let within = end_within c.args.places c.len.result in
     let inside : i < length rows =
-    omega (arith, c.loop-i-test.true, c.piece_ends-start.ensures.end, within, c.len.ensures) in
+    omega (arith, c.loop-i-test.true, c.places_within-start.ensures.within, c.len.ensures) in
     let known : i < length classes = omega (arith, inside, enough) in
     let from : start ≤ i = c.loop-i.invariant.from in
     record {
@@ -48,10 +46,14 @@ returns c =
     let classes = c.args.classes.now in
     let places = c.args.places in
     let all = items_with rows classes in
-    let end : c.loop-i.i ≡ c.piece_ends-start.result.1 = omega (arith, c.loop-i.invariant.upto, c.loop-i-test.false) in
+    let start = c.places_within-start.result.0 in
+    let end = c.places_within-start.result.1 in
+    let last : c.loop-i.i ≡ end = omega (arith, c.loop-i.invariant.upto, c.loop-i-test.false) in
     let count : length all ≡ c.len.result = length-items_with rows classes c.requires ∙ sym c.len.ensures in
     c.loop-i.invariant.are
-    ∙ ap (items_from range rows classes c.piece_ends-start.result.0) (end ∙ c.piece_ends-start.ensures.end)
-    ∙ ap (λ n. items_from range rows classes n (piece_end places c.len.result)) c.piece_ends-start.ensures.start
+    ∙ ap (items_from range rows classes start) last
     ∙ ap (filter (λ (x : Item). has nat_cmp range x.class))
-    (sym (items_with-piece places rows classes ∙ piece_is places all c.len.result count))
+    (sym (items_with-piece places rows classes
+    ∙ piece-between places start end all
+    (c.places_within-start.ensures.before ∙ ap (λ n. min (unwrap_or places.before n) n) (sym count))
+    c.places_within-start.ensures.from))

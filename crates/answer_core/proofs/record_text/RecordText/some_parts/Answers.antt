@@ -30,6 +30,5 @@ returns c =
     omega (arith, length-part_records 0 c.args.division.now, c.parts.ensures.value) in
     bytes-piece c.args.self.now c.loop-number.self records c.args.places start end
     (c.loop-number.invariant.printed ∙ ap (λ n. c.args.self.now ++ bytes_of (drop start (take n records))) last)
-    c.places_within-start.ensures.ordered
     (c.places_within-start.ensures.before ∙ ap (λ n. min (unwrap_or c.args.places.before n) n) (sym count))
     c.places_within-start.ensures.from

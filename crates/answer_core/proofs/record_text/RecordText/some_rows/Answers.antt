@@ -31,6 +31,5 @@ returns c =
     let count : length records ≡ c.len.result = length-map c.args.rows.now row_record ∙ sym c.len.ensures in
     bytes-piece c.args.self.now c.loop-place.self records c.args.places start end
     (c.loop-place.invariant.printed ∙ ap (λ n. c.args.self.now ++ bytes_of (drop start (take n records))) last)
-    c.places_within-start.ensures.ordered
     (c.places_within-start.ensures.before ∙ ap (λ n. min (unwrap_or c.args.places.before n) n) (sym count))
     c.places_within-start.ensures.from
