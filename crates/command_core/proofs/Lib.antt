@@ -14,9 +14,11 @@ pub mod RecordsUniqueness
 pub mod PortionLemmas
 pub mod Shrinking
 pub mod ScriptSizes
+pub mod SeamLemmas
 pub mod FlatLemmas
 pub mod RecordsExistence
 pub mod TableLemmas
 pub mod Members
+pub mod JoinedLemmas
 pub mod StatementExistence
 pub mod StatementUniqueness

@@ -124,7 +124,7 @@ Reached-takes cfg s t text left (r ∷ rs) (read, is, fields, more) =
       omega (arith, sum_by-cons length r rs, ap length fields, one.1, rest.1),
     )
 
-strip_bom-le : (text : List ℕ) → length (strip_bom text) ≤ length text
+pub strip_bom-le : (text : List ℕ) → length (strip_bom text) ≤ length text
 unfolding strip_bom
 strip_bom-le [] = omega arith
 strip_bom-le (a ∷ []) = omega arith

@@ -10,6 +10,7 @@ pub mod Portions
 pub mod RawAggregates
 pub mod Records
 pub mod Refusal
+pub mod Seams
 pub mod Statement
 pub mod TableCommand
 pub mod Words

@@ -29,6 +29,8 @@ impl Model for FlatFields {
 }
 
 impl FlatFields {
+    ghost use Rattle.command_core.specs.Seams.{last};
+
     /// No fields, with room for so many bytes.
     pub(crate) fn with_capacity(alloc: Global, bytes: usize) -> Result<FlatFields, NoMemory>
         ensures { IfOk result (λ fields. fields ≡ []) }
@@ -55,6 +57,13 @@ impl FlatFields {
         } else {
             None
         }
+    }
+
+    /// The last one, if there are any.
+    pub(crate) fn last(&self) -> Option<&[u8]>
+        ensures { option_map (λ s. s.now) result ≡ last self.now }
+    {
+        self.get(self.ends.len().saturating_sub(1))
     }
 
     /// Adds the fields of a record. On refusal there are none more.

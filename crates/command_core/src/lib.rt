@@ -2,6 +2,7 @@
 #![tactic(auto)]
 
 mod aggregate;
+mod batch;
 mod command;
 mod fields;
 mod flat_fields;
@@ -14,6 +15,7 @@ mod queries;
 mod reading;
 mod records;
 mod refusal;
+mod seams;
 mod statement;
 mod table_command;
 mod words;

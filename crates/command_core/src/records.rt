@@ -1,35 +1,35 @@
-//! The records of a script, kept flat: all their fields one behind another, and where each record
-//! ends among them.
-ghost use Rattle.std.specs.Prelude.{◌≡◌, ◌<◌, ◌^◌, length, slice_get, IfOk, Some, true};
-ghost use Rattle.csv.specs.Reading.{error_kind, stops_reader};
-ghost use Rattle.list_core.specs.Cut.{cut, EndsAt};
+//! The records of a script, which workers read by pieces.
+ghost use Rattle.std.specs.Prelude.{◌≡◌, ◌<◌, ◌^◌, [], length, get_or, map, slice_get, IfOk, Ok, Some};
 ghost use Rattle.command_core.specs.Lines.{fields_in};
 ghost use Rattle.command_core.specs.Records.{AreScriptRecords};
+ghost use Rattle.command_core.specs.Seams.{AreRead, joined};
 
-use crate::flat_fields::{FlatFields, start_at};
+use crate::batch::{Batch, read_batch};
 use crate::line::Line;
-use csv::{ByteRecord, Error, ErrorKind, ReaderBuilder};
+use crate::seams::{are_seams, pieces_of};
 use period_core::NoMemory;
-use std::alloc::{AllocError, Global};
+use std::alloc::Global;
 use std::marker::Model;
+use std::thread;
+use std::thread::Threads;
 
 /// The records of a script, first to last. Contracts see the list of them, each the list of its
 /// fields' bytes.
 #[derive(Drop)]
 pub struct Records {
-    fields: FlatFields,
-    ends: Vec<u32>,
+    batches: Vec<Batch>,
+    count: usize,
 }
 
 impl Model for Records {
-    ghost use Rattle.std.specs.Prelude.{ℕ, List, length};
-    ghost use Rattle.list_core.specs.Cut.{cut, EndsAt};
+    ghost use Rattle.std.specs.Prelude.{ℕ, List, length, ◌≡◌};
+    ghost use Rattle.command_core.specs.Seams.{joined};
 
     ghost Value = { List (List (List ℕ)) };
 
-    ghost view = { λ r. cut 0 r.ends.items r.fields };
+    ghost view = { λ r. joined r.batches.items };
 
-    ghost invariant = { λ r. EndsAt 0 r.ends.items (length r.fields) };
+    ghost invariant = { λ r. r.count ≡ length (joined r.batches.items) };
 }
 
 impl Records {
@@ -37,7 +37,7 @@ impl Records {
     pub fn len(&self) -> usize
         ensures { result ≡ length self.now }
     {
-        self.ends.len()
+        self.count
     }
 
     /// The record at that place, from 0.
@@ -45,56 +45,111 @@ impl Records {
         requires { place < length self.now }
         ensures { slice_get self.now place ≡ Some (fields_in result) }
     {
-        line_at(&self.fields, &self.ends, place)
+        line_in(&self.batches, place)
     }
 }
 
-/// The record at a place.
-fn line_at<'a>(fields: &'a FlatFields, ends: &[u32], place: usize) -> Line<'a>
-    requires place { place < length ends.now }
-    requires ends { EndsAt 0 ends.now (length fields.now) }
-    ensures { slice_get (cut 0 ends.now fields.entry.now) place ≡ Some (fields_in result) }
+/// The record at that place of all batches.
+fn line_in(batches: &[Batch], place: usize) -> Line<'_>
+    requires { place < length (joined batches.now) }
+    ensures { slice_get (joined batches.now) place ≡ Some (fields_in result) }
 {
-    Line::new(fields, start_at(ends, place), ends[place] as usize)
-}
-
-/// Why bytes in memory are not read: memory is refused. No record is refused for its length, nor for
-/// its text.
-fn not_read(fault: Error) -> NoMemory
-    requires { stops_reader (error_kind fault) ≡ true }
-{
-    match fault.into_kind() {
-        ErrorKind::OutOfMemory => AllocError,
-        ErrorKind::Io(_) => AllocError,
-        _ => unreachable!(),
+    let mut left = place;
+    for batch in batches {
+        if left < batch.len() {
+            return batch.line(left);
+        }
+        left -= batch.len();
     }
+    unreachable!()
 }
 
-/// The records of a script's bytes, as `csv` reads them, without a header and of any length. The
-/// bytes are in memory, so what fails is memory.
+/// How many records the batches have.
+fn count_of(batches: &[Batch]) -> usize
+    requires { length (joined batches.now) < 2 ^ 64 }
+    ensures { result ≡ length (joined batches.now) }
+{
+    let mut count = 0;
+    for batch in batches {
+        count += batch.len();
+    }
+    count
+}
+
+/// A worker with fewer bytes to read would be over before another had started.
+const BYTES_OF_PIECE: usize = 1_048_576;
+
+/// The records of a script's bytes, as `csv` reads them, without a header and of any length. Large
+/// scripts are read by the workers, each a piece. The bytes are in memory, so what fails is memory.
 ///
 /// # Errors
 ///
 /// `NoMemory` where a growth is refused.
-pub fn read_records(alloc: Global, script: &[u8]) -> Result<Records, NoMemory>
+pub fn read_records<R: Threads + Sync>(
+    rt: &R,
+    alloc: Global,
+    script: &[u8],
+    workers: u32,
+) -> Result<Records, NoMemory>
     requires { length script.now < 2 ^ 31 }
     ensures { IfOk result (AreScriptRecords script.now) }
 {
-    let mut reader = ReaderBuilder::new()
-        .has_headers(false)
-        .flexible(true)
-        .from_reader(alloc, script);
-    let mut row = ByteRecord::new(alloc);
-    let mut fields = FlatFields::with_capacity(alloc, script.len())?;
-    let mut ends = Vec::new(alloc);
-    loop {
-        match reader.read_byte_record(&mut row) {
-            Ok(true) => {
-                fields.append(&row)?;
-                ends.push(fields.len() as u32)?;
-            }
-            Ok(false) => return Ok(Records { fields, ends }),
-            Err(fault) => return Err(not_read(fault)),
-        }
+    let count = (script.len() / BYTES_OF_PIECE).min(workers as usize);
+    let pieces = pieces_of(alloc, script, count)?;
+    read_pieces(rt, alloc, script, &pieces)
+}
+
+/// The records of a script, of which these are the pieces. Where one ends within a record, one
+/// thread reads all anew.
+fn read_pieces<R: Threads + Sync>(
+    rt: &R,
+    alloc: Global,
+    script: &[u8],
+    pieces: &[&[u8]],
+) -> Result<Records, NoMemory>
+    requires few { length script.now < 2 ^ 31 }
+    requires whole { joined (map (λ p. p.now) pieces.now) ≡ script.now }
+    ensures { IfOk result (AreScriptRecords script.now) }
+{
+    let mut batches = read_each(rt, alloc, pieces)?;
+    if !are_seams(pieces, &batches) {
+        batches.clear();
+        batches.push(read_batch(alloc, script)?)?;
     }
+    let count = count_of(&batches);
+    Ok(Records { batches, count })
+}
+
+/// The records of each piece, which is read on a thread of its own where one can be started.
+fn read_each<R: Threads + Sync>(
+    rt: &R,
+    alloc: Global,
+    pieces: &[&[u8]],
+) -> Result<Vec<Batch>, NoMemory>
+    requires { length (joined (map (λ p. p.now) pieces.now)) < 2 ^ 31 }
+    ensures { IfOk result (λ batches. AreRead (map (λ p. p.now) pieces.now) batches.items) }
+{
+    let read = thread::map_indices(
+        rt,
+        alloc,
+        pieces.len(),
+        &|number: usize| -> Result<Batch, NoMemory>
+            requires { (number < length pieces.now)
+                × (length (joined (map (λ p. p.now) pieces.now)) < 2 ^ 31) }
+            ensures { IfOk result (λ batch. AreScriptRecords
+                (get_or (map (λ p. p.now) pieces.entry.now) number []) batch) }
+        { read_batch(alloc, pieces[number]) },
+    )?;
+    all_read(alloc, read)
+}
+
+/// What was read, if nothing was refused.
+fn all_read(alloc: Global, read: Vec<Result<Batch, NoMemory>>) -> Result<Vec<Batch>, NoMemory>
+    ensures { IfOk result (λ batches. read.items ≡ map Ok batches.items) }
+{
+    let mut batches = Vec::with_capacity(alloc, read.len())?;
+    for batch in read {
+        batches.push(batch?)?;
+    }
+    Ok(batches)
 }

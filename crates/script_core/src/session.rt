@@ -147,8 +147,8 @@ fn answer_all<T: Threads + Wait + Sync, W: Write>(
 /// answer whole; answers how many commands there were, and how many `error` records were written.
 ///
 /// A script has at most 67,108,864 bytes. A read or a write that was interrupted is tried again, at
-/// most 1,000 times in a run. The writer is not flushed. Where their rows are many, loads, joins, anti-joins and
-/// aggregates are run by 1 to 64 workers, and answer the same by any number of them.
+/// most 1,000 times in a run. The writer is not flushed. Where there are many bytes and rows, the script is read and
+/// loads, joins, anti-joins and aggregates are run by 1 to 64 workers, and answer the same by any number of them.
 ///
 /// # Errors
 ///
@@ -201,7 +201,7 @@ pub fn run<T: Threads + Wait + Sync, R: Read, W: Write>(
     let records = {
         // The script is given back before the first command.
         let script = read_script(alloc, reader, &mut patience)?;
-        read_records(alloc, script.as_slice())?
+        read_records(rt, alloc, script.as_slice(), workers)?
     };
     let crew = Crew::new(rt, alloc, workers, &OpenGate);
     answer_all(&crew, ledger, &records, writer, &mut patience)

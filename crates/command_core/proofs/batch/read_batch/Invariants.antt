@@ -6,7 +6,7 @@ use Rattle.csv.specs.Reading.{Reached, Ready, default_config, is_flexible, reade
 use Rattle.csv.specs.declared.parser.State.TheVariants as st
 use Rattle.csv.specs.declared.reader.Trim.TheVariants as trim
 use Rattle.list_core.specs.Cut.{cut, EndsAt}
-use Rattle.command_core.proofs.records.read_records.Given as goal
+use Rattle.command_core.proofs.batch.read_batch.Given as goal
 
 abbrev pub invariant-loop-fields : goal.invariant-loop-fields
 invariant-loop-fields l = record {
@@ -17,7 +17,7 @@ invariant-loop-fields l = record {
   ends : EndsAt 0 l.ends.items (length l.fields);
   left : List ℕ;
   source : source_of (λ s. Some s.now) l.reader ≡ Some left;
-  reached : Reached default_config st.StartRecord (strip_bom l.fn.script)
+  reached : Reached default_config st.StartRecord (strip_bom l.fn.piece)
       (cut 0 l.ends.items l.fields) l.reader.state left;
 }
 

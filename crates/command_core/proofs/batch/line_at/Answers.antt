@@ -1,5 +1,5 @@
 use Rattle.list_core.proofs.CutLemmas.{EndsAt-part, slice_get-cut}
-use Rattle.command_core.proofs.records.line_at.Goals as goal
+use Rattle.command_core.proofs.batch.line_at.Goals as goal
 
 pub new-requires-clause-ordered : goal.new-requires-clause-ordered
 new-requires-clause-ordered c =

@@ -1,6 +1,6 @@
 use Rattle.std.proofs.Common.{arith, ap, length}
 use Rattle.list_core.proofs.CutLemmas.{length-cut}
-use Rattle.command_core.proofs.records.Records.len.Goals as goal
+use Rattle.command_core.proofs.batch.Batch.len.Goals as goal
 
 pub returns : goal.returns
 returns c =

@@ -1,7 +1,7 @@
 use Rattle.std.proofs.Common.{◌≡◌, arith, ap, length}
 use Rattle.list_core.specs.Cut.{cut}
 use Rattle.list_core.proofs.CutLemmas.{length-cut}
-use Rattle.command_core.proofs.records.Records.line.Goals as goal
+use Rattle.command_core.proofs.batch.Batch.line.Goals as goal
 
 pub line_at-requires-clause-place : goal.line_at-requires-clause-place
 line_at-requires-clause-place c =

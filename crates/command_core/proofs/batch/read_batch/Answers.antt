@@ -8,7 +8,7 @@ use Rattle.list_core.proofs.CutLemmas.{EndsAt-more, cut-more}
 use Rattle.command_core.proofs.Faults.{flexible-stops}
 use Rattle.command_core.proofs.ScriptSizes.{next-few}
 use Rattle.command_core.proofs.Shrinking.{Reached-shrinks}
-use Rattle.command_core.proofs.records.read_records.Goals as goal
+use Rattle.command_core.proofs.batch.read_batch.Goals as goal
 
 pub loop-fields-init : goal.loop-fields-init
 unfolding Reached
@@ -22,7 +22,7 @@ loop-fields-init c =
       flexible = rw flex at fr.flexible;
       config = rw (flex, named) at fr.config ∙ c.new.ensures.config;
       ends = rw c.new-ends.ensures.items (sym (ap length c.in_ok-fields.ensures));
-      left = strip_bom c.args.script.now;
+      left = strip_bom c.args.piece.now;
       source = fr.source;
       reached = rw c.new-ends.ensures.items (sym fr.state, refl);
     }
@@ -49,7 +49,7 @@ loop-fields-preserved c =
     let more = rows-more
     (λ (s : Bor (List ℕ)). Some s.now) c.loop-fields.reader c.read_byte_record.new.self row default_config
     st.StartRecord
-    (strip_bom c.args.script.now) inv.left (cut 0 ends before) inv.config inv.source inv.reached read in
+    (strip_bom c.args.piece.now) inv.left (cut 0 ends before) inv.config inv.source inv.reached read in
     let added = c.in_ok-append-in-Ok-true.ensures.ok in
     let size : c.len.result ≡ length before + length row =
     c.len.ensures ∙ (ap length added ∙ length-append before row) in
@@ -71,7 +71,7 @@ loop-fields-preserved c =
 pub append-requires-clause-few : goal.append-requires-clause-few
 append-requires-clause-few c =
     let inv = c.loop-fields.invariant in
-    (next-few (λ (s : Bor (List ℕ)). Some s.now) c.loop-fields.reader c.read_byte_record.new.self c.args.script.now
+    (next-few (λ (s : Bor (List ℕ)). Some s.now) c.loop-fields.reader c.read_byte_record.new.self c.args.piece.now
     c.loop-fields.ends.items inv.left c.loop-fields.fields (fields_of c.read_byte_record.new.row) c.requires inv.ends
     inv.config inv.source inv.reached
     (rw c.in-Ok-true.field-0-test at (c.in-Ok-true.ensures.reads inv.plain inv.ready))).0
@@ -81,7 +81,7 @@ overflow_cast-len c =
     let inv = c.loop-fields.invariant in
     let row = fields_of c.read_byte_record.new.row in
     let few = next-few (λ (s : Bor (List ℕ)). Some s.now) c.loop-fields.reader c.read_byte_record.new.self
-    c.args.script.now c.loop-fields.ends.items inv.left c.loop-fields.fields row c.requires inv.ends inv.config
+    c.args.piece.now c.loop-fields.ends.items inv.left c.loop-fields.fields row c.requires inv.ends inv.config
     inv.source inv.reached
     (rw c.in-Ok-true.field-0-test at (c.in-Ok-true.ensures.reads inv.plain inv.ready)) in
     omega (

@@ -1,0 +1,13 @@
+use Rattle.std.proofs.Common.{arith, List, [], ℕ}
+use denote.Ref.{Bor}
+use Rattle.command_core.proofs.SeamLemmas.{piece-le}
+use Rattle.command_core.proofs.records.fn.read_each.map_indices.Goals as goal
+
+pub read_batch-requires : goal.read_batch-requires
+read_batch-requires c =
+    omega (
+      arith,
+      c.requires,
+      piece-le (λ (p : Bor (List ℕ)). p.now) c.captures.pieces.now c.args.number record { ref_ptr = (0, 0); now = [] }
+          c.requires.0,
+    )

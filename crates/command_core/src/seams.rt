@@ -1,0 +1,83 @@
+//! Seams of a script: it is cut behind line ends, and its pieces are read one by one. Behind most
+//! line ends a record begins, but some stand within one, between quotes.
+ghost use Rattle.std.specs.Prelude.{◌≡◌, ◌≢◌, ◌<◌, ◌≤◌, length, map, IfOk, IfSome, IsFalse, IsTrue, MatchBool, Some};
+ghost use Rattle.csv.specs.Machine.{line_feed};
+ghost use Rattle.csv.specs.Reading.{strip_bom};
+ghost use Rattle.command_core.specs.Seams.{AreSeams, IsSeam, joined, last};
+
+use crate::batch::Batch;
+use period_core::NoMemory;
+use std::alloc::Global;
+
+/// A script cut behind line ends, into so many pieces at most, about as long as one another.
+pub(crate) fn pieces_of<'a>(
+    alloc: Global,
+    script: &'a [u8],
+    count: usize,
+) -> Result<Vec<&'a [u8]>, NoMemory>
+    ensures { IfOk result (λ pieces. joined (map (λ p. p.now) pieces.items) ≡ script.entry.now) }
+{
+    let mut pieces = Vec::new(alloc);
+    let mut rest = script;
+    for left in (2..=count).rev() {
+        let Some(cut) = behind_line(rest, rest.len() / left) else {
+            break;
+        };
+        let (piece, behind) = rest.split_at(cut);
+        pieces.push(piece)?;
+        rest = behind;
+    }
+    pieces.push(rest)?;
+    Ok(pieces)
+}
+
+/// The place behind the first line end from a place on, where there is one.
+fn behind_line(text: &[u8], from: usize) -> Option<usize>
+    requires { from ≤ length text.now }
+    ensures { IfSome result (λ place. place ≤ length text.now) }
+{
+    let at = text[from..].iter().position(|byte| *byte == b'\n')?;
+    Some(from + at + 1)
+}
+
+/// Whether each piece is read alone as it is among the others: behind each but the last, which has
+/// these records, another begins.
+pub(crate) fn are_seams(pieces: &[&[u8]], batches: &[Batch]) -> bool
+    requires { length pieces.now ≡ length batches.now }
+    ensures { IsTrue result → AreSeams (map (λ p. p.now) pieces.now) batches.now }
+{
+    for place in 1..pieces.len() {
+        if !is_seam(pieces[place - 1], &batches[place - 1], pieces[place]) {
+            return false;
+        }
+    }
+    true
+}
+
+/// Whether a record begins behind a piece with these records.
+fn is_seam(piece: &[u8], records: &Batch, behind: &[u8]) -> bool
+    ensures { IsTrue result → IsSeam piece.now records.now behind.now }
+{
+    ends_line(piece) && records.end_in_field() && !may_be_marked(behind)
+}
+
+/// Whether the last byte is a line feed.
+pub(crate) fn ends_line(text: &[u8]) -> bool
+    ensures { MatchBool result (last text.now ≡ Some line_feed) (last text.now ≢ Some line_feed) }
+{
+    match text.last() {
+        Some(byte) => *byte == b'\n',
+        None => false,
+    }
+}
+
+/// Whether a text may begin with a byte order mark. No record that means something begins with that
+/// byte.
+fn may_be_marked(text: &[u8]) -> bool
+    ensures { IsFalse result → strip_bom text.now ≡ text.now }
+{
+    match text.first() {
+        Some(byte) => *byte == 0xEF,
+        None => false,
+    }
+}
