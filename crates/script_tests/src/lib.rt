@@ -4,6 +4,8 @@
 #[cfg(test)]
 mod damages;
 #[cfg(test)]
+mod pieces;
+#[cfg(test)]
 mod scripts;
 #[cfg(test)]
 mod streams;

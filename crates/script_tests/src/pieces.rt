@@ -1,0 +1,108 @@
+//! Large scripts, which workers read by pieces: their records are those that one worker reads,
+//! wherever the pieces end.
+
+use command_core::{Line, Records, read_records};
+use rand::RngExt;
+use rand_core::SeedableRng;
+use rand_pcg::Pcg32;
+use std::alloc::Global;
+use std::process::Abort;
+use std::thread::Threads;
+
+// So many bytes are cut into three pieces, by three workers or more.
+const SIZE: usize = 3_145_728;
+
+// Records with line ends between quotes, and others with quotes.
+const CLOSED: [&[u8]; 5] = [
+    b"a,\"b\nc\"\n",
+    b"\"a\n\"\n",
+    b"a,\"b\r\n\"\r\n",
+    b"a\"b\n",
+    b"\"a\"b,\"\"\"\n\"\"\"\n",
+];
+
+// Quotes left open, all kinds of line ends, empty lines, and byte order marks, among others.
+const ODD: [&[u8]; 9] = [
+    b"a,\"b\nc\"\n",
+    b"\"a\n\"\n",
+    b"\"",
+    b"\n\n",
+    b"\r",
+    b"\r\n",
+    b",\n",
+    b"\n\xEF\xBB\xBFa\n",
+    b"\xEF\xBB\xBF",
+];
+
+// A script of many rows. Before so many in 40,000 one of the texts may stand.
+fn script_of(
+    rt: &(impl Abort + Alloc<A = Global>),
+    rng: &mut Pcg32,
+    often: u64,
+    texts: &[&[u8]],
+) -> Vec<u8> {
+    let mut script = Vec::new(rt.alloc());
+    for _ in 0..130_000 {
+        if rng.random_range(0..40_000) < often {
+            let place: usize = rng.random_range(0..9);
+            if let Some(text) = texts.get(place) {
+                script.extend_from_slice(text).expect(rt, "memory");
+            }
+        }
+        script
+            .extend_from_slice(b"row,2024-01-01,2024-01-02\n")
+            .expect(rt, "memory");
+    }
+    script
+}
+
+fn is_same_line(one: Line<'_>, other: Line<'_>) -> bool {
+    one.len() == other.len() && (0..one.len()).all(|place| one.get(place) == other.get(place))
+}
+
+fn are_same(one: &Records, other: &Records) -> bool {
+    if one.len() != other.len() {
+        return false;
+    }
+    for place in 0..one.len() {
+        if !is_same_line(one.line(place), other.line(place)) {
+            return false;
+        }
+    }
+    true
+}
+
+// Reads the script by one worker and by more.
+fn check(rt: &(impl Abort + Alloc<A = Global> + Threads + Sync), script: &[u8]) {
+    let Some(front) = script.get(..SIZE) else {
+        panic!(rt; "the script has so many bytes")
+    };
+    let one = read_records(rt, rt.alloc(), front, 1).expect(rt, "memory");
+    for workers in [2, 3, 64] {
+        let more = read_records(rt, rt.alloc(), front, workers).expect(rt, "memory");
+        assert!(rt; are_same(&one, &more), "by {workers} workers");
+    }
+}
+
+#[test]
+fn pieces_have_the_records_of_the_whole(rt: HostRuntime) {
+    let mut rng = Pcg32::seed_from_u64(3);
+    for often in [20_000, 2_000, 200, 1] {
+        let script = script_of(&rt, &mut rng, often, &CLOSED);
+        check(&rt, &script);
+        let script = script_of(&rt, &mut rng, often, &ODD);
+        check(&rt, &script);
+    }
+}
+
+// One field goes on behind the places where pieces would end.
+#[test]
+fn a_field_may_have_the_whole_script(rt: HostRuntime) {
+    let mut script = Vec::from_slice(rt.alloc(), b"\"").expect(&rt, "memory");
+    for _ in 0..200_000 {
+        script
+            .extend_from_slice(b"row,2024-01-01\r\n")
+            .expect(&rt, "memory");
+    }
+    check(&rt, &script);
+}
