@@ -29,7 +29,7 @@ use command_core::{Aggregate, Func, Lines, Refusal, TwoTables};
 use join_core::join;
 use period_core::{NoMemory, Point};
 use query_core::{Side, dip, items};
-use row_core::{Name, RowList, Schema};
+use row_core::{Name, Schema};
 use std::alloc::Global;
 use std::thread::Threads;
 use store_core::Snapshot;
@@ -140,7 +140,7 @@ pub(crate) fn divide<T: Threads + Sync>(
     let (schema, rows) = shown_table(snapshot, number, table)?;
     let side = Side {
         schema,
-        rows: rows.list(),
+        rows: &rows,
     };
     let crew = crew_for(crew, rows.len());
     Ok(Answer::Division {
@@ -169,11 +169,11 @@ pub(crate) fn join_tables<T: Threads + Sync>(
     } = both_tables(snapshot, number, tables.left, tables.right)?;
     let left_side = Side {
         schema: left_columns,
-        rows: left.list(),
+        rows: &left,
     };
     let right_side = Side {
         schema: right_columns,
-        rows: right.list(),
+        rows: &right,
     };
     let Crew {
         rt,
@@ -208,11 +208,11 @@ pub(crate) fn anti_tables<T: Threads + Sync>(
     } = both_tables(snapshot, number, tables.left, tables.right)?;
     let left_side = Side {
         schema: left_columns,
-        rows: left.list(),
+        rows: &left,
     };
     let right_side = Side {
         schema: right_columns,
-        rows: right.list(),
+        rows: &right,
     };
     let Crew {
         rt,
@@ -241,7 +241,7 @@ pub(crate) fn agg_table<T: Threads + Sync>(
     let (schema, rows) = shown_table(snapshot, number, aggregate.table)?;
     let side = Side {
         schema,
-        rows: rows.list(),
+        rows: &rows,
     };
     let Crew {
         rt,
@@ -270,7 +270,7 @@ fn agg_func(func: &Func) -> agg_core::Func
 /// The verdict on a claimed division of some rows.
 fn verdict_on(
     alloc: Global,
-    rows: &RowList,
+    rows: &SharedRows,
     claim: &Claim,
     certificate: &Certificate,
 ) -> Result<Answer, NoMemory>
@@ -307,7 +307,7 @@ pub(crate) fn check(
     let ClaimedTable { table, body } = claimed;
     let (_, rows) = shown_table(snapshot, number, table)?;
     let claim = read_claim(alloc, body, number + 1)?;
-    Ok(verdict_on(alloc, rows.list(), &claim, &certificate)?)
+    Ok(verdict_on(alloc, &rows, &claim, &certificate)?)
 }
 
 /// The versions of a table that some commit from the first to the last shows.

@@ -26,7 +26,7 @@ returns-in-Ok g c =
     let one = shown-read number h asof tables.left (both.field-0.left_columns, both.field-0.left) both.ensures.left in
     let other = shown-read number h asof tables.right (both.field-0.right_columns, both.field-0.right) both.ensures.right in
     let named : c.deref.result.now ≡ name_pairs_in c.args.tables.on = c.deref.ensures.value ∙ c.in_ok-on.ensures in
-    let answered = rw (named, c.list.ensures, c.list-2.ensures) at c.in-Ok.ensures in (
+    let answered = rw named at c.in-Ok.ensures in (
       (left, right),
       sides-read number h asof tables left right one other answered.0,
       record { rows = c.in-Ok.rows; unmatched = answered.1; is = ap answer.Anti c.new.ensures },

@@ -22,6 +22,6 @@ returns c =
     let h = c.in_ok-rows.ensures.gives in (
       (h.0, claim),
       both_ok-Ok told claimed h.0 claim h.1 c.in_ok-claim.ensures,
-      subst (λ (rows : List Row). IsVerdictOn (items_of rows) claim c.args.certificate given) (c.list.ensures ∙ h.2)
+      subst (λ (rows : List Row). IsVerdictOn (items_of rows) claim c.args.certificate given) h.2
           c.in_ok-verdict_on.ensures,
     )
