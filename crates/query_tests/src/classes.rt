@@ -1,23 +1,13 @@
 //! Classes of rows by a text and a number, and the items of rows with them.
 
-use crate::tables::{Table, TablePair, january, push_row, side};
+use crate::tables::{Table, TablePair, january, push_row, side, table_with};
 use dip_core::Item;
 use match_core::{classes_of, items_with, refusal_of_pairs};
-use row_core::{Kind, Name, RowList, Schema, Text, Value, Values};
+use row_core::{Kind, Name, RowList, Text, Value, Values};
 use std::alloc::Global;
 use std::process::Abort;
 use std::test::Fail;
 use std::thread::Threads;
-
-// A table with a column `t` of texts and a column `n` of numbers, without rows.
-fn empty(rt: &(impl Abort + Alloc<A = Global>)) -> Table {
-    let text = (Name::parse(b"t").expect(rt, "a name"), Kind::Text);
-    let number = (Name::parse(b"n").expect(rt, "a name"), Kind::Int);
-    Table {
-        schema: Schema::new(rt.alloc(), &[text, number]).expect(rt, "a schema"),
-        rows: RowList::new(rt.alloc()),
-    }
-}
 
 fn values(rt: &(impl Abort + Alloc<A = Global>), text: &[u8], number: i64) -> Values {
     let text = Text::new(rt.alloc(), text).expect(rt, "a text");
@@ -27,14 +17,16 @@ fn values(rt: &(impl Abort + Alloc<A = Global>), text: &[u8], number: i64) -> Va
     values
 }
 
-// A table with these columns, and rows of one day with these values.
+// A table with a column `t` of texts and a column `n` of numbers, and rows of one day with these values.
 fn table(rt: &(impl Abort + Alloc<A = Global>), rows: &[(&[u8], i64)]) -> Table {
-    let mut table = empty(rt);
+    let mut list = RowList::new(rt.alloc());
     for (text, number) in rows {
         let values = values(rt, text, *number);
-        push_row(rt, &mut table.rows, january(rt, 1, 2), values);
+        push_row(rt, &mut list, january(rt, 1, 2), values);
     }
-    table
+    let text = (Name::parse(b"t").expect(rt, "a name"), Kind::Text);
+    let number = (Name::parse(b"n").expect(rt, "a name"), Kind::Int);
+    table_with(rt, &[text, number], list)
 }
 
 // The columns of these names on both sides.
@@ -114,9 +106,8 @@ fn check_item(rt: &impl Abort, item: Option<&Item>, id: u64, class: u64) {
 #[test]
 fn items_have_the_classes_of_their_places(rt: HostRuntime) -> Result<(), Fail> {
     let table = table(&rt, &[(b"x", 1), (b"y", 1)]);
-    let rows = table.rows.as_slice();
-    assert!(rt; rows.len() <= 2);
-    let items = items_with(rt.alloc(), rows, &[7, 4])?;
+    assert!(rt; table.rows.len() <= 2);
+    let items = items_with(rt.alloc(), &table.rows, &[7, 4])?;
     assert!(rt; items.len() == 2);
     check_item(&rt, items.first(), 1, 7);
     check_item(&rt, items.get(1), 2, 4);

@@ -1,10 +1,10 @@
 //! Random rows and their tables, and the runs of days of one value.
 
-use crate::tables::{Table, TablePair};
+use crate::tables::{Table, TablePair, table_with};
 use period_core::{Period, Point};
 use rand::RngExt;
 use rand_pcg::Pcg32;
-use row_core::{Kind, Name, Row, RowList, Schema, Text, Value, Values};
+use row_core::{Kind, Name, Row, RowList, Text, Value, Values};
 use std::alloc::Global;
 use std::process::Abort;
 
@@ -150,14 +150,14 @@ pub fn period(rt: &impl Abort, days: &[Point], from: u64, to: u64) -> Period {
     Period::new(*from, *to).expect(rt, "a period")
 }
 
-// The columns, with their names and kinds.
-fn schema(rt: &(impl Abort + Alloc<A = Global>), columns: &[(&[u8], Field)]) -> Schema {
+// The names and kinds of the columns.
+fn named(rt: &(impl Abort + Alloc<A = Global>), columns: &[(&[u8], Field)]) -> Vec<(Name, Kind)> {
     let mut pairs = Vec::new(rt.alloc());
     for (name, field) in columns {
         let name = Name::parse(name).expect(rt, "a name");
         pairs.push((name, field.kind())).expect(rt, "memory");
     }
-    Schema::new(rt.alloc(), &pairs).expect(rt, "a schema")
+    pairs
 }
 
 // What the row has in the columns.
@@ -181,19 +181,16 @@ pub fn table(
     rows: &[PlainRow],
     days: &[Point],
 ) -> Table {
-    let mut table = Table {
-        schema: schema(rt, columns),
-        rows: RowList::new(rt.alloc()),
-    };
+    let mut list = RowList::new(rt.alloc());
     for row in rows {
         let row = Row {
             id: row.id,
             period: period(rt, days, row.from, row.to),
             values: values(rt, columns, row),
         };
-        table.rows.push(row).expect(rt, "memory");
+        list.push(row).expect(rt, "memory");
     }
-    table
+    table_with(rt, &named(rt, columns), list)
 }
 
 /// The column's name among these.

@@ -1,9 +1,9 @@
 //! Joins of tables: their rows for each number of workers, and how often cursors advance.
 
 use crate::queries::{check_joins, joined};
-use crate::tables::{Table, TablePair, january, number_pair, periods_twice, side, table_of};
+use crate::tables::{TablePair, january, number_pair, periods_twice, side, table_of, table_with};
 use query_core::{JoinRow, QueryRefused, join};
-use row_core::{Failure, Kind, Name, RowList, Schema};
+use row_core::{Failure, Kind, Name, RowList};
 use std::alloc::Global;
 use std::process::Abort;
 use std::test::Fail;
@@ -82,10 +82,7 @@ fn table_without_rows(rt: &(impl Abort + Alloc<A = Global>), c: Name, d: Name) -
     let columns = [(c, Kind::Int), (d, Kind::Text)];
     TablePair {
         left: table_of(rt, &[(1, 10, 1)]),
-        right: Table {
-            schema: Schema::new(rt.alloc(), &columns).expect(rt, "a schema"),
-            rows: RowList::new(rt.alloc()),
-        },
+        right: table_with(rt, &columns, RowList::new(rt.alloc())),
         on: Vec::from_slice(rt.alloc(), &[(c, c)]).expect(rt, "memory"),
     }
 }

@@ -6,12 +6,13 @@ use query_core::{RowsById, at};
 use row_core::{Row, RowList, RowOrder, Values};
 use std::alloc::Global;
 use std::process::Abort;
+use table_core::SharedRows;
 
 // Rows have these ids.
-fn check_order(rt: &impl Abort, rows: &[Row], ids: &[u64]) {
+fn check_order(rt: &impl Abort, rows: &SharedRows, ids: &[u64]) {
     assert!(rt; rows.len() == ids.len());
-    for (row, id) in rows.iter().zip(ids) {
-        assert!(rt; row.id == *id);
+    for place in 0..rows.len() {
+        assert!(rt; rows.at(place).id() == ids[place]);
     }
 }
 
@@ -20,7 +21,7 @@ fn gives_the_rows_of_a_point(rt: HostRuntime) {
     let day = date(1, 7).expect(&rt, "a day");
     let pair = worked_join(&rt);
     let rows = at(rt.alloc(), side(&rt, &pair.right), day).expect(&rt, "memory");
-    check_order(&rt, rows.as_slice(), &[2, 3]);
+    check_order(&rt, &rows, &[2, 3]);
 }
 
 // Rows with these ids.
@@ -41,7 +42,7 @@ fn rows_of(rt: &(impl Abort + Alloc<A = Global>), ids: &[u64]) -> RowList {
 fn check_found(rt: &impl Abort, rows: &RowsById<'_>, ids: &[u64]) {
     for id in ids {
         let row = rows.get(*id).expect(rt, "a row");
-        assert!(rt; row.id == *id);
+        assert!(rt; row.id() == *id);
     }
 }
 
@@ -56,6 +57,7 @@ fn check_none(rt: &impl Abort, rows: &RowsById<'_>, ids: &[u64]) {
 fn check_ids(rt: &(impl Abort + Alloc<A = Global>), ids: &[u64], others: &[u64]) {
     let rows = rows_of(rt, ids);
     assert!(rt; rows.ids_rise());
+    let rows = SharedRows::of(rt.alloc(), rows).expect(rt, "memory");
     let found = RowsById::new(rt.alloc(), &rows).expect(rt, "memory");
     check_found(rt, &found, ids);
     check_none(rt, &found, others);

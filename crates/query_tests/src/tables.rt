@@ -11,12 +11,13 @@ use row_core::{Kind, Name, Row, RowList, RowOrder, Schema, Value, Values};
 use std::alloc::Global;
 use std::process::Abort;
 use std::test::Fail;
+use table_core::SharedRows;
 
 /// Columns, and rows with a value for each of them.
 #[derive(Drop)]
 pub struct Table {
     pub schema: Schema,
-    pub rows: RowList,
+    pub rows: SharedRows,
 }
 
 /// Two tables, and the pairs of columns on which their rows are compared.
@@ -112,33 +113,42 @@ fn number_values(rt: &(impl Abort + Alloc<A = Global>), number: i64) -> Values {
     values
 }
 
-// A table with a column `c` of numbers, without rows.
-fn number_table(rt: &(impl Abort + Alloc<A = Global>)) -> Table {
-    let name = Name::parse(b"c").expect(rt, "a name");
+/// The table of these columns and rows.
+pub fn table_with(
+    rt: &(impl Abort + Alloc<A = Global>),
+    columns: &[(Name, Kind)],
+    rows: RowList,
+) -> Table {
     Table {
-        schema: Schema::new(rt.alloc(), &[(name, Kind::Int)]).expect(rt, "a schema"),
-        rows: RowList::new(rt.alloc()),
+        schema: Schema::new(rt.alloc(), columns).expect(rt, "a schema"),
+        rows: SharedRows::of(rt.alloc(), rows).expect(rt, "memory"),
     }
+}
+
+// A table with a column `c` of numbers.
+fn number_table(rt: &(impl Abort + Alloc<A = Global>), rows: RowList) -> Table {
+    let name = Name::parse(b"c").expect(rt, "a name");
+    table_with(rt, &[(name, Kind::Int)], rows)
 }
 
 /// A table with a column `c` of numbers. Its rows, with ids from 1 on, hold from one day of January 2024 on and
 /// before another, and have a number.
 pub fn table_of(rt: &(impl Abort + Alloc<A = Global>), rows: &[(u8, u8, i64)]) -> Table {
-    let mut table = number_table(rt);
+    let mut list = RowList::new(rt.alloc());
     for (from, to, number) in rows {
         let values = number_values(rt, *number);
-        push_row(rt, &mut table.rows, january(rt, *from, *to), values);
+        push_row(rt, &mut list, january(rt, *from, *to), values);
     }
-    table
+    number_table(rt, list)
 }
 
 /// The same of rows that hold on these periods.
 pub fn numbers_of(rt: &(impl Abort + Alloc<A = Global>), rows: &[(Period, i64)]) -> Table {
-    let mut table = number_table(rt);
+    let mut list = RowList::new(rt.alloc());
     for (period, number) in rows {
-        push_row(rt, &mut table.rows, *period, number_values(rt, *number));
+        push_row(rt, &mut list, *period, number_values(rt, *number));
     }
-    table
+    number_table(rt, list)
 }
 
 /// Two tables with a column `c` of numbers each, on which their rows are compared.
@@ -159,14 +169,11 @@ pub fn number_pair(
 
 /// A table without columns, whose rows, with ids from 1 on, hold on these periods.
 pub fn without_columns(rt: &(impl Abort + Alloc<A = Global>), periods: &[Period]) -> Table {
-    let mut table = Table {
-        schema: Schema::new(rt.alloc(), &[]).expect(rt, "a schema"),
-        rows: RowList::new(rt.alloc()),
-    };
+    let mut rows = RowList::new(rt.alloc());
     for period in periods {
-        push_row(rt, &mut table.rows, *period, Values::new(rt.alloc()));
+        push_row(rt, &mut rows, *period, Values::new(rt.alloc()));
     }
-    table
+    table_with(rt, &[], rows)
 }
 
 /// A table without columns twice, whose rows hold on these periods: no columns are compared.
@@ -186,10 +193,11 @@ fn all_fit(schema: &Schema, rows: &[Row]) -> bool
 }
 
 /// The table as a query sees it.
-pub fn side<'a>(rt: &impl Abort, table: &'a Table) -> Side<'a> {
-    assert!(rt; table.rows.ids_rise());
-    assert!(rt; all_fit(&table.schema, table.rows.as_slice()));
-    assert!(rt; table.rows.len() <= 1_000_000);
+pub fn side<'a>(rt: &(impl Abort + Alloc<A = Global>), table: &'a Table) -> Side<'a> {
+    let rows = table.rows.list(rt.alloc()).expect(rt, "memory");
+    assert!(rt; rows.ids_rise());
+    assert!(rt; all_fit(&table.schema, rows.as_slice()));
+    assert!(rt; rows.len() <= 1_000_000);
     Side {
         schema: &table.schema,
         rows: &table.rows,

@@ -8,7 +8,7 @@ use crate::limits::one_pass;
 use crate::meetings::two_passes;
 use period_core::{Period, Point};
 use query_core::{JoinAnswer, JoinRow, Side, at, join};
-use row_core::{Name, Row, RowList};
+use row_core::Name;
 use std::alloc::Global;
 use std::process::Abort;
 use std::sync::Wait;
@@ -17,6 +17,7 @@ use std::test::Fail;
 use std::thread;
 use std::thread::Threads;
 use store_core::{Pass, Snapshot, Store};
+use table_core::{RowRef, SharedRows};
 use work_core::{Gate, PairName};
 
 // How often a thread looks whether another has come so far.
@@ -73,7 +74,7 @@ fn join_itself<R: Threads + Sync>(
     let (schema, rows) = (snapshot.schema(table).ok()?, snapshot.rows(table).ok()?);
     let side = Side {
         schema,
-        rows: rows.list(),
+        rows: &rows,
     };
     join(rt, alloc, side, side, &[], 2, gate).ok()
 }
@@ -141,13 +142,13 @@ fn a_join_holds_no_commit_up(rt: HostRuntime) -> Result<(), Fail> {
 }
 
 // The rows of a snapshot's table that hold on the day of the tests' rows.
-fn rows_of_day(alloc: Global, snapshot: &Snapshot) -> Option<RowList> {
+fn rows_of_day(alloc: Global, snapshot: &Snapshot) -> Option<SharedRows> {
     let table = Name::parse(b"t").ok()?;
     let point = Point::parse(b"2024-01-01").ok()?;
     let (schema, rows) = (snapshot.schema(table).ok()?, snapshot.rows(table).ok()?);
     let side = Side {
         schema,
-        rows: rows.list(),
+        rows: &rows,
     };
     at(alloc, side, point).ok()
 }
@@ -159,7 +160,7 @@ fn query_two<R: Threads + Sync>(
     early: &Snapshot,
     late: &Snapshot,
     gate: &Holds,
-) -> (Option<RowList>, Option<RowList>) {
+) -> (Option<SharedRows>, Option<SharedRows>) {
     if !comes(&gate.entered) {
         return (None, None);
     }
@@ -182,19 +183,16 @@ fn two_snapshots<R: Wait>(rt: &R, alloc: Global) -> Result<(Snapshot, Snapshot),
 }
 
 // Checks that rows of the tests' day were found, which have the ids from 1 on.
-fn check_rows(rt: &impl Abort, found: Option<RowList>, count: usize) {
+fn check_rows(rt: &impl Abort, found: Option<SharedRows>, count: usize) {
     let rows = found.expect(rt, "rows");
     assert!(rt; rows.len() == count);
-    assert!(rt;
-        rows.as_slice()
-            .iter()
-            .zip(1..=2u64)
-            .all(|(row, id)| is_row(row, id))
-    );
+    for place in 0..rows.len() {
+        assert!(rt; is_row(rows.at(place), place as u64 + 1));
+    }
 }
 
-fn is_row(row: &Row, id: u64) -> bool {
-    row.id == id && is_day(row.period) && row.values.len() == 0
+fn is_row(row: RowRef<'_>, id: u64) -> bool {
+    row.id() == id && is_day(row.period()) && row.width() == 0
 }
 
 // Whether the period is the day of the tests' rows.
