@@ -83,45 +83,9 @@ fn answer_next<T: Threads + Wait + Sync>(
     Ok((told, taken))
 }
 
-/// Answers the statements of some records, and writes each answer whole. The printer is empty.
+/// Answers the statements of some records, the first of them on an empty ledger, and writes each
+/// answer whole.
 fn answer_each<T: Threads + Wait + Sync, W: Write>(
-    crew: &Crew<'_, T, OpenGate>,
-    ledger: &mut Ledger,
-    records: &Records,
-    printer: &mut AnswerWriter,
-    writer: &mut Counted<W>,
-    patience: &mut Patience,
-) -> Result<Outcome, RunFault>
-    requires begun { ledger_history ledger.old ≡ [] }
-    requires empty { printer.old ≡ [] }
-    requires left { 2 * length records.now ≤ left_in ledger.old }
-    ensures ok { IfOk result
-        (AnswersAll records.now (sink_of W.contents writer.old) (sink_of W.contents writer.new)) }
-    ensures fault { IfErr result
-        (ExplainsAnswering records.now (sink_of W.contents writer.old)
-        (sink_of W.contents writer.new)) }
-    ensures counts { failures_of writer.old ≤ failures_of writer.new }
-    ensures tries { failures_of writer.new + patience.new.left
-        ≤ failures_of writer.old + patience.old.left + last_failures result }
-{
-    let lines = Lines::all(records);
-    let mut outcome = Outcome {
-        commands: 0,
-        errors: 0,
-    };
-    let mut at = 0;
-    while at < lines.len() {
-        let (told, taken) = answer_next(crew, ledger, lines, at, printer)?;
-        printer.write_to(writer, patience)?;
-        outcome.commands += told.commands;
-        outcome.errors += told.errors;
-        at += taken;
-    }
-    Ok(outcome)
-}
-
-/// Answers the statements of some records, the first of them on an empty ledger, and writes each answer whole.
-fn answer_all<T: Threads + Wait + Sync, W: Write>(
     crew: &Crew<'_, T, OpenGate>,
     mut ledger: Ledger,
     records: &Records,
@@ -140,7 +104,20 @@ fn answer_all<T: Threads + Wait + Sync, W: Write>(
         ≤ failures_of writer.old + patience.old.left + last_failures result }
 {
     let mut printer = AnswerWriter::new(crew.alloc);
-    answer_each(crew, &mut ledger, records, &mut printer, writer, patience)
+    let lines = Lines::all(records);
+    let mut outcome = Outcome {
+        commands: 0,
+        errors: 0,
+    };
+    let mut at = 0;
+    while at < lines.len() {
+        let (told, taken) = answer_next(crew, &mut ledger, lines, at, &mut printer)?;
+        printer.write_to(writer, patience)?;
+        outcome.commands += told.commands;
+        outcome.errors += told.errors;
+        at += taken;
+    }
+    Ok(outcome)
 }
 
 /// Reads a script whole, answers its statements in order, each a command or a block of commands, and writes each
@@ -204,5 +181,5 @@ pub fn run<T: Threads + Wait + Sync, R: Read, W: Write>(
         read_records(rt, alloc, script.as_slice(), workers)?
     };
     let crew = Crew::new(rt, alloc, workers, &OpenGate);
-    answer_all(&crew, ledger, &records, writer, &mut patience)
+    answer_each(&crew, ledger, &records, writer, &mut patience)
 }
