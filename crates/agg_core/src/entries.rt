@@ -2,19 +2,21 @@
 
 ghost use Rattle.std.specs.Prelude.{◌≡◌, ◌<◌, All, IfOk, IsPermutation, IsSortedByKey, OnOk, Some, length};
 ghost use Rattle.std.specs.List.Sorted.{IsStableByKey};
+ghost use Rattle.row_core.specs.Lent.{lent_value};
 ghost use Rattle.row_core.specs.ValueOrder.{value_cmp};
 ghost use Rattle.agg_core.specs.Entries.{AreEntries, AreEntriesSorted, entry_value, value_at_place, value_of_key};
-ghost use Rattle.table_core.specs.Lent.{lent_row, lent_value};
+ghost use Rattle.table_core.specs.Lent.{lent_row};
 ghost use Rattle.agg_core.specs.KeyRanges.{rows_in_range};
 
 use crate::keys::{Key, has_key};
 use list_core::room_for_half;
 use period_core::NoMemory;
+use row_core::ValueRef;
 use share_core::Range;
 use sort_core::sort_by_key;
 use std::alloc::{AllocError, Global};
 use std::thread::Threads;
-use table_core::{RowRef, SharedRows, ValueRef};
+use table_core::{RowRef, SharedRows};
 
 /// A row, with the key of the value by which it is grouped.
 #[derive(Clone, Copy)]

@@ -25,9 +25,9 @@ use crate::keys::Key;
 use dip_core::Item;
 use list_core::DeepCopy;
 use period_core::NoMemory;
-use row_core::Value;
+use row_core::{Value, ValueRef};
 use std::alloc::Global;
-use table_core::{RowRef, ValueRef};
+use table_core::RowRef;
 
 /// Rows by group.
 #[derive(Drop)]

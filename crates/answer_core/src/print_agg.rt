@@ -13,10 +13,9 @@ use crate::record_text::RecordText;
 use crate::writer::AnswerWriter;
 use agg_core::{AggRows, AggShare, Plateau};
 use period_core::NoMemory;
-use row_core::Value;
+use row_core::{Value, ValueRef};
 use share_core::{Range, piece};
 use std::thread::Threads;
-use table_core::ValueRef;
 use work_core::Crew;
 
 /// The records of some plateaus of a share.

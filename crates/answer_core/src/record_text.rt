@@ -5,17 +5,18 @@ ghost use Rattle.std.specs.Fmt.{signed_decimal};
 ghost use Rattle.std.specs.Option.{option_map_or};
 ghost use Rattle.csv.specs.Writing.{escaped, fields_text, needs_byte, needs_quotes};
 ghost use Rattle.period_core.specs.Point.{point_text};
-ghost use Rattle.table_core.specs.Lent.{lent_row, lent_value};
+ghost use Rattle.row_core.specs.Lent.{lent_value};
+ghost use Rattle.table_core.specs.Lent.{lent_row};
 ghost use Rattle.answer_core.specs.PrintedRecords.{value_text};
 ghost use Rattle.answer_core.specs.RecordBytes.{answer_writer, field_behind};
 
 use crate::kept_text::KeptText;
 use itoa::Buffer;
 use period_core::{NoMemory, Period, Point};
-use row_core::Value;
+use row_core::{Value, ValueRef};
 use std::alloc::Global;
 use std::marker::Model;
-use table_core::{RowRef, ValueRef};
+use table_core::RowRef;
 
 /// The text of records, one behind another, of which the last may not have ended. Contracts see its bytes.
 #[derive(Drop)]

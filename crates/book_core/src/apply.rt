@@ -2,9 +2,9 @@
 
 ghost use Rattle.std.specs.Arc.{arc_value};
 ghost use Rattle.std.specs.Prelude.{◌≡◌, ◌≢◌, ◌+◌, ◌≤◌, ◌<◌, [], ◌∷◌, ◌++◌, ◌||◌, true, false, length, map, count_by, flat_map, IfSome, IfOk, IfErr, OnErr, OnOk, nat_le, nat_lt};
-ghost use Rattle.std.specs.List.{list_all, AllByRecursion};
+ghost use Rattle.std.specs.List.{AllByRecursion};
 ghost use Rattle.row_core.specs.Refusals.{first_of};
-ghost use Rattle.row_core.specs.Schema.{fits, key_of};
+ghost use Rattle.row_core.specs.Schema.{key_of};
 ghost use Rattle.row_core.specs.declared.failure.Failure.TheVariants.{NoMemory};
 ghost use Rattle.version_core.specs.Keys.{break_key, overlap_after};
 ghost use Rattle.version_core.specs.Limits.{version_limit};
@@ -20,7 +20,7 @@ use crate::pairs::pairs_refusal;
 use crate::refusal::BookRefused;
 use crate::table::{Table, place_of};
 use list_core::DeepCopy;
-use row_core::{Draft, Failure, Name, NoMemory, Schema, Value};
+use row_core::{Failure, Name, NoMemory, Schema, Value};
 use std::alloc::Global;
 use std::sync::Arc;
 use version_core::{Change, KeyOverlap, VERSION_LIMIT, VersionCounts, Versions};
@@ -37,7 +37,7 @@ pub(crate) fn refusal_in(table: &Table, commits: usize, change: &Change) -> Opti
     match change {
         Change::Make { .. } => None,
         Change::Load { rows, .. } => {
-            if !all_fit(&table.schema, rows.as_slice()) {
+            if !rows.all_fit(&table.schema) {
                 Some(BookRefused::WrongKind)
             } else if is_full(commits, versions.len(), rows.len()) {
                 Some(BookRefused::Full)
@@ -96,13 +96,6 @@ fn is_full_by_parts(schema: &Schema, versions: &Versions, commits: usize, change
     }
     let more = versions.count_parts(schema, change);
     is_full(commits, used, more)
-}
-
-/// Whether each row has one value of its kind for each column.
-fn all_fit(schema: &Schema, rows: &[Draft]) -> bool
-    ensures { result ≡ list_all (λ d. fits schema.now d.values) rows.now }
-{
-    rows.iter().all(|row| schema.fits(&row.values))
 }
 
 /// No commit may follow, or the versions would be too many.

@@ -11,9 +11,10 @@ use Rattle.period_core.specs.Period.{Holds, HoldsIn, meet}
 use Rattle.period_core.specs.declared.period.Period.{Period}
 use Rattle.period_core.proofs.PeriodLemmas.{meet-holds}
 use Rattle.row_core.specs.declared.draft.Draft.{Draft}
-use Rattle.key_core.specs.declared.keys.KeyedRow.{KeyedRow}
+use Rattle.row_core.specs.Lent.{lent_draft}
+use Rattle.row_core.specs.declared.draft_ref.DraftRef.{DraftRef}
 use Rattle.key_core.specs.Keys.{collide, have_collision, same_key}
-use Rattle.key_core.specs.Order.{key_cmp, row_cmp, tested_row, have_neighbours}
+use Rattle.key_core.specs.Order.{key_cmp, row_cmp, have_neighbours}
 use Rattle.key_core.proofs.Orders.{key_total, row_total, key-same, key-tie, key-between, same_key-flips}
 use Rattle.key_core.proofs.Pairs.{have_pair-permutation, have_pair-map, neighbours-pairs_sorted}
 
@@ -72,12 +73,12 @@ then-not_less Greater p h = refl
 then-tied : (o p : Ordering) → o ≡ Equal → is_lt (ordering_then o p) ≡ false → is_lt p ≡ false
 then-tied o p e h = sym (ap (λ q. is_lt (ordering_then q p)) e) ∙ h
 
-collide-between : (key : List ℕ) (x y z : KeyedRow) → is_lt (row_cmp key y x) ≡ false → is_lt (row_cmp key z y) ≡ false
-    → collide key (tested_row x) (tested_row z) ≡ true → collide key (tested_row x) (tested_row y) ≡ true
+collide-between : (key : List ℕ) (x y z : Draft) → is_lt (row_cmp key y x) ≡ false → is_lt (row_cmp key z y) ≡ false
+    → collide key x z ≡ true → collide key x y ≡ true
 collide-between key x y z low high e =
-    let xs = x.values.now in
-    let ys = y.values.now in
-    let zs = z.values.now in
+    let xs = x.values in
+    let ys = y.values in
+    let zs = z.values in
     let both = and_parts (same_key key xs zs) (is_some (meet x.period z.period)) e in
     let tie = key-tie key xs zs both.0 in
     let first = key-between key xs ys zs tie
@@ -93,13 +94,15 @@ collide-between key x y z low high e =
     ∙ meet-between x.period y.period z.period begins goes_on both.1
 
 -- sorted rows: two of them collide exactly where two neighbours do
-pub collision-from_neighbours : (key : List ℕ) (rows sorted : List KeyedRow) → IsPermutation rows sorted
-    → IsSortedBy (λ a b. is_lt (row_cmp key a b)) sorted
-    → have_neighbours (λ a b. collide key (tested_row a) (tested_row b)) sorted
-    ≡ have_collision key (map tested_row rows)
+pub collision-from_neighbours : (key : List ℕ) (rows sorted : List DraftRef) → IsPermutation rows sorted
+    → IsSortedBy (λ a b. is_lt (row_cmp key (lent_draft a) (lent_draft b))) sorted
+    → have_neighbours (λ a b. collide key (lent_draft a) (lent_draft b)) sorted
+    ≡ have_collision key (map lent_draft rows)
 collision-from_neighbours key rows sorted moved up =
-    neighbours-pairs_sorted (λ a b. collide key (tested_row a) (tested_row b)) (λ a b. is_lt (row_cmp key a b))
-    (collide-between key) (ranks_by (row_total key) (λ a. a)) sorted up
-    ∙ sym (have_pair-permutation (λ a b. collide key (tested_row a) (tested_row b))
-    (λ a b. collide-flips key (tested_row a) (tested_row b)) rows sorted moved)
-    ∙ sym (have_pair-map (collide key) tested_row rows)
+    neighbours-pairs_sorted (λ a b. collide key (lent_draft a) (lent_draft b))
+    (λ a b. is_lt (row_cmp key (lent_draft a) (lent_draft b)))
+    (λ x y z. collide-between key (lent_draft x) (lent_draft y) (lent_draft z))
+    (ranks_by (row_total key) lent_draft) sorted up
+    ∙ sym (have_pair-permutation (λ a b. collide key (lent_draft a) (lent_draft b))
+    (λ a b. collide-flips key (lent_draft a) (lent_draft b)) rows sorted moved)
+    ∙ sym (have_pair-map (collide key) lent_draft rows)

@@ -11,7 +11,7 @@ use Rattle.list_core.proofs.OrderedLemmas.{both_tie}
 use Rattle.row_core.specs.ValueOrder.{maybe_cmp, same_maybe}
 use Rattle.row_core.specs.declared.value.Value.{Value}
 use Rattle.row_core.proofs.ValueLemmas.{maybe-same, maybe-tie, maybe_total}
-use Rattle.key_core.specs.declared.keys.KeyedRow.{KeyedRow}
+use Rattle.row_core.specs.declared.draft.Draft.{Draft}
 use Rattle.key_core.specs.Keys.{same_key}
 use Rattle.key_core.specs.Order.{key_cmp, row_cmp}
 
@@ -24,8 +24,8 @@ key_total (column ∷ columns) =
 -- and that of rows
 pub row_total : (key : List ℕ) → IsTotalOrder (row_cmp key)
 row_total key =
-    then_total (on_total (λ (row : KeyedRow). row.values.now) (key_total key))
-    (on_total (λ (row : KeyedRow). row.period.from) int_cmp_total)
+    then_total (on_total (λ (row : Draft). row.values) (key_total key))
+    (on_total (λ (row : Draft). row.period.from) int_cmp_total)
 
 -- ---- ties
 

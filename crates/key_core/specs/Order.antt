@@ -6,7 +6,6 @@ use Rattle.std.specs.Ordering.{int_cmp, ordering_then}
 use Rattle.row_core.specs.ValueOrder.{maybe_cmp}
 use Rattle.row_core.specs.declared.draft.Draft.{Draft}
 use Rattle.row_core.specs.declared.value.Value.{Value}
-use Rattle.key_core.specs.declared.keys.KeyedRow.{KeyedRow}
 
 -- by the values in the columns, the first column first
 abbrev pub key_cmp : List ℕ → List Value → List Value → Ordering
@@ -15,12 +14,8 @@ key_cmp (column ∷ columns) a b =
     ordering_then (maybe_cmp (slice_get a column) (slice_get b column)) (key_cmp columns a b)
 
 -- by key, and then by start
-abbrev pub row_cmp : List ℕ → KeyedRow → KeyedRow → Ordering
-row_cmp key a b = ordering_then (key_cmp key a.values.now b.values.now) (int_cmp a.period.from b.period.from)
-
--- the row that is tested
-abbrev pub tested_row : KeyedRow → Draft
-tested_row row = record { period = row.period; values = row.values.now }
+abbrev pub row_cmp : List ℕ → Draft → Draft → Ordering
+row_cmp key a b = ordering_then (key_cmp key a.values b.values) (int_cmp a.period.from b.period.from)
 
 -- the test holds of an element and the next one
 abbrev pub have_neighbours : {X : Type 0} → (X → X → Bool) → List X → Bool

@@ -4,4 +4,4 @@
 
 mod keys;
 
-pub use keys::{KeyedRow, collide, have_collision, same_key};
+pub use keys::{collide, have_collision, same_key};

@@ -4,7 +4,8 @@ ghost use Rattle.std.specs.Prelude.{◌≡◌, ◌<◌, All, Some, IfOk, length,
 ghost use Rattle.std.specs.Thread.{IsSync};
 ghost use Rattle.list_core.specs.Chunks.{all_in};
 ghost use Rattle.share_core.specs.Ranges.{has};
-ghost use Rattle.table_core.specs.Lent.{lent_row, lent_value};
+ghost use Rattle.row_core.specs.Lent.{lent_value};
+ghost use Rattle.table_core.specs.Lent.{lent_row};
 ghost use Rattle.match_core.specs.Cells.{
   AreCells,
   AreSorted,
@@ -21,12 +22,13 @@ ghost use Rattle.match_core.specs.Cells.{
 
 use crate::NoMemory;
 use crate::side_column::SideColumn;
+use row_core::ValueRef;
 use share_core::{Range, Shares, shared_out};
 use sort_core::sort_unstable;
 use std::alloc::Global;
 use std::hash::{FoldHasher, Hasher};
 use std::thread::Threads;
-use table_core::{RowRef, SharedRows, ValueRef};
+use table_core::{RowRef, SharedRows};
 
 /// A row's value in a column, with the class of the row so far, so that no value is looked up while they are
 /// sorted, and none is copied. Numbers have the empty text. Texts have a hash as their number, which mostly

@@ -1,7 +1,8 @@
 -- When values fit.
-use Rattle.std.proofs.Common.{◌≡◌, ◌≢◌, ℕ, ◌+◌, ◌<◌, List, [], ◌∷◌, true, false, ◌&&◌, length, drop, get_or, refl, arith, sym, ◌∙◌, ap}
+use Rattle.std.proofs.Common.{◌≡◌, ◌≢◌, ℕ, ◌+◌, ◌<◌, List, [], ◌∷◌, Bool, true, false, ◌&&◌, length, drop, get_or, refl, arith, sym, ◌∙◌, ap}
 use Rattle.std.proofs.lemmas.List.{drop_more}
 use Rattle.std.proofs.Math.Bool.{and-false}
+use Rattle.std.specs.Cmp.Lexicographic.{pointwise}
 use Rattle.row_core.specs.declared.value.Value.{Value}
 use Rattle.row_core.specs.declared.schema.Column.{Column}
 use Rattle.row_core.specs.Schema.{fits}
@@ -16,19 +17,23 @@ fits-lengths (c ∷ cs) (v ∷ vs) h =
     ap (λ b. same_kind c.kind (kind_of v) && b) (fits-lengths cs vs (λ e. h (omega (arith, e))))
     ∙ and-false (same_kind c.kind (kind_of v))
 
--- one column on
-fits-drop : (cs : List Column) (vs : List Value) (i : ℕ) (c : Column) (v : Value) → i < length cs → i < length vs
-    → fits (drop i cs) (drop i vs) ≡
-    (same_kind (get_or cs i c).kind (kind_of (get_or vs i v)) && fits (drop (i + 1) cs) (drop (i + 1) vs))
-fits-drop cs vs i c v h k =
-    ap (λ l. fits l (drop i vs)) (drop_more cs i c h) ∙ ap (fits (get_or cs i c ∷ drop (i + 1) cs)) (drop_more vs i v k)
+-- ---- one column on, of values or of their kinds
 
-pub fits-next : (cs : List Column) (vs : List Value) (i : ℕ) (c : Column) (v : Value) → i < length cs → i < length vs
-    → same_kind (get_or cs i c).kind (kind_of (get_or vs i v)) ≡ true
-    → fits (drop (i + 1) cs) (drop (i + 1) vs) ≡ fits (drop i cs) (drop i vs)
-fits-next cs vs i c v h k t =
-    sym (fits-drop cs vs i c v h k ∙ ap (λ b. b && fits (drop (i + 1) cs) (drop (i + 1) vs)) t)
+module _ {X Y : Type 0} (test : X → Y → Bool) where
+  fits-drop : (xs : List X) (ys : List Y) (i : ℕ) (x : X) (y : Y) → i < length xs → i < length ys
+      → pointwise test (drop i xs) (drop i ys)
+      ≡ (test (get_or xs i x) (get_or ys i y) && pointwise test (drop (i + 1) xs) (drop (i + 1) ys))
+  fits-drop xs ys i x y h k =
+      ap (λ l. pointwise test l (drop i ys)) (drop_more xs i x h)
+      ∙ ap (pointwise test (get_or xs i x ∷ drop (i + 1) xs)) (drop_more ys i y k)
 
-pub fits-none : (cs : List Column) (vs : List Value) (i : ℕ) (c : Column) (v : Value) → i < length cs → i < length vs
-    → same_kind (get_or cs i c).kind (kind_of (get_or vs i v)) ≡ false → fits (drop i cs) (drop i vs) ≡ false
-fits-none cs vs i c v h k t = fits-drop cs vs i c v h k ∙ ap (λ b. b && fits (drop (i + 1) cs) (drop (i + 1) vs)) t
+  pub fits-next : (xs : List X) (ys : List Y) (i : ℕ) (x : X) (y : Y) → i < length xs → i < length ys
+      → test (get_or xs i x) (get_or ys i y) ≡ true
+      → pointwise test (drop (i + 1) xs) (drop (i + 1) ys) ≡ pointwise test (drop i xs) (drop i ys)
+  fits-next xs ys i x y h k t =
+      sym (fits-drop xs ys i x y h k ∙ ap (λ b. b && pointwise test (drop (i + 1) xs) (drop (i + 1) ys)) t)
+
+  pub fits-none : (xs : List X) (ys : List Y) (i : ℕ) (x : X) (y : Y) → i < length xs → i < length ys
+      → test (get_or xs i x) (get_or ys i y) ≡ false → pointwise test (drop i xs) (drop i ys) ≡ false
+  fits-none xs ys i x y h k t =
+      fits-drop xs ys i x y h k ∙ ap (λ b. b && pointwise test (drop (i + 1) xs) (drop (i + 1) ys)) t

@@ -1,3 +1,4 @@
+pub mod ColumnLemmas
 pub mod NumberLemmas
 pub mod NameLemmas
 pub mod TextLemmas
@@ -7,4 +8,5 @@ pub mod KeyLemmas
 pub mod SchemaLemmas
 pub mod RefusalLemmas
 pub mod ValueLemmas
-pub mod BlockLemmas
+pub mod TextsLemmas
+pub mod KindLemmas

@@ -1,4 +1,7 @@
-pub mod Blocks
+pub mod Columns
+pub mod Drafts
+pub mod RowsRead
+pub mod Lent
 pub mod Limits
 pub mod Name
 pub mod Number

@@ -12,7 +12,3 @@ text_limit = 4096
 -- the most columns of a table
 abbrev pub column_limit : ℕ
 column_limit = 16
-
--- the most values of a block
-abbrev pub block_limit : ℕ
-block_limit = 4096

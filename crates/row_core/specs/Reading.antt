@@ -1,5 +1,5 @@
 -- Rows as they are read from their fields.
-use Rattle.std.specs.Prelude.{◌≡◌, ◌++◌, ℕ, List, ◌∷◌, length, ◌==◌, if◌then◌else◌, Result, Ok, Err}
+use Rattle.std.specs.Prelude.{ℕ, List, ◌∷◌, length, ◌==◌, if◌then◌else◌, Result, Ok, Err}
 use Rattle.std.specs.List.{zip}
 use Rattle.std.specs.Option.{ok_or}
 use Rattle.period_core.specs.Point.{point_of}
@@ -49,14 +49,3 @@ row_of columns (from ∷ to ∷ fields) =
     map_ok (λ values. record { period = period; values = values }) (values_of columns fields))
     else Err row.WrongWidth
 row_of columns fields = Err row.WrongWidth
-
--- the values that are meant, one for each of so many columns, were added to others
-abbrev pub AddsValues : Result (List Value) RowRefused → ℕ → List Value → List Value → Type 0
-AddsValues meant width old new =
-    (read : List Value) × (meant ≡ Ok read) × (length read ≡ width) × (new ≡ old ++ read)
-
--- the period is that of the row that is meant, whose values, as many as columns, were added to others
-abbrev pub AddsRow : Result Draft RowRefused → ℕ → Period → List Value → List Value → Type 0
-AddsRow meant width period old new =
-    (read : List Value) × (meant ≡ Ok (record { period = period; values = read })) × (length read ≡ width)
-    × (new ≡ old ++ read)

@@ -1,5 +1,7 @@
 -- The bytes of a text, wherever they lie.
-use Rattle.std.specs.Prelude.{ℕ, List, take}
+use Rattle.std.specs.Prelude.{ℕ, List, ◌≤◌, length, take}
+use Rattle.std.specs.Str.{IsUtf8}
+use Rattle.row_core.specs.Limits.{text_limit}
 use Rattle.std.specs.Arc.{arc_value}
 use Rattle.std.specs.String.{string_bytes}
 use Rattle.row_core.specs.declared.text.Bytes.{Bytes}
@@ -9,3 +11,7 @@ use Rattle.row_core.specs.declared.text.Bytes.TheVariants.{Short, Long}
 abbrev pub bytes_in : Bytes → List ℕ
 bytes_in (Short len bytes) = take len bytes
 bytes_in (Long text) = string_bytes (arc_value text)
+
+-- bytes are a text's
+abbrev pub IsText : List ℕ → Type 0
+IsText bytes = (length bytes ≤ text_limit) × IsUtf8 bytes

@@ -1,8 +1,8 @@
 -- What the values of a row stand for.
-use Rattle.std.specs.Prelude.{List, [], take, drop}
+use Rattle.std.specs.Prelude.{List, []}
 use Rattle.std.specs.Arc.{arc_value}
 use Rattle.row_core.specs.declared.value.Shared.{Shared}
-use Rattle.row_core.specs.declared.value.Shared.TheVariants.{Nothing, One, Two, Row}
+use Rattle.row_core.specs.declared.value.Shared.TheVariants.{Nothing, One, Two, More}
 use Rattle.row_core.specs.declared.value.Value.{Value}
 
 -- the values that are shared
@@ -10,4 +10,4 @@ abbrev pub values_in : Shared → List Value
 values_in Nothing = []
 values_in (One one) = arc_value one
 values_in (Two two) = arc_value two
-values_in (Row from block) = take (arc_value block).width (drop from (arc_value block).values.items)
+values_in (More values) = (arc_value values).items

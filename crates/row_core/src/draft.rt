@@ -1,8 +1,8 @@
-//! Rows that are to be loaded.
+//! A row that is to be loaded.
 
 use crate::NoMemory;
 use crate::value::Values;
-use list_core::{DeepCopy, List};
+use list_core::DeepCopy;
 use period_core::Period;
 use std::alloc::Global;
 
@@ -21,6 +21,3 @@ impl DeepCopy for Draft {
         })
     }
 }
-
-/// Rows that are to be loaded, in their order.
-pub type Drafts = List<Draft>;

@@ -1,54 +1,38 @@
-//! Rows that are read one after another, with the values of many side by side.
+//! Rows that are read one after another, straight into columns.
 
-ghost use Rattle.std.specs.Prelude.{◌≡◌, ◌<◌, ◌^◌, ◌++◌, ◌∷◌, [], length, map, IfOk, OnOk};
-ghost use Rattle.row_core.specs.Blocks.{AreBeside, rows_beside};
+ghost use Rattle.std.specs.Prelude.{◌≡◌, ◌<◌, ◌++◌, ◌∷◌, [], length, map, IfErr, OnOk, Ok, Err};
 ghost use Rattle.row_core.specs.Reading.{row_of};
-ghost use Rattle.row_core.specs.Refusals.{IsAnswer, map_ok};
+ghost use Rattle.row_core.specs.Refusals.{IsAnswer, Reads, map_ok};
+ghost use Rattle.row_core.specs.declared.draft.Draft.{Draft as AnyDraft};
 
-use crate::NoMemory;
-use crate::draft::Draft;
+use crate::columns::Columns;
+use crate::drafts::Drafts;
 use crate::failure::Failure;
-use crate::reading::{RowRefused, read_onto};
+use crate::reading::{RowRefused, check_row};
 use crate::schema::Schema;
-use crate::value::{Block, Value, Values};
-use period_core::Period;
 use std::alloc::Global;
 use std::convert::AsSlice;
 use std::marker::Model;
-use std::sync::Arc;
 
-/// The most values of a block. They take some 100 KB: so blocks are few, and none is long.
-const VALUES_OF_BLOCK: usize = 4_096;
-
-/// Reads rows of a table's columns, one after another. The values of many rows lie in one block of
-/// memory, which these rows share: so a table of many rows isn't as many blocks. Contracts see the
-/// columns, and the rows so far.
+/// Reads rows of a table's columns, one after another. Contracts see the columns, and the rows so far.
 #[derive(Drop)]
 pub struct RowReader<'a> {
     alloc: Global,
     schema: &'a Schema,
-    /// The rows whose values lie in blocks.
-    rows: Vec<Draft>,
-    /// The periods of those behind them.
-    periods: Vec<Period>,
-    /// Their values.
-    values: Vec<Value>,
+    rows: Columns,
 }
 
 impl<'a> Model for RowReader<'a> {
-    ghost use Rattle.std.specs.Prelude.{◌≤◌, ◌++◌, length};
-    ghost use Rattle.row_core.specs.Blocks.{AreBeside, RowsRead, rows_beside};
-    ghost use Rattle.row_core.specs.Limits.{block_limit};
+    ghost use Rattle.std.specs.Prelude.{◌≡◌, ◌<◌, length, map};
+    ghost use Rattle.row_core.specs.RowsRead.{RowsRead};
 
     ghost Value = { RowsRead };
 
-    ghost view = { λ r. record {
-      columns = r.schema.now;
-      rows = r.rows.items ++ rows_beside (length r.schema.now) r.periods.items r.values.items;
-    } };
+    ghost view = { λ r. record { columns = r.schema.now; rows = r.rows.rows } };
 
-    ghost invariant = { λ r. AreBeside (length r.schema.now) r.periods.items r.values.items
-        × (length r.values.items ≤ block_limit) };
+    // The first row makes the columns.
+    ghost invariant = { λ r. 0 < length r.rows.rows
+        → map (λ column. column.kind) r.schema.now ≡ r.rows.kinds };
 }
 
 impl<'a> RowReader<'a> {
@@ -59,9 +43,7 @@ impl<'a> RowReader<'a> {
         RowReader {
             alloc,
             schema,
-            rows: Vec::new(alloc),
-            periods: Vec::new(alloc),
-            values: Vec::new(alloc),
+            rows: Columns::empty(alloc),
         }
     }
 
@@ -76,66 +58,46 @@ impl<'a> RowReader<'a> {
             alloc,
             schema,
             mut rows,
-            mut periods,
-            mut values,
         } = self;
-        let period = read_onto(alloc, &mut values, schema.as_slice(), fields)?;
-        periods.push(period)?;
-        if values.len() > VALUES_OF_BLOCK - schema.width() as usize {
-            add_rows(alloc, &mut rows, schema.width(), &periods, values)?;
-            periods = Vec::new(alloc);
-            values = Vec::new(alloc);
+        match add_row(alloc, schema, &mut rows, fields) {
+            Ok(()) => Ok(RowReader {
+                alloc,
+                schema,
+                rows,
+            }),
+            Err(Failure::Refused(refused)) => Err(Failure::Refused(refused)),
+            Err(Failure::NoMemory) => {
+                check_row(schema.as_slice(), fields).map_err(Failure::Refused)?;
+                Err(Failure::NoMemory)
+            }
         }
-        Ok(RowReader {
-            alloc,
-            schema,
-            rows,
-            periods,
-            values,
-        })
     }
 
-    /// The rows, which can be put behind others.
-    pub fn into_rows(self) -> Result<Vec<Draft>, NoMemory>
-        ensures { IfOk result (λ rows. rows.items ≡ self.entry.rows) }
+    /// The rows.
+    pub fn into_rows(self) -> Drafts
+        ensures { result ≡ self.entry.rows }
     {
-        let RowReader {
-            alloc,
-            schema,
-            mut rows,
-            periods,
-            values,
-        } = self;
-        add_rows(alloc, &mut rows, schema.width(), &periods, values)?;
-        Ok(rows)
+        Drafts::of_columns(self.alloc, self.rows)
     }
 }
 
-/// Adds the rows of some periods, whose values go into a block, so many of each.
-fn add_rows(
+/// Adds the row of the fields, up to the first that is refused anything.
+fn add_row<F: AsSlice<u8>>(
     alloc: Global,
-    rows: &mut Vec<Draft>,
-    width: u32,
-    periods: &[Period],
-    values: Vec<Value>,
-) -> Result<(), NoMemory>
-    requires few { length values.items < 2 ^ 32 }
-    requires beside { AreBeside width periods.now values.items }
-    ensures { OnOk result (rows.new.items
-        ≡ rows.old.items ++ rows_beside width periods.now values.items) }
+    schema: &Schema,
+    rows: &mut Columns,
+    fields: &[F],
+) -> Result<(), Failure<RowRefused>>
+    requires { 0 < length rows.old.rows → map (λ column. column.kind) schema.now ≡ rows.old.kinds }
+    ensures kinds { OnOk result (map (λ column. column.kind) schema.now ≡ rows.new.kinds) }
+    ensures ok { OnOk result ((row : AnyDraft)
+        × (row_of schema.now (map F.items fields.now) ≡ Ok row)
+        × (rows.new.rows ≡ rows.old.rows ++ row ∷ [])) }
+    ensures err { IfErr result (λ failure. Reads {T = AnyDraft} (λ row. row)
+        (row_of schema.now (map F.items fields.now)) (Err failure)) }
 {
-    let block = Block {
-        width: width as usize,
-        values,
-    };
-    let block = Arc::new(alloc, block)?;
-    let mut from = 0;
-    for period in periods {
-        rows.push(Draft {
-            period: *period,
-            values: Values::in_block(alloc, &block, from)?,
-        })?;
-        from += width;
+    if rows.is_empty() {
+        *rows = Columns::new(alloc, &schema.kinds(alloc)?)?;
     }
-    Ok(())
+    rows.read(schema.as_slice(), fields)
 }

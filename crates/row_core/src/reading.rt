@@ -1,17 +1,16 @@
 //! Rows and values, read from a record's fields.
 
-ghost use Rattle.std.specs.Prelude.{◌≡◌, ◌≤◌, List, length, map, IfErr, IfOk, OnOk};
+ghost use Rattle.std.specs.Prelude.{◌≡◌, ◌≤◌, length, map, IfOk};
 ghost use Rattle.std.specs.Result.{result_err};
-ghost use Rattle.row_core.specs.Refusals.{IsAnswer, Reads};
-ghost use Rattle.row_core.specs.Reading.{AddsRow, AddsValues, period_of, row_of, values_of};
-ghost use Rattle.row_core.specs.declared.draft.Draft.{Draft as AnyDraft};
-ghost use Rattle.row_core.specs.declared.value.Value.{Value as AnyValue};
+ghost use Rattle.row_core.specs.Refusals.{IsAnswer};
+ghost use Rattle.row_core.specs.Reading.{period_of, row_of, values_of};
 
 use crate::NoMemory;
 use crate::draft::Draft;
 use crate::failure::Failure;
+use crate::reader::RowReader;
 use crate::schema::{Column, Schema};
-use crate::value::{Value, ValueRefused, Values};
+use crate::value::{Value, ValueRefused};
 use period_core::{BadPeriod, BadPoint, Period, Point};
 use std::alloc::Global;
 use std::convert::AsSlice;
@@ -149,84 +148,29 @@ impl Schema {
     ) -> Result<Draft, Failure<RowRefused>>
         ensures { IsAnswer (row_of self.now (map F.items fields.now)) result }
     {
-        let mut values = Vec::new(alloc);
-        let period = read_onto(alloc, &mut values, self.as_slice(), fields)?;
-        let values = Values::of(alloc, values)?;
-        Ok(Draft { period, values })
+        let rows = RowReader::new(alloc, self).read(fields)?.into_rows();
+        Ok(rows.at(0).copy(alloc)?)
     }
 }
 
-/// The period of the row of the fields, whose values are added to others. Want of memory is
-/// answered only where no field is refused.
-pub(crate) fn read_onto<F: AsSlice<u8>>(
-    alloc: Global,
-    values: &mut Vec<Value>,
-    columns: &[Column],
-    fields: &[F],
-) -> Result<Period, Failure<RowRefused>>
-    ensures ok { IfOk result (λ period.
-        AddsRow (row_of columns.now (map F.items fields.now)) (length columns.now) period
-        values.old.items values.new.items) }
-    ensures err { IfErr result (λ failure.
-        IsAnswer {T = AnyDraft} (row_of columns.now (map F.items fields.now)) (Err failure)) }
+/// Whether the fields are a row's of these columns, which takes no memory.
+pub(crate) fn check_row<F: AsSlice<u8>>(columns: &[Column], fields: &[F]) -> Result<(), RowRefused>
+    ensures { result_err result ≡ result_err (row_of columns.now (map F.items fields.now)) }
 {
     if fields.len() != columns.len() + 2 {
-        return Err(Failure::Refused(RowRefused::WrongWidth));
+        return Err(RowRefused::WrongWidth);
     }
-    let period = read_period(fields[0].as_slice(), fields[1].as_slice()).map_err(Failure::Refused)?;
-    read_values(alloc, values, columns, &fields[2..])?;
-    Ok(period)
+    read_period(fields[0].as_slice(), fields[1].as_slice())?;
+    check_values(columns, &fields[2..])
 }
 
 /// The period of two points.
-fn read_period(from: &[u8], to: &[u8]) -> Result<Period, RowRefused>
+pub(crate) fn read_period(from: &[u8], to: &[u8]) -> Result<Period, RowRefused>
     ensures { result ≡ period_of from.now to.now }
 {
     let from = Point::parse(from)?;
     let to = Point::parse(to)?;
     Ok(Period::new(from, to)?)
-}
-
-/// Adds the fields' values in their columns. Memory is missed only where no field is refused.
-fn read_values<F: AsSlice<u8>>(
-    alloc: Global,
-    values: &mut Vec<Value>,
-    columns: &[Column],
-    fields: &[F],
-) -> Result<(), Failure<RowRefused>>
-    requires { length columns.now ≤ length fields.now }
-    ensures ok { OnOk result (AddsValues (values_of columns.now (map F.items fields.now))
-        (length columns.now) values.old.items values.new.items) }
-    ensures err { IfErr result (λ failure. IsAnswer {T = List AnyValue}
-        (values_of columns.now (map F.items fields.now)) (Err failure)) }
-{
-    match push_values(alloc, values, columns, fields) {
-        Err(Failure::NoMemory) => {
-            check_values(columns, fields).map_err(Failure::Refused)?;
-            Err(Failure::NoMemory)
-        }
-        answer => answer,
-    }
-}
-
-/// Adds the fields' values in their columns, up to the first that is refused anything.
-fn push_values<F: AsSlice<u8>>(
-    alloc: Global,
-    values: &mut Vec<Value>,
-    columns: &[Column],
-    fields: &[F],
-) -> Result<(), Failure<RowRefused>>
-    requires { length columns.now ≤ length fields.now }
-    ensures ok { OnOk result (AddsValues (values_of columns.now (map F.items fields.now))
-        (length columns.now) values.old.items values.new.items) }
-    ensures err { IfErr result (λ failure. Reads {T = List AnyValue} (λ read. read)
-        (values_of columns.now (map F.items fields.now)) (Err failure)) }
-{
-    for i in 0..columns.len() {
-        let value = Value::read(alloc, columns[i].kind, fields[i].as_slice())?;
-        values.push(value)?;
-    }
-    Ok(())
 }
 
 /// Whether each field is a value of its column.

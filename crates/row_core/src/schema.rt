@@ -152,6 +152,13 @@ impl Schema {
         self.columns[i as usize].kind
     }
 
+    /// The kinds of the columns, in their order.
+    pub(crate) fn kinds(&self, alloc: Global) -> Result<Vec<Kind>, NoMemory>
+        ensures { IfOk result (λ kinds. kinds.items ≡ map (λ column. column.kind) self.now) }
+    {
+        kinds_of(alloc, &self.columns)
+    }
+
     /// The place of the column of that name.
     pub fn column(&self, name: Name) -> Option<u32>
         ensures { result ≡ column_of self.now name }
@@ -251,6 +258,17 @@ fn collect_columns(alloc: Global, pairs: &[(Name, Kind)]) -> Result<Vec<Column>,
         })?;
     }
     Ok(columns)
+}
+
+// The kinds of the columns.
+fn kinds_of(alloc: Global, columns: &[Column]) -> Result<Vec<Kind>, NoMemory>
+    ensures { IfOk result (λ kinds. kinds.items ≡ map (λ column. column.kind) columns.now) }
+{
+    let mut kinds = Vec::with_capacity(alloc, columns.len())?;
+    for column in columns {
+        kinds.push(column.kind)?;
+    }
+    Ok(kinds)
 }
 
 // Whether some name occurs twice.

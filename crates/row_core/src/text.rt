@@ -107,6 +107,14 @@ impl Text {
         ensures { IsAnswer (text_of bytes.now) result }
     {
         let text = checked_text(bytes).map_err(Failure::Refused)?;
+        Ok(Text::of(alloc, text)?)
+    }
+
+    /// The text of a string.
+    pub(crate) fn of(alloc: Global, text: &str) -> Result<Text, NoMemory>
+        requires { length text.now ≤ text_limit }
+        ensures { IfOk result (λ made. made ≡ text.now) }
+    {
         Ok(Text {
             bytes: Bytes::new(alloc, text)?,
         })

@@ -1,7 +1,6 @@
 //! Values and their kinds, and the values of a row.
 
-ghost use Rattle.std.specs.Prelude.{◌≡◌, ◌++◌, ◌==◌, [], ◌∷◌, length, IfOk, OnOk, OnErr, slice_get, take, drop};
-ghost use Rattle.std.specs.Arc.{arc_value};
+ghost use Rattle.std.specs.Prelude.{◌≡◌, ◌++◌, ◌==◌, [], ◌∷◌, length, IfOk, OnOk, OnErr, slice_get};
 ghost use Rattle.std.specs.Option.{option_copied};
 ghost use Rattle.std.specs.Result.{result_err};
 ghost use Rattle.row_core.specs.Refusals.{IsAnswer};
@@ -156,32 +155,14 @@ impl DeepCopy for Value {
     }
 }
 
-/// Values of rows that were read together, as many for each row, row after row.
-#[derive(Drop)]
-pub(crate) struct Block {
-    pub width: usize,
-    pub values: Vec<Value>,
-}
-
-impl Block {
-    /// The values of the row that begin at a place.
-    fn row(&self, from: u32) -> &[Value]
-        ensures { result.now ≡ take self.now.width (drop from self.now.values.items) }
-    {
-        let rest = &self.values[(from as usize).min(self.values.len())..];
-        &rest[..self.width.min(rest.len())]
-    }
-}
-
 /// Values, and how many own them. One or two values lie beside that count, in one block of memory;
-/// for none there is no block. Others are a row's in a block that other rows have values in too,
-/// and begin there at a place.
+/// for none there is no block.
 #[derive(Drop)]
 pub(crate) enum Shared {
     Nothing,
     One(Arc<[Value; 1]>),
     Two(Arc<[Value; 2]>),
-    Row(u32, Arc<Block>),
+    More(Arc<Vec<Value>>),
 }
 
 impl Shared {
@@ -199,11 +180,7 @@ impl Shared {
             Ok(two) => return Ok(Shared::Two(Arc::new(alloc, two)?)),
             Err(items) => items,
         };
-        let block = Block {
-            width: items.len(),
-            values: items,
-        };
-        Ok(Shared::Row(0, Arc::new(alloc, block)?))
+        Ok(Shared::More(Arc::new(alloc, items)?))
     }
 
     fn as_slice(&self) -> &[Value]
@@ -213,7 +190,7 @@ impl Shared {
             Shared::Nothing => &[],
             Shared::One(one) => one.as_slice(),
             Shared::Two(two) => two.as_slice(),
-            Shared::Row(from, block) => block.row(*from),
+            Shared::More(items) => items,
         }
     }
 
@@ -225,7 +202,7 @@ impl Shared {
             Shared::Nothing => Ok(Shared::Nothing),
             Shared::One(one) => Ok(Shared::One(Arc::try_clone(one)?)),
             Shared::Two(two) => Ok(Shared::Two(Arc::try_clone(two)?)),
-            Shared::Row(from, block) => Ok(Shared::Row(*from, Arc::try_clone(block)?)),
+            Shared::More(items) => Ok(Shared::More(Arc::try_clone(items)?)),
         }
     }
 }
@@ -265,21 +242,6 @@ impl Values {
     {
         let shared = Shared::new(alloc, items)?;
         Ok(Values { alloc, shared })
-    }
-
-    /// Those of a block that begin at a place, as many as each row has there.
-    pub(crate) fn in_block(alloc: Global, block: &Arc<Block>, from: u32) -> Result<Values, NoMemory>
-        ensures { IfOk result (λ values. values
-            ≡ take (arc_value block.now).width (drop from (arc_value block.now).values.items)) }
-    {
-        if block.width == 0 {
-            return Ok(Values::new(alloc));
-        }
-        let block = Arc::try_clone(block)?;
-        Ok(Values {
-            alloc,
-            shared: Shared::Row(from, block),
-        })
     }
 
     /// How many there are.

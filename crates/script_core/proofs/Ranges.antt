@@ -1,10 +1,10 @@
 -- Records of a load that are read range by range.
-use Rattle.std.proofs.Common.{◌≡◌, ◌∙◌, ℕ, zero, suc, ◌+◌, ◌-◌, min, List, [], ◌∷◌, ◌++◌, Some, None, Result, Ok, Err, Vec, Global, refl, sym, ap, arith, take, drop, length, append-nil, unwrap_or}
+use Rattle.std.proofs.Common.{◌≡◌, ◌∙◌, ℕ, zero, suc, ◌+◌, ◌-◌, min, List, [], ◌∷◌, ◌++◌, Some, None, Result, Ok, Err, refl, sym, ap, arith, take, drop, length, append-nil, unwrap_or}
+use Rattle.std.specs.Prelude.{flat_map}
 use Rattle.std.specs.List.{enumerate_from}
 use Rattle.std.specs.Ordering.{nat_cmp}
 use Rattle.std.specs.declared.alloc.AllocError.{AllocError}
 use Rattle.std.proofs.lemmas.List.FromFn.{length-enumerate_from}
-use Rattle.list_core.specs.Chunks.{all_in}
 use Rattle.share_core.specs.Pieces.{piece}
 use Rattle.share_core.specs.Ranges.{range}
 use Rattle.share_core.specs.Shares.{Gives, GivesFrom}
@@ -19,7 +19,7 @@ use Rattle.command_core.specs.Refusal.{fault}
 use Rattle.command_core.specs.declared.refusal.Fault.{Fault}
 use Rattle.command_core.specs.declared.refusal.Refusal.{Refusal}
 use Rattle.script_core.specs.Effects.{told_by, told_each}
-use Rattle.script_core.specs.Loads.{all_drafts, drafts_of}
+use Rattle.script_core.specs.Loads.{all_drafts}
 use Rattle.script_core.proofs.Loading.{behind}
 
 -- the numbered items from a place on
@@ -82,36 +82,37 @@ read_each-append read (x ∷ xs) ys =
     ∙ then_rest-first (read x) (read_each read xs) (read_each read ys)
 
 -- the rows of one more range come before those of the others
-pub all_drafts-more : (rows : Vec Draft Global) (ranges : List (Result (Vec Draft Global) Fault))
-    → all_drafts (Ok rows ∷ ranges) ≡ behind rows.items (all_drafts ranges)
+pub all_drafts-more : (rows : List Draft) (ranges : List (Result (List Draft) Fault))
+    → all_drafts (Ok rows ∷ ranges) ≡ behind rows (all_drafts ranges)
 all_drafts-more rows ranges = more (read_each (λ range. range) ranges)
   where
-    more : (read : Result (List (Vec Draft Global)) Fault)
-        → map_ok all_in (map_ok (λ others. rows ∷ others) read) ≡ behind rows.items (map_ok all_in read)
+    more : (read : Result (List (List Draft)) Fault)
+        → map_ok (flat_map (λ had. had)) (map_ok (λ others. rows ∷ others) read)
+        ≡ behind rows (map_ok (flat_map (λ had. had)) read)
     more (Ok others) = refl
     more (Err wrong) = refl
 
 -- one range, and then the others
-all_drafts-range : (range : Result (Vec Draft Global) Fault) (ranges : List (Result (Vec Draft Global) Fault))
-    → all_drafts (range ∷ ranges) ≡ then_rest (drafts_of range) (all_drafts ranges)
+all_drafts-range : (range : Result (List Draft) Fault) (ranges : List (Result (List Draft) Fault))
+    → all_drafts (range ∷ ranges) ≡ then_rest range (all_drafts ranges)
 all_drafts-range (Ok rows) ranges = all_drafts-more rows ranges
 all_drafts-range (Err wrong) ranges = refl
 
 -- one range alone
-all_drafts-one : (range : Result (Vec Draft Global) Fault) → all_drafts (range ∷ []) ≡ drafts_of range
-all_drafts-one (Ok rows) = ap Ok (append-nil rows.items)
+all_drafts-one : (range : Result (List Draft) Fault) → all_drafts (range ∷ []) ≡ range
+all_drafts-one (Ok rows) = ap Ok (append-nil rows)
 all_drafts-one (Err wrong) = refl
 
 -- what the ranges of numbered records give, range by range, is what all of them give
 pub ranges-all : (read : Record → Result Draft Refusal) (numbered : List (ℕ × Record))
-    (post : Range ℕ → ℕ → Result (Result (Vec Draft Global) Fault) AllocError → Type 0)
-    (cuts : List (Cut ℕ)) (ranges : List (Result (Vec Draft Global) Fault))
-    → ((places : Range ℕ) (n : ℕ) (own : Result (Vec Draft Global) Fault) → post places n (Ok own)
-    → told_each read (piece places numbered) ≡ drafts_of own)
+    (post : Range ℕ → ℕ → Result (Result (List Draft) Fault) AllocError → Type 0)
+    (cuts : List (Cut ℕ)) (ranges : List (Result (List Draft) Fault))
+    → ((places : Range ℕ) (n : ℕ) (own : Result (List Draft) Fault) → post places n (Ok own)
+    → told_each read (piece places numbered) ≡ own)
     → GivesFrom nat_cmp (Gives post) None cuts ranges → all_drafts ranges ≡ told_each read numbered
 ranges-all read numbered post cuts ranges told given =
     all_come nat_cmp (Gives post)
-    (λ (places : Range ℕ) (all : List (Result (Vec Draft Global) Fault)).
+    (λ (places : Range ℕ) (all : List (Result (List Draft) Fault)).
     all_drafts all ≡ told_each read (piece places numbered))
     (λ places own gave. all_drafts-one own ∙ sym (told places gave.0 own gave.1))
     (λ from at own more begun one others.

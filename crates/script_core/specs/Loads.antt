@@ -1,7 +1,5 @@
 -- What ranges of a load's records give, one range behind another.
-use Rattle.std.specs.Prelude.{ℕ, List, Result}
-use Rattle.std.specs.Global.{Vec}
-use Rattle.list_core.specs.Chunks.{all_in}
+use Rattle.std.specs.Prelude.{ℕ, List, Result, flat_map}
 use Rattle.row_core.specs.Refusals.{map_ok, read_each}
 use Rattle.row_core.specs.declared.draft.Draft.{Draft}
 use Rattle.row_core.specs.declared.schema.Column.{Column}
@@ -13,10 +11,6 @@ use Rattle.script_core.specs.Effects.{loaded_row, told_each}
 abbrev pub drafts_told : List Column → List (ℕ × Record) → Result (List Draft) Fault
 drafts_told columns numbered = told_each (loaded_row columns) numbered
 
--- the rows of a range, or its fault
-abbrev pub drafts_of : Result (Vec Draft) Fault → Result (List Draft) Fault
-drafts_of range = map_ok (λ (rows : Vec Draft). rows.items) range
-
 -- the rows of all ranges, one range behind another, or the first range's fault that has one
-abbrev pub all_drafts : List (Result (Vec Draft) Fault) → Result (List Draft) Fault
-all_drafts ranges = map_ok all_in (read_each (λ range. range) ranges)
+abbrev pub all_drafts : List (Result (List Draft) Fault) → Result (List Draft) Fault
+all_drafts ranges = map_ok (flat_map (λ rows. rows)) (read_each (λ range. range) ranges)

@@ -6,12 +6,12 @@ ghost use Rattle.row_core.specs.declared.draft.Draft.{Draft as AnyDraft};
 ghost use Rattle.script_core.specs.Failure.{IsFailureOf, IsRecordFailure};
 ghost use Rattle.command_core.specs.Lines.{fields_in, lines_in};
 ghost use Rattle.script_core.specs.Effects.{loaded_row, loaded_rows};
-ghost use Rattle.script_core.specs.Loads.{all_drafts, drafts_of, drafts_told};
+ghost use Rattle.script_core.specs.Loads.{all_drafts, drafts_told};
 
 use crate::failure::{Failure, failure_at, refused};
 use command_core::{Fault, Line, Lines, Refusal, begins};
 use period_core::NoMemory;
-use row_core::{Draft, Drafts, RowReader, Schema};
+use row_core::{Drafts, RowReader, Schema};
 use share_core::{Range, Shares, places_within, shared_out};
 use std::alloc::{AllocError, Global};
 use std::thread::Threads;
@@ -59,10 +59,10 @@ fn rows_of_records(
     schema: &Schema,
     lines: Lines<'_>,
     number: u64,
-) -> Result<Vec<Draft>, Failure>
+) -> Result<Drafts, Failure>
     requires { number + length (lines_in lines) < 2 ^ 64 }
     ensures { MatchResult result
-        (λ rows. loaded_rows schema.now number (lines_in lines.entry) ≡ Ok rows.items)
+        (λ rows. loaded_rows schema.now number (lines_in lines.entry) ≡ Ok rows)
         (IsFailureOf (loaded_rows schema.now number (lines_in lines.entry))) }
 {
     let mut reader = RowReader::new(alloc, schema);
@@ -71,7 +71,7 @@ fn rows_of_records(
         let line = lines.get(place);
         reader = read_next(reader, &mut fields, line, number + place as u64)?;
     }
-    Ok(reader.into_rows()?)
+    Ok(reader.into_rows())
 }
 
 /// The rows of a load's records at some places, or the fault of the first of them that has one; the load's first record
@@ -82,10 +82,10 @@ fn rows_in_range(
     lines: Lines<'_>,
     number: u64,
     places: Range<usize>,
-) -> Result<Result<Vec<Draft>, Fault>, NoMemory>
+) -> Result<Result<Drafts, Fault>, NoMemory>
     requires { number + length (lines_in lines) < 2 ^ 64 }
     ensures { IfOk result (λ read. drafts_told schema.now
-        (piece places (enumerate_from number (lines_in lines.entry))) ≡ drafts_of read) }
+        (piece places (enumerate_from number (lines_in lines.entry))) ≡ read) }
 {
     let (from, to) = places_within(places, lines.len());
     match rows_of_records(alloc, schema, lines.range(from, to), number + from as u64) {
@@ -96,24 +96,18 @@ fn rows_in_range(
 }
 
 /// The rows that ranges of records gave, behind one another, or the first range's fault that has one.
-fn in_one_list(alloc: Global, ranges: Vec<Result<Vec<Draft>, Fault>>) -> Result<Drafts, Failure>
+fn in_one_list(alloc: Global, ranges: Vec<Result<Drafts, Fault>>) -> Result<Drafts, Failure>
     ensures { MatchResult result (λ rows. all_drafts ranges.items ≡ Ok rows)
         (IsFailureOf (all_drafts ranges.items)) }
 {
-    let mut rows = Vec::new(alloc);
+    let mut rows = Drafts::new(alloc);
     for range in ranges {
         match range {
-            Ok(mut more) => {
-                if rows.is_empty() {
-                    rows = more;
-                } else {
-                    rows.append(&mut more)?;
-                }
-            }
+            Ok(more) => rows.append(more)?,
             Err(fault) => return Err(Failure::Refused(fault)),
         }
     }
-    Ok(Drafts::from(rows))
+    Ok(rows)
 }
 
 /// The rows of a load's records, the first of them of this number. Workers share the records out by their places.
@@ -132,17 +126,16 @@ pub(crate) fn loaded_rows<T: Threads + Sync>(
     let shares = Shares::of(alloc, lines.len(), crew.workers, &|place: usize| place)?;
     if shares.len() == 1 {
         // Most loads are of a row or a few, which no list of ranges is made for.
-        let rows = rows_of_records(alloc, schema, lines, number)?;
-        return Ok(Drafts::from(rows));
+        return rows_of_records(alloc, schema, lines, number);
     }
     let ranges = shared_out(
         rt,
         alloc,
         &shares,
-        &|places: Range<usize>, _workers: u32| -> Result<Result<Vec<Draft>, Fault>, NoMemory>
+        &|places: Range<usize>, _workers: u32| -> Result<Result<Drafts, Fault>, NoMemory>
             requires { number + length (lines_in lines) < 2 ^ 64 }
             ensures { IfOk result (λ read. drafts_told schema.entry.now
-                (piece places (enumerate_from number (lines_in lines.entry))) ≡ drafts_of read) }
+                (piece places (enumerate_from number (lines_in lines.entry))) ≡ read) }
         { rows_in_range(alloc, schema, lines, number, places) },
     )?;
     in_one_list(alloc, ranges)

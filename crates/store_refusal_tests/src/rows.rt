@@ -104,10 +104,10 @@ fn read_more_rows(alloc: Global) -> Result<(), Ended> {
     let first = fields(alloc, &[b"2024-01-01", b"2024-01-02", b"7", long])?;
     let second = fields(alloc, &[b"2024-01-02", b"2024-01-03", b"8", b"y"])?;
     let reader = RowReader::new(alloc, &schema).read(&first)?.read(&second)?;
-    let rows = reader.into_rows()?;
-    let row = rows.get(1).ok_or(Ended::Wrong)?;
+    let rows = reader.into_rows();
+    let values = rows.get(1).ok_or(Ended::Wrong)?.values(alloc)?;
     let want = [Value::Int(8), text(alloc, b"y")?];
-    holds(rows.len() == 2 && row.values.as_slice() == want.as_slice())?;
+    holds(rows.len() == 2 && values.as_slice() == want.as_slice())?;
     let reader = RowReader::new(alloc, &schema).read(&first)?;
     let narrow = first.get(..3).ok_or(Ended::Wrong)?;
     refuses(reader.read(narrow), RowRefused::WrongWidth)
@@ -131,27 +131,81 @@ fn values(alloc: Global) -> Result<Values, Ended> {
     Ok(values)
 }
 
-// Adds rows to lists, once more where memory was refused; then none was added.
-fn add_rows(alloc: Global) -> Result<(), Ended> {
-    let period = day()?;
+// A draft of a day, with those values.
+fn draft(alloc: Global, values: &Values) -> Result<Draft, Ended> {
+    Ok(Draft {
+        period: day()?,
+        values: values.copy(alloc)?,
+    })
+}
+
+// Adds drafts to a list in each way, once more where memory was refused; then none was added.
+fn add_each_way(alloc: Global, values: &Values) -> Result<Drafts, Ended> {
+    let mut drafts = Drafts::new(alloc);
+    if drafts.push(draft(alloc, values)?).is_err() {
+        holds(drafts.is_empty())?;
+        drafts.push(draft(alloc, values)?)?;
+    }
+    if drafts.push_row(day()?, values.as_slice()).is_err() {
+        holds(drafts.len() == 1)?;
+        drafts.push_row(day()?, values.as_slice())?;
+    }
+    let copies = drafts.copy(alloc)?;
+    if drafts.append(copies).is_err() {
+        let copies = drafts.copy(alloc)?;
+        holds(drafts.len() == 2)?;
+        drafts.append(copies)?;
+    }
+    Ok(drafts)
+}
+
+// Adds drafts of other kinds to a list, once more where memory was refused; then none was added.
+fn add_unlike(alloc: Global) -> Result<(), Ended> {
+    let values = values(alloc)?;
+    let mut drafts = add_each_way(alloc, &values)?;
+    if drafts.push_row(day()?, &[]).is_err() {
+        holds(drafts.len() == 4)?;
+        drafts.push_row(day()?, &[])?;
+    }
+    let mut all = add_each_way(alloc, &values)?;
+    let unlike = drafts.copy(alloc)?;
+    if all.append(unlike).is_err() {
+        holds(all.len() == 4)?;
+        all.append(drafts)?;
+    }
+    holds(all.len() == 9)?;
+    for place in 0..8 {
+        let copy = all.get(place).ok_or(Ended::Wrong)?.copy(alloc)?;
+        holds(copy.period == day()? && copy.values.as_slice() == values.as_slice())?;
+    }
+    holds(all.get(8).ok_or(Ended::Wrong)?.width() == 0)
+}
+
+// Adds drafts, and copies each of them.
+fn add_drafts(alloc: Global) -> Result<(), Ended> {
+    let values = values(alloc)?;
+    let drafts = add_each_way(alloc, &values)?;
+    holds(drafts.len() == 4)?;
+    for place in 0..4 {
+        let copy = drafts.get(place).ok_or(Ended::Wrong)?.copy(alloc)?;
+        holds(copy.period == day()? && copy.values.as_slice() == values.as_slice())?;
+    }
+    Ok(())
+}
+
+// Adds a row to a list, once more where memory was refused; then none was added.
+fn add_row(alloc: Global) -> Result<(), Ended> {
     let row = Row {
         id: 5,
-        period,
+        period: day()?,
         values: values(alloc)?,
     };
-    let mut drafts = Drafts::new(alloc);
-    let values = row.values.copy(alloc)?;
-    if drafts.push(Draft { period, values }).is_err() {
-        let values = row.values.copy(alloc)?;
-        holds(drafts.is_empty())?;
-        drafts.push(Draft { period, values })?;
-    }
     let mut rows = RowList::new(alloc);
     if rows.push(row.copy(alloc)?).is_err() {
         holds(rows.is_empty())?;
         rows.push(row.copy(alloc)?)?;
     }
-    holds(drafts.len() == 1 && rows.len() == 1)?;
+    holds(rows.len() == 1)?;
     let copy = rows.get(0).ok_or(Ended::Wrong)?;
     holds(copy.id == 5 && copy.values.as_slice() == row.values.as_slice())
 }
@@ -160,5 +214,7 @@ fn add_rows(alloc: Global) -> Result<(), Ended> {
 fn rows_are_read_and_added_or_memory_is_refused(rt: HostRuntime) -> Result<(), Fault> {
     try_each(&rt, read_rows)?;
     try_each(&rt, read_more_rows)?;
-    try_each(&rt, add_rows)
+    try_each(&rt, add_drafts)?;
+    try_each(&rt, add_unlike)?;
+    try_each(&rt, add_row)
 }

@@ -4,10 +4,10 @@ use crate::fixtures::{name, period, schema, text};
 use book_core::{Book, Change, ChangeKind, Entry, Pairs, RowsRefused, Version, VersionsRefused};
 use list_core::DeepCopy;
 use period_core::Period;
-use row_core::{Draft, Drafts, Failure, Kind, Name, Value, Values};
+use row_core::{Draft, Drafts, Failure, Kind, Name, Value, ValueRef, Values};
 use std::alloc::Global;
 use std::process::Abort;
-use table_core::{RowRef, SharedRows, ValueRef};
+use table_core::{RowRef, SharedRows};
 
 // The pairs of the column `v` with a text, and of the column `k` with a number.
 fn pairs(rt: &(impl Abort + Alloc<A = Global>), v: Option<&[u8]>, k: Option<i64>) -> Pairs {

@@ -4,7 +4,7 @@ use crate::fixtures::{day, name, schema, text};
 use list_core::DeepCopy;
 use row_core::{
     BadName, Draft, Drafts, Failure, Field, KeyRefused, Kind, Name, Row, RowList, RowReader,
-    RowRefused, Schema, SchemaRefused, Text, TextRefused, Value, ValueRefused, Values,
+    RowRefused, Schema, SchemaRefused, Text, TextRefused, Value, ValueRef, ValueRefused, Values,
 };
 use std::alloc::Global;
 use std::convert::AsSlice;
@@ -148,7 +148,7 @@ fn fields_of(rt: &(impl Abort + Alloc<A = Global>), number: usize, letters: usiz
     ]
 }
 
-// More rows than have their values in one block, with texts that lie in the value and that don't.
+// Thousands of rows, with texts that lie in the value and that don't.
 #[test]
 fn reads_rows_one_after_another(rt: HostRuntime) {
     let schema = columns(&rt);
@@ -157,14 +157,15 @@ fn reads_rows_one_after_another(rt: HostRuntime) {
         let fields = fields_of(&rt, number, number % 20);
         reader = reader.read(&fields).expect(&rt, "a row");
     }
-    let rows = reader.into_rows().expect(&rt, "memory");
+    let rows = reader.into_rows();
     assert!(rt; rows.len() == 2_100);
     for number in [0, 14, 15, 2_047, 2_048, 2_099] {
         let fields = fields_of(&rt, number, number % 20);
         let alone = schema.read_row(rt.alloc(), &fields).expect(&rt, "a row");
         let row = rows.get(number).expect(&rt, "the row");
-        assert!(rt; row.period == alone.period);
-        assert!(rt; row.values.as_slice() == alone.values.as_slice());
+        let values = row.values(rt.alloc()).expect(&rt, "memory");
+        assert!(rt; row.period() == alone.period);
+        assert!(rt; values.as_slice() == alone.values.as_slice());
     }
 }
 
@@ -227,17 +228,69 @@ fn values(rt: &(impl Abort + Alloc<A = Global>)) -> Values {
     values
 }
 
-#[test]
-fn adds_values_and_drafts(rt: HostRuntime) {
+// Drafts of those values: one by itself, one of its values, and copies of both behind them.
+fn drafts(rt: &(impl Abort + Alloc<A = Global>)) -> Drafts {
     let mut drafts = Drafts::new(rt.alloc());
     let draft = Draft {
-        period: day(&rt),
-        values: values(&rt),
+        period: day(rt),
+        values: values(rt),
     };
-    drafts.push(draft).expect(&rt, "memory");
-    assert!(rt; drafts.len() == 1);
-    let draft = drafts.get(0).expect(&rt, "a row");
-    assert!(rt; are_both(draft.values.as_slice(), 1, b"a"));
+    drafts.push(draft).expect(rt, "memory");
+    drafts
+        .push_row(day(rt), values(rt).as_slice())
+        .expect(rt, "memory");
+    let copies = drafts.copy(rt.alloc()).expect(rt, "memory");
+    drafts.append(copies).expect(rt, "memory");
+    drafts
+}
+
+#[test]
+fn adds_values_and_drafts(rt: HostRuntime) {
+    let drafts = drafts(&rt);
+    assert!(rt; drafts.len() == 4);
+    assert!(rt; drafts.all_fit(&columns(&rt)));
+    for place in 0..4 {
+        let draft = drafts.get(place).expect(&rt, "a row");
+        let copy = draft.copy(rt.alloc()).expect(&rt, "memory");
+        assert!(rt; copy.period == day(&rt));
+        assert!(rt; are_both(copy.values.as_slice(), 1, b"a"));
+    }
+    assert!(rt; drafts.get(4).is_none());
+}
+
+// How many values the draft at that place has, and the first of them where that is a number.
+fn told(rt: &impl Abort, drafts: &Drafts, place: usize) -> (usize, Option<i64>) {
+    let draft = drafts.get(place).expect(rt, "a row");
+    match draft.value(0) {
+        Some(ValueRef::Int(number)) => (draft.width(), Some(number)),
+        _ => (draft.width(), None),
+    }
+}
+
+#[test]
+fn keeps_drafts_of_other_kinds(rt: HostRuntime) {
+    let mut unlike = drafts(&rt);
+    unlike
+        .push_row(day(&rt), &[Value::Int(3)])
+        .expect(&rt, "memory");
+    unlike.push_row(day(&rt), &[]).expect(&rt, "memory");
+    unlike
+        .push_row(day(&rt), &[text(&rt, b"7")])
+        .expect(&rt, "memory");
+    unlike.append(drafts(&rt)).expect(&rt, "memory");
+    let mut all = drafts(&rt);
+    all.append(unlike).expect(&rt, "memory");
+    assert!(rt; all.len() == 15);
+    assert!(rt; !all.all_fit(&columns(&rt)));
+    for place in 0..15 {
+        let kept = match place {
+            8 => (1, Some(3)),
+            9 => (0, None),
+            10 => (1, None),
+            _ => (2, Some(1)),
+        };
+        assert!(rt; told(&rt, &all, place) == kept);
+    }
 }
 
 fn are_same(copy: &Row, row: &Row) -> bool {

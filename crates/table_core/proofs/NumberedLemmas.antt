@@ -1,5 +1,5 @@
 -- Rows that are numbered as they come.
-use Rattle.std.proofs.Common.{◌≡◌, ℕ, ◌+◌, ◌<◌, List, [], ◌∷◌, ◌++◌, Some, None, length, get_or, zero, suc, refl, ap, sym, ◌∙◌, arith}
+use Rattle.std.proofs.Common.{◌≡◌, ℕ, ◌+◌, ◌<◌, List, [], ◌∷◌, ◌++◌, Some, length, get_or, zero, suc, refl, ap, sym, ◌∙◌, arith}
 use Rattle.std.specs.Prelude.{slice_get}
 use Rattle.row_core.specs.declared.draft.Draft.{Draft}
 use Rattle.table_core.specs.Numbered.{named, numbered, row_of}
@@ -18,15 +18,16 @@ numbered-append used (d ∷ ds) es =
     (numbered-append (used + 1) ds es ∙ ap (λ n. numbered (used + 1) ds ++ numbered n es) rest)
 
 -- the row of the draft at a place
-pub slice_get-numbered : (used : ℕ) (ds : List Draft) (i : ℕ) (d : Draft) → i < length ds → d ≡ get_or ds i d
+pub slice_get-numbered : (used : ℕ) (ds : List Draft) (i : ℕ) (d : Draft) → slice_get ds i ≡ Some d
     → slice_get (numbered used ds) i ≡ Some (row_of (used + i + 1) d)
-slice_get-numbered used [] i d inside e = absurd (omega (arith, inside))
-slice_get-numbered used (x ∷ xs) zero d inside e =
-    let none : used ≡ used + 0 = omega arith in
-    ap (λ y. Some (row_of (used + 1) y)) (sym e) ∙ ap (λ n. Some (row_of (n + 1) d)) none
-slice_get-numbered used (x ∷ xs) (suc i) d inside e =
-    let rest : used + 1 + i ≡ used + suc i = omega arith in
-    slice_get-numbered (used + 1) xs i d (omega (arith, inside)) e ∙ ap (λ n. Some (row_of (n + 1) d)) rest
+slice_get-numbered used [] i d e = absurd (cc)
+slice_get-numbered used (x ∷ xs) zero d e =
+    let none : used + 1 ≡ used + 0 + 1 = omega arith in
+    let same : x ≡ d = cc in
+    ap (λ y. Some (row_of (used + 1) y)) same ∙ ap (λ n. Some (row_of n d)) none
+slice_get-numbered used (x ∷ xs) (suc i) d e =
+    let rest : used + 1 + i + 1 ≡ used + suc i + 1 = omega arith in
+    slice_get-numbered (used + 1) xs i d e ∙ ap (λ n. Some (row_of n d)) rest
 
 pub length-named : (ids : List ℕ) (ds : List Draft) → length ids ≡ length ds → length (named ids ds) ≡ length ids
 length-named [] ds same = refl
@@ -42,33 +43,12 @@ named-push (i ∷ is) [] id d same = absurd (omega (arith, same))
 named-push (i ∷ is) (x ∷ xs) id d same = ap (λ rows. row_of i x ∷ rows) (named-push is xs id d (omega (arith, same)))
 
 -- one of them
-pub slice_get-named : (ids : List ℕ) (ds : List Draft) (i id : ℕ) (d : Draft) → length ids ≡ length ds → i < length ids
-    → id ≡ get_or ids i id → d ≡ get_or ds i d → slice_get (named ids ds) i ≡ Some (row_of id d)
-slice_get-named [] ds i id d same inside e f = absurd (omega (arith, inside))
-slice_get-named (x ∷ xs) [] i id d same inside e f = absurd (omega (arith, same))
-slice_get-named (x ∷ xs) (y ∷ ys) zero id d same inside e f = ap (λ n. Some (row_of n y)) (sym e) ∙ ap (λ z. Some (row_of id z)) (sym f)
-slice_get-named (x ∷ xs) (y ∷ ys) (suc i) id d same inside e f =
-    slice_get-named xs ys i id d (omega (arith, same)) (omega (arith, inside)) e f
-
--- what lies at a place of drafts, as a row
-pub get-numbered : (used : ℕ) (ds : List Draft) (i : ℕ) (d : Draft) → slice_get ds i ≡ Some d
-    → slice_get (numbered used ds) i ≡ Some (row_of (used + i + 1) d)
-get-numbered used [] i d e = absurd (cc)
-get-numbered used (x ∷ xs) zero d e =
-    let none : used + 1 ≡ used + 0 + 1 = omega arith in
-    let same : x ≡ d = cc in
-    ap (λ y. Some (row_of (used + 1) y)) same ∙ ap (λ n. Some (row_of n d)) none
-get-numbered used (x ∷ xs) (suc i) d e =
-    let rest : used + 1 + i + 1 ≡ used + suc i + 1 = omega arith in
-    get-numbered (used + 1) xs i d e ∙ ap (λ n. Some (row_of n d)) rest
-
-pub past-numbered : (used : ℕ) (ds : List Draft) (i : ℕ) → slice_get ds i ≡ None → slice_get (numbered used ds) i ≡ None
-past-numbered used [] i e = refl
-past-numbered used (x ∷ xs) zero e = absurd (cc)
-past-numbered used (x ∷ xs) (suc i) e = past-numbered (used + 1) xs i e
-
--- a place where something lies
-pub get-inside : (ds : List Draft) (i : ℕ) (d : Draft) → slice_get ds i ≡ Some d → i < length ds
-get-inside [] i d e = absurd (cc)
-get-inside (x ∷ xs) zero d e = omega arith
-get-inside (x ∷ xs) (suc i) d e = let rest = get-inside xs i d e in omega (arith, rest)
+pub slice_get-named : (ids : List ℕ) (ds : List Draft) (i id : ℕ) (d : Draft) → i < length ids → id ≡ get_or ids i id
+    → slice_get ds i ≡ Some d → slice_get (named ids ds) i ≡ Some (row_of id d)
+slice_get-named [] ds i id d inside e f = absurd (omega (arith, inside))
+slice_get-named (x ∷ xs) [] i id d inside e f = absurd (cc)
+slice_get-named (x ∷ xs) (y ∷ ys) zero id d inside e f =
+    let same : y ≡ d = cc in
+    ap (λ n. Some (row_of n y)) (sym e) ∙ ap (λ z. Some (row_of id z)) same
+slice_get-named (x ∷ xs) (y ∷ ys) (suc i) id d inside e f =
+    slice_get-named xs ys i id d (omega (arith, inside)) e f

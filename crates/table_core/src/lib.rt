@@ -6,10 +6,8 @@ mod row_ref;
 mod shared_rows;
 mod source;
 mod table_rows;
-mod value_ref;
 
 pub use period_core::NoMemory;
 pub use row_ref::RowRef;
 pub use shared_rows::{SharedRows, as_place};
 pub use table_rows::TableRows;
-pub use value_ref::ValueRef;

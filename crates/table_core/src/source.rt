@@ -16,7 +16,7 @@ use std::sync::Arc;
 #[derive(Debug, Drop)]
 pub(crate) struct NamedRows {
     ids: Vec<u64>,
-    drafts: Vec<Draft>,
+    drafts: Drafts,
 }
 
 impl Model for NamedRows {
@@ -26,9 +26,9 @@ impl Model for NamedRows {
 
     ghost Value = { List Row };
 
-    ghost view = { λ n. named n.ids.items n.drafts.items };
+    ghost view = { λ n. named n.ids.items n.drafts };
 
-    ghost invariant = { λ n. length n.ids.items ≡ length n.drafts.items };
+    ghost invariant = { λ n. length n.ids.items ≡ length n.drafts };
 }
 
 impl NamedRows {
@@ -38,7 +38,7 @@ impl NamedRows {
     {
         let mut rows = NamedRows {
             ids: Vec::new(alloc),
-            drafts: Vec::new(alloc),
+            drafts: Drafts::new(alloc),
         };
         for row in Vec::from(list) {
             rows.push(row)?;
@@ -54,7 +54,7 @@ impl NamedRows {
         self.ids.push(id)?;
         if let Err(error) = self.drafts.push(Draft { period, values }) {
             self.ids.pop();
-            return Err(error.into());
+            return Err(error);
         }
         Ok(())
     }
@@ -73,7 +73,7 @@ impl NamedRows {
     {
         RowRef {
             id: self.ids[place],
-            draft: &self.drafts[place],
+            draft: self.drafts.at(place),
         }
     }
 }
@@ -113,16 +113,18 @@ impl Source {
         ensures { slice_get (rows_from self.now) place ≡ Some (lent_row result) }
     {
         match self {
-            Source::Numbered(drafts) => numbered_at(drafts.as_slice(), place),
+            Source::Numbered(drafts) => numbered_at(drafts, place),
             Source::Named(rows) => rows.at(place),
         }
     }
 }
 
 /// The row of the draft at that place of a table.
-pub(crate) fn numbered_at(drafts: &[Draft], place: usize) -> RowRef<'_>
+pub(crate) fn numbered_at(drafts: &Drafts, place: usize) -> RowRef<'_>
     requires { place < length drafts.now }
     ensures { slice_get (numbered 0 drafts.entry.now) place ≡ Some (lent_row result) }
 {
-    RowRef::of_draft(place, &drafts[place])
+    // The length fits 64 bits, and so does the id of a place below it.
+    prove!(place < drafts.len());
+    RowRef::of_draft(place, drafts.at(place))
 }

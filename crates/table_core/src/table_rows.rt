@@ -11,7 +11,7 @@ use crate::row_ref::RowRef;
 use crate::shared_rows::SharedRows;
 use crate::source::{Source, numbered_at};
 use list_core::DeepCopy;
-use row_core::{Draft, Drafts};
+use row_core::Drafts;
 use std::alloc::Global;
 use std::marker::Model;
 use std::sync::Arc;
@@ -56,7 +56,7 @@ impl TableRows {
         ensures { option_map lent_row result ≡ slice_get self.now place }
     {
         if place < self.drafts.len() {
-            Some(numbered_at(self.drafts.as_slice(), place))
+            Some(numbered_at(&self.drafts, place))
         } else {
             None
         }
@@ -64,10 +64,10 @@ impl TableRows {
 
     /// All rows without their ids, in their order.
     #[inline(always)]
-    pub fn as_slice(&self) -> &[Draft]
+    pub fn drafts(&self) -> &Drafts
         ensures { numbered 0 result.now ≡ self.now }
     {
-        self.drafts.as_slice()
+        &self.drafts
     }
 
     /// The same rows, which are not copied.
@@ -102,8 +102,8 @@ impl TableRows {
 
     /// Adds rows at the end, with the ids that follow. Where lists share those that are there, these
     /// are copied first. On refusal there are none more.
-    pub fn append(&mut self, alloc: Global, more: Vec<Draft>) -> Result<(), NoMemory>
-        ensures ok { OnOk result (self.new ≡ self.old ++ numbered (length self.old) more.items) }
+    pub fn append(&mut self, alloc: Global, more: Drafts) -> Result<(), NoMemory>
+        ensures ok { OnOk result (self.new ≡ self.old ++ numbered (length self.old) more) }
         ensures err { OnErr result (self.new ≡ self.old) }
     {
         append(alloc, &mut self.drafts, more)
@@ -111,8 +111,8 @@ impl TableRows {
 }
 
 /// Adds drafts to those that are shared.
-fn append(alloc: Global, shared: &mut Arc<Drafts>, more: Vec<Draft>) -> Result<(), NoMemory>
-    ensures ok { OnOk result (arc_value shared.new ≡ arc_value shared.old ++ more.items) }
+fn append(alloc: Global, shared: &mut Arc<Drafts>, more: Drafts) -> Result<(), NoMemory>
+    ensures ok { OnOk result (arc_value shared.new ≡ arc_value shared.old ++ more) }
     ensures err { OnErr result (arc_value shared.new ≡ arc_value shared.old) }
 {
     match Arc::get_mut(shared) {

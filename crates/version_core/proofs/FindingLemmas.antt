@@ -1,20 +1,26 @@
 -- Lists of places stay true as versions are closed and added.
-use Rattle.std.proofs.Common.{◌≡◌, ℕ, ◌+◌, ◌<◌, ◌≤◌, List, [], ◌∷◌, ◌++◌, Bool, true, false, ◌&&◌, not, cond, Option, Some, None, length, map, take, ◌*◌, zero, suc, refl, ap, sym, ◌∙◌, arith, length-append}
-use Rattle.std.specs.Prelude.{slice_get, filter, unwrap_or, option_map, is_none, All}
-use Rattle.std.specs.List.{AllByRecursion, range_with_len}
-use Rattle.std.proofs.lemmas.List.{append-nil, length-map, take_at}
+use Rattle.std.proofs.Common.{◌≡◌, ℕ, ◌+◌, ◌<◌, ◌≤◌, List, [], ◌∷◌, ◌++◌, Bool, true, false, ◌&&◌, not, cond, Option, Some, None, length, map, take, get_or, ◌*◌, zero, suc, refl, ap, sym, ◌∙◌, arith, length-append}
+use Rattle.std.specs.Prelude.{slice_get, filter, unwrap_or, option_map, is_none, is_some, All}
+use Rattle.std.specs.List.{AllByRecursion, list_all, range_with_len}
+use Rattle.std.proofs.lemmas.List.{append-nil, length-map, take_at, take_more}
 use Rattle.std.proofs.lemmas.List.Elements.{filter-append, filter_agree, All-append, All-filter, All-from_recursion, All-weaker, recursion_from_All}
 use Rattle.std.proofs.lemmas.List.Sums.{count_by-le-length, length-filter}
 use Rattle.std.proofs.lemmas.Option.{slice_get-map}
-use Rattle.std.proofs.Math.Bool.{and-true}
+use Rattle.std.proofs.Math.Bool.{and-false, and-true}
+use Rattle.std.proofs.lemmas.Bool.{and_parts}
 use Rattle.list_core.proofs.PlaceLemmas.{slice_get-before, slice_get-seam}
 use Rattle.row_core.specs.declared.row.Row.{Row}
 use Rattle.row_core.specs.declared.schema.Column.{Column}
-use Rattle.version_core.specs.Finding.{AreCandidates, ListsOpen, any_row, passes}
+use Rattle.version_core.specs.Finding.{AreCandidates, ListsOpen, any_row, is_reached, passes, reaches}
 use Rattle.version_core.specs.OpenVersions.{closed, current, is_open, is_taken, places_from, versions_after}
 use Rattle.version_core.specs.Made.{made}
-use Rattle.table_core.specs.Numbered.{numbered}
-use Rattle.version_core.specs.Rows.{drafts_of, parts_of_all, removes}
+use Rattle.table_core.specs.Numbered.{numbered, row_of}
+use Rattle.version_core.specs.Rows.{drafts_of, is_equal_at, parts_of_all, removes}
+use Rattle.version_core.specs.Stored.{version_of, versions_of}
+use Rattle.version_core.specs.declared.change.Change.TheVariants.{Make, Load, Update, Delete}
+use Rattle.version_core.specs.declared.stored.Span.{Span}
+use Rattle.period_core.specs.Period.{meet}
+use Rattle.row_core.specs.declared.draft.Draft.{Draft}
 use Rattle.version_core.specs.Limits.{version_limit}
 use Rattle.version_core.specs.declared.change.Change.{Change}
 use Rattle.version_core.specs.declared.version.Version.{Version}
@@ -311,3 +317,54 @@ versions_after-front n before c schema vs now e b =
     ∙ take_at (map (closed n (removes c schema)) vs)
     (made n (numbered (length vs) (drafts_of c schema (current vs)))) before
     (length-map vs (closed n (removes c schema)) ∙ sym b)
+
+-- ---- places at which a change reaches a row
+
+-- one that passes comes behind those before it
+pub filter-next : (test : ℕ → Bool) (places : List ℕ) (i : ℕ) → i < length places
+    → test (get_or places i 0) ≡ true
+    → filter test (take (i + 1) places) ≡ filter test (take i places) ++ get_or places i 0 ∷ []
+filter-next test places i inside passing =
+    ap (filter test) (take_more places i 0 inside) ∙ filter-append test (take i places) (get_or places i 0 ∷ [])
+    ∙ ap (λ b. filter test (take i places) ++ cond b (get_or places i 0 ∷ []) []) passing
+
+-- what the change takes out it reaches
+taken-reached : (c : Change) (schema : List Column) (v : Version) → is_taken c schema v ≡ true
+    → reaches c v.row.period ≡ true
+taken-reached (Make t s) schema v e = let none = (and_parts (is_open v) false e).1 in absurd (cc)
+taken-reached (Load t rows) schema v e = let none = (and_parts (is_open v) false e).1 in absurd (cc)
+taken-reached (Update t portion sets conds) schema v e =
+    let touched = (and_parts (is_open v) (removes (Update t portion sets conds) schema v.row) e).1 in
+    (and_parts (list_all (is_equal_at schema v.row.values) conds) (is_some (meet v.row.period portion)) touched).1
+taken-reached (Delete t portion conds) schema v e =
+    let touched = (and_parts (is_open v) (removes (Delete t portion conds) schema v.row) e).1 in
+    (and_parts (list_all (is_equal_at schema v.row.values) conds) (is_some (meet v.row.period portion)) touched).1
+
+reached-at : (c : Change) (schema : List Column) (used : ℕ) (rows : List Draft) (spans : List Span) (place : ℕ)
+    → passes (versions_of (numbered used rows) spans) (is_taken c schema) place ≡ true
+    → is_reached c rows place ≡ true
+reached-at c schema used [] spans place e = absurd (cc)
+reached-at c schema used (d ∷ ds) [] place e = absurd (cc)
+reached-at c schema used (d ∷ ds) (s ∷ ss) zero e =
+    taken-reached c schema (version_of (row_of (used + 1) d) s) e
+reached-at c schema used (d ∷ ds) (s ∷ ss) (suc place) e = reached-at c schema (used + 1) ds ss place e
+
+-- so the places of the rows that it reaches do
+pub candidates-reached : (c : Change) (schema : List Column) (rows : List Draft) (spans : List Span)
+    (vs : List Version) (places : List ℕ) → versions_of (numbered 0 rows) spans ≡ vs → AreCandidates c schema vs places
+    → AreCandidates c schema vs (filter (is_reached c rows) places)
+candidates-reached c schema rows spans vs places is found = record {
+  inside = All-filter (is_reached c rows) (λ place. place < length vs) places found.inside;
+  few = omega (arith, found.few, length-filter (is_reached c rows) places, count_by-le-length (is_reached c rows) places);
+  taken = filter_filter (passes vs (is_taken c schema)) (is_reached c rows) places
+      ∙ filter_agree (λ place. is_reached c rows place && passes vs (is_taken c schema) place)
+      (passes vs (is_taken c schema)) (λ place. agree place (passes vs (is_taken c schema) place) refl) places
+      ∙ found.taken;
+} where
+  agree : (place : ℕ) (b : Bool) → passes vs (is_taken c schema) place ≡ b
+      → (is_reached c rows place && passes vs (is_taken c schema) place) ≡ passes vs (is_taken c schema) place
+  agree place true e =
+      ap (λ r. r && passes vs (is_taken c schema) place)
+      (reached-at c schema 0 rows spans place (ap (λ l. passes l (is_taken c schema) place) is ∙ e))
+  agree place false e =
+      ap (λ b. is_reached c rows place && b) e ∙ and-false (is_reached c rows place) ∙ sym e

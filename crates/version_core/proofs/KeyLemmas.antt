@@ -6,12 +6,12 @@ use Rattle.std.proofs.lemmas.List.{map-append}
 use Rattle.std.proofs.lemmas.List.Elements.{filter_map-append}
 use Rattle.std.proofs.lemmas.Option.{slice_get-get_or}
 use Rattle.std.proofs.Math.Bool.{and-true}
+use Rattle.row_core.specs.Lent.{lent_draft}
 use Rattle.row_core.specs.declared.draft.Draft.{Draft}
+use Rattle.row_core.specs.declared.draft_ref.DraftRef.{DraftRef}
 use Rattle.row_core.specs.declared.row.Row.{Row}
 use Rattle.row_core.specs.declared.schema.Column.{Column}
 use Rattle.key_core.specs.Keys.{collide, have_collision}
-use Rattle.key_core.specs.Order.{tested_row}
-use Rattle.key_core.specs.declared.keys.KeyedRow.{KeyedRow}
 use Rattle.key_core.proofs.Added.{pairs-filtered}
 use Rattle.key_core.proofs.Pairs.{have_pair-map}
 use Rattle.version_core.specs.Keys.{collides_left, is_left, rows_left, break_key}
@@ -123,21 +123,21 @@ left-more vs p places i v h inside e =
       | false ↦ ap (drafts_at vs) (append-nil before) ∙ sym (append-nil (drafts_at vs before))
     ])
 
-pub left-yes : (vs : List Version) (p : Version → Bool) (places : List ℕ) (i : ℕ) (v : Version) (rows : List KeyedRow)
-    (row : KeyedRow) → i < length places → get_or places i 0 < length vs → v ≡ get_or vs (get_or places i 0) v
-    → p v ≡ true → tested_row row ≡ draft_of v
-    → map tested_row rows ≡ drafts_at vs (filter (passes vs p) (take i places))
-    → map tested_row (rows ++ row ∷ []) ≡ drafts_at vs (filter (passes vs p) (take (i + 1) places))
+pub left-yes : (vs : List Version) (p : Version → Bool) (places : List ℕ) (i : ℕ) (v : Version) (rows : List DraftRef)
+    (row : DraftRef) → i < length places → get_or places i 0 < length vs → v ≡ get_or vs (get_or places i 0) v
+    → p v ≡ true → lent_draft row ≡ draft_of v
+    → map lent_draft rows ≡ drafts_at vs (filter (passes vs p) (take i places))
+    → map lent_draft (rows ++ row ∷ []) ≡ drafts_at vs (filter (passes vs p) (take (i + 1) places))
 left-yes vs p places i v rows row h inside e test k was =
-    map-append tested_row rows (row ∷ []) ∙ ap (λ l. l ++ tested_row row ∷ []) was
+    map-append lent_draft rows (row ∷ []) ∙ ap (λ l. l ++ lent_draft row ∷ []) was
     ∙ ap (λ d. drafts_at vs (filter (passes vs p) (take i places)) ++ d ∷ []) k
     ∙ sym (left-more vs p places i v h inside e
     ∙ ap (λ b. drafts_at vs (filter (passes vs p) (take i places)) ++ cond b (draft_of v ∷ []) []) test)
 
-pub left-no : (vs : List Version) (p : Version → Bool) (places : List ℕ) (i : ℕ) (v : Version) (rows : List KeyedRow)
+pub left-no : (vs : List Version) (p : Version → Bool) (places : List ℕ) (i : ℕ) (v : Version) (rows : List DraftRef)
     → i < length places → get_or places i 0 < length vs → v ≡ get_or vs (get_or places i 0) v → p v ≡ false
-    → map tested_row rows ≡ drafts_at vs (filter (passes vs p) (take i places))
-    → map tested_row rows ≡ drafts_at vs (filter (passes vs p) (take (i + 1) places))
+    → map lent_draft rows ≡ drafts_at vs (filter (passes vs p) (take i places))
+    → map lent_draft rows ≡ drafts_at vs (filter (passes vs p) (take (i + 1) places))
 left-no vs p places i v rows h inside e test was =
     was ∙ sym
     (left-more vs p places i v h inside e

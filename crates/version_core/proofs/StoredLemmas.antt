@@ -56,13 +56,13 @@ get_or-versions_of (x ∷ xs) (y ∷ ys) (suc place) row span vs e inside beside
 -- the version of the draft at a place
 pub version-at : (drafts : List Draft) (spans : List Span) (place : ℕ) (draft : Draft) (row : Row) (span : Span)
     (vs : List Version) → versions_of (numbered 0 drafts) spans ≡ vs → place < length drafts → place < length spans
-    → draft ≡ get_or drafts place draft → row ≡ row_of (place + 1) draft → span ≡ get_or spans place span
+    → slice_get drafts place ≡ Some draft → row ≡ row_of (place + 1) draft → span ≡ get_or spans place span
     → version_of row span ≡ get_or vs place (version_of row span)
 version-at drafts spans place draft row span vs e inside beside d r s =
     let within : place < length (numbered 0 drafts) = omega (arith, inside, length-numbered 0 drafts) in
     let first : 0 + place + 1 ≡ place + 1 = omega arith in
     let there : slice_get (numbered 0 drafts) place ≡ Some row =
-    slice_get-numbered 0 drafts place draft inside d ∙ ap (λ n. Some (row_of n draft)) first ∙ ap Some (sym r) in
+    slice_get-numbered 0 drafts place draft d ∙ ap (λ n. Some (row_of n draft)) first ∙ ap Some (sym r) in
     get_or-versions_of (numbered 0 drafts) spans place row span vs e within beside
     (sym (get_or_from_slice_get (numbered 0 drafts) place row row there)) s
 

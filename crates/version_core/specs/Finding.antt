@@ -3,6 +3,7 @@ use Rattle.std.specs.Prelude.{◌≡◌, ℕ, ◌+◌, ◌<◌, List, [], length
 use Rattle.period_core.specs.Period.{meet}
 use Rattle.period_core.specs.declared.period.Period.{Period}
 use Rattle.row_core.specs.Schema.{column_of}
+use Rattle.row_core.specs.declared.draft.Draft.{Draft}
 use Rattle.row_core.specs.declared.row.Row.{Row}
 use Rattle.row_core.specs.declared.schema.Column.{Column}
 use Rattle.row_core.specs.declared.value.Value.{Value}
@@ -80,6 +81,10 @@ reaches (Make table schema) period = false
 reaches (Load table rows) period = false
 reaches (Update table portion sets conds) period = is_some (meet period portion)
 reaches (Delete table portion conds) period = is_some (meet period portion)
+
+-- the change reaches the row at a place
+abbrev pub is_reached : Change → List Draft → ℕ → Bool
+is_reached c rows place = unwrap_or (option_map (λ (row : Draft). reaches c row.period) (slice_get rows place)) false
 
 -- the values of all rows that the change takes out fall into the bucket
 abbrev pub IsLookupOf : Change → List Column → Lookup → Type 0

@@ -2,6 +2,7 @@
 use Rattle.std.specs.Prelude.{ℕ, List, map, None}
 use Rattle.row_core.specs.declared.row.Row.{Row}
 use Rattle.row_core.specs.declared.draft.Draft.{Draft}
+use Rattle.version_core.specs.Rows.{unnumbered}
 use Rattle.version_core.specs.declared.version.Version.{Version}
 
 -- new versions, made by commit n
@@ -10,4 +11,4 @@ made n rows = map (λ row. record { row = row; sysfrom = n; systo = None }) rows
 
 -- a version's row without its id
 abbrev pub draft_of : Version → Draft
-draft_of v = record { period = v.row.period; values = v.row.values }
+draft_of v = unnumbered v.row

@@ -9,5 +9,5 @@ use Rattle.version_core.specs.declared.versions.Plan.{Plan}
 
 -- the plan has what comes in the place of the rows that the change takes out, and the places of their versions
 pub record IsPlanOf (c : Change) (schema : List Column) (vs : List Version) (plan : Plan) : Type 0 where
-  pub parts : plan.parts.items ≡ parts_of_all c schema (current vs)
+  pub parts : plan.parts ≡ parts_of_all c schema (current vs)
   pub taken : plan.taken.items ≡ places_from (is_taken c schema) 0 vs

@@ -2,6 +2,7 @@
 
 ghost use Rattle.std.specs.Prelude.{◌≡◌, ◌==◌, ◌+◌, ◌<◌, ◌≤◌, List, [], true, length, position, take, All, IfOk, IfSome, OnOk, ◌⊎◌};
 ghost use Rattle.std.specs.List.{list_all};
+ghost use Rattle.row_core.specs.Lent.{lent_value};
 ghost use Rattle.row_core.specs.declared.row.Row.{Row};
 ghost use Rattle.row_core.specs.declared.schema.Column.{Column};
 ghost use Rattle.version_core.specs.Finding.{AreCandidates, AreFound, IsIndex, IsLookupOf, bucket_in, bucket_of, bucket_of_bytes, falls_into};
@@ -14,7 +15,7 @@ ghost use Rattle.version_core.specs.declared.version.Version.{Version};
 use crate::change::Change;
 use crate::places::Places;
 use crate::stored::{StoredVersions, VersionRef};
-use row_core::{Name, NoMemory, Schema, Value};
+use row_core::{Name, NoMemory, Schema, Value, ValueRef};
 use std::alloc::Global;
 
 /// How many buckets an index has. It is prime, so that numbers in equal steps spread over them.
@@ -122,20 +123,20 @@ fn bucket_in(column: u32, version: &VersionRef<'_>) -> Option<usize>
     if version.span.to.is_some() {
         return None;
     }
-    match version.row.values().get(column as usize) {
+    match version.row.value(column as usize) {
         Some(value) => Some(bucket_of(value)),
         None => None,
     }
 }
 
 /// The bucket of a value: equal values have one.
-fn bucket_of(value: &Value) -> usize
-    ensures bucket { result ≡ bucket_of value.now }
+fn bucket_of(value: ValueRef<'_>) -> usize
+    ensures bucket { result ≡ bucket_of (lent_value value.entry) }
     ensures few { result < bucket_count }
 {
     match value {
-        Value::Int(number) => (number.unsigned_abs() % BUCKET_COUNT as u64) as usize,
-        Value::Text(text) => bucket_of_bytes(text.as_bytes()),
+        ValueRef::Int(number) => (number.unsigned_abs() % BUCKET_COUNT as u64) as usize,
+        ValueRef::Text(text) => bucket_of_bytes(text.as_bytes()),
     }
 }
 
@@ -225,7 +226,7 @@ fn lookup_of_pair(schema: &Schema, pair: &(Name, Value)) -> Option<Lookup>
     let column = schema.column(pair.0)?;
     Some(Lookup {
         column,
-        bucket: bucket_of(&pair.1),
+        bucket: bucket_of(ValueRef::from(&pair.1)),
     })
 }
 

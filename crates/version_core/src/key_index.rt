@@ -3,6 +3,7 @@
 ghost use Rattle.std.specs.Prelude.{◌≡◌, ◌+◌, ◌≤◌, ◌<◌, ◌≤ℤ◌, true, false, length, map, take, IfOk, OnOk};
 ghost use Rattle.std.specs.List.{list_any};
 ghost use Rattle.key_core.specs.Keys.{collide, have_collision, same_key};
+ghost use Rattle.row_core.specs.Lent.{lent_draft, lent_value};
 ghost use Rattle.table_core.specs.Lent.{lent_row};
 ghost use Rattle.version_core.specs.KeyIndex.{IsKeyIndex, IsLastNear, entry_of, key_number, mixed, number_in, number_of, number_of_bytes};
 ghost use Rattle.version_core.specs.Keys.{rows_left};
@@ -17,7 +18,7 @@ use crate::portion::columns_sought;
 use crate::stored::{StoredVersions, VersionRef};
 use key_core::same_key;
 use period_core::Point;
-use row_core::{Draft, NoMemory, Schema, Value};
+use row_core::{DraftRef, NoMemory, Schema, ValueRef};
 use std::alloc::{AllocError, Global};
 use std::collections::BTreeSet;
 use table_core::RowRef;
@@ -124,12 +125,13 @@ impl KeyIndex {
         schema: &Schema,
         change: &Change,
         versions: &StoredVersions,
-        new: &Draft,
+        new: DraftRef<'_>,
     ) -> bool
         requires index { IsKeyIndex versions.now self.now }
         requires unbroken { have_collision self.now.columns.items
             (map unnumbered (current versions.now)) ≡ false }
-        ensures { result ≡ list_any (λ left. collide self.now.columns.items left new.now)
+        ensures { result ≡ list_any
+            (λ left. collide self.now.columns.items left (lent_draft new.entry))
             (rows_left change.now schema.now (current versions.now)) }
     {
         let key = self.columns.as_slice();
@@ -154,20 +156,20 @@ fn entry_of(key: &[u32], place: usize, row: RowRef<'_>) -> Entry
     ensures { (v : Version) → v.row ≡ lent_row row.entry → result ≡ entry_of key.now place v }
 {
     Entry {
-        number: key_number(key, row.values().as_slice()),
+        number: key_number(key, row.draft()),
         from: row.period().from,
         place,
     }
 }
 
 /// Where a search ends that is for rows of its key: they begin before its end.
-fn end_of(key: &[u32], row: &Draft) -> Entry
-    ensures number { result.number ≡ key_number key.now row.now.values }
-    ensures from { result.from ≡ row.now.period.to }
+fn end_of(key: &[u32], row: DraftRef<'_>) -> Entry
+    ensures number { result.number ≡ key_number key.now (lent_draft row.entry).values }
+    ensures from { result.from ≡ (lent_draft row.entry).period.to }
 {
     Entry {
-        number: key_number(key, row.values.as_slice()),
-        from: row.period.to,
+        number: key_number(key, row),
+        from: row.period().to,
         place: 0,
     }
 }
@@ -179,11 +181,11 @@ fn is_last_near(
     versions: &StoredVersions,
     entry: &Entry,
     number: u64,
-    new: &Draft,
+    new: DraftRef<'_>,
 ) -> bool
-    requires number { number ≡ key_number key.now new.now.values }
+    requires number { number ≡ key_number key.now (lent_draft new).values }
     requires unbroken { have_collision key.now (map unnumbered (current versions.now)) ≡ false }
-    ensures { result ≡ true → IsLastNear key.now new.now versions.now entry.now }
+    ensures { result ≡ true → IsLastNear key.now (lent_draft new.entry) versions.now entry.now }
 {
     if entry.number != number {
         return entry.number < number;
@@ -196,25 +198,26 @@ fn is_last_near(
 
 /// Whether the version is open, of the new row's key, and begins where the entry says, which is no
 /// later than the new row does.
-fn is_open_before(key: &[u32], version: &VersionRef<'_>, from: Point, new: &Draft) -> bool
+fn is_open_before(key: &[u32], version: &VersionRef<'_>, from: Point, new: DraftRef<'_>) -> bool
     ensures open { result ≡ true → is_open (version_at version.now) ≡ true }
     ensures begins { result ≡ true → (lent_row version.now.row).period.from ≡ from }
-    ensures before { result ≡ true → from ≤ℤ new.now.period.from }
-    ensures key { result ≡ true → same_key key.now (lent_row version.now.row).values new.now.values ≡ true }
+    ensures before { result ≡ true → from ≤ℤ (lent_draft new.entry).period.from }
+    ensures key { result ≡ true → same_key key.now (lent_row version.now.row).values
+        (lent_draft new.entry).values ≡ true }
 {
     version.span.to.is_none()
         && version.row.period().from == from
-        && from <= new.period.from
-        && same_key(key, version.row.values().as_slice(), new.values.as_slice())
+        && from <= new.period().from
+        && same_key(key, version.row.draft(), new)
 }
 
-/// A number of the values in the key's columns. Values of one key have one number.
-fn key_number(key: &[u32], values: &[Value]) -> u64
-    ensures { result ≡ key_number key.now values.now }
+/// A number of the row's values in the key's columns. Rows of one key have one number.
+fn key_number(key: &[u32], row: DraftRef<'_>) -> u64
+    ensures { result ≡ key_number key.now (lent_draft row.entry).values }
 {
     let mut number = 0;
     for column in key {
-        number = mixed(number, number_in(values, *column));
+        number = mixed(number, number_in(row, *column));
     }
     number
 }
@@ -226,23 +229,23 @@ fn mixed(number: u64, next: u64) -> u64
     number.wrapping_mul(FACTOR).wrapping_add(next)
 }
 
-/// The number of the value in a column, and 0 where there is none.
-fn number_in(values: &[Value], column: u32) -> u64
-    ensures { result ≡ number_in values.now column }
+/// The number of the row's value in a column, and 0 where there is none.
+fn number_in(row: DraftRef<'_>, column: u32) -> u64
+    ensures { result ≡ number_in (lent_draft row.entry).values column }
 {
-    match values.get(column as usize) {
+    match row.value(column as usize) {
         Some(value) => number_of(value),
         None => 0,
     }
 }
 
 /// The number of a value.
-fn number_of(value: &Value) -> u64
-    ensures { result ≡ number_of value.now }
+fn number_of(value: ValueRef<'_>) -> u64
+    ensures { result ≡ number_of (lent_value value.entry) }
 {
     match value {
-        Value::Int(number) => number.cast_unsigned(),
-        Value::Text(text) => number_of_bytes(text.as_bytes()),
+        ValueRef::Int(number) => number.cast_unsigned(),
+        ValueRef::Text(text) => number_of_bytes(text.as_bytes()),
     }
 }
 

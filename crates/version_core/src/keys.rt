@@ -3,9 +3,8 @@
 ghost use Rattle.std.specs.Prelude.{◌≡◌, ◌≢◌, ◌++◌, List, [], true, false, map, IfOk, OnOk};
 ghost use Rattle.std.specs.List.{list_any};
 ghost use Rattle.key_core.specs.Keys.{collide, have_collision};
-ghost use Rattle.key_core.specs.Order.{tested_row};
+ghost use Rattle.row_core.specs.Lent.{lent_draft};
 ghost use Rattle.row_core.specs.Schema.{key_of};
-ghost use Rattle.table_core.specs.Lent.{lent_row};
 ghost use Rattle.version_core.specs.Finding.{ListsOpen, any_row, AreSought, passes};
 ghost use Rattle.version_core.specs.Keys.{collides_left, is_column_of, is_left, overlap_after, rows_left, sets_key, break_key};
 ghost use Rattle.version_core.specs.OpenVersions.{current};
@@ -16,11 +15,9 @@ ghost use Rattle.version_core.specs.declared.version.Version.{Version};
 use crate::change::Change;
 use crate::portion::{SOUGHT_LIMIT, columns_sought, is_removed};
 use crate::stored::{StoredVersions, VersionRef};
-use key_core::{KeyedRow, collide, have_collision};
-use period_core::Period;
-use row_core::{Draft, Name, NoMemory, Schema, Value, Values};
+use key_core::{collide, have_collision};
+use row_core::{DraftRef, Drafts, Name, NoMemory, Schema, Value};
 use std::alloc::{AllocError, Global};
-use table_core::RowRef;
 use thiserror::Error;
 
 /// Two rows of one key would share an instant.
@@ -81,7 +78,7 @@ pub(crate) fn collide_among_all(
     key: &[u32],
     versions: &StoredVersions,
     open_at: &[u32],
-    new: &[Draft],
+    new: &Drafts,
 ) -> Result<bool, NoMemory>
     requires { ListsOpen versions.now any_row open_at.now }
     ensures { IfOk result (λ overlap. overlap ≡ have_collision key.now
@@ -93,7 +90,7 @@ pub(crate) fn collide_among_all(
 }
 
 /// Whether two of the rows collide.
-pub(crate) fn collide_among(alloc: Global, key: &[u32], new: &[Draft]) -> Result<bool, NoMemory>
+pub(crate) fn collide_among(alloc: Global, key: &[u32], new: &Drafts) -> Result<bool, NoMemory>
     ensures { IfOk result (λ overlap. overlap ≡ have_collision key.now new.now) }
 {
     let mut rows = Vec::new(alloc);
@@ -108,9 +105,9 @@ fn rows_left<'a>(
     change: &Change,
     versions: &'a StoredVersions,
     open_at: &[u32],
-) -> Result<Vec<KeyedRow<'a>>, NoMemory>
+) -> Result<Vec<DraftRef<'a>>, NoMemory>
     requires { ListsOpen versions.now any_row open_at.now }
-    ensures { IfOk result (λ rows. map tested_row rows.items
+    ensures { IfOk result (λ rows. map lent_draft rows.items
         ≡ rows_left change.now schema.now (current versions.now)) }
 {
     let mut rows = Vec::new(alloc);
@@ -118,7 +115,7 @@ fn rows_left<'a>(
     for place in open_at {
         let version = versions.at(*place as usize);
         if is_left(schema, change, &columns, &version) {
-            if let Err(_) = rows.push(keyed_row(version.row)) {
+            if let Err(_) = rows.push(version.row.draft()) {
                 return Err(AllocError);
             }
         }
@@ -139,30 +136,13 @@ fn is_left(
     version.span.to.is_none() && !is_removed(schema, change, columns, version.row)
 }
 
-/// The row of a version, as its key is tested.
-fn keyed_row(row: RowRef<'_>) -> KeyedRow<'_>
-    ensures { tested_row result ≡ unnumbered (lent_row row.entry) }
-{
-    keyed(row.period(), row.values())
-}
-
-/// The row of that period and those values, as its key is tested.
-fn keyed(period: Period, values: &Values) -> KeyedRow<'_>
-    ensures { tested_row result ≡ record { period = period; values = values.now } }
-{
-    KeyedRow {
-        values: values.as_slice(),
-        period,
-    }
-}
-
 /// Adds the rows.
-fn push_rows<'a>(rows: &mut Vec<KeyedRow<'a>>, new: &'a [Draft]) -> Result<(), NoMemory>
-    ensures { OnOk result (map tested_row rows.new.items
-        ≡ map tested_row rows.old.items ++ new.now) }
+fn push_rows<'a>(rows: &mut Vec<DraftRef<'a>>, new: &'a Drafts) -> Result<(), NoMemory>
+    ensures { OnOk result (map lent_draft rows.new.items
+        ≡ map lent_draft rows.old.items ++ new.now) }
 {
-    for row in new {
-        if let Err(_) = rows.push(keyed(row.period, &row.values)) {
+    for i in 0..new.len() {
+        if let Err(_) = rows.push(new.at(i)) {
             return Err(AllocError);
         }
     }
@@ -178,11 +158,11 @@ pub(crate) fn collides_at(
     key: &[u32],
     versions: &StoredVersions,
     place: usize,
-    new: &Draft,
+    new: DraftRef<'_>,
 ) -> bool
     requires { AreSought schema.now (conds_of change.now) columns.now }
     ensures { result ≡ passes versions.now
-        (collides_left change.now schema.now key.now new.now) place }
+        (collides_left change.now schema.now key.now (lent_draft new.entry)) place }
 {
     match versions.get(place) {
         Some(version) => collides_left(schema, change, columns, key, &version, new),
@@ -197,15 +177,11 @@ fn collides_left(
     columns: &[Option<u32>; SOUGHT_LIMIT],
     key: &[u32],
     version: &VersionRef<'_>,
-    new: &Draft,
+    new: DraftRef<'_>,
 ) -> bool
     requires { AreSought schema.now (conds_of change.now) columns.now }
-    ensures { result ≡ collides_left change.now schema.now key.now new.now (version_at version.now) }
+    ensures { result ≡ collides_left change.now schema.now key.now (lent_draft new.entry)
+        (version_at version.now) }
 {
-    is_left(schema, change, columns, version)
-        && collide(
-            key,
-            &keyed_row(version.row),
-            &keyed(new.period, &new.values),
-        )
+    is_left(schema, change, columns, version) && collide(key, version.row.draft(), new)
 }

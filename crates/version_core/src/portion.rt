@@ -1,6 +1,6 @@
 //! Changes of a portion of time: which rows they take out, and what comes in the place of each.
 
-ghost use Rattle.std.specs.Prelude.{◌≡◌, ◌+◌, ◌≤◌, ◌<◌, ◌++◌, ◌&&◌, List, [], ◌∷◌, false, length, fold, flat_map, is_some, option_map, option_and_then, slice_get, slice_set, unwrap_or, if◌then◌else◌, IfOk, IfSome, OnOk, bytes_eq};
+ghost use Rattle.std.specs.Prelude.{◌≡◌, ◌+◌, ◌≤◌, ◌<◌, ◌++◌, ◌&&◌, List, false, length, fold, is_some, option_map, option_and_then, slice_get, slice_set, unwrap_or, if◌then◌else◌, IfOk, IfSome, OnOk};
 ghost use Rattle.std.specs.List.{list_all};
 ghost use Rattle.period_core.specs.Period.{before, meet, after as later};
 ghost use Rattle.row_core.specs.Schema.{column_of};
@@ -13,7 +13,7 @@ ghost use Rattle.version_core.specs.Rows.{conds_of, is_touched, is_equal_at, rem
 use crate::change::Change;
 use list_core::{DeepCopy, copy_each};
 use period_core::Period;
-use row_core::{Draft, Name, NoMemory, Schema, Text, Value, Values};
+use row_core::{Drafts, Name, NoMemory, Schema, Value};
 use std::alloc::Global;
 use table_core::RowRef;
 
@@ -57,12 +57,13 @@ fn one_if(period: Option<Period>) -> usize
 /// Adds what comes in the place of a row that the change takes out.
 pub(crate) fn push_parts(
     alloc: Global,
-    new: &mut Vec<Draft>,
+    new: &mut Drafts,
     schema: &Schema,
     change: &Change,
     row: RowRef<'_>,
 ) -> Result<(), NoMemory>
-    ensures { OnOk result (new.new.items ≡ new.old.items ++ (parts_of change.now schema.now (lent_row row.entry))) }
+    ensures { OnOk result (new.new
+        ≡ new.old ++ (parts_of change.now schema.now (lent_row row.entry))) }
 {
     match change {
         Change::Make { .. } => Ok(()),
@@ -77,13 +78,13 @@ pub(crate) fn push_parts(
 /// Adds the parts of a row before, inside and after the portion, with the settings inside.
 fn push_changed(
     alloc: Global,
-    new: &mut Vec<Draft>,
+    new: &mut Drafts,
     schema: &Schema,
     portion: &Period,
     sets: &[(Name, Value)],
     row: RowRef<'_>,
 ) -> Result<(), NoMemory>
-    ensures { OnOk result (new.new.items ≡ new.old.items ++ (
+    ensures { OnOk result (new.new ≡ new.old ++ (
         part (before (lent_row row.entry).period portion.now) (lent_row row.entry).values
         ++ (part (meet (lent_row row.entry).period portion.now)
         (fold (set_at schema.now) (lent_row row.entry).values sets.now)
@@ -91,82 +92,63 @@ fn push_changed(
 {
     let period = row.period();
     let (earlier, rest) = period.minus(portion);
-    let values = values_set(alloc, schema, row.values(), sets)?;
-    push_part(alloc, new, earlier, row.values())?;
-    push_values(new, period.meet(portion), values)?;
-    push_part(alloc, new, rest, row.values())?;
+    let values = row.draft().values(alloc)?;
+    let changed = values_set(alloc, schema, &values, sets)?;
+    push_part(new, earlier, &values)?;
+    push_part(new, period.meet(portion), &changed)?;
+    push_part(new, rest, &values)?;
     Ok(())
 }
 
-/// Adds the parts of a row before and after the portion.
+/// Adds the parts of a row before and after the portion. Of a row without them no values are read.
 fn push_outside(
     alloc: Global,
-    new: &mut Vec<Draft>,
+    new: &mut Drafts,
     portion: &Period,
     row: RowRef<'_>,
 ) -> Result<(), NoMemory>
-    ensures { OnOk result (new.new.items ≡ new.old.items ++ (
+    ensures { OnOk result (new.new ≡ new.old ++ (
         part (before (lent_row row.entry).period portion.now) (lent_row row.entry).values
         ++ part (later (lent_row row.entry).period portion.now) (lent_row row.entry).values)) }
 {
     let period = row.period();
     let (before, after) = period.minus(portion);
-    push_part(alloc, new, before, row.values())?;
-    push_part(alloc, new, after, row.values())?;
+    if before.is_none() && after.is_none() {
+        return Ok(());
+    }
+    let values = row.draft().values(alloc)?;
+    push_part(new, before, &values)?;
+    push_part(new, after, &values)?;
     Ok(())
 }
 
-/// Adds the period, if there is one, with a copy of the values.
-fn push_part(
-    alloc: Global,
-    new: &mut Vec<Draft>,
-    period: Option<Period>,
-    values: &Values,
-) -> Result<(), NoMemory>
-    ensures { OnOk result (new.new.items ≡ new.old.items ++ (part period values.now)) }
+/// Adds the period, if there is one, with copies of the values.
+fn push_part(new: &mut Drafts, period: Option<Period>, values: &[Value]) -> Result<(), NoMemory>
+    ensures { OnOk result (new.new ≡ new.old ++ (part period values.now)) }
 {
     match period {
-        Some(period) => push_draft(new, period, values.copy(alloc)?),
+        Some(period) => new.push_row(period, values),
         None => Ok(()),
     }
-}
-
-/// Adds the period, if there is one, with the values.
-fn push_values(new: &mut Vec<Draft>, period: Option<Period>, values: Values) -> Result<(), NoMemory>
-    ensures { OnOk result (new.new.items ≡ new.old.items ++ (part period values)) }
-{
-    match period {
-        Some(period) => push_draft(new, period, values),
-        None => Ok(()),
-    }
-}
-
-/// Adds a row of the period with the values.
-fn push_draft(new: &mut Vec<Draft>, period: Period, values: Values) -> Result<(), NoMemory>
-    ensures { OnOk result (new.new.items
-        ≡ new.old.items ++ record { period = period; values = values } ∷ []) }
-{
-    new.push(Draft { period, values })?;
-    Ok(())
 }
 
 /// The values after the settings, from left to right.
 fn values_set(
     alloc: Global,
     schema: &Schema,
-    values: &Values,
+    values: &[Value],
     sets: &[(Name, Value)],
-) -> Result<Values, NoMemory>
-    ensures { IfOk result (λ now. now ≡ fold (set_at schema.now) values.now sets.now) }
+) -> Result<Vec<Value>, NoMemory>
+    ensures { IfOk result (λ now. now.items ≡ fold (set_at schema.now) values.now sets.now) }
 {
-    let mut now = copy_each(alloc, values.as_slice())?;
+    let mut now = copy_each(alloc, values)?;
     for pair in sets {
         let value = pair.1.copy(alloc)?;
         if let Some(i) = schema.column(pair.0) {
             set_value(&mut now, i as usize, value);
         }
     }
-    Values::of(alloc, now)
+    Ok(now)
 }
 
 /// Writes the value at that place, where there is one.
@@ -202,17 +184,17 @@ fn columns_named(schema: &Schema, pairs: &[(Name, Value)]) -> [Option<u32>; SOUG
     columns
 }
 
-/// Whether the change is one of a portion that shares an instant with the row. It takes out none where it
-/// isn't.
+/// Whether the change is one of a portion that shares an instant with the period. It takes out no row where
+/// it isn't.
 #[inline(always)]
-pub(crate) fn reaches(change: &Change, row: RowRef<'_>) -> bool
-    ensures { result ≡ reaches change.now (lent_row row.entry).period }
+pub(crate) fn reaches(change: &Change, period: Period) -> bool
+    ensures { result ≡ reaches change.now period }
 {
     match change {
         Change::Make { .. } => false,
         Change::Load { .. } => false,
-        Change::Update { portion, .. } => row.period().meet(portion).is_some(),
-        Change::Delete { portion, .. } => row.period().meet(portion).is_some(),
+        Change::Update { portion, .. } => period.meet(portion).is_some(),
+        Change::Delete { portion, .. } => period.meet(portion).is_some(),
     }
 }
 
@@ -252,23 +234,23 @@ fn is_touched(
     requires { AreSought schema.now conds.now columns.now }
     ensures { result ≡ is_touched schema.now portion.now conds.now (lent_row row.entry) }
 {
-    meets_all(schema, row.values(), conds, columns) && row.period().meet(portion).is_some()
+    meets_all(schema, row, conds, columns) && row.period().meet(portion).is_some()
 }
 
-/// Whether the values meet all conditions. Where there are none, all rows do.
+/// Whether the row meets all conditions. Where there are none, all rows do.
 #[inline(always)]
 fn meets_all(
     schema: &Schema,
-    values: &Values,
+    row: RowRef<'_>,
     conds: &[(Name, Value)],
     columns: &[Option<u32>; SOUGHT_LIMIT],
 ) -> bool
     requires { AreSought schema.now conds.now columns.now }
-    ensures { result ≡ list_all (is_equal_at schema.now values.now) conds.now }
+    ensures { result ≡ list_all (is_equal_at schema.now (lent_row row.entry).values) conds.now }
 {
     for i in 0..conds.len() {
         let column = column_at(schema, conds, columns, i);
-        if !is_equal_in(values, column, &conds[i].1) {
+        if !is_equal_in(row, column, &conds[i].1) {
             return false;
         }
     }
@@ -303,37 +285,17 @@ fn look_up(schema: &Schema, name: Name) -> Option<u32>
     schema.column(name)
 }
 
-/// Whether the value of the column at that place is the one.
+/// Whether the row's value in the column at that place is the one.
 #[inline(always)]
-fn is_equal_in(values: &Values, column: Option<u32>, value: &Value) -> bool
+fn is_equal_in(row: RowRef<'_>, column: Option<u32>, value: &Value) -> bool
     ensures { result ≡ unwrap_or (option_map (same_value value.now)
-        (option_and_then (slice_get values.now) column)) false }
+        (option_and_then (slice_get (lent_row row.entry).values) column)) false }
 {
     match column {
         None => false,
-        Some(i) => match values.get(i as usize) {
+        Some(i) => match row.value(i as usize) {
             None => false,
-            Some(found) => is_same(value, found),
+            Some(found) => found.is(value),
         },
     }
-}
-
-/// Whether both are one value: a number is never a text.
-#[inline(always)]
-fn is_same(a: &Value, b: &Value) -> bool
-    ensures { result ≡ same_value a.now b.now }
-{
-    match (a, b) {
-        (Value::Int(x), Value::Int(y)) => *x == *y,
-        (Value::Text(x), Value::Text(y)) => is_same_text(x, y),
-        _ => false,
-    }
-}
-
-/// Whether both are one text. It stands apart, as `look_up` does.
-#[inline(never)]
-fn is_same_text(a: &Text, b: &Text) -> bool
-    ensures { result ≡ bytes_eq a.now b.now }
-{
-    *a == *b
 }

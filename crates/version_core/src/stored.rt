@@ -8,7 +8,7 @@ ghost use Rattle.version_core.specs.OpenVersions.{closed_at};
 ghost use Rattle.version_core.specs.Stored.{versions_of};
 ghost use Rattle.version_core.specs.StoredRef.{version_at};
 
-use row_core::{Draft, NoMemory};
+use row_core::{Drafts, NoMemory};
 use std::alloc::Global;
 use std::marker::Model;
 use table_core::{RowRef, SharedRows, TableRows};
@@ -103,12 +103,12 @@ impl StoredVersions {
     /// The rows without their ids, and at the same places the commits that show each, so that a pass over
     /// many fetches either list once.
     #[inline(always)]
-    pub(crate) fn as_slices(&self) -> (&[Draft], &[Span])
+    pub(crate) fn rows_and_spans(&self) -> (&Drafts, &[Span])
         ensures versions { versions_of (numbered 0 result.0.now) result.1.now ≡ self.now }
         ensures rows { length result.0.now ≡ length self.now }
         ensures spans { length result.1.now ≡ length self.now }
     {
-        (self.rows.as_slice(), &self.spans)
+        (self.rows.drafts(), &self.spans)
     }
 
     /// All rows, which are not copied.
@@ -130,11 +130,11 @@ impl StoredVersions {
     pub(crate) fn append(
         &mut self,
         alloc: Global,
-        rows: Vec<Draft>,
+        rows: Drafts,
         commit: u32,
     ) -> Result<(), NoMemory>
         ensures ok { OnOk result (self.new ≡ self.old
-            ++ made commit (numbered (length self.old) rows.items)) }
+            ++ made commit (numbered (length self.old) rows)) }
         ensures err { OnErr result (self.new ≡ self.old) }
     {
         let before = self.spans.len();

@@ -39,7 +39,7 @@ pub(crate) fn rows_shown(
 ) -> Result<SharedRows, NoMemory>
     ensures { IfOk result (λ rows. rows ≡ shown n versions.now) }
 {
-    let (_, spans) = versions.as_slices();
+    let (_, spans) = versions.rows_and_spans();
     let count = count_shown(spans, n);
     if count == spans.len() {
         versions.rows()
@@ -80,10 +80,10 @@ fn places_shown(
     ensures shown { IfOk result (λ places. at_places places.items (map (λ v. v.row) versions.now)
         ≡ filter (holds_where point) (shown n versions.now)) }
 {
-    let (drafts, spans) = versions.as_slices();
+    let (drafts, spans) = versions.rows_and_spans();
     let mut places = Vec::with_capacity(alloc, room)?;
     for i in 0..drafts.len() {
-        if is_listed(RowRef::of_draft(i, &drafts[i]), &spans[i], n, point) {
+        if is_listed(RowRef::of_draft(i, drafts.at(i)), &spans[i], n, point) {
             places.push(as_place(i)?)?;
         }
     }
@@ -121,10 +121,10 @@ pub(crate) fn versions_seen(
 ) -> Result<VersionList, NoMemory>
     ensures { IfOk result (λ list. list ≡ versions_as_of at m last versions.now) }
 {
-    let (drafts, spans) = versions.as_slices();
+    let (drafts, spans) = versions.rows_and_spans();
     let mut seen = VersionList::new(alloc);
     for i in 0..drafts.len() {
-        let row = RowRef::of_draft(i, &drafts[i]);
+        let row = RowRef::of_draft(i, drafts.at(i));
         let span = &spans[i];
         let end = end_at(at, span.to);
         if is_seen(span.from as u64, end, at, m, last) {

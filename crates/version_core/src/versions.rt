@@ -1,6 +1,6 @@
 //! All versions of a table, with the places of the open ones.
 
-ghost use Rattle.std.specs.Prelude.{◌≡◌, ◌≢◌, ◌+◌, ◌≤◌, ◌<◌, ◌++◌, List, [], true, false, length, map, filter, fold, take, count_by, All, IfOk, IfErr, IfSome, OnErr, OnOk};
+ghost use Rattle.std.specs.Prelude.{◌≡◌, ◌≢◌, ◌+◌, ◌≤◌, ◌<◌, ◌++◌, List, [], true, false, length, map, filter, fold, take, count_by, All, IfOk, IfErr, IfSome, OnErr, OnOk, slice_get};
 ghost use Rattle.std.specs.List.{list_any, range_with_len};
 ghost use Rattle.key_core.specs.Keys.{collide, have_collision};
 ghost use Rattle.period_core.specs.Period.{holds_at};
@@ -10,7 +10,7 @@ ghost use Rattle.row_core.specs.declared.row.Row.{Row as AnyRow};
 ghost use Rattle.row_core.specs.declared.schema.Column.{Column};
 ghost use Rattle.table_core.specs.Lent.{lent_row};
 ghost use Rattle.table_core.specs.Numbered.{numbered};
-ghost use Rattle.version_core.specs.Finding.{AreCandidates, IsIndex, IsLookupOf, AreSought};
+ghost use Rattle.version_core.specs.Finding.{AreCandidates, IsIndex, IsLookupOf, AreSought, is_reached};
 ghost use Rattle.version_core.specs.KeyIndex.{IsKeyIndex};
 ghost use Rattle.version_core.specs.Keys.{overlap_after, rows_left, break_key};
 ghost use Rattle.version_core.specs.Limits.{bucket_count, version_limit};
@@ -35,7 +35,7 @@ use crate::stored::{Span, StoredVersions};
 use crate::version::{VersionList, rows_holding, rows_shown, versions_seen};
 use list_core::DeepCopy;
 use period_core::Point;
-use row_core::{Draft, Failure, NoMemory, Schema};
+use row_core::{Drafts, Failure, NoMemory, Schema};
 use std::alloc::Global;
 use std::marker::Model;
 use table_core::{RowRef, SharedRows};
@@ -307,7 +307,7 @@ impl Versions {
         schema: &Schema,
         columns: &[u32],
         change: &Change,
-        parts: &[Draft],
+        parts: &Drafts,
     ) -> Result<bool, NoMemory>
         requires columns { columns.now ≡ key_of schema.now }
         requires unbroken { break_key (key_of schema.now) (map unnumbered (current self.now)) ≡ false }
@@ -329,7 +329,7 @@ impl Versions {
         schema: &Schema,
         columns: &[u32],
         change: &Change,
-        new: &[Draft],
+        new: &Drafts,
     ) -> Result<bool, NoMemory>
         requires unbroken { have_collision columns.now (map unnumbered (current self.now)) ≡ false }
         ensures { IfOk result (λ overlap. overlap ≡ have_collision columns.now
@@ -348,7 +348,7 @@ impl Versions {
     }
 
     /// Whether a new row collides with one that the change leaves.
-    fn any_meets(&self, schema: &Schema, change: &Change, index: &KeyIndex, new: &[Draft]) -> bool
+    fn any_meets(&self, schema: &Schema, change: &Change, index: &KeyIndex, new: &Drafts) -> bool
         requires index { IsKeyIndex self.now index.now }
         requires unbroken { have_collision index.now.columns.items
             (map unnumbered (current self.now)) ≡ false }
@@ -356,8 +356,8 @@ impl Versions {
             (λ left. collide index.now.columns.items left other)
             (rows_left change.now schema.now (current self.now))) new.now }
     {
-        for row in new {
-            if index.any_collides(schema, change, &self.items, row) {
+        for i in 0..new.len() {
+            if index.any_collides(schema, change, &self.items, new.at(i)) {
                 return true;
             }
         }
@@ -369,7 +369,7 @@ impl Versions {
 /// and the places of these.
 #[derive(Drop)]
 struct Plan {
-    parts: Vec<Draft>,
+    parts: Drafts,
     taken: Vec<u32>,
 }
 
@@ -380,16 +380,16 @@ const VERSIONS_FOR_ONE: usize = 8;
 /// the index, and its versions are added there and taken out, each in a time that grows as the logarithm
 /// of the open ones. A larger one is done sooner where all open rows are put in order, and no index is
 /// kept; and it costs so much itself that the index may be made anew behind it.
-fn is_small(new: &[Draft], taken: &[u32], versions: usize) -> bool {
+fn is_small(new: &Drafts, taken: &[u32], versions: usize) -> bool {
     new.len().saturating_add(taken.len()) <= versions / VERSIONS_FOR_ONE
 }
 
 /// All new rows of a change whose parts of rows are these.
-fn rows_made<'a>(change: &'a Change, parts: &'a [Draft]) -> &'a [Draft]
+fn rows_made<'a>(change: &'a Change, parts: &'a Drafts) -> &'a Drafts
     ensures { result.now ≡ with_parts change.entry.now parts.entry.now }
 {
     match change {
-        Change::Load { rows, .. } => rows.as_slice(),
+        Change::Load { rows, .. } => rows,
         Change::Make { .. } => parts,
         Change::Update { .. } => parts,
         Change::Delete { .. } => parts,
@@ -397,11 +397,11 @@ fn rows_made<'a>(change: &'a Change, parts: &'a [Draft]) -> &'a [Draft]
 }
 
 /// The same, taken out of the change.
-fn new_rows(change: Change, parts: Vec<Draft>) -> Vec<Draft>
-    ensures { result.items ≡ with_parts change parts.items }
+fn new_rows(change: Change, parts: Drafts) -> Drafts
+    ensures { result ≡ with_parts change parts }
 {
     match change {
-        Change::Load { rows, .. } => Vec::from(rows),
+        Change::Load { table: _, rows } => rows,
         Change::Make { .. } => parts,
         Change::Update { .. } => parts,
         Change::Delete { .. } => parts,
@@ -423,22 +423,92 @@ fn plan_change(
     match change {
         Change::Make { .. } => Ok(Plan::empty(alloc)),
         Change::Load { .. } => Ok(Plan::empty(alloc)),
-        Change::Update { .. } => plan_portion(alloc, schema, versions, places, change),
-        Change::Delete { .. } => plan_portion(alloc, schema, versions, places, change),
+        Change::Update { .. } => plan_reached(alloc, schema, versions, places, change),
+        Change::Delete { .. } => plan_reached(alloc, schema, versions, places, change),
     }
 }
 
 impl Plan {
     /// The plan that takes out no row.
     fn empty(alloc: Global) -> Self
-        ensures parts { result.parts.items ≡ [] }
+        ensures parts { result.parts ≡ [] }
         ensures taken { result.taken.items ≡ [] }
     {
         Plan {
-            parts: Vec::new(alloc),
+            parts: Drafts::new(alloc),
             taken: Vec::new(alloc),
         }
     }
+}
+
+/// Works out a change of a portion, by the places where it reaches rows.
+fn plan_reached(
+    alloc: Global,
+    schema: &Schema,
+    versions: &StoredVersions,
+    places: &[u32],
+    change: &Change,
+) -> Result<Plan, NoMemory>
+    requires few { length versions.now ≤ version_limit }
+    requires places { AreCandidates change.now schema.now versions.now places.now }
+    ensures parts { IfOk result (λ plan. plan.parts
+        ≡ parts_of_all change.now schema.now (current versions.now)) }
+    ensures taken { IfOk result (λ plan. plan.taken.items
+        ≡ places_from (is_taken change.now schema.now) 0 versions.now) }
+{
+    let (rows, _) = versions.rows_and_spans();
+    let reached = places_reached(alloc, change, rows, places)?;
+    plan_portion(alloc, schema, versions, &reached, change)
+}
+
+/// Those of the places at which the change reaches a row.
+fn places_reached(
+    alloc: Global,
+    change: &Change,
+    rows: &Drafts,
+    places: &[u32],
+) -> Result<Vec<u32>, NoMemory>
+    requires { All (λ place. place < length rows.now) places.now }
+    ensures { IfOk result (λ reached. reached.items
+        ≡ filter (is_reached change.now rows.now) places.now) }
+{
+    let mut reached = Vec::new(alloc);
+    let mut next = first_reached(change, rows, places, 0);
+    while next < places.len() {
+        reached.push(places[next])?;
+        next = first_reached(change, rows, places, next + 1);
+    }
+    Ok(reached)
+}
+
+/// The first place in the list, from that one on, at which the change reaches a row; past the last where it
+/// reaches none. Most changes reach few of many rows, so this pass writes nothing: all that it reads of a row
+/// but its period stays the same, and is read once.
+fn first_reached(change: &Change, rows: &Drafts, places: &[u32], from: usize) -> usize
+    requires inside { All (λ place. place < length rows.now) places.now }
+    requires from { from ≤ length places.now }
+    ensures within { result ≤ length places.now }
+    ensures on { from ≤ result }
+    ensures before { filter (is_reached change.now rows.now) (take result places.now)
+        ≡ filter (is_reached change.now rows.now) (take from places.now) }
+    ensures there { IfSome (slice_get places.now result)
+        (λ place. is_reached change.now rows.now place ≡ true) }
+{
+    for i in from..places.len() {
+        if is_reached(change, rows, places[i] as usize) {
+            return i;
+        }
+    }
+    places.len()
+}
+
+/// Whether the change reaches the row at that place.
+#[inline(always)]
+fn is_reached(change: &Change, rows: &Drafts, place: usize) -> bool
+    requires { place < length rows.now }
+    ensures { result ≡ is_reached change.now rows.now place }
+{
+    reaches(change, rows.at(place).period())
 }
 
 /// Works out a change of a portion.
@@ -451,17 +521,17 @@ fn plan_portion(
 ) -> Result<Plan, NoMemory>
     requires few { length versions.now ≤ version_limit }
     requires places { AreCandidates change.now schema.now versions.now places.now }
-    ensures parts { IfOk result (λ plan. plan.parts.items
+    ensures parts { IfOk result (λ plan. plan.parts
         ≡ parts_of_all change.now schema.now (current versions.now)) }
     ensures taken { IfOk result (λ plan. plan.taken.items
         ≡ places_from (is_taken change.now schema.now) 0 versions.now) }
 {
-    let mut parts = Vec::new(alloc);
+    let mut parts = Drafts::new(alloc);
     let mut taken = Vec::new(alloc);
     let columns = columns_sought(schema, change);
-    let (drafts, spans) = versions.as_slices();
+    let (drafts, spans) = versions.rows_and_spans();
     for place in places {
-        let row = RowRef::of_draft(*place as usize, &drafts[*place as usize]);
+        let row = RowRef::of_draft(*place as usize, drafts.at(*place as usize));
         if is_taken(schema, change, &columns, row, &spans[*place as usize]) {
             push_parts(alloc, &mut parts, schema, change, row)?;
             taken.push(*place)?;
@@ -478,9 +548,9 @@ fn count_parts(schema: &Schema, versions: &StoredVersions, places: &[u32], chang
 {
     let mut count = 0;
     let columns = columns_sought(schema, change);
-    let (drafts, spans) = versions.as_slices();
+    let (drafts, spans) = versions.rows_and_spans();
     for place in places {
-        let row = RowRef::of_draft(*place as usize, &drafts[*place as usize]);
+        let row = RowRef::of_draft(*place as usize, drafts.at(*place as usize));
         if is_taken(schema, change, &columns, row, &spans[*place as usize]) {
             count += count_of(change, row);
         }
@@ -501,7 +571,7 @@ fn is_taken(
     requires { AreSought schema.now (conds_of change.now) columns.now }
     ensures { result ≡ is_taken change.now schema.now (version_of (lent_row row.entry) span.now) }
 {
-    reaches(change, row) && span.to.is_none() && is_removed(schema, change, columns, row)
+    reaches(change, row.period()) && span.to.is_none() && is_removed(schema, change, columns, row)
 }
 
 /// Adds the versions from that place on to all indexes. Those at the places, which are closed, stay in
@@ -550,14 +620,14 @@ fn add_versions(
     alloc: Global,
     versions: &mut StoredVersions,
     places: &mut Places,
-    new: Vec<Draft>,
+    new: Drafts,
     commit: u32,
 ) -> Result<(), NoMemory>
-    requires { length versions.old + length new.items ≤ version_limit }
+    requires { length versions.old + length new ≤ version_limit }
     ensures ok { OnOk result (versions.new ≡ versions.old
-        ++ made commit (numbered (length versions.old) new.items)) }
+        ++ made commit (numbered (length versions.old) new)) }
     ensures places { OnOk result (places.new
-        ≡ places.old ++ range_with_len (length versions.old) (length new.items)) }
+        ≡ places.old ++ range_with_len (length versions.old) (length new)) }
     ensures err { OnErr result (versions.new ≡ versions.old) }
     ensures err_places { OnErr result (places.new ≡ places.old) }
 {

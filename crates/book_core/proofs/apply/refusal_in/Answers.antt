@@ -17,8 +17,7 @@ pub returns-then-not-all_fit : goal.returns-then-not-all_fit
 returns-then-not-all_fit c =
     rw c.in-Load.is (load_wrong c.args.commits c.in-Load.table c.in-Load.rows (table_at c.args.commits c.args.table.now)
     (sym (ap (λ t. list_all (λ d. fits t.schema d.values) c.in-Load.rows) c.table.view_is)
-    ∙ ap (list_all (λ d. fits c.table.inside.schema d.values)) (sym c.as_slice.ensures) ∙ sym c.all_fit.ensures
-    ∙ c.if-not-all_fit.true))
+    ∙ sym c.all_fit.ensures ∙ c.if-not-all_fit.true))
 
 pub returns-then-is_full : goal.returns-then-is_full
 returns-then-is_full c =
@@ -27,8 +26,7 @@ returns-then-is_full c =
     c.len-else-not-all_fit.result = omega (arith, versions) in
     rw c.in-Load.is (load_full c.args.commits c.in-Load.table c.in-Load.rows (table_at c.args.commits c.args.table.now)
     (sym (ap (λ t. list_all (λ d. fits t.schema d.values) c.in-Load.rows) c.table.view_is)
-    ∙ ap (list_all (λ d. fits c.table.inside.schema d.values)) (sym c.as_slice.ensures) ∙ sym c.all_fit.ensures
-    ∙ c.if-not-all_fit.false)
+    ∙ sym c.all_fit.ensures ∙ c.if-not-all_fit.false)
     (ap (λ n. leb commit_limit c.args.commits || ltb version_limit n) many ∙ sym c.is_full.ensures ∙ c.if-is_full.true))
 
 pub returns-else-is_full : goal.returns-else-is_full
@@ -38,8 +36,7 @@ returns-else-is_full c =
     c.len-else-not-all_fit.result = omega (arith, versions) in
     rw c.in-Load.is (load_taken c.args.commits c.in-Load.table c.in-Load.rows (table_at c.args.commits c.args.table.now)
     (sym (ap (λ t. list_all (λ d. fits t.schema d.values) c.in-Load.rows) c.table.view_is)
-    ∙ ap (list_all (λ d. fits c.table.inside.schema d.values)) (sym c.as_slice.ensures) ∙ sym c.all_fit.ensures
-    ∙ c.if-not-all_fit.false)
+    ∙ sym c.all_fit.ensures ∙ c.if-not-all_fit.false)
     (ap (λ n. leb commit_limit c.args.commits || ltb version_limit n) many ∙ sym c.is_full.ensures
     ∙ c.if-is_full.false))
 
@@ -49,7 +46,7 @@ returns-in-Some c =
     (update_refused c.args.commits c.in-Update.table c.in-Update.portion c.in-Update.sets c.in-Update.conds
     (table_at c.args.commits c.args.table.now) c.pairs_refusal.result c.in-Some.refused
     (c.pairs_refusal.ensures
-    ∙ ap (λ l. first_of (flat_map (pair_tests c.table.inside.schema) l)) c.as_slice-in-Update.ensures
+    ∙ ap (λ l. first_of (flat_map (pair_tests c.table.inside.schema) l)) c.as_slice.ensures
     ∙ ap (λ t. first_of (flat_map (pair_tests t.schema) c.in-Update.sets)) c.table.view_is)
     c.in-Some.is)
 
@@ -59,7 +56,7 @@ returns-in-None c =
     (update_then c.args.commits c.in-Update.table c.in-Update.portion c.in-Update.sets c.in-Update.conds
     (table_at c.args.commits c.args.table.now) c.pairs_refusal.result c.portion_refusal.result
     (c.pairs_refusal.ensures
-    ∙ ap (λ l. first_of (flat_map (pair_tests c.table.inside.schema) l)) c.as_slice-in-Update.ensures
+    ∙ ap (λ l. first_of (flat_map (pair_tests c.table.inside.schema) l)) c.as_slice.ensures
     ∙ ap (λ t. first_of (flat_map (pair_tests t.schema) c.in-Update.sets)) c.table.view_is)
     c.in-None.is
     (c.portion_refusal.ensures

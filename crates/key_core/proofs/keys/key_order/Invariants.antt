@@ -1,7 +1,10 @@
 use Rattle.std.proofs.Common.{◌≡◌, drop}
+use Rattle.row_core.specs.Lent.{lent_draft}
 use Rattle.key_core.specs.Order.{key_cmp}
 use Rattle.key_core.proofs.keys.key_order.Given as goal
 
 -- what is left decides
 abbrev pub invariant-loop-column : goal.invariant-loop-column
-invariant-loop-column l = key_cmp (drop l.column-index l.key) l.a l.b ≡ key_cmp l.key l.a l.b
+invariant-loop-column l =
+    key_cmp (drop l.column-index l.key) (lent_draft l.a).values (lent_draft l.b).values
+    ≡ key_cmp l.key (lent_draft l.a).values (lent_draft l.b).values

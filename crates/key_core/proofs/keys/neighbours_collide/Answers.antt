@@ -1,13 +1,14 @@
 use Rattle.std.proofs.Common.{◌≡◌, ◌∙◌, ◌||◌, ◌-◌, ◌+◌, Bool, sym, ap, drop, arith}
 use Rattle.key_core.specs.Keys.{collide}
-use Rattle.key_core.specs.Order.{have_neighbours, tested_row}
-use Rattle.key_core.specs.declared.keys.KeyedRow.{KeyedRow}
+use Rattle.row_core.specs.Lent.{lent_draft}
+use Rattle.row_core.specs.declared.draft_ref.DraftRef.{DraftRef}
+use Rattle.key_core.specs.Order.{have_neighbours}
 use Rattle.key_core.proofs.Pairs.{neighbours-next, neighbours-end}
 use Rattle.key_core.proofs.keys.neighbours_collide.Goals as goal
 
 pub loop-i-preserved : goal.loop-i-preserved
 loop-i-preserved c =
-    let test : KeyedRow → KeyedRow → Bool = λ a b. collide c.args.key.now (tested_row a) (tested_row b) in
+    let test : DraftRef → DraftRef → Bool = λ a b. collide c.args.key.now (lent_draft a) (lent_draft b) in
     let back : c.loop-i.i + 1 - 1 ≡ c.loop-i.i = omega arith in
     let within = c.loop-i-test.true in
     ap (λ n. have_neighbours test (drop n c.args.rows.now)) back
@@ -19,6 +20,6 @@ loop-i-preserved c =
 pub returns : goal.returns
 returns c =
     let past = c.loop-i-test.false in
-    sym (neighbours-end (λ (a b : KeyedRow). collide c.args.key.now (tested_row a) (tested_row b)) c.args.rows.now
+    sym (neighbours-end (λ (a b : DraftRef). collide c.args.key.now (lent_draft a) (lent_draft b)) c.args.rows.now
     c.loop-i.i
     (omega arith) (omega arith)) ∙ c.loop-i.invariant

@@ -1,10 +1,11 @@
 use Rattle.std.proofs.Common.{◌≡◌, ◌-◌, drop}
 use Rattle.key_core.specs.Keys.{collide}
-use Rattle.key_core.specs.Order.{have_neighbours, tested_row}
+use Rattle.row_core.specs.Lent.{lent_draft}
+use Rattle.key_core.specs.Order.{have_neighbours}
 use Rattle.key_core.proofs.keys.neighbours_collide.Given as goal
 
 -- what is left decides
 abbrev pub invariant-loop-i : goal.invariant-loop-i
 invariant-loop-i l =
-    have_neighbours (λ a b. collide l.key (tested_row a) (tested_row b)) (drop (l.i - 1) l.rows) ≡ have_neighbours
-    (λ a b. collide l.key (tested_row a) (tested_row b)) l.rows
+    have_neighbours (λ a b. collide l.key (lent_draft a) (lent_draft b)) (drop (l.i - 1) l.rows) ≡ have_neighbours
+    (λ a b. collide l.key (lent_draft a) (lent_draft b)) l.rows

@@ -1,8 +1,10 @@
 use Rattle.std.proofs.Common.{◌∙◌, ap}
 use Rattle.std.specs.Ordering.{is_eq}
+use Rattle.row_core.specs.Lent.{lent_draft}
 use Rattle.key_core.proofs.Orders.{key-is_eq}
 use Rattle.key_core.proofs.keys.same_key.Goals as goal
 
 pub returns : goal.returns
 returns c =
-    c.is_eq.ensures ∙ ap is_eq c.key_order.ensures ∙ key-is_eq c.args.key.now c.args.a.now c.args.b.now
+    c.is_eq.ensures ∙ ap is_eq c.key_order.ensures
+    ∙ key-is_eq c.args.key.now (lent_draft c.args.a).values (lent_draft c.args.b).values

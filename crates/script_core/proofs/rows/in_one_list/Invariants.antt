@@ -6,4 +6,4 @@ use Rattle.script_core.proofs.rows.in_one_list.Given as goal
 
 abbrev pub invariant-loop-range : goal.invariant-loop-range
 invariant-loop-range l =
-    all_drafts l.fn.ranges.items ≡ behind l.rows.items (all_drafts l.range-iterator.rest.items)
+    all_drafts l.fn.ranges.items ≡ behind l.rows (all_drafts l.range-iterator.rest.items)

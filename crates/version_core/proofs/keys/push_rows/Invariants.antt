@@ -1,8 +1,8 @@
 use Rattle.std.proofs.Common.{◌≡◌, ◌++◌, map, take}
-use Rattle.key_core.specs.Order.{tested_row}
+use Rattle.row_core.specs.Lent.{lent_draft}
 use Rattle.version_core.proofs.keys.push_rows.Given as goal
 
 -- the rows so far
-abbrev pub invariant-loop-row : goal.invariant-loop-row
-invariant-loop-row l =
-    map tested_row l.rows.items ≡ map tested_row l.initial.rows.items ++ take l.row-index l.new
+abbrev pub invariant-loop-i : goal.invariant-loop-i
+invariant-loop-i l =
+    map lent_draft l.rows.items ≡ map lent_draft l.initial.rows.items ++ take l.i l.new

@@ -1,9 +1,10 @@
 use Rattle.std.proofs.Common.{◌<◌, sym, ◌∙◌, ap, map, get_or, length}
 use Rattle.std.specs.Prelude.{filter}
 use Rattle.std.proofs.lemmas.List.{take_all}
-use Rattle.key_core.specs.Order.{tested_row}
+use Rattle.row_core.specs.Lent.{lent_draft}
 use Rattle.version_core.specs.Finding.{passes}
 use Rattle.version_core.specs.Keys.{is_left}
+use Rattle.version_core.specs.Rows.{unnumbered}
 use Rattle.version_core.specs.StoredRef.{version_at}
 use Rattle.version_core.proofs.KeyLemmas.{drafts_at, left-listed, left-no, left-yes}
 use Rattle.version_core.proofs.keys.rows_left.Goals as goal
@@ -22,12 +23,12 @@ loop-place-preserved c =
     let inside : get_or places i 0 < length vs = c.requires.inside i 0 c.loop-place-test.true in
     elim c.if-is_left.branch [
       | then-is_left+in_default w ↦
-          ap (λ rows. map tested_row rows.items) w.rows-is ∙ ap (map tested_row) w.in_default.ensures.items
-          ∙ left-yes vs left places i version c.loop-place.rows.items w.keyed_row.result c.loop-place-test.true inside
+          ap (λ rows. map lent_draft rows.items) w.rows-is ∙ ap (map lent_draft) w.in_default.ensures.items
+          ∙ left-yes vs left places i version c.loop-place.rows.items w.draft.result c.loop-place-test.true inside
           c.at-version.ensures
-          (sym c.is_left.ensures ∙ w.if-is_left.true) w.keyed_row.ensures c.loop-place.invariant
+          (sym c.is_left.ensures ∙ w.if-is_left.true) (ap unnumbered w.draft.ensures) c.loop-place.invariant
       | else-is_left w ↦
-          ap (λ rows. map tested_row rows.items) w.rows-is
+          ap (λ rows. map lent_draft rows.items) w.rows-is
           ∙ left-no vs left places i version c.loop-place.rows.items c.loop-place-test.true inside
           c.at-version.ensures (sym c.is_left.ensures ∙ w.if-is_left.false) c.loop-place.invariant
     ]

@@ -1,6 +1,6 @@
 use Rattle.std.proofs.Common.{◌≡◌, map, take}
 use Rattle.std.specs.Prelude.{filter}
-use Rattle.key_core.specs.Order.{tested_row}
+use Rattle.row_core.specs.Lent.{lent_draft}
 use Rattle.version_core.specs.Finding.{passes}
 use Rattle.version_core.specs.Keys.{is_left}
 use Rattle.version_core.proofs.KeyLemmas.{drafts_at}
@@ -9,5 +9,5 @@ use Rattle.version_core.proofs.keys.rows_left.Given as goal
 -- the rows that are left at the places so far
 abbrev pub invariant-loop-place : goal.invariant-loop-place
 invariant-loop-place l =
-    map tested_row l.rows.items ≡ drafts_at l.versions
+    map lent_draft l.rows.items ≡ drafts_at l.versions
     (filter (passes l.versions (is_left l.change l.schema)) (take l.place-index l.open_at))

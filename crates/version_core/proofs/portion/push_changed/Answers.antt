@@ -1,6 +1,7 @@
 use Rattle.std.proofs.Common.{◌∙◌, ◌++◌, ap}
 use Rattle.std.specs.Prelude.{fold}
 use Rattle.period_core.specs.Period.{after as later, before, meet}
+use Rattle.row_core.specs.declared.row.Row.{Row}
 use Rattle.table_core.specs.Lent.{lent_row}
 use Rattle.version_core.specs.Rows.{part, set_at}
 use Rattle.version_core.proofs.PartLemmas.{part-added, two-added}
@@ -11,18 +12,22 @@ returns c =
     let row = lent_row c.args.row in
     let portion = c.args.portion.now in
     let set = fold (set_at c.args.schema.now) row.values c.args.sets.now in
-    let old = c.args.new.now.items in
-    let one = c.push_part.new.new.items in
-    let two = c.push_values.new.new.items in
-    let three = c.push_part-2.new.new.items in
+    let old = c.args.new.now in
+    let one = c.push_part.new.new in
+    let two = c.push_part-2.new.new in
+    let three = c.push_part-3.new.new in
     let inside = part (meet row.period portion) set in
     let after = part (later row.period portion) row.values in
+    let values = c.in_ok-values.ensures ∙ ap (λ (r : Row). r.values) c.draft.ensures in
     two-added old one three (part (before row.period portion) row.values) (inside ++ after)
-    (part-added old one _ _ c.values-2.result.now row.values c.in_ok-push_part.ensures
-    (c.minus-earlier.ensures.before_ends ∙ ap (λ p. before p portion) c.period-period.ensures) c.values-2.ensures)
+    (part-added old one _ _ c.deref-2.result.now row.values c.in_ok-push_part.ensures
+    (c.minus-earlier.ensures.before_ends ∙ ap (λ p. before p portion) c.period-period.ensures)
+    (c.deref-2.ensures.value ∙ values))
     (two-added one two three inside after
-    (part-added one two _ _ c.in_ok-values.values set c.in_ok-push_values.ensures
+    (part-added one two _ _ c.deref-3.result.now set c.in_ok-push_part-2.ensures
     (c.meet.ensures.ends ∙ ap (λ p. meet p portion) c.period-period.ensures)
-    (c.in_ok-values.ensures ∙ ap (λ vs. fold (set_at c.args.schema.now) vs c.args.sets.now) c.values.ensures))
-    (part-added two three _ _ c.values-4.result.now row.values c.in_ok-push_part-2.ensures
-    (c.minus-earlier.ensures.after_ends ∙ ap (λ p. later p portion) c.period-period.ensures) c.values-4.ensures))
+    (c.deref-3.ensures.value ∙ c.in_ok-changed.ensures
+    ∙ ap (λ vs. fold (set_at c.args.schema.now) vs c.args.sets.now) (c.deref.ensures.value ∙ values)))
+    (part-added two three _ _ c.deref-4.result.now row.values c.in_ok-push_part-3.ensures
+    (c.minus-earlier.ensures.after_ends ∙ ap (λ p. later p portion) c.period-period.ensures)
+    (c.deref-4.ensures.value ∙ values)))

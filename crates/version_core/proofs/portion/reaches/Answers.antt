@@ -1,6 +1,5 @@
 use Rattle.std.proofs.Common.{◌∙◌, ap, refl}
 use Rattle.std.specs.Prelude.{is_some}
-use Rattle.period_core.specs.Period.{meet}
 use Rattle.version_core.proofs.portion.reaches.Goals as goal
 
 pub returns-in-Make : goal.returns-in-Make
@@ -11,10 +10,8 @@ returns-in-Load c = rw c.in-Load.is refl
 
 pub returns-in-Update : goal.returns-in-Update
 returns-in-Update c =
-    rw c.in-Update.is (c.is_some.ensures ∙ ap is_some c.meet.ensures.ends
-    ∙ ap (λ p. is_some (meet p c.in-Update.portion)) c.period.ensures)
+    rw c.in-Update.is (c.is_some.ensures ∙ ap is_some c.meet.ensures.ends)
 
 pub returns-in-Delete : goal.returns-in-Delete
 returns-in-Delete c =
-    rw c.in-Delete.is (c.is_some-in-Delete.ensures ∙ ap is_some c.meet-in-Delete.ensures.ends
-    ∙ ap (λ p. is_some (meet p c.in-Delete.portion)) c.period-in-Delete.ensures)
+    rw c.in-Delete.is (c.is_some-in-Delete.ensures ∙ ap is_some c.meet-in-Delete.ensures.ends)

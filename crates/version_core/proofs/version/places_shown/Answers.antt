@@ -4,6 +4,7 @@ use Rattle.std.proofs.lemmas.List.{get_or_default, take_all}
 use Rattle.std.proofs.lemmas.List.Elements.{All-push}
 use Rattle.table_core.specs.Places.{at_places}
 use Rattle.table_core.proofs.PlaceLemmas.{at_places-more}
+use Rattle.row_core.specs.Lent.{lent_draft}
 use Rattle.table_core.specs.Lent.{lent_row}
 use Rattle.version_core.specs.Shown.{holds_where, shown}
 use Rattle.version_core.specs.Stored.{version_of}
@@ -18,15 +19,15 @@ loop-i-preserved c =
     let vs = c.args.versions.now in
     let all = map (λ (v : Version). v.row) vs in
     let i = c.loop-i.i in
-    let drafts = c.as_slices.result.0.now in
-    let spans = c.as_slices.result.1.now in
-    let inside : i < length vs = omega (arith, c.loop-i-test.true, c.as_slices.ensures.rows) in
-    let beside : i < length spans = omega (arith, inside, c.as_slices.ensures.spans) in
+    let drafts = c.rows_and_spans.result.0.now in
+    let spans = c.rows_and_spans.result.1.now in
+    let inside : i < length vs = omega (arith, c.loop-i-test.true, c.rows_and_spans.ensures.rows) in
+    let beside : i < length spans = omega (arith, inside, c.rows_and_spans.ensures.spans) in
     let span = get_or spans i (record { from = 0; to = None }) in
     let row = lent_row c.of_draft.result in
     let v = version_of row span in
-    let found = version-at drafts spans i c.index-drafts-i.result row span vs c.as_slices.ensures.versions
-    (omega (arith, c.loop-i-test.true)) beside c.index-drafts-i.is c.of_draft.ensures
+    let found = version-at drafts spans i (lent_draft c.at.result) row span vs c.rows_and_spans.ensures.versions
+    (omega (arith, c.loop-i-test.true)) beside c.at.ensures c.of_draft.ensures
     (get_or_default spans i _ span beside) in
     elim c.if-is_listed.branch [
       | then-is_listed+in_ok-as_place+in_ok-push w ↦
@@ -54,4 +55,4 @@ pub returns-clause-shown : goal.returns-clause-shown
 returns-clause-shown c =
     c.loop-i.invariant.shown
     ∙ ap (λ vs. filter (holds_where c.args.point) (shown c.args.n vs))
-    (take_all c.loop-i.i c.args.versions.now (omega (arith, c.loop-i-test.false, c.as_slices.ensures.rows)))
+    (take_all c.loop-i.i c.args.versions.now (omega (arith, c.loop-i-test.false, c.rows_and_spans.ensures.rows)))

@@ -9,10 +9,10 @@ use Rattle.version_core.proofs.version.rows_shown.Goals as goal
 
 pub returns-then-count-spans : goal.returns-then-count-spans
 returns-then-count-spans c =
-    let slices = c.as_slices.ensures in
-    let counted = length-shown_of c.args.n (numbered 0 c.as_slices.result.0.now) c.as_slices.result.1.now
+    let slices = c.rows_and_spans.ensures in
+    let counted = length-shown_of c.args.n (numbered 0 c.rows_and_spans.result.0.now) c.rows_and_spans.result.1.now
     c.args.versions.now slices.versions
-    (length-numbered 0 c.as_slices.result.0.now ∙ slices.rows ∙ sym slices.spans) in
+    (length-numbered 0 c.rows_and_spans.result.0.now ∙ slices.rows ∙ sym slices.spans) in
     IfOk-weaker c.rows.result _ _
     (λ rows e. e ∙ shown-all c.args.n c.args.versions.now
     (sym counted ∙ sym c.count_shown-count.ensures ∙ c.if-count-spans.true ∙ slices.spans)) c.rows.ensures

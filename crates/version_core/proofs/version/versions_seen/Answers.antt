@@ -1,5 +1,6 @@
 use Rattle.std.proofs.Common.{◌<◌, length, None, get_or, arith, sym, ◌∙◌, ap, ◌++◌, ◌∷◌, [], ◌&&◌, leb}
 use Rattle.std.proofs.lemmas.List.{get_or_default, take_all}
+use Rattle.row_core.specs.Lent.{lent_draft}
 use Rattle.table_core.specs.Lent.{lent_row}
 use Rattle.version_core.specs.Shown.{is_behind, versions_as_of}
 use Rattle.version_core.specs.Stored.{version_of}
@@ -12,15 +13,15 @@ pub loop-i-preserved : goal.loop-i-preserved
 loop-i-preserved c =
     let vs = c.args.versions.now in
     let i = c.loop-i.i in
-    let drafts = c.as_slices.result.0.now in
-    let spans = c.as_slices.result.1.now in
-    let inside : i < length vs = omega (arith, c.loop-i-test.true, c.as_slices.ensures.rows) in
-    let beside : i < length spans = omega (arith, inside, c.as_slices.ensures.spans) in
+    let drafts = c.rows_and_spans.result.0.now in
+    let spans = c.rows_and_spans.result.1.now in
+    let inside : i < length vs = omega (arith, c.loop-i-test.true, c.rows_and_spans.ensures.rows) in
+    let beside : i < length spans = omega (arith, inside, c.rows_and_spans.ensures.spans) in
     let span = get_or spans i (record { from = 0; to = None }) in
     let row = lent_row c.of_draft-row.result in
     let v = version_of row span in
-    let found = version-at drafts spans i c.index-drafts-i.result row span vs c.as_slices.ensures.versions
-    (omega (arith, c.loop-i-test.true)) beside c.index-drafts-i.is c.of_draft-row.ensures
+    let found = version-at drafts spans i (lent_draft c.at.result) row span vs c.rows_and_spans.ensures.versions
+    (omega (arith, c.loop-i-test.true)) beside c.at.ensures c.of_draft-row.ensures
     (get_or_default spans i _ span beside) in
     let test = ap (λ end. leb v.sysfrom c.args.at && (leb v.sysfrom c.args.last && is_behind end c.args.m))
     (sym c.end_at-end.ensures) ∙ sym c.is_seen.ensures in
@@ -43,4 +44,4 @@ pub returns : goal.returns
 returns c =
     c.loop-i.invariant
     ∙ ap (versions_as_of c.args.at c.args.m c.args.last)
-    (take_all c.loop-i.i c.args.versions.now (omega (arith, c.loop-i-test.false, c.as_slices.ensures.rows)))
+    (take_all c.loop-i.i c.args.versions.now (omega (arith, c.loop-i-test.false, c.rows_and_spans.ensures.rows)))

@@ -8,6 +8,6 @@ use Rattle.version_core.proofs.versions.plan_portion.Given as goal
 -- what is taken at the places so far, and made for it
 abbrev pub invariant-loop-place : goal.invariant-loop-place
 invariant-loop-place l = record {
-  made : l.parts.items ≡ parts_at l.change l.schema l.versions l.taken.items;
+  made : l.parts ≡ parts_at l.change l.schema l.versions l.taken.items;
   taken : l.taken.items ≡ filter (passes l.versions (is_taken l.change l.schema)) (take l.place-index l.places);
 }

@@ -2,7 +2,8 @@ use Rattle.std.proofs.Common.{◌≡◌, ◌∙◌, ◌++◌, Some, ap, map, sym
 use Rattle.std.specs.Prelude.{option_map, slice_get}
 use Rattle.std.proofs.lemmas.Option.{get_or_from_slice_get, slice_get_within}
 use Rattle.csv.specs.Writing.{fields_text}
-use Rattle.table_core.specs.Lent.{lent_row, lent_value}
+use Rattle.row_core.specs.Lent.{lent_value}
+use Rattle.table_core.specs.Lent.{lent_row}
 use Rattle.answer_core.specs.PrintedRecords.{value_text}
 use Rattle.answer_core.specs.RecordBytes.{answer_writer, field_behind}
 use Rattle.answer_core.proofs.FieldLemmas.{fields_so_far}

@@ -4,5 +4,5 @@ use Rattle.table_core.proofs.source.NamedRows.len.Goals as goal
 
 pub returns : goal.returns
 returns c =
-    let same = length-named c.self.inside.ids.items c.self.inside.drafts.items c.self.invariant in
+    let same = length-named c.self.inside.ids.items c.self.inside.drafts c.self.invariant in
     omega (arith, c.self.inside.ids.ok.0, same, ap length c.self.view_is)

@@ -7,9 +7,9 @@ use Rattle.table_core.proofs.source.NamedRows.push.Goals as goal
 pub returns : goal.returns
 returns c =
     let ids = c.self.inside.ids.items in
-    let drafts = c.self.inside.drafts.items in
+    let drafts = c.self.inside.drafts in
     let draft : Draft = record { period = c.args.row.period; values = c.args.row.values } in
-    ap (λ l. named l c.push-2.new.self.items) c.in_ok-push.ensures.items
-    ∙ ap (named (ids ++ c.args.row.id ∷ [])) c.in_default.ensures.items
+    ap (λ l. named l c.push-2.new.self) c.in_ok-push.ensures.items
+    ∙ ap (named (ids ++ c.args.row.id ∷ [])) c.in_default.ensures.ok
     ∙ named-push ids drafts c.args.row.id draft c.self.invariant
     ∙ ap (λ rows. rows ++ c.args.row ∷ []) c.self.view_is

@@ -8,7 +8,7 @@ use Rattle.table_core.proofs.table_rows.TableRows.append.Goals as goal
 pub returns-clause-ok : goal.returns-clause-ok
 returns-clause-ok c =
     let before = arc_value c.self.inside.drafts in
-    let more = c.args.more.items in
+    let more = c.args.more in
     let used : 0 + length before ≡ length c.args.self.now =
     omega (arith, length-numbered 0 before, ap length c.self.view_is) in
     on_ok_weaker c.append.result

@@ -9,7 +9,7 @@ use Rattle.table_core.proofs.table_rows.TableRows.get.Goals as goal
 pub returns-then-place-len : goal.returns-then-place-len
 returns-then-place-len c =
     sym c.numbered_at.ensures
-    ∙ ap (λ drafts. slice_get (numbered 0 drafts) c.args.place) (c.as_slice.ensures ∙ c.deref-then-place-len.ensures)
+    ∙ ap (λ drafts. slice_get (numbered 0 drafts) c.args.place) c.deref-then-place-len.ensures
     ∙ ap (λ rows. slice_get rows c.args.place) c.self.view_is
 
 pub returns-else-place-len : goal.returns-else-place-len

@@ -12,7 +12,7 @@ pub invariant_of-self-in_default : goal.invariant_of-self-in_default
 invariant_of-self-in_default c =
     let rows = c.self.inside.rows in
     let spans = c.self.inside.spans.items in
-    let more = c.args.rows.items in
+    let more = c.args.rows in
     let span : Span = record { from = c.args.commit; to = None } in
     omega (
       arith,
@@ -23,18 +23,18 @@ invariant_of-self-in_default c =
       ap length c.in_ok-push_spans.ensures.ok,
       length-append spans (replicate c.len.result span),
       length-replicate c.len.result span,
-      c.args.rows.ok.0,
+      c.len.ensures,
     )
 
 pub returns-clause-ok : goal.returns-clause-ok
 returns-clause-ok c =
     let rows = c.self.inside.rows in
     let spans = c.self.inside.spans.items in
-    let more = c.args.rows.items in
+    let more = c.args.rows in
     let used : length rows ≡ length c.args.self.now =
     omega (arith, c.self.invariant, length-versions_of rows spans c.self.invariant, ap length c.self.view_is) in
     versions_of-grown c.args.commit rows (numbered (length rows) more) c.append.new.self spans
     c.push_spans.new.spans.items c.len.result c.self.invariant c.in_default.ensures.ok
-    (omega (arith, c.args.rows.ok.0, length-numbered (length rows) more)) c.in_ok-push_spans.ensures.ok
+    (omega (arith, c.len.ensures, length-numbered (length rows) more)) c.in_ok-push_spans.ensures.ok
     ∙ ap (λ n. versions_of rows spans ++ made c.args.commit (numbered n more)) used
     ∙ ap (λ vs. vs ++ made c.args.commit (numbered (length c.args.self.now) more)) c.self.view_is

@@ -1,6 +1,8 @@
-use Rattle.std.proofs.Common.{◌≡◌, ◌∙◌, ◌||◌, Bool, ap, get_or, sym}
+use Rattle.std.proofs.Common.{◌≡◌, ◌<◌, ◌∙◌, ◌||◌, Bool, ap, arith, get_or, length, sym}
 use Rattle.std.specs.List.{list_any}
 use Rattle.std.proofs.lemmas.List.Folds.{list_any_at, list_any_more}
+use Rattle.std.proofs.lemmas.Option.{get_or_from_slice_get}
+use Rattle.row_core.specs.Lent.{lent_draft}
 use Rattle.row_core.specs.declared.draft.Draft.{Draft}
 use Rattle.key_core.specs.Keys.{collide}
 use Rattle.version_core.specs.Keys.{rows_left}
@@ -12,24 +14,28 @@ returns-then-any_collides c =
     let meets : Draft
     → Bool = λ other. list_any (λ left. collide c.args.index.now.columns.items left other)
     (rows_left c.args.change.now c.args.schema.now (current c.args.self.now)) in
-    let new = c.row-item.result in
+    let new = lent_draft c.at.result in
+    let there = get_or_from_slice_get c.args.new.now c.loop-i.i new new c.at.ensures in
+    let inside : c.loop-i.i < length c.args.new.now = omega (arith, c.loop-i-test.true, c.len-i-end.ensures) in
     let met : meets new ≡ c.any_collides.result =
     sym (c.any_collides.ensures
     ∙ ap (λ vs. list_any (λ left. collide c.args.index.now.columns.items left new)
     (rows_left c.args.change.now c.args.schema.now (current vs))) c.self.view_is) in
-    sym (list_any_at meets c.args.new.now c.loop-row.row-index new c.loop-row-test.true
-    (ap meets (sym c.row-item.is) ∙ met ∙ c.if-any_collides.true))
+    sym (list_any_at meets c.args.new.now c.loop-i.i new inside
+    (ap meets there ∙ met ∙ c.if-any_collides.true))
 
-pub loop-row-preserved : goal.loop-row-preserved
-loop-row-preserved c =
+pub loop-i-preserved : goal.loop-i-preserved
+loop-i-preserved c =
     let meets : Draft
     → Bool = λ other. list_any (λ left. collide c.args.index.now.columns.items left other)
     (rows_left c.args.change.now c.args.schema.now (current c.args.self.now)) in
-    let new = c.row-item.result in
+    let new = lent_draft c.at.result in
+    let there = get_or_from_slice_get c.args.new.now c.loop-i.i new new c.at.ensures in
+    let inside : c.loop-i.i < length c.args.new.now = omega (arith, c.loop-i-test.true, c.len-i-end.ensures) in
     let apart : meets new ≡ c.any_collides.result =
     sym (c.any_collides.ensures
     ∙ ap (λ vs. list_any (λ left. collide c.args.index.now.columns.items left new)
     (rows_left c.args.change.now c.args.schema.now (current vs))) c.self.view_is) in
-    list_any_more meets c.args.new.now c.loop-row.row-index new c.loop-row-test.true
-    ∙ ap (λ b. b || meets (get_or c.args.new.now c.loop-row.row-index new)) c.loop-row.invariant
-    ∙ ap meets (sym c.row-item.is) ∙ apart ∙ c.if-any_collides.false
+    list_any_more meets c.args.new.now c.loop-i.i new inside
+    ∙ ap (λ b. b || meets (get_or c.args.new.now c.loop-i.i new)) c.loop-i.invariant
+    ∙ ap meets there ∙ apart ∙ c.if-any_collides.false

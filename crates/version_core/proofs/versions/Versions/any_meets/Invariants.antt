@@ -6,7 +6,7 @@ use Rattle.version_core.specs.OpenVersions.{current}
 use Rattle.version_core.proofs.versions.Versions.any_meets.Given as goal
 
 -- none so far
-abbrev pub invariant-loop-row : goal.invariant-loop-row
-invariant-loop-row l =
+abbrev pub invariant-loop-i : goal.invariant-loop-i
+invariant-loop-i l =
     list_any (λ other. list_any (λ left. collide l.index.columns.items left other) (rows_left l.change l.schema (current l.self)))
-    (take l.row-index l.new) ≡ false
+    (take l.i l.new) ≡ false

@@ -12,37 +12,37 @@ use Rattle.version_core.proofs.OpenLemmas.{length-fresh, length-taken, newly, pl
 use Rattle.version_core.proofs.versions.Versions.carry_out.Goals as goal
 
 pub leaves_overlap-requires-clause-parts : goal.leaves_overlap-requires-clause-parts
-leaves_overlap-requires-clause-parts c = c.deref.ensures.value ∙ c.requires.plan.parts
+leaves_overlap-requires-clause-parts c = c.requires.plan.parts
 
 pub add_versions-requires : goal.add_versions-requires
 add_versions-requires c =
-    let added = ap length (newly c.args.change c.args.schema.now c.args.self.now c.args.plan.parts.items
-    c.new_rows-new.result.items c.new_rows-new.ensures c.requires.plan.parts) in
+    let added = ap length (newly c.args.change c.args.schema.now c.args.self.now c.args.plan.parts
+    c.new_rows-new.result c.new_rows-new.ensures c.requires.plan.parts) in
     omega (arith, added, c.requires.room, ap length c.self.view_is)
 
 pub close_all-requires : goal.close_all-requires
 close_all-requires c =
     let vs = c.self.inside.items in
     let test = is_taken c.args.change c.args.schema.now in
-    let fresh = made c.args.commit (numbered (length vs) c.new_rows-new.result.items) in
-    let places : c.deref-2.result.now ≡ places_from test 0 vs =
-    c.deref-2.ensures.value ∙ (rw c.self.view_is c.requires.plan.taken) in
-    let inside : All (λ place. place < length vs) c.deref-2.result.now = rw places (places_from-bounded test vs) in
+    let fresh = made c.args.commit (numbered (length vs) c.new_rows-new.result) in
+    let places : c.deref.result.now ≡ places_from test 0 vs =
+    c.deref.ensures.value ∙ (rw c.self.view_is c.requires.plan.taken) in
+    let inside : All (λ place. place < length vs) c.deref.result.now = rw places (places_from-bounded test vs) in
     let grown = ap length c.in_ok-add_versions.ensures.ok in
     λ k d lt. let below = inside k d lt in
     omega (arith, below, grown, length-append vs fresh)
 
 -- the versions as the indexes are given them
-given : (c : goal.After-deref-3)
+given : (c : goal.After-deref-2)
     → c.close_all.new.versions ≡ versions_after c.args.commit c.args.change c.args.schema.now c.self.inside.items
 given c =
     versions_after-by c.args.commit c.args.change c.args.schema.now c.self.inside.items
-    (made c.args.commit (numbered (length c.self.inside.items) c.new_rows-new.result.items)) c.add_versions.new.versions
+    (made c.args.commit (numbered (length c.self.inside.items) c.new_rows-new.result)) c.add_versions.new.versions
     c.close_all.new.versions c.args.plan.taken.items (rw c.self.view_is c.requires.plan.taken)
     (ap (λ ds. made c.args.commit (numbered (length c.self.inside.items) ds))
-    (newly c.args.change c.args.schema.now c.self.inside.items c.args.plan.parts.items c.new_rows-new.result.items
+    (newly c.args.change c.args.schema.now c.self.inside.items c.args.plan.parts c.new_rows-new.result
     c.new_rows-new.ensures (rw c.self.view_is c.requires.plan.parts))) c.in_ok-add_versions.ensures.ok
-    (c.close_all.ensures ∙ ap (fold (closed_at c.args.commit) c.add_versions.new.versions) c.deref-2.ensures.value)
+    (c.close_all.ensures ∙ ap (fold (closed_at c.args.commit) c.add_versions.new.versions) c.deref.ensures.value)
 
 pub keep_indexes-requires-clause-few : goal.keep_indexes-requires-clause-few
 keep_indexes-requires-clause-few c =
@@ -63,7 +63,7 @@ keep_indexes-requires-clause-inside c =
     )
 
 -- those before the new ones
-front : (c : goal.After-deref-3)
+front : (c : goal.After-deref-2)
     → take c.len-before.result c.close_all.new.versions
     ≡ map (closed c.args.commit (removes c.args.change c.args.schema.now)) c.self.inside.items
 front c =
@@ -85,19 +85,19 @@ whole : (c : goal.After-drop-taken-2)
     → c.close_all.new.versions ≡ versions_after c.args.commit c.args.change c.args.schema.now c.self.inside.items
 whole c =
     versions_after-by c.args.commit c.args.change c.args.schema.now c.self.inside.items
-    (made c.args.commit (numbered (length c.self.inside.items) c.new_rows-new.result.items)) c.add_versions.new.versions
+    (made c.args.commit (numbered (length c.self.inside.items) c.new_rows-new.result)) c.add_versions.new.versions
     c.close_all.new.versions c.args.plan.taken.items (rw c.self.view_is c.requires.plan.taken)
     (ap (λ ds. made c.args.commit (numbered (length c.self.inside.items) ds))
-    (newly c.args.change c.args.schema.now c.self.inside.items c.args.plan.parts.items c.new_rows-new.result.items
+    (newly c.args.change c.args.schema.now c.self.inside.items c.args.plan.parts c.new_rows-new.result
     c.new_rows-new.ensures (rw c.self.view_is c.requires.plan.parts))) c.in_ok-add_versions.ensures.ok
-    (c.close_all.ensures ∙ ap (fold (closed_at c.args.commit) c.add_versions.new.versions) c.deref-2.ensures.value)
+    (c.close_all.ensures ∙ ap (fold (closed_at c.args.commit) c.add_versions.new.versions) c.deref.ensures.value)
 
 pub invariant_of-self-2 : goal.invariant_of-self-2
 invariant_of-self-2 c =
     let vs = c.self.inside.items in
-    let new = c.new_rows-new.result.items in
+    let new = c.new_rows-new.result in
     let fresh = made c.args.commit (numbered (length vs) new) in
-    let drafts = newly c.args.change c.args.schema.now vs c.args.plan.parts.items new c.new_rows-new.ensures
+    let drafts = newly c.args.change c.args.schema.now vs c.args.plan.parts new c.new_rows-new.ensures
     (rw c.self.view_is c.requires.plan.parts) in
     record {
       found = record {
@@ -118,10 +118,10 @@ pub returns-clause-counts : goal.returns-clause-counts
 returns-clause-counts c =
     let vs = c.args.self.now in
     let new = c.new_rows-new.result in
-    let added = ap length (newly c.args.change c.args.schema.now vs c.args.plan.parts.items new.items
+    let added = ap length (newly c.args.change c.args.schema.now vs c.args.plan.parts new
     c.new_rows-new.ensures c.requires.plan.parts) in
     let taken = ap length c.requires.plan.taken ∙ length-taken c.args.change c.args.schema.now vs in
-    let new_counted : c.len.result ≡ length new.items = let counted = new.ok.0 in omega arith in
+    let new_counted : c.len.result ≡ length new = c.len.ensures in
     let taken_counted : c.len-2.result ≡ length c.args.plan.taken.items =
     let counted = c.args.plan.taken.ok.0 in omega arith in
     (new_counted ∙ added, taken_counted ∙ taken)

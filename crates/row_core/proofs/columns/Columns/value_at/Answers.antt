@@ -1,0 +1,33 @@
+use Rattle.std.proofs.Common.{◌≡◌, ◌<◌, ◌+◌, ◌∙◌, Some, ap, arith, get_or, length, map, sym}
+use Rattle.std.specs.Prelude.{slice_get}
+use Rattle.row_core.specs.Columns.{values_at, values_of_column}
+use Rattle.row_core.specs.Lent.{no_draft}
+use Rattle.row_core.specs.declared.draft.Draft.{Draft}
+use Rattle.row_core.proofs.ColumnLemmas.{get_or-rows, length-rows, long-at, no_value-at, value-at, values-in_row}
+use Rattle.row_core.proofs.columns.Columns.value_at.Goals as goal
+
+pub at-requires : goal.at-requires
+at-requires c =
+    let columns = c.self.inside.values.items in
+    let rows = length-rows 0 c.self.inside.periods.items (map values_of_column columns) in
+    let there : slice_get columns c.args.column ≡ Some c.in-Some.values.now =
+    ap (λ l. slice_get l c.args.column) (sym c.deref.ensures.value) ∙ sym c.in-Some.ensures in
+    let long = long-at (length c.self.inside.periods.items) columns c.args.column c.in-Some.values.now there
+    c.self.invariant in
+    omega (arith, c.requires, rows, ap (λ a. length a.rows) c.self.view_is, long)
+
+pub returns-in-Some : goal.returns-in-Some
+returns-in-Some c =
+    let columns = c.self.inside.values.items in
+    let there : slice_get columns c.args.column ≡ Some c.in-Some.values.now =
+    ap (λ l. slice_get l c.args.column) (sym c.deref.ensures.value) ∙ sym c.in-Some.ensures in
+    let row = values-in_row c.self.inside.periods.items columns c.args.self.now c.args.place c.self.view_is c.requires in
+    sym (ap (λ l. slice_get l c.args.column) row
+    ∙ value-at c.args.place columns c.args.column c.in-Some.values.now _ there c.at.ensures)
+
+pub returns-in-None : goal.returns-in-None
+returns-in-None c =
+    let columns = c.self.inside.values.items in
+    let there = ap (λ l. slice_get l c.args.column) (sym c.deref.ensures.value) ∙ sym c.in-None.ensures in
+    let row = values-in_row c.self.inside.periods.items columns c.args.self.now c.args.place c.self.view_is c.requires in
+    sym (ap (λ l. slice_get l c.args.column) row ∙ no_value-at c.args.place columns c.args.column there)
