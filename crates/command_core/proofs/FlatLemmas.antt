@@ -5,7 +5,7 @@ use Rattle.std.proofs.lemmas.List.Sums.{sum_by-cons}
 use Rattle.csv.specs.Records.{IsRecord, Rising, Row, cut_from, fields_of, text_of}
 use Rattle.csv.proofs.RecordFacts.{rising-first}
 use Rattle.list_core.specs.Cut.{cut, EndsAt}
-use Rattle.list_core.proofs.CutLemmas.{EndsAt-from, part-append}
+use Rattle.list_core.proofs.CutLemmas.{EndsAt-behind, cut-behind}
 use Rattle.command_core.specs.Flat.{ends_from, size_of}
 use Rattle.command_core.specs.Records.{Record}
 use Rattle.command_core.proofs.Cutting.{length-part}
@@ -52,13 +52,6 @@ record-flat row h =
 
 -- fields behind others
 
-cut-behind : (from : ℕ) (ends more xs ys : List ℕ) → EndsAt from ends (length xs)
-    → cut from (ends ++ more) (xs ++ ys) ≡ cut from ends xs ++ cut (length xs) more (xs ++ ys)
-cut-behind from [] more xs ys h = ap (λ n. cut n more (xs ++ ys)) h
-cut-behind from (end ∷ ends) more xs ys (h, rest) =
-    ap (λ l. l ∷ cut end (ends ++ more) (xs ++ ys)) (part-append from end xs ys h (EndsAt-from end ends (length xs) rest))
-    ∙ ap (λ l. take (end - from) (drop from xs) ∷ l) (cut-behind end ends more xs ys rest)
-
 cut-fields : (at : ℕ) (fields : Record) (xs : List ℕ) → drop at xs ≡ concat fields
     → cut at (ends_from at fields) xs ≡ fields
 cut-fields at [] xs e = refl
@@ -71,11 +64,6 @@ cut-fields at (field ∷ fields) xs e =
     in
     ap (λ l. l ∷ cut (at + length field) (ends_from (at + length field) fields) xs) here
     ∙ ap (λ l. field ∷ l) (cut-fields (at + length field) fields xs behind)
-
-EndsAt-behind : (from : ℕ) (ends more : List ℕ) (seam size : ℕ) → EndsAt from ends seam → EndsAt seam more size
-    → EndsAt from (ends ++ more) size
-EndsAt-behind from [] more seam size h rest = rw h rest
-EndsAt-behind from (end ∷ ends) more seam size (h, later) rest = (h, EndsAt-behind end ends more seam size later rest)
 
 EndsAt-fields : (at : ℕ) (fields : Record) → EndsAt at (ends_from at fields) (at + length (concat fields))
 EndsAt-fields at [] = omega arith

@@ -6,10 +6,11 @@ ghost use Rattle.list_core.specs.Cut.{cut, EndsAt};
 ghost use Rattle.command_core.specs.Lines.{fields_in};
 ghost use Rattle.command_core.specs.Records.{AreScriptRecords};
 
-use crate::flat_fields::{FlatFields, start_at};
+use crate::flat_fields::FlatFields;
 use crate::line::Line;
 use crate::seams::ends_line;
 use csv::{ByteRecord, Error, ErrorKind, ReaderBuilder};
+use list_core::start_of;
 use period_core::NoMemory;
 use std::alloc::{AllocError, Global};
 use std::marker::Model;
@@ -68,7 +69,7 @@ fn line_at<'a>(fields: &'a FlatFields, ends: &[u32], place: usize) -> Line<'a>
     requires ends { EndsAt 0 ends.now (length fields.now) }
     ensures { slice_get (cut 0 ends.now fields.entry.now) place ≡ Some (fields_in result) }
 {
-    Line::new(fields, start_at(ends, place), ends[place] as usize)
+    Line::new(fields, start_of(ends, place), ends[place] as usize)
 }
 
 /// Why bytes in memory are not read: memory is refused. No record is refused for its length, nor

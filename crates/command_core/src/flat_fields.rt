@@ -1,10 +1,10 @@
 //! Fields of records, kept flat: the bytes of all in one list, and where each field ends in it.
 ghost use Rattle.std.specs.Prelude.{◌≡◌, ◌+◌, ◌<◌, ◌^◌, ◌++◌, [], length, slice_get, option_map, IfOk, OnErr, OnOk, Some};
 ghost use Rattle.csv.specs.Records.{IsRecord, fields_of};
-ghost use Rattle.list_core.specs.Cut.{cut, start_at, EndsAt};
 ghost use Rattle.command_core.specs.Flat.{ends_from, size_of};
 
 use csv::ByteRecord;
+use list_core::part_at;
 use period_core::NoMemory;
 use std::alloc::Global;
 use std::marker::Model;
@@ -53,7 +53,7 @@ impl FlatFields {
         ensures { option_map (λ s. s.now) result ≡ slice_get self.now place }
     {
         if place < self.ends.len() {
-            Some(field_at(&self.bytes, &self.ends, place))
+            Some(part_at(&self.bytes, &self.ends, place))
         } else {
             None
         }
@@ -105,25 +105,4 @@ fn push_ends(ends: &mut Vec<u32>, start: usize, row: &ByteRecord) -> Result<usiz
         }
     }
     Ok(end)
-}
-
-/// The field at a place.
-fn field_at<'a>(bytes: &'a [u8], ends: &[u32], place: usize) -> &'a [u8]
-    requires place { place < length ends.now }
-    requires ends { EndsAt 0 ends.now (length bytes.now) }
-    ensures { slice_get (cut 0 ends.now bytes.now) place ≡ Some result.now }
-{
-    &bytes[start_at(ends, place)..ends[place] as usize]
-}
-
-/// Where the part of that number starts, from 0 on, among parts that end at these places.
-pub(crate) fn start_at(ends: &[u32], number: usize) -> usize
-    requires { number < length ends.now }
-    ensures { result ≡ start_at 0 ends.now number }
-{
-    if number == 0 {
-        0
-    } else {
-        ends[number - 1] as usize
-    }
 }

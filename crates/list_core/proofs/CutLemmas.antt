@@ -54,3 +54,17 @@ cut-more from (end ∷ ends) xs ys (h, more) =
     ap (λ l. l ∷ cut end (ends ++ (length xs + length ys) ∷ []) (xs ++ ys))
     (part-append from end xs ys h (EndsAt-from end ends (length xs) more))
     ∙ ap (λ l. take (end - from) (drop from xs) ∷ l) (cut-more end ends xs ys more)
+
+-- more parts behind those that reach the seam
+pub EndsAt-behind : (from : ℕ) (ends more : List ℕ) (seam size : ℕ) → EndsAt from ends seam → EndsAt seam more size
+    → EndsAt from (ends ++ more) size
+EndsAt-behind from [] more seam size h rest = rw h rest
+EndsAt-behind from (end ∷ ends) more seam size (h, later) rest = (h, EndsAt-behind end ends more seam size later rest)
+
+pub cut-behind : {X : Type 0} (from : ℕ) (ends more : List ℕ) (xs ys : List X) → EndsAt from ends (length xs)
+    → cut from (ends ++ more) (xs ++ ys) ≡ cut from ends xs ++ cut (length xs) more (xs ++ ys)
+cut-behind from [] more xs ys h = ap (λ n. cut n more (xs ++ ys)) h
+cut-behind from (end ∷ ends) more xs ys (h, rest) =
+    ap (λ l. l ∷ cut end (ends ++ more) (xs ++ ys))
+    (part-append from end xs ys h (EndsAt-from end ends (length xs) rest))
+    ∙ ap (λ l. take (end - from) (drop from xs) ∷ l) (cut-behind end ends more xs ys rest)

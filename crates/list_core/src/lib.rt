@@ -12,7 +12,7 @@ mod room;
 
 pub use chunked::ChunkedList;
 pub use copy::{DeepCopy, copy_each};
-pub use cut::start_at;
+pub use cut::{part_at, start_at, start_of};
 pub use list::List;
 pub use lists::in_one_list;
 pub use room::room_for_half;
