@@ -5,8 +5,9 @@ ghost use Rattle.store_core.specs.Passes.{IsNoteOf, IsPassOf, calls_left, mine, 
 
 use book_core::{Change, ChangeKind, Entry};
 use caller_core::{Note, Pass, Store, StoreError};
+use draft_core::Drafts;
 use period_core::{Period, Point};
-use row_core::{Draft, Drafts, Kind, Name, Schema, Value, Values};
+use row_core::{Kind, Name, Schema, Value};
 use std::alloc::Global;
 use std::sync::Wait;
 
@@ -22,10 +23,8 @@ const LOADER: u32 = 1;
 /// The rows of one change: a single row of this number, which holds for a day.
 pub fn one_row(alloc: Global, number: u32) -> Result<Drafts, StoreError> {
     let period = Period::new(Point::parse(b"2024-01-08")?, Point::parse(b"2024-01-09")?)?;
-    let mut values = Values::new(alloc);
-    values.push(Value::Int(number as i64))?;
     let mut rows = Drafts::new(alloc);
-    rows.push(Draft { period, values })?;
+    rows.push_row(period, &[Value::Int(number as i64)])?;
     Ok(rows)
 }
 

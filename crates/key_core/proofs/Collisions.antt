@@ -11,8 +11,8 @@ use Rattle.period_core.specs.Period.{Holds, HoldsIn, meet}
 use Rattle.period_core.specs.declared.period.Period.{Period}
 use Rattle.period_core.proofs.PeriodLemmas.{meet-holds}
 use Rattle.row_core.specs.declared.draft.Draft.{Draft}
-use Rattle.row_core.specs.Lent.{lent_draft}
-use Rattle.row_core.specs.declared.draft_ref.DraftRef.{DraftRef}
+use Rattle.draft_core.specs.Lent.{lent_draft}
+use Rattle.draft_core.specs.declared.draft_ref.DraftRef.{DraftRef}
 use Rattle.key_core.specs.Keys.{collide, have_collision, same_key}
 use Rattle.key_core.specs.Order.{key_cmp, row_cmp, have_neighbours}
 use Rattle.key_core.proofs.Orders.{key_total, row_total, key-same, key-tie, key-between, same_key-flips}

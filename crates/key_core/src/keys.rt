@@ -2,12 +2,12 @@
 
 ghost use Rattle.std.specs.Prelude.{◌≡◌, map, slice_get, IsPermutation, IsSortedBy};
 ghost use Rattle.std.specs.Ordering.{is_lt};
-ghost use Rattle.row_core.specs.Lent.{lent_draft};
+ghost use Rattle.draft_core.specs.Lent.{lent_draft};
 ghost use Rattle.row_core.specs.ValueOrder.{maybe_cmp};
 ghost use Rattle.key_core.specs.Keys.{collide, have_collision, same_key};
 ghost use Rattle.key_core.specs.Order.{key_cmp, row_cmp, have_neighbours};
 
-use row_core::DraftRef;
+use draft_core::DraftRef;
 use std::cmp::Ordering;
 
 /// Whether two rows at different places are equal in each of the key's columns and share an instant.

@@ -8,6 +8,10 @@ use Rattle.row_core.specs.declared.schema.Column.{Column}
 use Rattle.row_core.specs.Schema.{fits}
 use Rattle.row_core.specs.Value.{same_kind, kind_of}
 
+-- a value is its column's
+abbrev pub is_fit : Column → Value → Bool
+is_fit column value = same_kind column.kind (kind_of value)
+
 -- values that are not as many as the columns do not fit
 pub fits-lengths : (cs : List Column) (vs : List Value) → length cs ≢ length vs → fits cs vs ≡ false
 fits-lengths [] [] h = absurd (h refl)

@@ -1,4 +1,3 @@
-pub mod ColumnLemmas
 pub mod NumberLemmas
 pub mod NameLemmas
 pub mod TextLemmas
@@ -8,5 +7,3 @@ pub mod KeyLemmas
 pub mod SchemaLemmas
 pub mod RefusalLemmas
 pub mod ValueLemmas
-pub mod TextsLemmas
-pub mod KindLemmas

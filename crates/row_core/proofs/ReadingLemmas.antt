@@ -1,8 +1,8 @@
 -- Values that are read one column after another.
-use Rattle.std.proofs.Common.{◌≡◌, ℕ, ◌+◌, ◌<◌, List, [], ◌∷◌, ◌++◌, length, drop, get_or, refl, sym, ◌∙◌, ap, append_assoc}
+use Rattle.std.proofs.Common.{◌≡◌, ℕ, ◌+◌, ◌<◌, ◌≤◌, List, [], ◌∷◌, ◌++◌, length, drop, get_or, refl, sym, ◌∙◌, ap, append_assoc, append-nil}
 use Rattle.std.specs.Prelude.{Result, Ok, Err, Some, None}
 use Rattle.std.specs.Result.{result_err}
-use Rattle.std.proofs.lemmas.List.{drop_more}
+use Rattle.std.proofs.lemmas.List.{drop_all, drop_more}
 use Rattle.row_core.specs.Refusals.{IsAnswer, Reads, and_then, map_err, map_ok, map_refused}
 use Rattle.row_core.specs.Reading.{field_of, refusal_of_value, values_of}
 use Rattle.row_core.specs.Value.{value_of}
@@ -28,6 +28,19 @@ map_both-push : {E : Type 0} (done : List Value) (v : Value) (r : Result (List V
     → map_ok (λ rest. done ++ rest) (map_ok (λ rest. v ∷ rest) r) ≡ map_ok (λ rest. (done ++ v ∷ []) ++ rest) r
 map_both-push done v (Ok rest) = ap Ok (sym (append_assoc done (v ∷ []) rest))
 map_both-push done v (Err e) = refl
+
+-- nothing stands before all values
+pub append-none : (done : List Value) (r : Result (List Value) RowRefused) → done ≡ []
+    → r ≡ map_ok (λ rest. done ++ rest) r
+append-none done (Ok rest) none = ap (λ l. Ok (l ++ rest)) (sym none)
+append-none done (Err e) none = refl
+
+-- behind the last column stands no value
+pub values_of-none : (cs : List Column) (fs : List (List ℕ)) (i : ℕ) (done : List Value) → length cs ≤ i
+    → values_of cs fs ≡ map_ok (λ rest. done ++ rest) (values_of (drop i cs) (drop i fs)) → values_of cs fs ≡ Ok done
+values_of-none cs fs i done past e =
+    e ∙ ap (λ l. map_ok (λ rest. done ++ rest) (values_of l (drop i fs))) (drop_all i cs past)
+    ∙ ap Ok (append-nil done)
 
 -- a field that is read
 field_of-ok : (kind : Kind) (field : List ℕ) (v : Value) → value_of kind field ≡ Ok v → field_of kind field ≡ Ok v

@@ -1,6 +1,3 @@
-pub mod Columns
-pub mod Drafts
-pub mod RowsRead
 pub mod Lent
 pub mod Limits
 pub mod Name

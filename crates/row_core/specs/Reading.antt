@@ -1,5 +1,5 @@
 -- Rows as they are read from their fields.
-use Rattle.std.specs.Prelude.{ℕ, List, ◌∷◌, length, ◌==◌, if◌then◌else◌, Result, Ok, Err}
+use Rattle.std.specs.Prelude.{ℕ, List, ◌∷◌, length, ◌==◌, if◌then◌else◌, Result, Err}
 use Rattle.std.specs.List.{zip}
 use Rattle.std.specs.Option.{ok_or}
 use Rattle.period_core.specs.Point.{point_of}

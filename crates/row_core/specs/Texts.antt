@@ -1,9 +1,9 @@
 -- The bytes of a text, wherever they lie.
 use Rattle.std.specs.Prelude.{ℕ, List, ◌≤◌, length, take}
-use Rattle.std.specs.Str.{IsUtf8}
-use Rattle.row_core.specs.Limits.{text_limit}
 use Rattle.std.specs.Arc.{arc_value}
+use Rattle.std.specs.Str.{IsUtf8}
 use Rattle.std.specs.String.{string_bytes}
+use Rattle.row_core.specs.Limits.{text_limit}
 use Rattle.row_core.specs.declared.text.Bytes.{Bytes}
 use Rattle.row_core.specs.declared.text.Bytes.TheVariants.{Short, Long}
 

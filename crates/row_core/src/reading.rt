@@ -1,16 +1,17 @@
 //! Rows and values, read from a record's fields.
 
-ghost use Rattle.std.specs.Prelude.{◌≡◌, ◌≤◌, length, map, IfOk};
+ghost use Rattle.std.specs.Prelude.{◌≡◌, ◌≤◌, List, length, map, Err, IfErr, IfOk, Ok};
 ghost use Rattle.std.specs.Result.{result_err};
-ghost use Rattle.row_core.specs.Refusals.{IsAnswer};
+ghost use Rattle.row_core.specs.Refusals.{IsAnswer, Reads};
+ghost use Rattle.row_core.specs.declared.draft.Draft.{Draft as AnyDraft};
+ghost use Rattle.row_core.specs.declared.value.Value.{Value as AnyValue};
 ghost use Rattle.row_core.specs.Reading.{period_of, row_of, values_of};
 
 use crate::NoMemory;
 use crate::draft::Draft;
 use crate::failure::Failure;
-use crate::reader::RowReader;
 use crate::schema::{Column, Schema};
-use crate::value::{Value, ValueRefused};
+use crate::value::{Value, ValueRefused, Values};
 use period_core::{BadPeriod, BadPoint, Period, Point};
 use std::alloc::Global;
 use std::convert::AsSlice;
@@ -148,13 +149,42 @@ impl Schema {
     ) -> Result<Draft, Failure<RowRefused>>
         ensures { IsAnswer (row_of self.now (map F.items fields.now)) result }
     {
-        let rows = RowReader::new(alloc, self).read(fields)?.into_rows();
-        Ok(rows.at(0).copy(alloc)?)
+        match read_row(alloc, self.as_slice(), fields) {
+            Err(Failure::NoMemory) => {
+                self.check_row(fields).map_err(Failure::Refused)?;
+                Err(Failure::NoMemory)
+            }
+            answer => answer,
+        }
+    }
+
+    /// Whether the fields are a row's of these columns, which takes no memory.
+    pub fn check_row<F: AsSlice<u8>>(&self, fields: &[F]) -> Result<(), RowRefused>
+        ensures { result_err result ≡ result_err (row_of self.now (map F.items fields.now)) }
+    {
+        check_row(self.as_slice(), fields)
     }
 }
 
-/// Whether the fields are a row's of these columns, which takes no memory.
-pub(crate) fn check_row<F: AsSlice<u8>>(columns: &[Column], fields: &[F]) -> Result<(), RowRefused>
+/// The row of the fields, up to the first that is refused anything.
+fn read_row<F: AsSlice<u8>>(
+    alloc: Global,
+    columns: &[Column],
+    fields: &[F],
+) -> Result<Draft, Failure<RowRefused>>
+    ensures { Reads {T = AnyDraft} (λ row. row) (row_of columns.now (map F.items fields.now)) result }
+{
+    if fields.len() != columns.len() + 2 {
+        return Err(Failure::Refused(RowRefused::WrongWidth));
+    }
+    let period = read_period(fields[0].as_slice(), fields[1].as_slice()).map_err(Failure::Refused)?;
+    let values = read_values(alloc, columns, &fields[2..])?;
+    let values = Values::of(alloc, values)?;
+    Ok(Draft { period, values })
+}
+
+/// Whether the fields are a row's of these columns.
+fn check_row<F: AsSlice<u8>>(columns: &[Column], fields: &[F]) -> Result<(), RowRefused>
     ensures { result_err result ≡ result_err (row_of columns.now (map F.items fields.now)) }
 {
     if fields.len() != columns.len() + 2 {
@@ -165,7 +195,7 @@ pub(crate) fn check_row<F: AsSlice<u8>>(columns: &[Column], fields: &[F]) -> Res
 }
 
 /// The period of two points.
-pub(crate) fn read_period(from: &[u8], to: &[u8]) -> Result<Period, RowRefused>
+pub fn read_period(from: &[u8], to: &[u8]) -> Result<Period, RowRefused>
     ensures { result ≡ period_of from.now to.now }
 {
     let from = Point::parse(from)?;
@@ -182,4 +212,23 @@ fn check_values<F: AsSlice<u8>>(columns: &[Column], fields: &[F]) -> Result<(), 
         Value::check(columns[i].kind, fields[i].as_slice())?;
     }
     Ok(())
+}
+
+/// The value of each field in its column.
+fn read_values<F: AsSlice<u8>>(
+    alloc: Global,
+    columns: &[Column],
+    fields: &[F],
+) -> Result<Vec<Value>, Failure<RowRefused>>
+    requires { length columns.now ≤ length fields.now }
+    ensures ok { IfOk result
+        (λ values. values_of columns.now (map F.items fields.now) ≡ Ok values.items) }
+    ensures err { IfErr result (λ failure. Reads {T = List AnyValue} (λ read. read)
+        (values_of columns.now (map F.items fields.now)) (Err failure)) }
+{
+    let mut values = Vec::with_capacity(alloc, columns.len())?;
+    for i in 0..columns.len() {
+        values.push(Value::read(alloc, columns[i].kind, fields[i].as_slice())?)?;
+    }
+    Ok(values)
 }

@@ -153,7 +153,7 @@ impl Schema {
     }
 
     /// The kinds of the columns, in their order.
-    pub(crate) fn kinds(&self, alloc: Global) -> Result<Vec<Kind>, NoMemory>
+    pub fn kinds(&self, alloc: Global) -> Result<Vec<Kind>, NoMemory>
         ensures { IfOk result (λ kinds. kinds.items ≡ map (λ column. column.kind) self.now) }
     {
         kinds_of(alloc, &self.columns)

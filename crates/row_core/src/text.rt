@@ -27,7 +27,7 @@ const TEXT_LIMIT: usize = 4096;
 const SHORT_LIMIT: usize = 14;
 
 /// The bytes of a text: so many of some that lie here, or more of them in a block that copies
-/// share. Most texts of tables are short; they take no block, and none is read to compare them.
+/// share. Most texts are short; they take no block, and none is read to compare them.
 #[derive(Drop)]
 pub(crate) enum Bytes {
     Short(u8, [u8; SHORT_LIMIT]),
@@ -78,16 +78,14 @@ pub struct Text {
 }
 
 impl Model for Text {
-    ghost use Rattle.std.specs.Prelude.{ℕ, List, ◌≤◌, length};
-    ghost use Rattle.std.specs.Str.{IsUtf8};
-    ghost use Rattle.row_core.specs.Limits.{text_limit};
-    ghost use Rattle.row_core.specs.Texts.{bytes_in};
+    ghost use Rattle.std.specs.Prelude.{ℕ, List};
+    ghost use Rattle.row_core.specs.Texts.{IsText, bytes_in};
 
     ghost Value = { List ℕ };
 
     ghost view = { λ t. bytes_in t.bytes };
 
-    ghost invariant = { λ t. (length (bytes_in t.bytes) ≤ text_limit) × IsUtf8 (bytes_in t.bytes) };
+    ghost invariant = { λ t. IsText (bytes_in t.bytes) };
 }
 
 /// Why bytes are no text, in the order of the tests.
@@ -102,16 +100,31 @@ pub enum TextRefused {
 }
 
 impl Text {
+    /// The bytes as a text's, which takes no memory.
+    pub fn checked(bytes: &[u8]) -> Result<&str, TextRefused>
+        ensures { MatchResult result
+            (λ text. (text_of bytes.now ≡ Ok text.now) × (length text.now ≤ text_limit))
+            (λ refusal. text_of bytes.now ≡ Err refusal) }
+    {
+        if bytes.len() > TEXT_LIMIT {
+            return Err(TextRefused::TooLong);
+        }
+        match str::from_utf8(bytes) {
+            Ok(text) => Ok(text),
+            Err(_) => Err(TextRefused::BadUtf8),
+        }
+    }
+
     /// The text of the bytes.
     pub fn new(alloc: Global, bytes: &[u8]) -> Result<Text, Failure<TextRefused>>
         ensures { IsAnswer (text_of bytes.now) result }
     {
-        let text = checked_text(bytes).map_err(Failure::Refused)?;
+        let text = Text::checked(bytes).map_err(Failure::Refused)?;
         Ok(Text::of(alloc, text)?)
     }
 
-    /// The text of a string.
-    pub(crate) fn of(alloc: Global, text: &str) -> Result<Text, NoMemory>
+    /// The text of a string that isn't too long for one.
+    pub fn of(alloc: Global, text: &str) -> Result<Text, NoMemory>
         requires { length text.now ≤ text_limit }
         ensures { IfOk result (λ made. made ≡ text.now) }
     {
@@ -191,19 +204,5 @@ impl Ord for Text {
 
     fn cmp(&self, other: &Text) -> Ordering {
         self.as_bytes().cmp(other.as_bytes())
-    }
-}
-
-/// The bytes as a text's, which takes no memory.
-pub(crate) fn checked_text(bytes: &[u8]) -> Result<&str, TextRefused>
-    ensures { MatchResult result (λ text. (text_of bytes.now ≡ Ok text.now) × (length text.now ≤ text_limit))
-        (λ refusal. text_of bytes.now ≡ Err refusal) }
-{
-    if bytes.len() > TEXT_LIMIT {
-        return Err(TextRefused::TooLong);
-    }
-    match str::from_utf8(bytes) {
-        Ok(text) => Ok(text),
-        Err(_) => Err(TextRefused::BadUtf8),
     }
 }

@@ -10,7 +10,7 @@ ghost use Rattle.row_core.specs.Values.{values_in};
 use crate::NoMemory;
 use crate::failure::Failure;
 use crate::number::{BadNumber, read_number};
-use crate::text::{Text, TextRefused, checked_text};
+use crate::text::{Text, TextRefused};
 use list_core::{DeepCopy, copy_each};
 use std::alloc::Global;
 use std::fmt;
@@ -119,7 +119,7 @@ impl Value {
                 read_number(bytes)?;
             }
             Kind::Text => {
-                checked_text(bytes)?;
+                Text::checked(bytes)?;
             }
         }
         Ok(())
@@ -207,8 +207,8 @@ impl Shared {
     }
 }
 
-/// The values of a row, one for each column. Copies share them, so a row that is kept as a version and in
-/// its change, and is listed, has its values once.
+/// The values of a row, one for each column. Copies share them, so a row that is handed on has its values
+/// once.
 #[derive(Drop)]
 pub struct Values {
     alloc: Global,

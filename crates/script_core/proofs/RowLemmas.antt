@@ -3,7 +3,7 @@ use Rattle.std.proofs.Common.{◌≡◌, ◌∙◌, ℕ, [], ◌∷◌, ◌++◌
 use Rattle.std.specs.Prelude.{codes}
 use Rattle.row_core.specs.Reading.{row_of}
 use Rattle.row_core.specs.Refusals.{IsAnswer, map_err, map_ok}
-use Rattle.row_core.specs.RowsRead.{RowsRead}
+use Rattle.draft_core.specs.RowsRead.{RowsRead}
 use Rattle.row_core.specs.declared.draft.Draft.{Draft}
 use Rattle.row_core.specs.declared.failure.Failure as row
 use Rattle.row_core.specs.declared.failure.Failure.TheVariants.{NoMemory, Refused}

@@ -10,8 +10,9 @@ ghost use Rattle.script_core.specs.Loads.{all_drafts, drafts_told};
 
 use crate::failure::{Failure, failure_at, refused};
 use command_core::{Fault, Line, Lines, Refusal, begins};
+use draft_core::{Drafts, RowReader};
 use period_core::NoMemory;
-use row_core::{Drafts, RowReader, Schema};
+use row_core::Schema;
 use share_core::{Range, Shares, places_within, shared_out};
 use std::alloc::{AllocError, Global};
 use std::thread::Threads;

@@ -3,8 +3,9 @@
 ghost use Rattle.store_core.specs.Passes.{IsPassOf};
 
 use book_core::Change;
+use draft_core::Drafts;
 use period_core::{Period, Point};
-use row_core::{Draft, Drafts, Failure, Name, Schema, Values};
+use row_core::{Draft, Failure, Name, Schema, Values};
 use std::alloc::Global;
 use std::process::Abort;
 use std::sync::Wait;

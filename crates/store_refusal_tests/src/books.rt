@@ -2,9 +2,10 @@
 
 use crate::fixtures::{name, period, text};
 use book_core::{Book, BookRefused, Change, Pairs, RowsRefused};
+use draft_core::Drafts;
 use list_core::DeepCopy;
 use refusal_core::{Ended, Fault, holds, refuses, try_each};
-use row_core::{Draft, Drafts, Failure, Kind, Name, Schema, Value, Values};
+use row_core::{Draft, Failure, Kind, Name, Schema, Value, Values};
 use std::alloc::Global;
 
 // A load of one row with that value.

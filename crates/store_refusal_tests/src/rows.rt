@@ -1,12 +1,12 @@
 //! Points, columns, keys, values and rows.
 
 use crate::fixtures::{day, name, text};
+use draft_core::{Drafts, RowReader};
 use list_core::DeepCopy;
 use period_core::Point;
 use refusal_core::{Ended, Fault, holds, refuses, try_each};
 use row_core::{
-    Draft, Drafts, Field, KeyRefused, Kind, Row, RowList, RowReader, RowRefused, Schema,
-    SchemaRefused, Value, Values,
+    Draft, Field, KeyRefused, Kind, Row, RowList, RowRefused, Schema, SchemaRefused, Value, Values,
 };
 use std::alloc::Global;
 use std::convert::AsSlice;

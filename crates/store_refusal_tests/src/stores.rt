@@ -5,8 +5,9 @@ ghost use Rattle.store_core.specs.Passes.{IsPassOf};
 
 use crate::fixtures::{day, name};
 use book_core::{BookRefused, Change};
+use draft_core::Drafts;
 use refusal_core::{Ended, Fault, holds, take_all, try_each};
-use row_core::{Draft, Drafts, Failure, Schema, Values};
+use row_core::{Draft, Failure, Schema, Values};
 use std::alloc::Global;
 use std::sync::Wait;
 use std::test::Fail;

@@ -2,9 +2,10 @@
 
 use crate::fixtures::{day, name, period, schema};
 use book_core::{Book, BookRefused, Change, Pairs};
+use draft_core::Drafts;
 use list_core::DeepCopy;
 use period_core::Period;
-use row_core::{Draft, Drafts, Failure, Kind, Value, Values};
+use row_core::{Draft, Failure, Kind, Value, Values};
 use std::alloc::Global;
 use std::process::Abort;
 use table_core::SharedRows;

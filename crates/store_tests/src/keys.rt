@@ -3,7 +3,8 @@
 use crate::books::check_apply;
 use crate::fixtures::{day, name, schema};
 use book_core::{Book, BookRefused, Change};
-use row_core::{Draft, Drafts, Kind, Value, Values};
+use draft_core::Drafts;
+use row_core::{Draft, Kind, Value, Values};
 use std::alloc::Global;
 use std::process::Abort;
 

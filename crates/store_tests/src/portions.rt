@@ -2,9 +2,10 @@
 
 use crate::fixtures::{name, period, schema, text};
 use book_core::{Book, Change, ChangeKind, Entry, Pairs, RowsRefused, Version, VersionsRefused};
+use draft_core::Drafts;
 use list_core::DeepCopy;
 use period_core::Period;
-use row_core::{Draft, Drafts, Failure, Kind, Name, Value, ValueRef, Values};
+use row_core::{Draft, Failure, Kind, Name, Value, ValueRef, Values};
 use std::alloc::Global;
 use std::process::Abort;
 use table_core::{RowRef, SharedRows};

@@ -1,10 +1,11 @@
 //! Names, columns, values and rows, and their copies.
 
 use crate::fixtures::{day, name, schema, text};
+use draft_core::{Drafts, RowReader};
 use list_core::DeepCopy;
 use row_core::{
-    BadName, Draft, Drafts, Failure, Field, KeyRefused, Kind, Name, Row, RowList, RowReader,
-    RowRefused, Schema, SchemaRefused, Text, TextRefused, Value, ValueRef, ValueRefused, Values,
+    BadName, Draft, Failure, Field, KeyRefused, Kind, Name, Row, RowList, RowRefused, Schema,
+    SchemaRefused, Text, TextRefused, Value, ValueRef, ValueRefused, Values,
 };
 use std::alloc::Global;
 use std::convert::AsSlice;
@@ -148,7 +149,7 @@ fn fields_of(rt: &(impl Abort + Alloc<A = Global>), number: usize, letters: usiz
     ]
 }
 
-// Thousands of rows, with texts that lie in the value and that don't.
+// Thousands of rows, with texts of none to nineteen letters.
 #[test]
 fn reads_rows_one_after_another(rt: HostRuntime) {
     let schema = columns(&rt);

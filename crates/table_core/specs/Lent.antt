@@ -1,5 +1,5 @@
 -- The row that is lent by a list of rows.
-use Rattle.row_core.specs.Lent.{lent_draft}
+use Rattle.draft_core.specs.Lent.{lent_draft}
 use Rattle.row_core.specs.declared.row.Row.{Row}
 use Rattle.table_core.specs.Numbered.{row_of}
 use Rattle.table_core.specs.declared.row_ref.RowRef.{RowRef}

@@ -1,13 +1,15 @@
 //! A row where it lies.
 
 ghost use Rattle.std.specs.Prelude.{◌≡◌, ◌+◌, ◌<◌, ◌^◌, length, option_map, slice_get, IfOk};
-ghost use Rattle.row_core.specs.Lent.{lent_draft, lent_value};
+ghost use Rattle.draft_core.specs.Lent.{lent_draft};
+ghost use Rattle.row_core.specs.Lent.{lent_value};
 ghost use Rattle.table_core.specs.Lent.{lent_row};
 ghost use Rattle.table_core.specs.Numbered.{row_of};
 
 use crate::NoMemory;
+use draft_core::DraftRef;
 use period_core::Period;
-use row_core::{Draft, DraftRef, Row, ValueRef};
+use row_core::{Draft, Row, ValueRef};
 use std::alloc::Global;
 
 /// A row of a table, lent by a list of rows.

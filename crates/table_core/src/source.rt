@@ -7,7 +7,8 @@ ghost use Rattle.table_core.specs.Source.{rows_from};
 
 use crate::NoMemory;
 use crate::row_ref::RowRef;
-use row_core::{Draft, Drafts, Row, RowList};
+use draft_core::Drafts;
+use row_core::{Draft, Row, RowList};
 use std::alloc::Global;
 use std::marker::Model;
 use std::sync::Arc;

@@ -6,9 +6,9 @@ use Rattle.std.proofs.lemmas.List.{map-append}
 use Rattle.std.proofs.lemmas.List.Elements.{filter_map-append}
 use Rattle.std.proofs.lemmas.Option.{slice_get-get_or}
 use Rattle.std.proofs.Math.Bool.{and-true}
-use Rattle.row_core.specs.Lent.{lent_draft}
+use Rattle.draft_core.specs.Lent.{lent_draft}
 use Rattle.row_core.specs.declared.draft.Draft.{Draft}
-use Rattle.row_core.specs.declared.draft_ref.DraftRef.{DraftRef}
+use Rattle.draft_core.specs.declared.draft_ref.DraftRef.{DraftRef}
 use Rattle.row_core.specs.declared.row.Row.{Row}
 use Rattle.row_core.specs.declared.schema.Column.{Column}
 use Rattle.key_core.specs.Keys.{collide, have_collision}

@@ -1,8 +1,9 @@
 //! Changes of the tables of a book.
 
+use draft_core::Drafts;
 use list_core::{DeepCopy, List};
 use period_core::Period;
-use row_core::{Drafts, Name, NoMemory, Schema, Value};
+use row_core::{Name, NoMemory, Schema, Value};
 use std::alloc::Global;
 
 /// Pairs of a column's name and a value.

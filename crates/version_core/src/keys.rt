@@ -3,7 +3,7 @@
 ghost use Rattle.std.specs.Prelude.{◌≡◌, ◌≢◌, ◌++◌, List, [], true, false, map, IfOk, OnOk};
 ghost use Rattle.std.specs.List.{list_any};
 ghost use Rattle.key_core.specs.Keys.{collide, have_collision};
-ghost use Rattle.row_core.specs.Lent.{lent_draft};
+ghost use Rattle.draft_core.specs.Lent.{lent_draft};
 ghost use Rattle.row_core.specs.Schema.{key_of};
 ghost use Rattle.version_core.specs.Finding.{ListsOpen, any_row, AreSought, passes};
 ghost use Rattle.version_core.specs.Keys.{collides_left, is_column_of, is_left, overlap_after, rows_left, sets_key, break_key};
@@ -15,8 +15,9 @@ ghost use Rattle.version_core.specs.declared.version.Version.{Version};
 use crate::change::Change;
 use crate::portion::{SOUGHT_LIMIT, columns_sought, is_removed};
 use crate::stored::{StoredVersions, VersionRef};
+use draft_core::{DraftRef, Drafts};
 use key_core::{collide, have_collision};
-use row_core::{DraftRef, Drafts, Name, NoMemory, Schema, Value};
+use row_core::{Name, NoMemory, Schema, Value};
 use std::alloc::{AllocError, Global};
 use thiserror::Error;
 

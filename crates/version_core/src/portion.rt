@@ -11,9 +11,10 @@ ghost use Rattle.version_core.specs.Finding.{AreSought, reaches};
 ghost use Rattle.version_core.specs.Rows.{conds_of, is_touched, is_equal_at, removes, part, parts_of, set_at};
 
 use crate::change::Change;
+use draft_core::Drafts;
 use list_core::{DeepCopy, copy_each};
 use period_core::Period;
-use row_core::{Drafts, Name, NoMemory, Schema, Value};
+use row_core::{Name, NoMemory, Schema, Value};
 use std::alloc::Global;
 use table_core::RowRef;
 

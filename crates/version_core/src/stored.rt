@@ -8,7 +8,8 @@ ghost use Rattle.version_core.specs.OpenVersions.{closed_at};
 ghost use Rattle.version_core.specs.Stored.{versions_of};
 ghost use Rattle.version_core.specs.StoredRef.{version_at};
 
-use row_core::{Drafts, NoMemory};
+use draft_core::Drafts;
+use row_core::NoMemory;
 use std::alloc::Global;
 use std::marker::Model;
 use table_core::{RowRef, SharedRows, TableRows};

@@ -1,5 +1,5 @@
 use Rattle.std.proofs.Common.{◌≡◌, drop}
-use Rattle.row_core.specs.Lent.{lent_draft}
+use Rattle.draft_core.specs.Lent.{lent_draft}
 use Rattle.key_core.specs.Order.{key_cmp}
 use Rattle.key_core.proofs.keys.key_order.Given as goal
 

@@ -1,7 +1,7 @@
 use Rattle.std.proofs.Common.{◌≡◌, ◌∙◌, ◌||◌, ◌-◌, ◌+◌, Bool, sym, ap, drop, arith}
 use Rattle.key_core.specs.Keys.{collide}
-use Rattle.row_core.specs.Lent.{lent_draft}
-use Rattle.row_core.specs.declared.draft_ref.DraftRef.{DraftRef}
+use Rattle.draft_core.specs.Lent.{lent_draft}
+use Rattle.draft_core.specs.declared.draft_ref.DraftRef.{DraftRef}
 use Rattle.key_core.specs.Order.{have_neighbours}
 use Rattle.key_core.proofs.Pairs.{neighbours-next, neighbours-end}
 use Rattle.key_core.proofs.keys.neighbours_collide.Goals as goal

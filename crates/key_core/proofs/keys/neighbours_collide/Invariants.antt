@@ -1,6 +1,6 @@
 use Rattle.std.proofs.Common.{◌≡◌, ◌-◌, drop}
 use Rattle.key_core.specs.Keys.{collide}
-use Rattle.row_core.specs.Lent.{lent_draft}
+use Rattle.draft_core.specs.Lent.{lent_draft}
 use Rattle.key_core.specs.Order.{have_neighbours}
 use Rattle.key_core.proofs.keys.neighbours_collide.Given as goal
 

@@ -2,7 +2,7 @@ use Rattle.std.proofs.Common.{◌≡◌, rules}
 use Rattle.std.specs.Ordering.{is_lt}
 use Rattle.std.proofs.lemmas.Fn.{always_returns_same}
 use Rattle.std.proofs.lemmas.List.Sorted.{ranks_by}
-use Rattle.row_core.specs.Lent.{lent_draft}
+use Rattle.draft_core.specs.Lent.{lent_draft}
 use Rattle.key_core.specs.Order.{row_cmp}
 use Rattle.key_core.proofs.Orders.{row_total}
 use Rattle.key_core.proofs.keys.sort_rows.Goals as goal

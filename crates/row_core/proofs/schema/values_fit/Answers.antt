@@ -1,7 +1,6 @@
 use Rattle.std.proofs.Common.{◌<◌, length, arith, sym, ◌∙◌, ap, get_or}
 use Rattle.row_core.specs.Value.{same_kind, kind_of}
-use Rattle.row_core.proofs.FitsLemmas.{fits-lengths, fits-next, fits-none}
-use Rattle.row_core.proofs.KindLemmas.{is_fit}
+use Rattle.row_core.proofs.FitsLemmas.{is_fit, fits-lengths, fits-next, fits-none}
 use Rattle.row_core.proofs.schema.values_fit.Goals as goal
 
 pub returns-then-columns-values : goal.returns-then-columns-values

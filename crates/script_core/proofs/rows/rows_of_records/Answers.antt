@@ -1,6 +1,6 @@
 use Rattle.std.proofs.Common.{◌∙◌, ap, sym}
 use Rattle.std.proofs.lemmas.Result.{err_from_is_err_and}
-use Rattle.row_core.specs.RowsRead.{RowsRead}
+use Rattle.draft_core.specs.RowsRead.{RowsRead}
 use Rattle.command_core.specs.Lines.{fields_in, lines_in}
 use Rattle.script_core.specs.Effects.{loaded_row, loaded_rows}
 use Rattle.script_core.proofs.Loading.{behind-failed, behind-more}

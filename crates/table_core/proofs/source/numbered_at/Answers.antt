@@ -1,5 +1,5 @@
 use Rattle.std.proofs.Common.{◌≡◌, ◌+◌, ◌∙◌, Some, ap, sym, arith}
-use Rattle.row_core.specs.Lent.{lent_draft}
+use Rattle.draft_core.specs.Lent.{lent_draft}
 use Rattle.table_core.specs.Numbered.{row_of}
 use Rattle.table_core.proofs.NumberedLemmas.{slice_get-numbered}
 use Rattle.table_core.proofs.source.numbered_at.Goals as goal

@@ -1,6 +1,6 @@
 use Rattle.std.proofs.Common.{◌≡◌, ◌∙◌, Some, sym, ap, rules}
 use Rattle.std.specs.Prelude.{option_map, slice_get}
-use Rattle.row_core.specs.Lent.{lent_draft}
+use Rattle.draft_core.specs.Lent.{lent_draft}
 use Rattle.version_core.specs.KeyIndex.{key_number}
 use Rattle.version_core.specs.StoredRef.{version_at}
 use Rattle.version_core.proofs.KeyIndexLemmas.{last-of_key, last-of_others, below-number}

@@ -1,5 +1,5 @@
 use Rattle.std.proofs.Common.{◌∙◌, ap}
-use Rattle.row_core.specs.Lent.{lent_draft}
+use Rattle.draft_core.specs.Lent.{lent_draft}
 use Rattle.version_core.specs.KeyIndex.{mixed}
 use Rattle.version_core.proofs.KeyIndexLemmas.{key-more, key-none}
 use Rattle.version_core.proofs.key_index.key_number.Goals as goal

@@ -1,6 +1,6 @@
 use Rattle.std.proofs.Common.{◌∙◌, ◌++◌, ◌∷◌, [], ap, append_assoc, map, take}
 use Rattle.std.proofs.lemmas.List.{map-append}
-use Rattle.row_core.specs.Lent.{lent_draft}
+use Rattle.draft_core.specs.Lent.{lent_draft}
 use Rattle.table_core.proofs.PlaceLemmas.{take-one_more}
 use Rattle.version_core.proofs.keys.push_rows.Goals as goal
 

@@ -1,7 +1,7 @@
 use Rattle.std.proofs.Common.{◌<◌, sym, ◌∙◌, ap, map, get_or, length}
 use Rattle.std.specs.Prelude.{filter}
 use Rattle.std.proofs.lemmas.List.{take_all}
-use Rattle.row_core.specs.Lent.{lent_draft}
+use Rattle.draft_core.specs.Lent.{lent_draft}
 use Rattle.version_core.specs.Finding.{passes}
 use Rattle.version_core.specs.Keys.{is_left}
 use Rattle.version_core.specs.Rows.{unnumbered}

@@ -4,7 +4,7 @@ use Rattle.std.proofs.lemmas.List.{get_or_default, take_all}
 use Rattle.std.proofs.lemmas.List.Elements.{All-push}
 use Rattle.table_core.specs.Places.{at_places}
 use Rattle.table_core.proofs.PlaceLemmas.{at_places-more}
-use Rattle.row_core.specs.Lent.{lent_draft}
+use Rattle.draft_core.specs.Lent.{lent_draft}
 use Rattle.table_core.specs.Lent.{lent_row}
 use Rattle.version_core.specs.Shown.{holds_where, shown}
 use Rattle.version_core.specs.Stored.{version_of}

@@ -1,6 +1,6 @@
 use Rattle.std.proofs.Common.{◌<◌, length, None, get_or, arith, sym, ◌∙◌, ap, ◌++◌, ◌∷◌, [], ◌&&◌, leb}
 use Rattle.std.proofs.lemmas.List.{get_or_default, take_all}
-use Rattle.row_core.specs.Lent.{lent_draft}
+use Rattle.draft_core.specs.Lent.{lent_draft}
 use Rattle.table_core.specs.Lent.{lent_row}
 use Rattle.version_core.specs.Shown.{is_behind, versions_as_of}
 use Rattle.version_core.specs.Stored.{version_of}

@@ -4,7 +4,7 @@ use Rattle.std.proofs.lemmas.List.{get_or_default, take_all}
 use Rattle.version_core.specs.Finding.{passes}
 use Rattle.version_core.specs.OpenVersions.{is_taken}
 use Rattle.version_core.specs.Rows.{parts_of}
-use Rattle.row_core.specs.Lent.{lent_draft}
+use Rattle.draft_core.specs.Lent.{lent_draft}
 use Rattle.table_core.specs.Lent.{lent_row}
 use Rattle.version_core.specs.Stored.{version_of}
 use Rattle.version_core.proofs.StoredLemmas.{version-at}

@@ -1,6 +1,6 @@
 use Rattle.std.proofs.Common.{◌<◌, ◌∙◌, ap, sym, length, arith}
 use Rattle.std.specs.Prelude.{slice_get}
-use Rattle.row_core.specs.Lent.{lent_draft}
+use Rattle.draft_core.specs.Lent.{lent_draft}
 use Rattle.table_core.proofs.NumberedLemmas.{length-named, slice_get-named}
 use Rattle.table_core.proofs.source.NamedRows.at.Goals as goal
 

@@ -1,4 +1,4 @@
-use Rattle.row_core.specs.Lent.{lent_draft}
+use Rattle.draft_core.specs.Lent.{lent_draft}
 use Rattle.version_core.specs.Finding.{passes}
 use Rattle.version_core.specs.Keys.{collides_left}
 use Rattle.version_core.proofs.KeyIndexLemmas.{AreLeft}

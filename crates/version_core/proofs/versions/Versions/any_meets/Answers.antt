@@ -2,7 +2,7 @@ use Rattle.std.proofs.Common.{◌≡◌, ◌<◌, ◌∙◌, ◌||◌, Bool, ap,
 use Rattle.std.specs.List.{list_any}
 use Rattle.std.proofs.lemmas.List.Folds.{list_any_at, list_any_more}
 use Rattle.std.proofs.lemmas.Option.{get_or_from_slice_get}
-use Rattle.row_core.specs.Lent.{lent_draft}
+use Rattle.draft_core.specs.Lent.{lent_draft}
 use Rattle.row_core.specs.declared.draft.Draft.{Draft}
 use Rattle.key_core.specs.Keys.{collide}
 use Rattle.version_core.specs.Keys.{rows_left}

@@ -1,0 +1,7 @@
+use Rattle.std.proofs.Common.{◌≡◌, map, take}
+use Rattle.draft_core.specs.Columns.{kind_of_column}
+use Rattle.draft_core.proofs.columns.Columns.new.Given as goal
+
+-- the kinds so far
+abbrev pub invariant-loop-kind : goal.invariant-loop-kind
+invariant-loop-kind l = map kind_of_column l.values.items ≡ take l.kind-index l.kinds

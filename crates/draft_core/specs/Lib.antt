@@ -1,0 +1,4 @@
+pub mod Columns
+pub mod Drafts
+pub mod Lent
+pub mod RowsRead

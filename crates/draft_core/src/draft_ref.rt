@@ -1,0 +1,70 @@
+//! A draft where it lies.
+
+ghost use Rattle.std.specs.Prelude.{◌≡◌, ◌<◌, length, option_map, slice_get, IfOk};
+
+use crate::NoMemory;
+use crate::drafts::Drafts;
+use period_core::Period;
+use row_core::{Draft, Value, ValueRef, Values};
+use std::alloc::Global;
+
+/// A draft of a list, lent by it.
+#[derive(Clone, Copy)]
+pub struct DraftRef<'a> {
+    pub(crate) drafts: &'a Drafts,
+    pub(crate) place: usize,
+    pub(crate) ghost inside: { place < length drafts.now },
+}
+
+impl<'a> DraftRef<'a> {
+    ghost use Rattle.draft_core.specs.Lent.{lent_draft};
+    ghost use Rattle.row_core.specs.Lent.{lent_value};
+
+    /// When it holds.
+    #[inline(always)]
+    pub fn period(self) -> Period
+        ensures { result ≡ (lent_draft self.entry).period }
+    {
+        self.drafts.period_at(self.place)
+    }
+
+    /// How many values it has.
+    pub fn width(self) -> usize
+        ensures { result ≡ length (lent_draft self.entry).values }
+    {
+        self.drafts.width_at(self.place)
+    }
+
+    /// Its value in the column at that place; none past the last.
+    #[inline(always)]
+    pub fn value(self, column: usize) -> Option<ValueRef<'a>>
+        ensures { option_map lent_value result ≡ slice_get (lent_draft self.entry).values column }
+    {
+        self.drafts.value_at(self.place, column)
+    }
+
+    /// Copies of its values.
+    ///
+    /// # Errors
+    ///
+    /// `NoMemory` where a growth is refused.
+    pub fn values(self, alloc: Global) -> Result<Vec<Value>, NoMemory>
+        ensures { IfOk result (λ values. values.items ≡ (lent_draft self.entry).values) }
+    {
+        self.drafts.values_at(alloc, self.place)
+    }
+
+    /// A copy of the draft.
+    ///
+    /// # Errors
+    ///
+    /// `NoMemory` where a growth is refused.
+    pub fn copy(self, alloc: Global) -> Result<Draft, NoMemory>
+        ensures { IfOk result (λ draft. draft ≡ lent_draft self.entry) }
+    {
+        Ok(Draft {
+            period: self.period(),
+            values: Values::of(alloc, self.values(alloc)?)?,
+        })
+    }
+}

@@ -1,0 +1,101 @@
+//! Rows that are read one after another, straight into columns.
+
+ghost use Rattle.std.specs.Prelude.{◌≡◌, ◌<◌, ◌++◌, ◌∷◌, [], length, map, IfErr, OnOk, Ok, Err};
+ghost use Rattle.row_core.specs.Reading.{row_of};
+ghost use Rattle.row_core.specs.Refusals.{IsAnswer, Reads, map_ok};
+ghost use Rattle.row_core.specs.declared.draft.Draft.{Draft as AnyDraft};
+
+use crate::columns::Columns;
+use crate::drafts::Drafts;
+use row_core::{Failure, RowRefused, Schema};
+use std::alloc::Global;
+use std::convert::AsSlice;
+use std::marker::Model;
+
+/// Reads rows of a table's columns, one after another. Contracts see the columns, and the rows so far.
+#[derive(Drop)]
+pub struct RowReader<'a> {
+    alloc: Global,
+    schema: &'a Schema,
+    rows: Columns,
+}
+
+impl<'a> Model for RowReader<'a> {
+    ghost use Rattle.std.specs.Prelude.{◌≡◌, ◌<◌, length, map};
+    ghost use Rattle.draft_core.specs.RowsRead.{RowsRead};
+
+    ghost Value = { RowsRead };
+
+    ghost view = { λ r. record { columns = r.schema.now; rows = r.rows.rows } };
+
+    // The first row makes the columns.
+    ghost invariant = { λ r. 0 < length r.rows.rows
+        → map (λ column. column.kind) r.schema.now ≡ r.rows.kinds };
+}
+
+impl<'a> RowReader<'a> {
+    /// No row yet, of these columns.
+    pub fn new(alloc: Global, schema: &'a Schema) -> Self
+        ensures { result ≡ record { columns = schema.entry.now; rows = [] } }
+    {
+        RowReader {
+            alloc,
+            schema,
+            rows: Columns::empty(alloc),
+        }
+    }
+
+    /// Reads one more row: two points, and one field for each column. Want of memory is answered
+    /// only where no field is refused.
+    pub fn read<F: AsSlice<u8>>(self, fields: &[F]) -> Result<Self, Failure<RowRefused>>
+        ensures { IsAnswer
+            (map_ok (λ row. record self.entry { rows = self.entry.rows ++ row ∷ [] })
+            (row_of self.entry.columns (map F.items fields.now))) result }
+    {
+        let RowReader {
+            alloc,
+            schema,
+            mut rows,
+        } = self;
+        match add_row(alloc, schema, &mut rows, fields) {
+            Ok(()) => Ok(RowReader {
+                alloc,
+                schema,
+                rows,
+            }),
+            Err(Failure::Refused(refused)) => Err(Failure::Refused(refused)),
+            Err(Failure::NoMemory) => {
+                schema.check_row(fields).map_err(Failure::Refused)?;
+                Err(Failure::NoMemory)
+            }
+        }
+    }
+
+    /// The rows.
+    pub fn into_rows(self) -> Drafts
+        ensures { result ≡ self.entry.rows }
+    {
+        Drafts::of_columns(self.alloc, self.rows)
+    }
+}
+
+/// Adds the row of the fields, up to the first that is refused anything.
+fn add_row<F: AsSlice<u8>>(
+    alloc: Global,
+    schema: &Schema,
+    rows: &mut Columns,
+    fields: &[F],
+) -> Result<(), Failure<RowRefused>>
+    requires { 0 < length rows.old.rows → map (λ column. column.kind) schema.now ≡ rows.old.kinds }
+    ensures kinds { OnOk result (map (λ column. column.kind) schema.now ≡ rows.new.kinds) }
+    ensures ok { OnOk result ((row : AnyDraft)
+        × (row_of schema.now (map F.items fields.now) ≡ Ok row)
+        × (rows.new.rows ≡ rows.old.rows ++ row ∷ [])) }
+    ensures err { IfErr result (λ failure. Reads {T = AnyDraft} (λ row. row)
+        (row_of schema.now (map F.items fields.now)) (Err failure)) }
+{
+    if rows.is_empty() {
+        *rows = Columns::new(alloc, &schema.kinds(alloc)?)?;
+    }
+    rows.read(schema.as_slice(), fields)
+}

@@ -1,7 +1,0 @@
-use Rattle.std.proofs.Common.{◌≡◌, map, take}
-use Rattle.row_core.specs.Columns.{kind_of_column}
-use Rattle.row_core.proofs.columns.Columns.new.Given as goal
-
--- the kinds so far
-abbrev pub invariant-loop-kind : goal.invariant-loop-kind
-invariant-loop-kind l = map kind_of_column l.values.items ≡ take l.kind-index l.kinds

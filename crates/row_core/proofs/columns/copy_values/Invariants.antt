@@ -1,7 +1,0 @@
-use Rattle.std.proofs.Common.{◌≡◌, map, take}
-use Rattle.row_core.specs.Columns.{values_at, values_of_column}
-use Rattle.row_core.proofs.columns.copy_values.Given as goal
-
--- the values so far
-abbrev pub invariant-loop-column : goal.invariant-loop-column
-invariant-loop-column l = l.values.items ≡ values_at (map values_of_column (take l.column-index l.columns)) l.place
