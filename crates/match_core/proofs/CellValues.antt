@@ -1,12 +1,16 @@
 -- Values, and the cells that are made of them.
-use Rattle.std.proofs.Common.{◌≡◌, ℕ, zero, suc, List, [], ◌∷◌, Option, Some, sym, subst, ap, ◌∙◌, arith}
+use Rattle.std.proofs.Common.{◌≡◌, ℕ, zero, suc, List, [], ◌∷◌, Option, Some, refl, sym, subst, ap, ◌∙◌, arith}
 use Rattle.std.specs.Prelude.{All, slice_get}
+use Rattle.std.specs.Ordering.{nat_cmp, ordering_then}
+use Rattle.std.specs.declared.cmp.Ordering.{Ordering}
+use Rattle.std.specs.declared.cmp.Ordering.TheVariants.{Less, Equal, Greater}
+use Rattle.std.proofs.lemmas.Cmp.{nat_cmp_total, ranked, tied_itself}
 use Rattle.row_core.specs.Value.{kind_of}
 use Rattle.row_core.specs.declared.value.Kind.{Kind}
 use Rattle.row_core.specs.declared.value.Value.{Value}
-use Rattle.row_core.specs.declared.value.Value.TheVariants.{Int, Text}
 use Rattle.match_core.specs.declared.cells.Cell.{Cell}
-use Rattle.match_core.specs.Cells.{IsCell, IsOfKind, number_in, text_in}
+use Rattle.match_core.specs.Cells.{IsCell, IsOfKind}
+use Rattle.match_core.specs.Compared.{Compares}
 use Rattle.match_core.proofs.CellOrder.{SameCell}
 
 -- at one place stands one value
@@ -14,20 +18,39 @@ pub one_value : (column : List (Option Value)) (i : ℕ) (v w : Value) → slice
     → slice_get column i ≡ Some (Some w) → v ≡ w
 one_value column i v w h k = let e : ◌≡◌ {A = Option (Option Value)} (Some (Some v)) (Some (Some w)) = sym h ∙ k in cc
 
--- two cells of one class and value are the same
-pub cells_same : (class : ℕ) (v w : Value) (i j : ℕ) (x y : Cell) → IsCell class v i x → IsCell class w j y → v ≡ w
-    → SameCell x y
-cells_same class v w i j x y a b f = (
-  a.class_is ∙ sym b.class_is,
-  (a.number_is ∙ ap number_in f ∙ sym b.number_is, a.text_is ∙ ap text_in f ∙ sym b.text_is),
-)
+-- where one order behind another ties, each ties
+both_tie : (r s : Ordering) → ordering_then r s ≡ Equal → (r ≡ Equal) × (s ≡ Equal)
+both_tie Less s tied = absurd (cc)
+both_tie Greater s tied = absurd (cc)
+both_tie Equal s tied = (refl, tied)
 
--- values of one kind that have one number and one text are one
-pub value_from_cell : (v w : Value) → kind_of v ≡ kind_of w → number_in v ≡ number_in w → text_in v ≡ text_in w → v ≡ w
-value_from_cell (Int a) (Int b) k n t = ap Int n
-value_from_cell (Int a) (Text b) k n t = absurd (cc)
-value_from_cell (Text a) (Int b) k n t = absurd (cc)
-value_from_cell (Text a) (Text b) k n t = ap Text t
+-- classes that are one tie
+one_class : (c d : ℕ) → c ≡ d → nat_cmp c d ≡ Equal
+one_class c d same = subst (λ n. nat_cmp c n ≡ Equal) same (tied_itself nat_cmp_total c)
+
+module _ {V : Type 0} (kind : Kind) (IsOf : Value → V → Type 0) (cmp : V → V → Ordering)
+    (compares : Compares kind IsOf cmp) where
+  -- two cells of one class and value are the same
+  pub cells_same : (class : ℕ) (v w : Value) (i j : ℕ) (x y : Cell V) → IsCell IsOf class v i x
+      → IsCell IsOf class w j y → v ≡ w → SameCell cmp x y
+  cells_same class v w i j x y a b same =
+      ap (λ o. ordering_then o (cmp x.value y.value)) (one_class x.class y.class (a.class_is ∙ sym b.class_is))
+      ∙ compares.ties w x.value y.value (subst (λ u. IsOf u x.value) same a.value_is) b.value_is
+
+  -- cells of values of the kind that are the same are of one class
+  pub class_from_cells : (c d : ℕ) (v w : Value) (i j : ℕ) (x y : Cell V) → IsCell IsOf c v i x
+      → IsCell IsOf d w j y → SameCell cmp x y → c ≡ d
+  class_from_cells c d v w i j x y a b same =
+      sym a.class_is
+      ∙ ranked x.class y.class Equal (sym (both_tie (nat_cmp x.class y.class) (cmp x.value y.value) same).0)
+      ∙ b.class_is
+
+  -- and of one value
+  pub value_from_cells : (c d : ℕ) (v w : Value) (i j : ℕ) (x y : Cell V) → kind_of v ≡ kind → kind_of w ≡ kind
+      → IsCell IsOf c v i x → IsCell IsOf d w j y → SameCell cmp x y → v ≡ w
+  value_from_cells c d v w i j x y k l a b same =
+      compares.tells v w x.value y.value k l a.value_is b.value_is
+      (both_tie (nat_cmp x.class y.class) (cmp x.value y.value) same).1
 
 -- where all values are of a kind, each is
 pub kind_at : (kind : Kind) (column : List (Option Value)) (i : ℕ) (v : Value) → All (IsOfKind kind) column

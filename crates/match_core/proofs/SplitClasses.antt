@@ -15,7 +15,7 @@ use Rattle.row_core.specs.declared.value.Value.{Value}
 use Rattle.row_core.specs.Name.{NamePair}
 use Rattle.match_core.specs.Columns.{value_under, kinds_differ, tests_of_names}
 use Rattle.match_core.specs.Classes.{AreClasses, values_under}
-use Rattle.match_core.specs.Cells.{AreOneKind, IsOfKind, Refines, values_at}
+use Rattle.match_core.specs.Cells.{IsOfKind, Refines, values_at}
 
 -- ---- one pair more
 
@@ -93,13 +93,13 @@ kind_is kind.Text kind.Int h = absurd (cc)
 kind_is kind.Text kind.Text h = refl
 
 -- the kind of both columns of an allowed pair
-pub record IsAllowed (left right : List Column) (pair : NamePair) : Type 0 where
+record IsAllowed (left right : List Column) (pair : NamePair) : Type 0 where
   pub kind : Kind
   pub one : kind_in left pair.0 ≡ Some kind
   pub other : kind_in right pair.1 ≡ Some kind
 
 -- the columns of a pair that no test refuses have one kind
-pub allowed : (left right : List Column) (pair : NamePair) → first_of (tests_of_names left right pair) ≡ None
+allowed : (left right : List Column) (pair : NamePair) → first_of (tests_of_names left right pair) ≡ None
     → IsAllowed left right pair
 allowed left right pair h =
     let pass = three_pass (is_none (kind_in left pair.0)) (is_none (kind_in right pair.1))
@@ -158,18 +158,6 @@ named_kind columns rows name k h fit =
     subst (λ z. IsOfKind z (slice_get row.values there.0)) there.4 v in
     subst (λ o. IsOfKind k (option_and_then (slice_get row.values) o)) (sym there.2) w))
 
--- the values of both columns of an allowed pair are of one kind
-pub columns_one_kind : (left right : List Column) (lefts rights : List Row) (pair : NamePair)
-    → IsAllowed left right pair
-    → All (λ (row : Row). IsTrue (fits left row.values)) lefts
-    → All (λ (row : Row). IsTrue (fits right row.values)) rights
-    → AreOneKind (values_under left right lefts rights pair)
-columns_one_kind left right lefts rights pair a fl fr = (
-  a.kind,
-  All-append (IsOfKind a.kind) (map (value_under left pair.0) lefts) (map (value_under right pair.1) rights)
-      (named_kind left lefts pair.0 a.kind a.one fl) (named_kind right rights pair.1 a.kind a.other fr),
-)
-
 -- the columns by their places
 pub values_under-places : (left right : List Column) (lefts rights : List Row) (pair : NamePair) (l r : ℕ)
     → column_of left pair.0 ≡ Some l → column_of right pair.1 ≡ Some r
@@ -179,3 +167,19 @@ values_under-places left right lefts rights pair l r e f =
     (value_under right pair.1) rights) e
     ∙ ap (λ o. map (λ (row : Row). slice_get row.values l) lefts ++ map
     (λ (row : Row). option_and_then (slice_get row.values) o) rights) f
+
+-- the values of both columns of an allowed pair are of the kind of the left one
+pub columns_one_kind : (left right : List Column) (lefts rights : List Row) (pair : NamePair) (l r : ℕ) (kind : Kind)
+    → first_of (tests_of_names left right pair) ≡ None
+    → All (λ (row : Row). IsTrue (fits left row.values)) lefts
+    → All (λ (row : Row). IsTrue (fits right row.values)) rights
+    → column_of left pair.0 ≡ Some l → column_of right pair.1 ≡ Some r → Some kind ≡ kind_in left pair.0
+    → All (IsOfKind kind) (values_at l r lefts rights)
+columns_one_kind left right lefts rights pair l r kind none fl fr one other is =
+    let a = allowed left right pair none in
+    let e : ◌≡◌ {A = Option Kind} (Some a.kind) (Some kind) = sym (is ∙ a.one) in
+    let same : a.kind ≡ kind = cc in
+    subst (λ k. All (IsOfKind k) (values_at l r lefts rights)) same
+    (subst (All (IsOfKind a.kind)) (values_under-places left right lefts rights pair l r one other)
+    (All-append (IsOfKind a.kind) (map (value_under left pair.0) lefts) (map (value_under right pair.1) rights)
+    (named_kind left lefts pair.0 a.kind a.one fl) (named_kind right rights pair.1 a.kind a.other fr)))

@@ -1,16 +1,13 @@
 -- The values of a column of two tables, with the classes of their rows so far.
-use Rattle.std.specs.Prelude.{◌≡◌, ◌↔◌, ◌⊎◌, ℕ, ◌+◌, ◌-◌, ◌/◌, ◌<◌, ◌≤◌, ℤ, pos, List, [], ◌++◌, length, map, All, AllPairs, Bool, true, false, ◌&&◌, Contains, Option, Some, None, IsSorted, nat_eq, replicate, slice_get, slice_index, slice_index_or, take}
+use Rattle.std.specs.Prelude.{◌≡◌, ◌↔◌, ◌⊎◌, ℕ, ◌+◌, ◌-◌, ◌<◌, ◌≤◌, List, ◌++◌, length, map, All, AllPairs, Bool, true, false, Contains, Option, Some, None, IsSorted, replicate, slice_get, slice_index, slice_index_or, take}
 use Rattle.std.specs.Borrow.{Bor}
 use Rattle.std.specs.Global.{Vec}
-use Rattle.std.specs.Cmp.Lexicographic.{pointwise, slice_cmp}
-use Rattle.std.specs.Hash.FoldHasher.{initial, write, finish}
-use Rattle.std.specs.Ordering.{int_eq, is_lt, ordering_then, nat_cmp, int_cmp}
+use Rattle.std.specs.Ordering.{is_eq, is_lt, ordering_then, nat_cmp}
 use Rattle.std.specs.declared.cmp.Ordering.{Ordering}
 use Rattle.row_core.specs.Value.{kind_of}
 use Rattle.row_core.specs.declared.row.Row.{Row}
 use Rattle.row_core.specs.declared.value.Kind.{Kind}
 use Rattle.row_core.specs.declared.value.Value.{Value}
-use Rattle.row_core.specs.declared.value.Value.TheVariants.{Int, Text}
 use Rattle.match_core.specs.declared.cells.Cell.{Cell}
 use Rattle.match_core.specs.declared.side_column.SideColumn.{SideColumn}
 use Rattle.list_core.specs.Chunks.{all_in}
@@ -43,157 +40,145 @@ so_far (Some classes) rows = classes.now
 abbrev pub classes_in : SideColumn → List ℕ
 classes_in side = so_far side.classes side.rows.now
 
--- each value is there, and all are of one kind
-abbrev pub AreOneKind : List (Option Value) → Type 0
-AreOneKind column = (kind : Kind) × All (IsOfKind kind) column
-
--- a hash of a text
-abbrev pub hash_of : List ℕ → ℕ
-hash_of text = finish (write initial text)
-
--- a number, and half the hash of a text
-abbrev pub number_in : Value → ℤ
-number_in (Int number) = number
-number_in (Text text) = pos (hash_of text / 2)
-
--- a text, and the empty one for a number
-abbrev pub text_in : Value → List ℕ
-text_in (Int number) = []
-text_in (Text text) = text
-
--- the cell of that value, of the row at that place, whose class so far is this
-pub record IsCell (class : ℕ) (value : Value) (place : ℕ) (cell : Cell) : Type 0 where
+-- the cell of what is made of that value, of the row at that place, whose class so far is this
+pub record IsCell {V : Type 0} (IsOf : Value → V → Type 0) (class : ℕ) (value : Value) (place : ℕ) (cell : Cell V)
+    : Type 0 where
   pub class_is : cell.class ≡ class
-  pub number_is : cell.number ≡ number_in value
-  pub text_is : cell.text.now ≡ text_in value
+  pub value_is : IsOf value cell.value
   pub place_is : cell.place ≡ place
 
 -- the cell of a row at that place, of its class so far and its value in the column
-pub record IsCellAt (classes : List ℕ) (column : List (Option Value)) (place : ℕ) (cell : Cell) : Type 0 where
+pub record IsCellAt {V : Type 0} (IsOf : Value → V → Type 0) (classes : List ℕ) (column : List (Option Value))
+    (place : ℕ) (cell : Cell V) : Type 0 where
   pub value : Value
   pub there : slice_get column place ≡ Some (Some value)
-  pub made : IsCell (slice_index classes place) value place cell
+  pub made : IsCell IsOf (slice_index classes place) value place cell
 
--- the order of cells: by class, number and text
-abbrev pub cell_cmp : Cell → Cell → Ordering
-cell_cmp a b = ordering_then (nat_cmp a.class b.class)
-    (ordering_then (int_cmp a.number b.number) (slice_cmp nat_cmp a.text.now b.text.now))
+-- the order of cells: by class and value
+abbrev pub cell_cmp : {V : Type 0} → (V → V → Ordering) → Cell V → Cell V → Ordering
+cell_cmp cmp a b = ordering_then (nat_cmp a.class b.class) (cmp a.value b.value)
 
 -- a cell comes before another one
-abbrev pub is_before : Cell → Cell → Bool
-is_before a b = is_lt (cell_cmp a b)
+abbrev pub is_before : {V : Type 0} → (V → V → Ordering) → Cell V → Cell V → Bool
+is_before cmp a b = is_lt (cell_cmp cmp a b)
 
 -- there is a cell of the row at that place
-abbrev pub HasPlace : List Cell → ℕ → Type 0
-HasPlace cells i = (cell : Cell) × Contains cells cell × (cell.place ≡ i)
+abbrev pub HasPlace : {V : Type 0} → List (Cell V) → ℕ → Type 0
+HasPlace {V} cells i = (cell : Cell V) × Contains cells cell × (cell.place ≡ i)
 
 -- the cells of a range of a side's rows: each is that of its place, and each place whose cell is of the range has one
-pub record AreCells (range : Range Cell) (classes : List ℕ) (column : List (Option Value)) (cells : List Cell)
-    : Type 0 where
-  pub own : All (λ (cell : Cell). IsCellAt classes column cell.place cell) cells
-  pub within : All (λ (cell : Cell). has cell_cmp range cell ≡ true) cells
-  pub each : (i : ℕ) (cell : Cell) → i < length column → IsCellAt classes column i cell
-      → has cell_cmp range cell ≡ true → HasPlace cells i
+pub record AreCells {V : Type 0} (cmp : V → V → Ordering) (IsOf : Value → V → Type 0) (range : Range (Cell V))
+    (classes : List ℕ) (column : List (Option Value)) (cells : List (Cell V)) : Type 0 where
+  pub own : All (λ (cell : Cell V). IsCellAt IsOf classes column cell.place cell) cells
+  pub within : All (λ (cell : Cell V). has (cell_cmp cmp) range cell ≡ true) cells
+  pub each : (i : ℕ) (cell : Cell V) → i < length column → IsCellAt IsOf classes column i cell
+      → has (cell_cmp cmp) range cell ≡ true → HasPlace cells i
 
 -- these in rising order
-pub record AreSortedIn (range : Range Cell) (classes : List ℕ) (column : List (Option Value)) (cells : List Cell)
-    : Type 0 where
-  pub are : AreCells range classes column cells
-  pub rise : IsSorted cell_cmp cells
+pub record AreSortedIn {V : Type 0} (cmp : V → V → Ordering) (IsOf : Value → V → Type 0) (range : Range (Cell V))
+    (classes : List ℕ) (column : List (Option Value)) (cells : List (Cell V)) : Type 0 where
+  pub are : AreCells cmp IsOf range classes column cells
+  pub rise : IsSorted (cell_cmp cmp) cells
 
 -- the cells of all rows of a side, by rising order: each is that of its place, and each place has one
-pub record AreSorted (classes : List ℕ) (column : List (Option Value)) (cells : List Cell) : Type 0 where
-  pub own : All (λ (cell : Cell). IsCellAt classes column cell.place cell) cells
+pub record AreSorted {V : Type 0} (cmp : V → V → Ordering) (IsOf : Value → V → Type 0) (classes : List ℕ)
+    (column : List (Option Value)) (cells : List (Cell V)) : Type 0 where
+  pub own : All (λ (cell : Cell V). IsCellAt IsOf classes column cell.place cell) cells
   pub each : (i : ℕ) → i < length column → HasPlace cells i
-  pub rise : IsSorted cell_cmp cells
+  pub rise : IsSorted (cell_cmp cmp) cells
 
 -- the rows of both cells have one class so far, and one value
-abbrev pub same_cell : Cell → Cell → Bool
-same_cell a b = nat_eq a.class b.class && (int_eq a.number b.number && pointwise nat_eq a.text.now b.text.now)
+abbrev pub same_cell : {V : Type 0} → (V → V → Ordering) → Cell V → Cell V → Bool
+same_cell cmp a b = is_eq (cell_cmp cmp a b)
 
 -- cells of one row are the same
-abbrev pub AgreeOnPlaces : List Cell → Type 0
-AgreeOnPlaces cells = (i j : ℕ) (d : Cell) → i < length cells → j < length cells
+abbrev pub AgreeOnPlaces : {V : Type 0} → (V → V → Ordering) → List (Cell V) → Type 0
+AgreeOnPlaces {V} cmp cells = (i j : ℕ) (d : Cell V) → i < length cells → j < length cells
     → (slice_index_or cells i d).place ≡ (slice_index_or cells j d).place
-    → same_cell (slice_index_or cells i d) (slice_index_or cells j d) ≡ true
+    → same_cell cmp (slice_index_or cells i d) (slice_index_or cells j d) ≡ true
 
 -- each cell comes before all later ones
-abbrev pub AreRising : List Cell → Type 0
-AreRising cells = AllPairs (λ (a b : Cell). is_before a b ≡ true) cells
+abbrev pub AreRising : {V : Type 0} → (V → V → Ordering) → List (Cell V) → Type 0
+AreRising {V} cmp cells = AllPairs (λ (a b : Cell V). is_before cmp a b ≡ true) cells
 
 -- the row of a cell has the rank at which the same cell stands among those that differ
-pub record HasRank (ranks : List ℕ) (firsts : List Cell) (cell : Cell) : Type 0 where
+pub record HasRank {V : Type 0} (cmp : V → V → Ordering) (ranks : List ℕ) (firsts : List (Cell V)) (cell : Cell V)
+    : Type 0 where
   pub within : slice_index ranks cell.place < length firsts
-  pub same : (d : Cell) → same_cell (slice_index_or firsts (slice_index ranks cell.place) d) cell ≡ true
+  pub same : (d : Cell V) → same_cell cmp (slice_index_or firsts (slice_index ranks cell.place) d) cell ≡ true
 
 -- the rows of cells have ranks among those that differ
-abbrev pub AreRanksOf : List Cell → List ℕ → List Cell → Type 0
-AreRanksOf cells ranks firsts = All (HasRank ranks firsts) cells
+abbrev pub AreRanksOf : {V : Type 0} → (V → V → Ordering) → List (Cell V) → List ℕ → List (Cell V) → Type 0
+AreRanksOf cmp cells ranks firsts = All (HasRank cmp ranks firsts) cells
 
 -- the rows of the first cells have ranks among those that differ, the last of which is the same as the last cell
-pub record AreRankedUpto (cells : List Cell) (i : ℕ) (firsts : List Cell) (ranks : List ℕ) : Type 0 where
-  pub rise : AreRising firsts
+pub record AreRankedUpto {V : Type 0} (cmp : V → V → Ordering) (cells : List (Cell V)) (i : ℕ) (firsts : List (Cell V))
+    (ranks : List ℕ) : Type 0 where
+  pub rise : AreRising cmp firsts
   pub none : i ≡ 0 → length firsts ≡ 0
-  pub last : (k j : ℕ) (d : Cell) → k + 1 ≡ length firsts → j + 1 ≡ i
-      → same_cell (slice_index_or firsts k d) (slice_index_or cells j d) ≡ true
-  pub told : (k : ℕ) (d : Cell) → k < i → HasRank ranks firsts (slice_index_or cells k d)
+  pub last : (k j : ℕ) (d : Cell V) → k + 1 ≡ length firsts → j + 1 ≡ i
+      → same_cell cmp (slice_index_or firsts k d) (slice_index_or cells j d) ≡ true
+  pub told : (k : ℕ) (d : Cell V) → k < i → HasRank cmp ranks firsts (slice_index_or cells k d)
 
 -- how many cells stand in the lists before the one of that number
-abbrev pub count_before : ℕ → List (Vec Cell) → ℕ
+abbrev pub count_before : {V : Type 0} → ℕ → List (Vec (Cell V)) → ℕ
 count_before number lists = length (all_in (take number lists))
 
 -- a cell doesn't come before the last one of others, if there is one
-abbrev pub IsFromLast : List Cell → Cell → Type 0
-IsFromLast others cell = (k : ℕ) (d : Cell) → k + 1 ≡ length others
-    → is_before cell (slice_index_or others k d) ≡ false
+abbrev pub IsFromLast : {V : Type 0} → (V → V → Ordering) → List (Cell V) → Cell V → Type 0
+IsFromLast {V} cmp others cell = (k : ℕ) (d : Cell V) → k + 1 ≡ length others
+    → is_before cmp cell (slice_index_or others k d) ≡ false
 
 -- the last one of some cells is the same as another
-abbrev pub HasLast : List Cell → Cell → Type 0
-HasLast others cell = (last : Cell) × ((slice_get others (length others - 1) ≡ Some last)
-    × (same_cell last cell ≡ true))
+abbrev pub HasLast : {V : Type 0} → (V → V → Ordering) → List (Cell V) → Cell V → Type 0
+HasLast {V} cmp others cell = (last : Cell V) × ((slice_get others (length others - 1) ≡ Some last)
+    × (same_cell cmp last cell ≡ true))
 
 -- the same cell as that one is the last of rising ones, and before it stand those that were there
-pub record IsEntered (old : List Cell) (cell : Cell) (new : List Cell) (rank : ℕ) : Type 0 where
-  pub kept : (k : ℕ) (d : Cell) → k < length old → slice_index_or new k d ≡ slice_index_or old k d
+pub record IsEntered {V : Type 0} (cmp : V → V → Ordering) (old : List (Cell V)) (cell : Cell V) (new : List (Cell V))
+    (rank : ℕ) : Type 0 where
+  pub kept : (k : ℕ) (d : Cell V) → k < length old → slice_index_or new k d ≡ slice_index_or old k d
   pub more : length old ≤ length new
   pub last : rank + 1 ≡ length new
-  pub same : (d : Cell) → same_cell (slice_index_or new rank d) cell ≡ true
-  pub rise : AreRising new
+  pub same : (d : Cell V) → same_cell cmp (slice_index_or new rank d) cell ≡ true
+  pub rise : AreRising cmp new
 
 -- a row's class so far and its value are those of the cell of its rank
-pub record IsRankAt (classes : List ℕ) (column : List (Option Value)) (ranks : List ℕ) (firsts : List Cell)
-    (i : ℕ) : Type 0 where
-  pub cell : Cell
-  pub at : IsCellAt classes column i cell
+pub record IsRankAt {V : Type 0} (cmp : V → V → Ordering) (IsOf : Value → V → Type 0) (classes : List ℕ)
+    (column : List (Option Value)) (ranks : List ℕ) (firsts : List (Cell V)) (i : ℕ) : Type 0 where
+  pub cell : Cell V
+  pub at : IsCellAt IsOf classes column i cell
   pub within : slice_index ranks i < length firsts
-  pub same : (d : Cell) → same_cell (slice_index_or firsts (slice_index ranks i) d) cell ≡ true
+  pub same : (d : Cell V) → same_cell cmp (slice_index_or firsts (slice_index ranks i) d) cell ≡ true
 
 -- the ranks of a side's rows, and by rank a cell of the rows that have it, in rising order
-pub record AreRanked (classes : List ℕ) (column : List (Option Value)) (ranks : List ℕ)
-    (firsts : List Cell) : Type 0 where
+pub record AreRanked {V : Type 0} (cmp : V → V → Ordering) (IsOf : Value → V → Type 0) (classes : List ℕ)
+    (column : List (Option Value)) (ranks : List ℕ) (firsts : List (Cell V)) : Type 0 where
   pub count : length ranks ≡ length column
-  pub each : (i : ℕ) → i < length column → IsRankAt classes column ranks firsts i
-  pub rise : AreRising firsts
+  pub each : (i : ℕ) → i < length column → IsRankAt cmp IsOf classes column ranks firsts i
+  pub rise : AreRising cmp firsts
 
 -- the left cells up to a place come before a right one, and that at the place doesn't
-pub record IsNextTo (lefts rights : List Cell) (right left : ℕ) : Type 0 where
-  pub before : (d : Cell) → All (λ cell. is_before cell (slice_index_or rights right d) ≡ true) (take left lefts)
-  pub next : (d : Cell) → left < length lefts
-      → is_before (slice_index_or lefts left d) (slice_index_or rights right d) ≡ false
+pub record IsNextTo {V : Type 0} (cmp : V → V → Ordering) (lefts rights : List (Cell V)) (right left : ℕ)
+    : Type 0 where
+  pub before : (d : Cell V) → All (λ cell. is_before cmp cell (slice_index_or rights right d) ≡ true) (take left lefts)
+  pub next : (d : Cell V) → left < length lefts
+      → is_before cmp (slice_index_or lefts left d) (slice_index_or rights right d) ≡ false
 
 -- a right cell's number is the place of the left one that is the same, or is its own place behind all left ones, where
 -- none is the same
-abbrev pub IsNumberOf : List Cell → List Cell → ℕ → ℕ → Type 0
-IsNumberOf lefts rights right number =
+abbrev pub IsNumberOf : {V : Type 0} → (V → V → Ordering) → List (Cell V) → List (Cell V) → ℕ → ℕ → Type 0
+IsNumberOf {V} cmp lefts rights right number =
     ((number < length lefts)
-    × ((d : Cell) → same_cell (slice_index_or lefts number d) (slice_index_or rights right d) ≡ true))
+    × ((d : Cell V) → same_cell cmp (slice_index_or lefts number d) (slice_index_or rights right d) ≡ true))
     ⊎ ((number ≡ length lefts + right)
-    × ((d : Cell) → All (λ cell. same_cell cell (slice_index_or rights right d) ≡ false) lefts))
+    × ((d : Cell V) → All (λ cell. same_cell cmp cell (slice_index_or rights right d) ≡ false) lefts))
 
 -- the numbers of all right cells
-pub record AreMatched (lefts rights : List Cell) (numbers : List ℕ) : Type 0 where
+pub record AreMatched {V : Type 0} (cmp : V → V → Ordering) (lefts rights : List (Cell V)) (numbers : List ℕ)
+    : Type 0 where
   pub count : length numbers ≡ length rights
-  pub each : (i : ℕ) → i < length rights → IsNumberOf lefts rights i (slice_index numbers i)
+  pub each : (i : ℕ) → i < length rights → IsNumberOf cmp lefts rights i (slice_index numbers i)
 
 -- the class of each right row is the number of its rank
 abbrev pub AreNumbered : List ℕ → List ℕ → List ℕ → Type 0

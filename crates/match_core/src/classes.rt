@@ -8,10 +8,11 @@ ghost use Rattle.match_core.specs.Classes.{AreClasses, values_under};
 ghost use Rattle.match_core.specs.Cells.{Refines, so_far};
 
 use crate::NoMemory;
+use crate::comparable::HashedText;
 use crate::side::Side;
 use crate::side_column::SideColumn;
 use crate::split::refine;
-use row_core::Name;
+use row_core::{Kind, Name};
 use std::alloc::Global;
 use std::thread::Threads;
 
@@ -98,6 +99,9 @@ fn split_by<R: Threads + Sync>(
     let Some(right_place) = right.schema.column(pair.1) else {
         unreachable!()
     };
+    let Some(kind) = left.schema.column_kind(pair.0) else {
+        unreachable!()
+    };
     let lefts = SideColumn {
         rows: left.rows,
         classes: left_classes,
@@ -108,5 +112,8 @@ fn split_by<R: Threads + Sync>(
         classes: right_classes,
         place: right_place as usize,
     };
-    refine(rt, alloc, lefts, rights, workers)
+    match kind {
+        Kind::Int => refine::<R, i64, SideColumn>(rt, alloc, lefts, rights, workers),
+        Kind::Text => refine::<R, HashedText, SideColumn>(rt, alloc, lefts, rights, workers),
+    }
 }

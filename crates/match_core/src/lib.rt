@@ -6,12 +6,14 @@
 mod cells;
 mod classes;
 mod columns;
+mod comparable;
 mod laws;
 mod numbering;
 mod ranks;
 mod row_items;
 mod side;
 mod side_column;
+mod side_values;
 mod split;
 
 pub use classes::{Classes, classes_of};

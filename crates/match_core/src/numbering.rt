@@ -9,14 +9,14 @@ use crate::ranks::is_same_cell;
 use std::alloc::Global;
 
 /// A number for each right cell: the place of the left cell that is the same, or one behind those of all left cells.
-pub(crate) fn numbers_of(
+pub(crate) fn numbers_of<V: Ord>(
     alloc: Global,
-    lefts: &[Cell],
-    rights: &[Cell],
+    lefts: &[Cell<V>],
+    rights: &[Cell<V>],
 ) -> Result<Vec<u64>, NoMemory>
-    requires left { AreRising lefts.now }
-    requires right { AreRising rights.now }
-    ensures { IfOk result (λ numbers. AreMatched lefts.now rights.now numbers.items) }
+    requires left { AreRising V.cmp lefts.now }
+    requires right { AreRising V.cmp rights.now }
+    ensures { IfOk result (λ numbers. AreMatched V.cmp lefts.now rights.now numbers.items) }
 {
     let mut numbers = Vec::with_capacity(alloc, rights.len())?;
     let mut left = 0;
@@ -28,12 +28,12 @@ pub(crate) fn numbers_of(
 }
 
 /// The first place from there on at which the left cell doesn't come before the other.
-fn first_from(lefts: &[Cell], from: usize, cell: &Cell) -> usize
+fn first_from<V: Ord>(lefts: &[Cell<V>], from: usize, cell: &Cell<V>) -> usize
     requires from { from ≤ length lefts.now }
-    requires before { All (λ x. is_before x cell.now ≡ true) (take from lefts.now) }
+    requires before { All (λ x. is_before V.cmp x cell.now ≡ true) (take from lefts.now) }
     ensures within { result ≤ length lefts.now }
-    ensures before { All (λ x. is_before x cell.now ≡ true) (take result lefts.now) }
-    ensures next { IfSome (slice_get lefts.now result) (λ x. is_before x cell.now ≡ false) }
+    ensures before { All (λ x. is_before V.cmp x cell.now ≡ true) (take result lefts.now) }
+    ensures next { IfSome (slice_get lefts.now result) (λ x. is_before V.cmp x cell.now ≡ false) }
 {
     for at in from..lefts.len() {
         if !is_before(&lefts[at], cell) {
@@ -44,12 +44,12 @@ fn first_from(lefts: &[Cell], from: usize, cell: &Cell) -> usize
 }
 
 /// The number of the right cell at its place, where that left one is the first that doesn't come before it.
-fn number_of(lefts: &[Cell], left: usize, rights: &[Cell], right: usize) -> u64
+fn number_of<V: Ord>(lefts: &[Cell<V>], left: usize, rights: &[Cell<V>], right: usize) -> u64
     requires right { right < length rights.now }
     requires within { left ≤ length lefts.now }
-    requires rise { AreRising lefts.now }
-    requires before { IsNextTo lefts.now rights.now right left }
-    ensures { IsNumberOf lefts.now rights.now right result }
+    requires rise { AreRising V.cmp lefts.now }
+    requires before { IsNextTo V.cmp lefts.now rights.now right left }
+    ensures { IsNumberOf V.cmp lefts.now rights.now right result }
 {
     if left < lefts.len() && is_same_cell(&lefts[left], &rights[right]) {
         left as u64

@@ -13,54 +13,53 @@ ghost use Rattle.match_core.specs.Cells.{
   IsEntered,
   IsFromLast,
   cell_cmp,
-  classes_in,
-  column_in,
   count_before,
   same_cell,
 };
 
 use crate::NoMemory;
 use crate::cells::{Cell, sorted_cells};
-use crate::side_column::SideColumn;
+use crate::comparable::Comparable;
 use std::alloc::Global;
 use std::thread::Threads;
 
 /// The rows of a side by rank.
 #[derive(Drop)]
-pub(crate) struct Ranked<'a> {
+pub(crate) struct Ranked<V> {
     /// The rank of each row.
     pub ranks: Vec<u64>,
     /// By rank, a cell that is the same as those of the rank's rows: each comes before the next one.
-    pub firsts: Vec<Cell<'a>>,
+    pub firsts: Vec<Cell<V>>,
 }
 
 /// The rows of a side by rank.
-pub(crate) fn rank_side<'a, R: Threads + Sync>(
+pub(crate) fn rank_side<R: Threads + Sync, V: Ord + Copy + Send + Sync, S: Comparable<V>>(
     rt: &R,
     alloc: Global,
-    side: SideColumn<'a, '_>,
+    side: S,
     workers: u32,
-) -> Result<Ranked<'a>, NoMemory>
-    ensures { IfOk result (λ ranked. AreRanked (classes_in side.entry) (column_in side.entry)
+) -> Result<Ranked<V>, NoMemory>
+    ensures { IfOk result (λ ranked. AreRanked V.cmp S.IsOf (S.classes side) (S.column side)
         ranked.ranks.items ranked.firsts.items) }
 {
     let lists = sorted_cells(rt, alloc, side, workers)?;
-    let mut ranks = vec![in alloc; 0; side.rows.len()]?;
+    let mut ranks = vec![in alloc; 0; side.len()]?;
     let firsts = rank_cells(alloc, &lists, &mut ranks)?;
     Ok(Ranked { ranks, firsts })
 }
 
 /// Gives each cell's row the number of different cells before it, and lists those that differ.
-fn rank_cells<'a>(
+fn rank_cells<V: Ord + Copy>(
     alloc: Global,
-    lists: &[Vec<Cell<'a>>],
+    lists: &[Vec<Cell<V>>],
     ranks: &mut [u64],
-) -> Result<Vec<Cell<'a>>, NoMemory>
+) -> Result<Vec<Cell<V>>, NoMemory>
     requires within { All (λ cell. cell.place < length ranks.old) (all_in lists.now) }
-    requires agree { AgreeOnPlaces (all_in lists.now) }
-    requires rise { IsSorted cell_cmp (all_in lists.now) }
-    ensures ranks { IfOk result (λ firsts. AreRanksOf (all_in lists.now) ranks.new firsts.items) }
-    ensures rise { IfOk result (λ firsts. AreRising firsts.items) }
+    requires agree { AgreeOnPlaces V.cmp (all_in lists.now) }
+    requires rise { IsSorted (cell_cmp V.cmp) (all_in lists.now) }
+    ensures ranks { IfOk result
+        (λ firsts. AreRanksOf V.cmp (all_in lists.now) ranks.new firsts.items) }
+    ensures rise { IfOk result (λ firsts. AreRising V.cmp firsts.items) }
 {
     let mut firsts = Vec::new(alloc);
     for number in 0..lists.len() {
@@ -70,20 +69,20 @@ fn rank_cells<'a>(
 }
 
 /// The same for the cells of the list of that number alone, where those of the lists before it have their ranks.
-fn rank_list<'a>(
-    lists: &[Vec<Cell<'a>>],
+fn rank_list<V: Ord + Copy>(
+    lists: &[Vec<Cell<V>>],
     number: usize,
-    firsts: &mut Vec<Cell<'a>>,
+    firsts: &mut Vec<Cell<V>>,
     ranks: &mut [u64],
 ) -> Result<(), NoMemory>
     requires number { number < length lists.now }
     requires within { All (λ cell. cell.place < length ranks.old) (all_in lists.now) }
-    requires agree { AgreeOnPlaces (all_in lists.now) }
-    requires rise { IsSorted cell_cmp (all_in lists.now) }
-    requires before { AreRankedUpto (all_in lists.now) (count_before number lists.now)
+    requires agree { AgreeOnPlaces V.cmp (all_in lists.now) }
+    requires rise { IsSorted (cell_cmp V.cmp) (all_in lists.now) }
+    requires before { AreRankedUpto V.cmp (all_in lists.now) (count_before number lists.now)
         firsts.old.items ranks.old }
     ensures { IfOk result
-        (λ _. AreRankedUpto (all_in lists.now) (count_before (number + 1) lists.now)
+        (λ _. AreRankedUpto V.cmp (all_in lists.now) (count_before (number + 1) lists.now)
         firsts.new.items ranks.new) }
 {
     let cells = lists[number].as_slice();
@@ -95,10 +94,10 @@ fn rank_list<'a>(
 }
 
 /// The number of the last cell where that is the same, else of a new one behind it.
-fn enter_cell<'a>(firsts: &mut Vec<Cell<'a>>, cell: &Cell<'a>) -> Result<u64, NoMemory>
-    requires rise { AreRising firsts.old.items }
-    requires upto { IsFromLast firsts.old.items cell.now }
-    ensures { IfOk result (IsEntered firsts.old.items cell.now firsts.new.items) }
+fn enter_cell<V: Ord + Copy>(firsts: &mut Vec<Cell<V>>, cell: &Cell<V>) -> Result<u64, NoMemory>
+    requires rise { AreRising V.cmp firsts.old.items }
+    requires upto { IsFromLast V.cmp firsts.old.items cell.now }
+    ensures { IfOk result (IsEntered V.cmp firsts.old.items cell.now firsts.new.items) }
 {
     if !is_last(firsts, cell) {
         firsts.push(*cell)?;
@@ -107,8 +106,9 @@ fn enter_cell<'a>(firsts: &mut Vec<Cell<'a>>, cell: &Cell<'a>) -> Result<u64, No
 }
 
 /// Whether the last cell is the same.
-fn is_last(firsts: &[Cell], cell: &Cell) -> bool
-    ensures { MatchBool result (HasLast firsts.now cell.now) (HasLast firsts.now cell.now → ⊥) }
+fn is_last<V: Ord>(firsts: &[Cell<V>], cell: &Cell<V>) -> bool
+    ensures { MatchBool result (HasLast V.cmp firsts.now cell.now)
+        (HasLast V.cmp firsts.now cell.now → ⊥) }
 {
     match firsts.last() {
         Some(last) => is_same_cell(last, cell),
@@ -117,8 +117,8 @@ fn is_last(firsts: &[Cell], cell: &Cell) -> bool
 }
 
 /// Whether the rows of both cells have one class so far and one value.
-pub(crate) fn is_same_cell(a: &Cell, b: &Cell) -> bool
-    ensures { result ≡ same_cell a.now b.now }
+pub(crate) fn is_same_cell<V: Ord>(a: &Cell<V>, b: &Cell<V>) -> bool
+    ensures { result ≡ same_cell V.cmp a.now b.now }
 {
     a == b
 }

@@ -1,21 +1,19 @@
 //! Splits classes of rows by the values of a column: the rows of each side are ranked, and the ranks of both put
 //! together.
 
-ghost use Rattle.std.specs.Prelude.{◌≡◌, ◌++◌, IfOk, length};
+ghost use Rattle.std.specs.Prelude.{◌≡◌, ◌++◌, All, IfOk, length};
 ghost use Rattle.std.specs.Thread.{IsSync};
 ghost use Rattle.match_core.specs.Cells.{
-  AreOneKind,
   AreRanked,
+  IsOfKind,
   Refines,
-  classes_in,
-  column_in,
 };
 
 use crate::NoMemory;
 use crate::classes::Classes;
+use crate::comparable::Comparable;
 use crate::numbering::{number_rows, numbers_of};
 use crate::ranks::{Ranked, rank_side};
-use crate::side_column::SideColumn;
 use std::alloc::Global;
 use std::thread::{Threads, join_mut};
 
@@ -23,24 +21,24 @@ use std::thread::{Threads, join_mut};
 const ROWS_FOR_THREAD: usize = 4_096;
 
 /// Splits the classes of the rows so far: two rows, of whichever sides, have one class exactly where they had, and their
-/// values in their side's column are equal.
-pub(crate) fn refine<R: Threads + Sync>(
+/// values in their side's column are equal. What is made of these is compared: both columns are of its kind.
+pub(crate) fn refine<R: Threads + Sync, V: Ord + Copy + Send + Sync, S: Comparable<V>>(
     rt: &R,
     alloc: Global,
-    left: SideColumn<'_, '_>,
-    right: SideColumn<'_, '_>,
+    left: S,
+    right: S,
     workers: u32,
 ) -> Result<Classes, NoMemory>
-    requires kind { AreOneKind (column_in left ++ column_in right) }
-    ensures left { IfOk result (λ classes. length classes.left.items ≡ length left.entry.rows.now) }
+    requires kind { All (IsOfKind S.kind) (S.column left ++ S.column right) }
+    ensures left { IfOk result (λ classes. length classes.left.items ≡ length (S.column left)) }
     ensures right { IfOk result
-        (λ classes. length classes.right.items ≡ length right.entry.rows.now) }
+        (λ classes. length classes.right.items ≡ length (S.column right)) }
     ensures split { IfOk result
-        (λ classes. Refines (classes_in left.entry ++ classes_in right.entry)
-        (column_in left.entry ++ column_in right.entry)
+        (λ classes. Refines (S.classes left ++ S.classes right)
+        (S.column left ++ S.column right)
         (classes.left.items ++ classes.right.items)) }
 {
-    let (lefts, rights) = ranked_sides(rt, alloc, left, right, workers)?;
+    let (lefts, rights) = ranked_sides::<R, V, S>(rt, alloc, left, right, workers)?;
     let numbers = numbers_of(alloc, &lefts.firsts, &rights.firsts)?;
     let mut right = rights.ranks;
     number_rows(&mut right, &numbers);
@@ -51,19 +49,19 @@ pub(crate) fn refine<R: Threads + Sync>(
 }
 
 /// The rows of both sides by rank: each side by half of the workers, where rows are many.
-fn ranked_sides<'a, R: Threads + Sync>(
+fn ranked_sides<R: Threads + Sync, V: Ord + Copy + Send + Sync, S: Comparable<V>>(
     rt: &R,
     alloc: Global,
-    left: SideColumn<'a, '_>,
-    right: SideColumn<'a, '_>,
+    left: S,
+    right: S,
     workers: u32,
-) -> Result<(Ranked<'a>, Ranked<'a>), NoMemory>
-    ensures left { IfOk result (λ both. AreRanked (classes_in left.entry) (column_in left.entry)
-        both.0.ranks.items both.0.firsts.items) }
-    ensures right { IfOk result (λ both. AreRanked (classes_in right.entry) (column_in right.entry)
-        both.1.ranks.items both.1.firsts.items) }
+) -> Result<(Ranked<V>, Ranked<V>), NoMemory>
+    ensures left { IfOk result (λ both. AreRanked V.cmp S.IsOf (S.classes left)
+        (S.column left) both.0.ranks.items both.0.firsts.items) }
+    ensures right { IfOk result (λ both. AreRanked V.cmp S.IsOf (S.classes right)
+        (S.column right) both.1.ranks.items both.1.firsts.items) }
 {
-    if workers < 2 || left.rows.len().min(right.rows.len()) < ROWS_FOR_THREAD {
+    if workers < 2 || left.len().min(right.len()) < ROWS_FOR_THREAD {
         let lefts = rank_side(rt, alloc, left, workers)?;
         let rights = rank_side(rt, alloc, right, workers)?;
         return Ok((lefts, rights));
@@ -73,16 +71,16 @@ fn ranked_sides<'a, R: Threads + Sync>(
     // The closures are lent, since `join` tells its caller nothing of closures that hold types with lifetimes.
     let (lefts, rights) = join_mut(
         rt,
-        &mut move || -> Result<Ranked, NoMemory>
+        &mut move || -> Result<Ranked<V>, NoMemory>
             requires { IsSync R.row }
             ensures { IfOk result
-                (λ ranked. AreRanked (classes_in left.entry) (column_in left.entry)
+                (λ ranked. AreRanked V.cmp S.IsOf (S.classes left) (S.column left)
                 ranked.ranks.items ranked.firsts.items) }
         { rank_side(rt, alloc, left, few) },
-        &mut move || -> Result<Ranked, NoMemory>
+        &mut move || -> Result<Ranked<V>, NoMemory>
             requires { IsSync R.row }
             ensures { IfOk result
-                (λ ranked. AreRanked (classes_in right.entry) (column_in right.entry)
+                (λ ranked. AreRanked V.cmp S.IsOf (S.classes right) (S.column right)
                 ranked.ranks.items ranked.firsts.items) }
         { rank_side(rt, alloc, right, others) },
     );

@@ -4,20 +4,26 @@ use Rattle.std.specs.declared.alloc.AllocError.{AllocError}
 use Rattle.std.proofs.lemmas.Result.{IfOk-weaker}
 use Rattle.share_core.specs.declared.range.Range.{Range}
 use Rattle.match_core.specs.declared.cells.Cell.{Cell}
-use Rattle.match_core.specs.Cells.{AreSortedIn, classes_in, column_at}
+use Rattle.match_core.specs.Cells.{AreSortedIn}
 use Rattle.match_core.proofs.MadeCells.{cell_there, sorted_lists}
 use Rattle.match_core.proofs.cells.sorted_cells.Goals as goal
 
 pub returns : goal.returns
 returns g c =
-    let classes = classes_in c.args.side in
-    let rows = c.args.side.rows.now in
-    let place = c.args.side.place in
-    let column = column_at place rows in
-    let post : Range Cell → ℕ → Result (Vec Cell) AllocError → Type 0 =
-    λ r n found. Range Cell × IfOk found (λ (cells : Vec Cell). AreSortedIn r classes column cells.items) in
+    let order = g.met.V.Ord g.world.𝓛 g.world.𝓜 g.world.𝓡 ((λ s x. x), (λ x. x), (λ x. x), λ x. x) in
+    let laws = g.met.S.Comparable g.world.𝓛 g.world.𝓜 g.world.𝓡 ((λ s x. x), (λ x. x), (λ x. x), λ x. x) in
+    let IsOf = g.S.Comparable.IsOf in
+    let cmp = g.V.Ord.cmp in
+    let total = order.total in
+    let classes = g.S.Comparable.classes c.args.side in
+    let column = g.S.Comparable.column c.args.side in
+    let post : Range (Cell g.row.V.Denot) → ℕ → Result (Vec (Cell g.row.V.Denot)) AllocError → Type 0 =
+    λ r n found. Range (Cell g.row.V.Denot)
+    × IfOk found (λ (cells : Vec (Cell g.row.V.Denot)). AreSortedIn cmp IsOf r classes column cells.items) in
     IfOk-weaker c.shared_out.result _ _
     (λ lists given.
-    sorted_lists classes column post c.in_ok-shares.shares.cuts.items lists.items
-    (cell_there classes place rows c.args.side.wide) (λ r n cells is. is.1) given)
+    sorted_lists cmp total IsOf classes column post c.in_ok-shares.shares.cuts.items lists.items
+    (cell_there g.S.Comparable.kind IsOf cmp total laws.compares classes column
+    (laws.there c.args.side))
+    (λ r n cells is. is.1) given)
     c.shared_out.ensures

@@ -1,4 +1,4 @@
-use Rattle.std.proofs.Common.{◌≡◌, ◌∙◌, [], arith, false, length, pos, subst, sym}
+use Rattle.std.proofs.Common.{◌≡◌, ◌∙◌, arith, false, length, subst, sym}
 use Rattle.std.specs.Prelude.{IfSome, Option}
 use Rattle.std.proofs.lemmas.Option.{slice_get_past}
 use Rattle.match_core.specs.declared.cells.Cell.{Cell}
@@ -7,18 +7,17 @@ use Rattle.match_core.proofs.NumberLemmas.{before_more}
 use Rattle.match_core.proofs.numbering.first_from.Goals as goal
 
 pub loop-at-preserved : goal.loop-at-preserved
-loop-at-preserved c =
+loop-at-preserved g c =
     let inside = c.loop-at-test.true in
-    let none : Cell =
-    record { class = 0; number = pos 0; text = record { ref_ptr = (0, 0); now = [] }; place = 0 } in
     record {
       within = omega (arith, inside);
-      before = before_more c.args.lefts.now c.loop-at.at c.args.cell.now none inside c.loop-at.invariant.before
+      before = before_more g.V.Ord.cmp g.met.V.Ord.total c.args.lefts.now c.loop-at.at c.args.cell.now
+          c.index-lefts-at.result inside c.index-lefts-at.is c.loop-at.invariant.before
           (sym c.is_before.ensures ∙ c.if-not-is_before.false);
     }
 
 pub returns-clause-next : goal.returns-clause-next
-returns-clause-next c =
+returns-clause-next g c =
     let lefts = c.args.lefts.now in
-    subst (λ (o : Option Cell). IfSome o (λ x. is_before x c.args.cell.now ≡ false))
+    subst (λ (o : Option (Cell g.row.V.Denot)). IfSome o (λ x. is_before g.V.Ord.cmp x c.args.cell.now ≡ false))
     (sym (slice_get_past lefts (length lefts) (omega arith))) tt

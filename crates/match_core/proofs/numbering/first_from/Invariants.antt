@@ -4,7 +4,7 @@ use Rattle.match_core.specs.Cells.{is_before}
 use Rattle.match_core.proofs.numbering.first_from.Given as goal
 
 abbrev pub invariant-loop-at : goal.invariant-loop-at
-invariant-loop-at l = record {
+invariant-loop-at g l = record {
   within : l.at ≤ length l.lefts;
-  before : All (λ x. is_before x l.cell ≡ true) (take l.at l.lefts);
+  before : All (λ x. is_before g.V.Ord.cmp x l.cell ≡ true) (take l.at l.lefts);
 }

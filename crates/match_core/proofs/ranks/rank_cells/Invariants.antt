@@ -4,5 +4,5 @@ use Rattle.match_core.specs.Cells.{AreRankedUpto, count_before}
 use Rattle.match_core.proofs.ranks.rank_cells.Given as goal
 
 abbrev pub invariant-loop-number : goal.invariant-loop-number
-invariant-loop-number l =
-    AreRankedUpto (all_in l.lists) (count_before l.number l.lists) l.firsts.items l.ranks
+invariant-loop-number g l =
+    AreRankedUpto g.V.Ord.cmp (all_in l.lists) (count_before l.number l.lists) l.firsts.items l.ranks

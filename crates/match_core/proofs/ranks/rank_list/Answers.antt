@@ -1,74 +1,92 @@
-use Rattle.std.proofs.Common.{◌≡◌, ◌∙◌, ◌+◌, ◌<◌, ℕ, pos, List, [], Some, ap, arith, get_or, length, set, subst, sym}
+use Rattle.std.proofs.Common.{◌≡◌, ◌∙◌, ◌+◌, ◌<◌, ℕ, suc, List, Some, refl, ap, arith, get_or, length, set, subst, sym}
 use Rattle.std.specs.Global.{Vec}
 use Rattle.std.specs.Prelude.{All, slice_get}
-use Rattle.std.proofs.lemmas.Option.{get_or_from_slice_get, slice_get-get_or, slice_get_within}
+use Rattle.std.proofs.lemmas.Option.{get_or_from_slice_get, slice_get_read, slice_get_within}
 use Rattle.list_core.specs.Chunks.{all_in}
 use Rattle.match_core.specs.declared.cells.Cell.{Cell}
 use Rattle.match_core.specs.Cells.{AreRankedUpto, count_before}
-use Rattle.match_core.proofs.RankLemmas.{next_from_last, ranked_more, slice_get-all_in}
+use Rattle.match_core.proofs.RankLemmas.{count_before-more, next_from_last, ranked_more, slice_get-all_in}
 use Rattle.match_core.proofs.ranks.rank_list.Goals as goal
 
--- what would stand where no cell is
-abbrev no_cell : Cell
-no_cell = record { class = 0; number = pos 0; text = record { ref_ptr = (0, 0); now = [] }; place = 0 }
-
 -- a cell of a list is one of all
-listed : (lists : List (Vec Cell)) (number i : ℕ) (list : Vec Cell) (cells : List Cell)
-    → number < length lists → list ≡ get_or lists number list → cells ≡ list.items → i < length cells
-    → slice_get (all_in lists) (count_before number lists + i) ≡ Some (get_or cells i no_cell)
-listed lists number i list cells lt is own within =
-    slice_get-all_in lists number i list (get_or cells i no_cell) lt is
-    (ap (λ (l : List Cell). slice_get l i) (sym own) ∙ slice_get-get_or cells i no_cell within)
+listed : {V : Type 0} (lists : List (Vec (Cell V))) (number i : ℕ) (list : Vec (Cell V)) (cells : List (Cell V))
+    (cell : Cell V) → number < length lists → list ≡ get_or lists number list → cells ≡ list.items → i < length cells
+    → cell ≡ get_or cells i cell → slice_get (all_in lists) (count_before number lists + i) ≡ Some cell
+listed {V} lists number i list cells cell lt is own within here =
+    slice_get-all_in lists number i list cell lt is
+    (ap (λ (l : List (Cell V)). slice_get l i) (sym own) ∙ slice_get_read cells (length cells) i cell refl within here)
 
 -- a cell that is there is one of them
-there : (cells : List Cell) (i : ℕ) (cell : Cell) → slice_get cells i ≡ Some cell
+there : {V : Type 0} (cells : List (Cell V)) (i : ℕ) (cell : Cell V) → slice_get cells i ≡ Some cell
     → (i < length cells) × (cell ≡ get_or cells i cell)
 there cells i cell at = (slice_get_within cells i cell at, sym (get_or_from_slice_get cells i cell cell at))
 
 -- and there is room for its row's rank
-room : (cells : List Cell) (n i : ℕ) (cell : Cell) → All (λ (x : Cell). x.place < n) cells
+room : {V : Type 0} (cells : List (Cell V)) (n i : ℕ) (cell : Cell V) → All (λ (x : Cell V). x.place < n) cells
     → slice_get cells i ≡ Some cell → cell.place < n
-room cells n i cell within at =
+room {V} cells n i cell within at =
     let inside = within i cell (there cells i cell at).0 in
-    let same = ap (λ (x : Cell). x.place) (there cells i cell at).1 in
+    let same = ap (λ (x : Cell V). x.place) (there cells i cell at).1 in
     omega (arith, inside, same)
 
 pub enter_cell-requires-clause-upto : goal.enter_cell-requires-clause-upto
-enter_cell-requires-clause-upto c =
+enter_cell-requires-clause-upto g c =
     let all = all_in c.args.lists.now in
     let place = count_before c.args.number c.args.lists.now + c.loop-i.i in
-    let cell = get_or c.as_slice-cells.result.now c.loop-i.i no_cell in
+    let cell = c.index-cells-i.result in
     let at = there all place cell
     (listed c.args.lists.now c.args.number c.loop-i.i c.index-lists-number.result c.as_slice-cells.result.now
-    c.requires.number c.index-lists-number.is c.as_slice-cells.ensures.value c.loop-i-test.true) in
-    next_from_last all place c.loop-i.firsts.items c.loop-i.ranks cell c.requires.rise at.0 at.1 c.loop-i.invariant
+    c.index-cells-i.result c.requires.number c.index-lists-number.is c.as_slice-cells.ensures.value c.loop-i-test.true
+    c.index-cells-i.is) in
+    next_from_last g.V.Ord.cmp g.met.V.Ord.total all place c.loop-i.firsts.items c.loop-i.ranks cell c.requires.rise
+    at.0 at.1 c.loop-i.invariant
 
 pub bounds-ranks-cell : goal.bounds-ranks-cell
-bounds-ranks-cell c =
+bounds-ranks-cell g c =
     let same = c.loop-i.auto.ranks in
     let inside = room (all_in c.args.lists.now) (length c.args.ranks.now)
     (count_before c.args.number c.args.lists.now + c.loop-i.i)
-    (get_or c.as_slice-cells.result.now c.loop-i.i no_cell) c.requires.within
+    c.index-cells-i.result c.requires.within
     (listed c.args.lists.now c.args.number c.loop-i.i c.index-lists-number.result c.as_slice-cells.result.now
-    c.requires.number c.index-lists-number.is c.as_slice-cells.ensures.value c.loop-i-test.true) in
+    c.index-cells-i.result c.requires.number c.index-lists-number.is c.as_slice-cells.ensures.value c.loop-i-test.true
+    c.index-cells-i.is) in
     omega (arith, same, inside)
 
 pub offset_bounds-ranks-cell : goal.offset_bounds-ranks-cell
-offset_bounds-ranks-cell c = let inside = bounds-ranks-cell c in omega (arith, inside)
+offset_bounds-ranks-cell g c = let inside = bounds-ranks-cell g c in omega (arith, inside)
 
 pub loop-i-preserved : goal.loop-i-preserved
-loop-i-preserved c =
+loop-i-preserved g c =
+    let cmp = g.V.Ord.cmp in
+    let new = c.enter_cell.new.firsts.items in
     let all = all_in c.args.lists.now in
     let count = count_before c.args.number c.args.lists.now in
     let place = count + c.loop-i.i in
-    let cell = get_or c.as_slice-cells.result.now c.loop-i.i no_cell in
+    let cell = c.index-cells-i.result in
     let one = listed c.args.lists.now c.args.number c.loop-i.i c.index-lists-number.result c.as_slice-cells.result.now
-    c.requires.number c.index-lists-number.is c.as_slice-cells.ensures.value c.loop-i-test.true in
+    cell c.requires.number c.index-lists-number.is c.as_slice-cells.ensures.value c.loop-i-test.true
+    c.index-cells-i.is in
     let at = there all place cell one in
     let same = c.loop-i.auto.ranks in
     let inside = room all (length c.args.ranks.now) place cell c.requires.within one in
     let next : place + 1 ≡ count + (c.loop-i.i + 1) = omega arith in
-    subst (λ n. AreRankedUpto all n c.enter_cell.new.firsts.items (set c.loop-i.ranks cell.place c.in_ok-ranks.field-0))
+    subst (λ n. AreRankedUpto cmp all n new (set c.loop-i.ranks cell.place c.in_ok-ranks.field-0))
     next
-    (ranked_more all place c.loop-i.firsts.items c.enter_cell.new.firsts.items c.in_ok-ranks.field-0 cell
-    c.loop-i.ranks at.0 at.1 (omega (arith, same, inside)) c.requires.agree c.loop-i.invariant c.in_ok-ranks.ensures)
+    (ranked_more cmp g.met.V.Ord.total all place c.loop-i.firsts.items new c.in_ok-ranks.field-0 cell c.loop-i.ranks
+    at.0 at.1 (omega (arith, same, inside)) c.requires.agree c.loop-i.invariant c.in_ok-ranks.ensures)
+
+pub returns : goal.returns
+returns g c =
+    let lists = c.args.lists.now in
+    let number = c.args.number in
+    let list = c.index-lists-number.result in
+    let past = c.loop-i-test.false in
+    let end = c.loop-i.auto.i-end in
+    let len = ap length c.as_slice-cells.ensures.value in
+    let one : suc number ≡ number + 1 = omega arith in
+    let more : count_before (suc number) lists ≡ count_before number lists + length list.items =
+    count_before-more lists number list c.requires.number c.index-lists-number.is in
+    let last : count_before number lists + c.loop-i.i ≡ count_before (suc number) lists =
+    omega (arith, past, end, len, more) in
+    subst (λ n. AreRankedUpto g.V.Ord.cmp (all_in lists) n c.loop-i.firsts.items c.loop-i.ranks)
+    (last ∙ ap (λ n. count_before n lists) one) c.loop-i.invariant

@@ -5,5 +5,5 @@ use Rattle.match_core.specs.Cells.{AreRankedUpto, count_before}
 use Rattle.match_core.proofs.ranks.rank_list.Given as goal
 
 abbrev pub invariant-loop-i : goal.invariant-loop-i
-invariant-loop-i l =
-    AreRankedUpto (all_in l.lists) (count_before l.number l.lists + l.i) l.firsts.items l.ranks
+invariant-loop-i g l =
+    AreRankedUpto g.V.Ord.cmp (all_in l.lists) (count_before l.number l.lists + l.i) l.firsts.items l.ranks

@@ -1,20 +1,19 @@
 use Rattle.std.proofs.Common.{◌≡◌, ◌∙◌, ap, length, subst, sym}
-use Rattle.std.specs.Prelude.{List, slice_get}
-use Rattle.std.proofs.lemmas.List.{length-map}
+use Rattle.std.specs.Prelude.{List}
 use Rattle.std.specs.Global.{Vec}
 use Rattle.list_core.specs.Chunks.{all_in}
-use Rattle.row_core.specs.declared.row.Row.{Row}
 use Rattle.match_core.specs.declared.cells.Cell.{Cell}
-use Rattle.match_core.specs.Cells.{AreRanked, AreRanksOf, classes_in, column_at}
+use Rattle.match_core.specs.Cells.{AreRanked, AreRanksOf}
 use Rattle.match_core.proofs.RankLemmas.{ranked_from}
 use Rattle.match_core.proofs.VecLemmas.{written_back}
 use Rattle.match_core.proofs.ranks.rank_side.Goals as goal
 
 pub returns : goal.returns
 returns g c =
-    let rows = c.args.side.rows.now in
-    let classes = classes_in c.args.side in
-    let column = column_at c.args.side.place rows in
+    let IsOf = g.S.Comparable.IsOf in
+    let cmp = g.V.Ord.cmp in
+    let classes = g.S.Comparable.classes c.args.side in
+    let column = g.S.Comparable.column c.args.side in
     let cells = all_in c.in_ok-lists.lists.items in
     let firsts = c.in_ok-firsts.firsts.items in
     let old = c.in_ok-ranks.ranks.items in
@@ -22,9 +21,9 @@ returns g c =
     let len : length new ≡ length old = c.rank_cells.auto.ranks ∙ ap length c.deref_mut.ensures.value in
     let kept = written_back old new c.in_ok-ranks.ranks.len len (sym c.in_ok-ranks.ranks.ok.0) in
     let count : length new ≡ length column =
-    len ∙ sym c.in_ok-ranks.ranks.ok.0 ∙ c.in_ok-ranks.ensures.len ∙ c.len.ensures
-    ∙ sym (length-map rows (λ (row : Row). slice_get row.values c.args.side.place)) in
-    let told : AreRanksOf cells new firsts =
-    subst (λ (l : List (Vec Cell)). AreRanksOf (all_in l) new firsts) c.deref.ensures.value c.in_ok-firsts.ensures.ranks in
-    subst (λ l. AreRanked classes column l firsts) (sym kept)
-    (ranked_from classes column cells firsts new count c.in_ok-lists.ensures told c.in_ok-firsts.ensures.rise)
+    len ∙ sym c.in_ok-ranks.ranks.ok.0 ∙ c.in_ok-ranks.ensures.len ∙ c.len.ensures in
+    let told : AreRanksOf cmp cells new firsts =
+    subst (λ (l : List (Vec (Cell g.row.V.Denot))). AreRanksOf cmp (all_in l) new firsts) c.deref.ensures.value
+    c.in_ok-firsts.ensures.ranks in
+    subst (λ l. AreRanked cmp IsOf classes column l firsts) (sym kept)
+    (ranked_from cmp IsOf classes column cells firsts new count c.in_ok-lists.ensures told c.in_ok-firsts.ensures.rise)

@@ -1,33 +1,12 @@
-use Rattle.std.proofs.Common.{◌≡◌, ◌∙◌, ◌++◌, ◌<◌, List, ℕ, Option, None, Some, ap, arith, get_or, length, refl, subst, sym, take, drop}
-use Rattle.std.specs.Prelude.{slice_get}
-use Rattle.std.specs.Borrow.{Bor}
-use Rattle.std.specs.Option.{ForSome}
-use Rattle.std.proofs.lemmas.List.{get_or_default, length-map, length-replicate}
-use Rattle.row_core.specs.declared.row.Row.{Row}
+use Rattle.std.proofs.Common.{◌≡◌, ◌∙◌, ◌++◌, ◌<◌, List, ℕ, ap, arith, get_or, length, subst, sym, take, drop}
+use Rattle.std.proofs.lemmas.List.{get_or_default}
 use Rattle.match_core.specs.declared.cells.Cell.{Cell}
-use Rattle.match_core.specs.declared.side_column.SideColumn.{SideColumn}
-use Rattle.match_core.specs.Cells.{AreMatched, AreNumbered, Refines, classes_in, column_in, so_far}
+use Rattle.match_core.specs.Cells.{AreMatched, AreNumbered, Refines}
 use Rattle.match_core.proofs.RefinedClasses.{AreSides, refined}
 use Rattle.match_core.proofs.VecLemmas.{written_back}
 use Rattle.match_core.proofs.split.refine.Goals as goal
 use Rattle.match_core.proofs.split.refine.Goals.{After-drop-lefts-2}
 use Rattle.match_core.proofs.split.refine.Given.{Over}
-
--- there is a class so far for each row
-so_far-count : (classes : Option (Bor (List ℕ))) (rows : List Row)
-    → ForSome classes (λ (c : Bor (List ℕ)). length c.now ≡ length rows) → length (so_far classes rows) ≡ length rows
-so_far-count None rows h = length-replicate {A = ℕ} (length rows) 0
-so_far-count (Some classes) rows h = h classes refl
-
--- as many as there are values
-sides-count : (side : SideColumn) → length (classes_in side) ≡ length (column_in side)
-sides-count side =
-    so_far-count side.classes side.rows.now side.count
-    ∙ sym (length-map side.rows.now (λ (row : Row). slice_get row.values side.place))
-
--- a value for each row
-column-count : (side : SideColumn) → length (column_in side) ≡ length side.rows.now
-column-count side = length-map side.rows.now (λ (row : Row). slice_get row.values side.place)
 
 pub number_rows-requires : goal.number_rows-requires
 number_rows-requires g c k d lt =
@@ -55,35 +34,41 @@ kept g c =
     (c.number_rows.auto.ranks ∙ ap length c.deref_mut.ensures.value) (sym c.in_ok-lefts.rights.ranks.ok.0)
 
 pub returns-clause-left : goal.returns-clause-left
-returns-clause-left g c = c.in_ok-lefts.ensures.left.count ∙ column-count c.args.left
+returns-clause-left g c = c.in_ok-lefts.ensures.left.count
 
 pub returns-clause-right : goal.returns-clause-right
 returns-clause-right g c =
     ap length (kept g c) ∙ c.number_rows.auto.ranks ∙ ap length c.deref_mut.ensures.value
-    ∙ c.in_ok-lefts.ensures.right.count ∙ column-count c.args.right
+    ∙ c.in_ok-lefts.ensures.right.count
 
 pub returns-clause-split : goal.returns-clause-split
 returns-clause-split g c =
-    let xs = column_in c.args.left in
-    let ys = column_in c.args.right in
-    let one = classes_in c.args.left in
-    let other = classes_in c.args.right in
+    let order = g.met.V.Ord g.world.𝓛 g.world.𝓜 g.world.𝓡 ((λ s x. x), (λ x. x), (λ x. x), λ x. x) in
+    let laws = g.met.S.Comparable g.world.𝓛 g.world.𝓜 g.world.𝓡 ((λ s x. x), (λ x. x), (λ x. x), λ x. x) in
+    let IsOf = g.S.Comparable.IsOf in
+    let cmp = g.V.Ord.cmp in
+    let xs = g.S.Comparable.column c.args.left in
+    let ys = g.S.Comparable.column c.args.right in
+    let one = g.S.Comparable.classes c.args.left in
+    let other = g.S.Comparable.classes c.args.right in
     let ranks = c.in_ok-lefts.lefts.ranks.items in
+    let right_ranks = c.in_ok-lefts.rights.ranks.items in
+    let new = c.number_rows.new.ranks in
     let firsts = c.in_ok-lefts.lefts.firsts.items in
     let others = c.in_ok-lefts.rights.firsts.items in
     let numbers = c.in_ok-numbers.numbers.items in
-    let sides : AreSides one other xs ys ranks c.in_ok-lefts.rights.ranks.items numbers c.number_rows.new.ranks firsts others = record {
-      one_count = sides-count c.args.left;
-      other_count = sides-count c.args.right;
+    let sides : AreSides cmp IsOf one other xs ys ranks right_ranks numbers new firsts others = record {
+      one_count = laws.counted c.args.left;
+      other_count = laws.counted c.args.right;
       left = c.in_ok-lefts.ensures.left;
       right = c.in_ok-lefts.ensures.right;
-      matched = subst (λ (l : List Cell). AreMatched l others numbers) c.deref.ensures.value
-          (subst (λ (l : List Cell). AreMatched c.deref.result.now l numbers) c.deref-2.ensures.value
-          c.in_ok-numbers.ensures);
+      matched = subst (λ (l : List (Cell g.row.V.Denot)). AreMatched cmp l others numbers) c.deref.ensures.value
+          (subst (λ (l : List (Cell g.row.V.Denot)). AreMatched cmp c.deref.result.now l numbers)
+          c.deref-2.ensures.value c.in_ok-numbers.ensures);
       numbered = subst (λ (l : List ℕ). AreNumbered l numbers c.number_rows.new.ranks) c.deref_mut.ensures.value
           (subst (λ (l : List ℕ). AreNumbered c.deref_mut.result.now l c.number_rows.new.ranks) c.deref-3.ensures.value
           c.number_rows.ensures);
     } in
     subst (λ (l : List ℕ). Refines (one ++ other) (xs ++ ys) (ranks ++ l)) (sym (kept g c))
-    (refined one other xs ys ranks c.in_ok-lefts.rights.ranks.items numbers c.number_rows.new.ranks firsts others sides
-    c.requires.kind)
+    (refined g.S.Comparable.kind IsOf cmp order.total laws.compares one other xs ys ranks right_ranks numbers new
+    firsts others sides c.requires.kind)

@@ -5,7 +5,7 @@ use Rattle.row_core.specs.declared.row.Row.{Row}
 use Rattle.row_core.specs.declared.value.Value.{Value}
 use Rattle.table_core.specs.Lent.{lent_row}
 use Rattle.match_core.proofs.Tell.{slice_get-map}
-use Rattle.match_core.proofs.cells.value_at.Goals as goal
+use Rattle.match_core.proofs.side_values.value_at.Goals as goal
 
 pub value_in-requires : goal.value_in-requires
 value_in-requires c =
