@@ -10,6 +10,7 @@ pub mod JoinedLemmas
 pub mod LeastLemmas
 pub mod ListLemmas
 pub mod LoopLemmas
+pub mod MovedSide
 pub mod OrderLemmas
 pub mod PairLemmas
 pub mod PartLemmas

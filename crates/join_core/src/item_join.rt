@@ -13,7 +13,6 @@ use crate::bundle_joins::rows_of_classes;
 use crate::found::FoundRows;
 use crate::rows::{JoinRow, JoinRows};
 use dip_core::Item;
-use grid_core::order_by_class;
 use period_core::NoMemory;
 use sort_core::sort_unstable;
 use std::thread::Threads;
@@ -51,14 +50,16 @@ fn rows_by_class<R: Threads + Sync, G: Gate>(
     Ok((rows, turns))
 }
 
-/// The join of two lists of items, which match where their classes are equal.
+/// The join of two lists of items whose classes rise, which match where these are equal.
 pub(crate) fn join_items<R: Threads + Sync, G: Gate>(
     crew: &Crew<'_, R, G>,
-    mut left: Vec<Item>,
-    mut right: Vec<Item>,
+    left: Vec<Item>,
+    right: Vec<Item>,
 ) -> Result<JoinAnswer, NoMemory>
     requires left_few { length left.items ≤ item_limit }
     requires right_few { length right.items ≤ item_limit }
+    requires left_rise { ClassesRise left.items }
+    requires right_rise { ClassesRise right.items }
     requires left_ids { HasDistinctIds left.items }
     requires right_ids { HasDistinctIds right.items }
     ensures rows { IfOk result (λ answer. IsItemsJoin left.items right.items answer.rows) }
@@ -66,8 +67,6 @@ pub(crate) fn join_items<R: Threads + Sync, G: Gate>(
         → IsLeast (map unclassed right.items) m → IsWithin k m (length left.items)
         (length right.items) answer.turns) }
 {
-    order_by_class(crew.rt, &mut left, crew.workers);
-    order_by_class(crew.rt, &mut right, crew.workers);
     let (mut rows, turns) = rows_by_class(crew, &left, &right)?;
     sort_unstable(crew.rt, &mut rows, crew.workers);
     Ok(JoinAnswer {

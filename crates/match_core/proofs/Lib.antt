@@ -5,6 +5,7 @@ pub mod LotLemmas
 pub mod MadeCells
 pub mod Matching
 pub mod PartLemmas
+pub mod PlacedLemmas
 pub mod RankLemmas
 pub mod NumberLemmas
 pub mod RefinedClasses

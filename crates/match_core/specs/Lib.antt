@@ -1,5 +1,6 @@
 pub mod Columns
 pub mod Classes
+pub mod ClassedPlaces
 pub mod Items
 pub mod Compared
 pub mod Cells

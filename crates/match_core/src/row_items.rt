@@ -1,6 +1,9 @@
 //! Rows as items, which are divided and merged.
 
-ghost use Rattle.std.specs.Prelude.{◌≡◌, ◌≤◌, IfOk, length};
+ghost use Rattle.std.specs.Prelude.{◌≡◌, ◌<◌, ◌≤◌, All, IfOk, IsPermutation, Some, length, map};
+ghost use Rattle.std.specs.List.Sorted.{IsNonDecreasingBy};
+ghost use Rattle.dip_core.specs.declared.item.Item.{Item};
+ghost use Rattle.match_core.specs.ClassedPlaces.{item_placed, placed_from};
 ghost use Rattle.match_core.specs.Items.{item_with, items_in_range, items_of, items_with};
 ghost use Rattle.share_core.specs.Pieces.{piece};
 ghost use Rattle.table_core.specs.Lent.{lent_row};
@@ -8,8 +11,17 @@ ghost use Rattle.table_core.specs.Lent.{lent_row};
 use crate::NoMemory;
 use dip_core::Item;
 use share_core::{Range, piece, places_within};
+use sort_core::sort_unstable_by_key;
 use std::alloc::Global;
+use std::thread::Threads;
 use table_core::{RowRef, SharedRows};
+
+/// A row's place and its class: what is sorted instead of its item, which is more than twice as long.
+#[derive(Clone, Copy)]
+struct ClassedPlace {
+    class: u64,
+    place: usize,
+}
 
 /// The rows as items of one class, in their order.
 ///
@@ -26,18 +38,57 @@ pub fn items(alloc: Global, rows: &SharedRows) -> Result<Vec<Item>, NoMemory>
     Ok(items)
 }
 
-/// The rows as items in their order, each of the class that stands at its place.
+/// The rows as items, each of the class that stands at its place: those of lower classes first. Sorting pairs of a
+/// class and a place, and making the items after that, takes less than sorting items.
 ///
 /// # Errors
 ///
 /// `NoMemory` where a growth is refused.
-pub fn items_with(alloc: Global, rows: &SharedRows, classes: &[u64]) -> Result<Vec<Item>, NoMemory>
+pub fn items_by_class<R: Threads + Sync>(
+    rt: &R,
+    alloc: Global,
+    rows: &SharedRows,
+    classes: &[u64],
+    workers: u32,
+) -> Result<Vec<Item>, NoMemory>
     requires { length rows.now ≤ length classes.now }
-    ensures { IfOk result (λ items. items.items ≡ items_with rows.now classes.now) }
+    ensures same { IfOk result (λ items.
+        IsPermutation (items_with rows.now classes.now) items.items) }
+    ensures sorted { IfOk result (λ items.
+        IsNonDecreasingBy (λ (x : Item). x.class) items.items) }
 {
-    let mut items = Vec::with_capacity(alloc, rows.len())?;
-    for i in 0..rows.len() {
-        items.push(item_with(rows.at(i), classes[i]))?;
+    let mut places = classed_places(alloc, &classes[..rows.len()])?;
+    sort_unstable_by_key(rt, &mut places, |it| it.class, workers);
+    items_at(alloc, rows, &places)
+}
+
+/// The places of rows in their order, each with the class that stands there.
+fn classed_places(alloc: Global, classes: &[u64]) -> Result<Vec<ClassedPlace>, NoMemory>
+    ensures { IfOk result (λ places. places.items ≡ placed_from 0 classes.now) }
+{
+    let mut places = Vec::with_capacity(alloc, classes.len())?;
+    for place in 0..classes.len() {
+        places.push(ClassedPlace {
+            class: classes[place],
+            place,
+        })?;
+    }
+    Ok(places)
+}
+
+/// The rows at these places as items, in the order of the places.
+fn items_at(
+    alloc: Global,
+    rows: &SharedRows,
+    places: &[ClassedPlace],
+) -> Result<Vec<Item>, NoMemory>
+    requires { All (λ at. at.place < length rows.now) places.now }
+    ensures { IfOk result (λ items. map Some items.items ≡ map (item_placed rows.now) places.now) }
+{
+    let mut items = Vec::with_capacity(alloc, places.len())?;
+    for i in 0..places.len() {
+        let at = &places[i];
+        items.push(item_with(rows.at(at.place), at.class))?;
     }
     Ok(items)
 }

@@ -2,7 +2,7 @@
 
 use crate::tables::{Table, TablePair, january, push_row, side, table_with};
 use dip_core::Item;
-use match_core::{classes_of, items_with, refusal_of_pairs};
+use match_core::{classes_of, items_by_class, refusal_of_pairs};
 use row_core::{Kind, Name, RowList, Text, Value, Values};
 use std::alloc::Global;
 use std::process::Abort;
@@ -104,12 +104,12 @@ fn check_item(rt: &impl Abort, item: Option<&Item>, id: u64, class: u64) {
 }
 
 #[test]
-fn items_have_the_classes_of_their_places(rt: HostRuntime) -> Result<(), Fail> {
+fn items_of_lower_classes_come_first(rt: HostRuntime) -> Result<(), Fail> {
     let table = table(&rt, &[(b"x", 1), (b"y", 1)]);
     assert!(rt; table.rows.len() <= 2);
-    let items = items_with(rt.alloc(), &table.rows, &[7, 4])?;
+    let items = items_by_class(&rt, rt.alloc(), &table.rows, &[7, 4], 1)?;
     assert!(rt; items.len() == 2);
-    check_item(&rt, items.first(), 1, 7);
-    check_item(&rt, items.get(1), 2, 4);
+    check_item(&rt, items.first(), 2, 4);
+    check_item(&rt, items.get(1), 1, 7);
     Ok(())
 }

@@ -1,0 +1,130 @@
+-- Rows as items by way of their places: in the order of these, whatever it is.
+use Rattle.std.proofs.Common.{◌≡◌, ◌<◌, ◌≤◌, ℕ, zero, suc, ◌+◌, List, [], ◌∷◌, ◌++◌, length, map, take, get_or, Option, Some, None, unwrap_or, option_map, refl, sym, subst, ap, ◌∙◌, arith}
+use Rattle.std.specs.Prelude.{All, IsPermutation, slice_get}
+use Rattle.std.specs.List.Sorted.{IsNonDecreasingBy}
+use Rattle.std.proofs.lemmas.List.{get_or-map, length-map, map_more}
+use Rattle.std.proofs.lemmas.List.Elements.{All-cons}
+use Rattle.std.proofs.lemmas.List.Sorted.{IsPermutation-map, IsPermutation-refl, length_permutation}
+use Rattle.row_core.specs.declared.row.Row.{Row}
+use Rattle.dip_core.specs.declared.item.Item.{Item}
+use Rattle.match_core.specs.declared.row_items.ClassedPlace.{ClassedPlace}
+use Rattle.match_core.specs.ClassedPlaces.{item_placed, placed_from}
+use Rattle.match_core.specs.Items.{item_with, items_with}
+
+-- one more place
+pub placed_from-more : (place : ℕ) (classes : List ℕ) (i at : ℕ) → i < length classes → at ≡ place + i
+    → placed_from place (take i classes) ++ record { class = get_or classes i 0; place = at } ∷ []
+    ≡ placed_from place (take (i + 1) classes)
+placed_from-more place [] i at inside is = absurd (omega arith)
+placed_from-more place (c ∷ classes) zero at inside is =
+    let e : at ≡ place = omega (arith, is) in ap (λ (n : ℕ). record { class = c; place = n } ∷ []) e
+placed_from-more place (c ∷ classes) (suc i) at inside is =
+    let e : suc (i + 1) ≡ suc i + 1 = omega arith in
+    ap (λ l. record { class = c; place = place } ∷ l)
+    (placed_from-more (suc place) classes i at (omega (arith, inside)) (omega (arith, is)))
+    ∙ ap (λ n. placed_from place (take n (c ∷ classes))) e
+
+-- each place is one of so many
+pub placed_from-within : (place : ℕ) (classes : List ℕ) (count : ℕ) → place + length classes ≤ count
+    → All (λ (at : ClassedPlace). at.place < count) (placed_from place classes)
+placed_from-within place [] count within = λ i d h. absurd (omega arith)
+placed_from-within place (c ∷ classes) count within =
+    All-cons (λ (at : ClassedPlace). at.place < count) (record { class = c; place = place })
+    (placed_from (suc place) classes) (omega (arith, within))
+    (placed_from-within (suc place) classes count (omega (arith, within)))
+
+-- the places behind the first are those of the rows behind it
+placed_behind : (r : Row) (rows : List Row) (place : ℕ) (classes : List ℕ)
+    → map (item_placed (r ∷ rows)) (placed_from (suc place) classes)
+    ≡ map (item_placed rows) (placed_from place classes)
+placed_behind r rows place [] = refl
+placed_behind r rows place (c ∷ classes) =
+    ap (λ l. item_placed rows (record { class = c; place = place }) ∷ l) (placed_behind r rows (suc place) classes)
+
+-- what stands at the places in their order are the rows' items
+pub placed-in_order : (rows : List Row) (classes : List ℕ) → length rows ≤ length classes
+    → map (item_placed rows) (placed_from 0 (take (length rows) classes)) ≡ map Some (items_with rows classes)
+placed-in_order [] classes enough = refl
+placed-in_order (r ∷ rows) [] enough = absurd (omega arith)
+placed-in_order (r ∷ rows) (c ∷ classes) enough =
+    ap (λ l. Some (item_with r c) ∷ l)
+    (placed_behind r rows 0 (take (length rows) classes) ∙ placed-in_order rows classes (omega (arith, enough)))
+
+-- one more row as an item, at one more place
+pub item_placed-more : (rows : List Row) (places : List ClassedPlace) (i : ℕ) (at : ClassedPlace) (row : Row) (x : Item)
+    → i < length places → slice_get rows (get_or places i at).place ≡ Some row
+    → x ≡ item_with row (get_or places i at).class
+    → map (item_placed rows) (take i places) ++ Some x ∷ [] ≡ map (item_placed rows) (take (i + 1) places)
+item_placed-more rows places i at row x inside here is =
+    let p = get_or places i at in
+    ap (λ (y : Item). map (item_placed rows) (take i places) ++ Some y ∷ []) is
+    ∙ ap (λ (o : Option Row). map (item_placed rows) (take i places)
+    ++ option_map (λ (r : Row). item_with r p.class) o ∷ []) (sym here)
+    ∙ sym (map_more (item_placed rows) places i at inside)
+
+-- values that are there
+there : {X : Type 0} (d : X) (xs : List X) → map (λ o. unwrap_or o d) (map Some xs) ≡ xs
+there d [] = refl
+there d (x ∷ xs) = ap (λ l. x ∷ l) (there d xs)
+
+-- they are a permutation where they are one as options
+IsPermutation-from_options : {X : Type 0} (xs ys : List X) → IsPermutation (map Some xs) (map Some ys)
+    → IsPermutation xs ys
+IsPermutation-from_options [] [] same = IsPermutation-refl []
+IsPermutation-from_options [] (y ∷ ys) same =
+    let long = length_permutation (map Some []) (map Some (y ∷ ys)) same in absurd (omega (arith, long))
+IsPermutation-from_options {X} (x ∷ xs) ys same =
+    subst (IsPermutation (x ∷ xs)) (there x ys)
+    (subst (λ l. IsPermutation l (map (λ o. unwrap_or o x) (map Some ys))) (there x (x ∷ xs))
+    (IsPermutation-map (λ (o : Option X). unwrap_or o x) (map Some (x ∷ xs)) (map Some ys) same))
+
+-- items by places in any order are the rows' items in any order
+pub placed-permutation : (rows : List Row) (classes : List ℕ) (places : List ClassedPlace) (items : List Item)
+    → length rows ≤ length classes → IsPermutation (placed_from 0 (take (length rows) classes)) places
+    → map Some items ≡ map (item_placed rows) places → IsPermutation (items_with rows classes) items
+placed-permutation rows classes places items enough same are =
+    let first = placed_from 0 (take (length rows) classes) in
+    IsPermutation-from_options (items_with rows classes) items
+    (subst (IsPermutation (map Some (items_with rows classes))) (sym are)
+    (subst (λ l. IsPermutation l (map (item_placed rows) places)) (placed-in_order rows classes enough)
+    (IsPermutation-map (item_placed rows) first places same)))
+
+-- an item has the class of its place
+class_placed : (rows : List Row) (at : ClassedPlace) (x : Item) → Some x ≡ item_placed rows at → x.class ≡ at.class
+class_placed rows at x is = class_of (slice_get rows at.place) is where
+  class_of : (found : Option Row) → Some x ≡ option_map (λ (r : Row). item_with r at.class) found → x.class ≡ at.class
+  class_of None e = absurd (cc)
+  class_of (Some r) e = let same : x ≡ item_with r at.class = cc in ap (λ (y : Item). y.class) same
+
+-- items have the classes of their places
+classes_placed : (rows : List Row) (places : List ClassedPlace) (items : List Item)
+    → map Some items ≡ map (item_placed rows) places
+    → map (λ (x : Item). x.class) items ≡ map (λ (at : ClassedPlace). at.class) places
+classes_placed rows [] [] are = refl
+classes_placed rows [] (x ∷ items) are = absurd (cc)
+classes_placed rows (at ∷ places) [] are = absurd (cc)
+classes_placed rows (at ∷ places) (x ∷ items) are =
+    let first : Some x ≡ item_placed rows at = cc in
+    let rest : map Some items ≡ map (item_placed rows) places = cc in
+    ap (λ n. n ∷ map (λ (y : Item). y.class) items) (class_placed rows at x first)
+    ∙ ap (λ l. at.class ∷ l) (classes_placed rows places items rest)
+
+-- items by places whose classes rise have classes that rise
+pub placed-rise : (rows : List Row) (places : List ClassedPlace) (items : List Item)
+    → map Some items ≡ map (item_placed rows) places → IsNonDecreasingBy (λ (at : ClassedPlace). at.class) places
+    → IsNonDecreasingBy (λ (x : Item). x.class) items
+placed-rise rows places items are rise i j d upto inside =
+    let at : ClassedPlace = record { class = d.class; place = 0 } in
+    let same = classes_placed rows places items are in
+    let long : length items ≡ length places =
+    sym (length-map items (λ (x : Item). x.class)) ∙ ap length same
+    ∙ length-map places (λ (p : ClassedPlace). p.class) in
+    let class_at : (k : ℕ) → k ≤ j → (get_or items k d).class ≡ (get_or places k at).class =
+    λ k h.
+    sym (get_or-map (λ (x : Item). x.class) items k d 0 (omega (arith, h, inside)))
+    ∙ ap (λ l. get_or l k 0) same
+    ∙ get_or-map (λ (p : ClassedPlace). p.class) places k at 0 (omega (arith, h, inside, long)) in
+    let low = class_at i upto in
+    let high = class_at j (omega arith) in
+    let less = rise i j at upto (omega (arith, inside, long)) in
+    omega (arith, low, high, less)
