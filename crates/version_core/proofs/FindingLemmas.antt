@@ -1,17 +1,18 @@
 -- Lists of places stay true as versions are closed and added.
-use Rattle.std.proofs.Common.{◌≡◌, ℕ, ◌+◌, ◌<◌, ◌≤◌, List, [], ◌∷◌, ◌++◌, Bool, true, false, ◌&&◌, not, cond, Option, Some, None, length, map, take, get_or, ◌*◌, zero, suc, refl, ap, sym, ◌∙◌, arith, length-append}
+use Rattle.std.proofs.Common.{◌≡◌, ℕ, ◌+◌, ◌<◌, ◌≤◌, List, [], ◌∷◌, ◌++◌, Bool, true, false, ◌&&◌, not, cond, Option, Some, None, length, map, take, ◌*◌, zero, suc, refl, ap, sym, subst, ◌∙◌, arith, append_assoc, length-append}
 use Rattle.std.specs.Prelude.{slice_get, filter, unwrap_or, option_map, is_none, is_some, All}
-use Rattle.std.specs.List.{AllByRecursion, list_all, range_with_len}
-use Rattle.std.proofs.lemmas.List.{append-nil, length-map, take_at, take_more}
+use Rattle.std.specs.List.{AllByRecursion, list_all, list_any, range_with_len}
+use Rattle.std.proofs.lemmas.List.{append-nil, length-map, take_at}
 use Rattle.std.proofs.lemmas.List.Elements.{filter-append, filter_agree, All-append, All-filter, All-from_recursion, All-weaker, recursion_from_All}
 use Rattle.std.proofs.lemmas.List.Sums.{count_by-le-length, length-filter}
 use Rattle.std.proofs.lemmas.Option.{slice_get-map}
-use Rattle.std.proofs.Math.Bool.{and-false, and-true}
-use Rattle.std.proofs.lemmas.Bool.{and_parts}
+use Rattle.std.proofs.Math.Bool.{and-true}
+use Rattle.std.proofs.lemmas.Bool.{and_parts, or_parts}
 use Rattle.list_core.proofs.PlaceLemmas.{slice_get-before, slice_get-seam}
+use Rattle.key_core.proofs.Replaced.{append-parts}
 use Rattle.row_core.specs.declared.row.Row.{Row}
 use Rattle.row_core.specs.declared.schema.Column.{Column}
-use Rattle.version_core.specs.Finding.{AreCandidates, ListsOpen, any_row, is_reached, passes, reaches}
+use Rattle.version_core.specs.Finding.{AreCandidates, ListsOpen, any_row, is_reached, passes, portion_of}
 use Rattle.version_core.specs.OpenVersions.{closed, current, is_open, is_taken, places_from, versions_after}
 use Rattle.version_core.specs.Made.{made}
 use Rattle.table_core.specs.Numbered.{numbered, row_of}
@@ -20,11 +21,12 @@ use Rattle.version_core.specs.Stored.{version_of, versions_of}
 use Rattle.version_core.specs.declared.change.Change.TheVariants.{Make, Load, Update, Delete}
 use Rattle.version_core.specs.declared.stored.Span.{Span}
 use Rattle.period_core.specs.Period.{meet}
+use Rattle.period_core.specs.declared.period.Period.{Period}
 use Rattle.row_core.specs.declared.draft.Draft.{Draft}
 use Rattle.version_core.specs.Limits.{version_limit}
 use Rattle.version_core.specs.declared.change.Change.{Change}
 use Rattle.version_core.specs.declared.version.Version.{Version}
-use Rattle.version_core.proofs.OpenLemmas.{bounded, filter-behind, filter-places_from, length-fresh, length-open, parts-few, places_from-append}
+use Rattle.version_core.proofs.OpenLemmas.{bounded, filter-behind, filter-places_from, length-fresh, length-open, none-taken, parts-few, places_from-append}
 
 -- filters of filters
 
@@ -320,51 +322,75 @@ versions_after-front n before c schema vs now e b =
 
 -- ---- places at which a change reaches a row
 
--- one that passes comes behind those before it
-pub filter-next : (test : ℕ → Bool) (places : List ℕ) (i : ℕ) → i < length places
-    → test (get_or places i 0) ≡ true
-    → filter test (take (i + 1) places) ≡ filter test (take i places) ++ get_or places i 0 ∷ []
-filter-next test places i inside passing =
-    ap (filter test) (take_more places i 0 inside) ∙ filter-append test (take i places) (get_or places i 0 ∷ [])
-    ∙ ap (λ b. filter test (take i places) ++ cond b (get_or places i 0 ∷ []) []) passing
+-- a change without a portion takes out no row
+pub no-portion : (c : Change) (schema : List Column) (vs : List Version) → portion_of c ≡ None
+    → places_from (is_taken c schema) 0 vs ≡ []
+no-portion (Make t s) schema vs e = none-taken 0 vs
+no-portion (Load t rows) schema vs e = none-taken 0 vs
+no-portion (Update t portion sets conds) schema vs e = absurd (cc)
+no-portion (Delete t portion conds) schema vs e = absurd (cc)
 
--- what the change takes out it reaches
-taken-reached : (c : Change) (schema : List Column) (v : Version) → is_taken c schema v ≡ true
-    → reaches c v.row.period ≡ true
-taken-reached (Make t s) schema v e = let none = (and_parts (is_open v) false e).1 in absurd (cc)
-taken-reached (Load t rows) schema v e = let none = (and_parts (is_open v) false e).1 in absurd (cc)
-taken-reached (Update t portion sets conds) schema v e =
-    let touched = (and_parts (is_open v) (removes (Update t portion sets conds) schema v.row) e).1 in
-    (and_parts (list_all (is_equal_at schema v.row.values) conds) (is_some (meet v.row.period portion)) touched).1
-taken-reached (Delete t portion conds) schema v e =
-    let touched = (and_parts (is_open v) (removes (Delete t portion conds) schema v.row) e).1 in
-    (and_parts (list_all (is_equal_at schema v.row.values) conds) (is_some (meet v.row.period portion)) touched).1
+-- what one takes out its portion reaches
+taken-reached : (c : Change) (schema : List Column) (portion : Period) (v : Version) → portion_of c ≡ Some portion
+    → is_taken c schema v ≡ true → is_some (meet v.row.period portion) ≡ true
+taken-reached (Make t s) schema portion v e taken = absurd (cc)
+taken-reached (Load t rows) schema portion v e taken = absurd (cc)
+taken-reached (Update t p sets conds) schema portion v e taken =
+    let touched = (and_parts (is_open v) (removes (Update t p sets conds) schema v.row) taken).1 in
+    let same : p ≡ portion = cc in
+    ap (λ q. is_some (meet v.row.period q)) (sym same)
+    ∙ (and_parts (list_all (is_equal_at schema v.row.values) conds) (is_some (meet v.row.period p)) touched).1
+taken-reached (Delete t p conds) schema portion v e taken =
+    let touched = (and_parts (is_open v) (removes (Delete t p conds) schema v.row) taken).1 in
+    let same : p ≡ portion = cc in
+    ap (λ q. is_some (meet v.row.period q)) (sym same)
+    ∙ (and_parts (list_all (is_equal_at schema v.row.values) conds) (is_some (meet v.row.period p)) touched).1
 
-reached-at : (c : Change) (schema : List Column) (used : ℕ) (rows : List Draft) (spans : List Span) (place : ℕ)
+reached-at : (c : Change) (schema : List Column) (portion : Period) (used : ℕ) (rows : List Draft) (spans : List Span)
+    (place : ℕ) → portion_of c ≡ Some portion
     → passes (versions_of (numbered used rows) spans) (is_taken c schema) place ≡ true
-    → is_reached c rows place ≡ true
-reached-at c schema used [] spans place e = absurd (cc)
-reached-at c schema used (d ∷ ds) [] place e = absurd (cc)
-reached-at c schema used (d ∷ ds) (s ∷ ss) zero e =
-    taken-reached c schema (version_of (row_of (used + 1) d) s) e
-reached-at c schema used (d ∷ ds) (s ∷ ss) (suc place) e = reached-at c schema (used + 1) ds ss place e
+    → is_reached portion rows place ≡ true
+reached-at c schema portion used [] spans place of taken = absurd (cc)
+reached-at c schema portion used (d ∷ ds) [] place of taken = absurd (cc)
+reached-at c schema portion used (d ∷ ds) (s ∷ ss) zero of taken =
+    taken-reached c schema portion (version_of (row_of (used + 1) d) s) of taken
+reached-at c schema portion used (d ∷ ds) (s ∷ ss) (suc place) of taken =
+    reached-at c schema portion (used + 1) ds ss place of taken
 
--- so the places of the rows that it reaches do
-pub candidates-reached : (c : Change) (schema : List Column) (rows : List Draft) (spans : List Span)
-    (vs : List Version) (places : List ℕ) → versions_of (numbered 0 rows) spans ≡ vs → AreCandidates c schema vs places
-    → AreCandidates c schema vs (filter (is_reached c rows) places)
-candidates-reached c schema rows spans vs places is found = record {
-  inside = All-filter (is_reached c rows) (λ place. place < length vs) places found.inside;
-  few = omega (arith, found.few, length-filter (is_reached c rows) places, count_by-le-length (is_reached c rows) places);
-  taken = filter_filter (passes vs (is_taken c schema)) (is_reached c rows) places
-      ∙ filter_agree (λ place. is_reached c rows place && passes vs (is_taken c schema) place)
-      (passes vs (is_taken c schema)) (λ place. agree place (passes vs (is_taken c schema) place) refl) places
-      ∙ found.taken;
-} where
-  agree : (place : ℕ) (b : Bool) → passes vs (is_taken c schema) place ≡ b
-      → (is_reached c rows place && passes vs (is_taken c schema) place) ≡ passes vs (is_taken c schema) place
-  agree place true e =
-      ap (λ r. r && passes vs (is_taken c schema) place)
-      (reached-at c schema 0 rows spans place (ap (λ l. passes l (is_taken c schema) place) is ∙ e))
-  agree place false e =
-      ap (λ b. is_reached c rows place && b) e ∙ and-false (is_reached c rows place) ∙ sym e
+-- so where the portion reaches none of some rows, the change takes out none of them
+pub none-reached : (c : Change) (schema : List Column) (portion : Period) (rows : List Draft) (spans : List Span)
+    (vs : List Version) (places : List ℕ) → portion_of c ≡ Some portion → versions_of (numbered 0 rows) spans ≡ vs
+    → list_any (is_reached portion rows) places ≡ false → filter (passes vs (is_taken c schema)) places ≡ []
+none-reached c schema portion rows spans vs [] of is none = refl
+none-reached c schema portion rows spans vs (place ∷ places) of is none =
+    let taken = passes vs (is_taken c schema) in
+    let both = or_parts (is_reached portion rows place) (list_any (is_reached portion rows) places) none in
+    ap (λ b. cond b (place ∷ filter taken places) (filter taken places)) (by_test (taken place) refl both.0)
+    ∙ none-reached c schema portion rows spans vs places of is both.1
+  where
+    by_test : (b : Bool) → passes vs (is_taken c schema) place ≡ b → is_reached portion rows place ≡ false
+        → passes vs (is_taken c schema) place ≡ false
+    by_test false e out = e
+    by_test true e out =
+        let there = reached-at c schema portion 0 rows spans place of
+        (ap (λ l. passes l (is_taken c schema) place) is ∙ e) in
+        absurd (cc)
+
+-- ---- places block by block
+
+pub block-inside : (vs : List Version) (all block rest : List ℕ) → all ≡ block ++ rest
+    → All (λ place. place < length vs) all
+    → All (λ place. place < length vs) block × All (λ place. place < length vs) rest
+block-inside vs all block rest e inside =
+    let inner = λ (place : ℕ). place < length vs in
+    let both = append-parts inner block rest
+    (recursion_from_All inner (block ++ rest) (subst (All inner) e inside)) in
+    (All-from_recursion inner block both.0, All-from_recursion inner rest both.1)
+
+-- what is taken of one block comes behind that of those before it
+pub block-taken : (test : ℕ → Bool) (places all block rest old new : List ℕ) → all ≡ block ++ rest
+    → new ≡ old ++ filter test block → old ++ filter test all ≡ filter test places
+    → new ++ filter test rest ≡ filter test places
+block-taken test places all block rest old new e grown so_far =
+    ap (λ l. l ++ filter test rest) grown ∙ append_assoc old (filter test block) (filter test rest)
+    ∙ ap (λ l. old ++ l) (sym (filter-append test block rest)) ∙ ap (λ l. old ++ filter test l) (sym e) ∙ so_far

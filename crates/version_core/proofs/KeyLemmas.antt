@@ -23,7 +23,8 @@ use Rattle.version_core.specs.Rows.{removes, unnumbered}
 use Rattle.version_core.specs.declared.change.Change.{Change}
 use Rattle.version_core.specs.declared.version.Version.{Version}
 use Rattle.version_core.proofs.FindingLemmas.{filter-listed, places_from-agree}
-use Rattle.version_core.proofs.OpenLemmas.{filter-more, picked, picked-places_from}
+use Rattle.version_core.specs.Plans.{picked}
+use Rattle.version_core.proofs.OpenLemmas.{filter-more, picked-places_from}
 
 pub drafts-numbered : (used : ℕ) (ds : List Draft) → map unnumbered (numbered used ds) ≡ ds
 drafts-numbered used [] = refl

@@ -1,7 +1,7 @@
 -- The places of open versions, and what a change does at them.
 use Rattle.std.proofs.Common.{◌≡◌, ℕ, ◌+◌, ◌*◌, ◌<◌, ◌≤◌, List, [], ◌∷◌, ◌++◌, Bool, true, false, ◌&&◌, cond, Option, Some, None, length, map, take, get_or, zero, suc, add-one, refl, ap, sym, ◌∙◌, arith, append_assoc, length-append}
 use Rattle.std.specs.Prelude.{slice_get, slice_set, filter, fold, count_by, unwrap_or, option_map, is_some, flat_map, All}
-use Rattle.std.specs.List.{filter_map, cons_option, AllByRecursion, range_with_len}
+use Rattle.std.specs.List.{cons_option, AllByRecursion, range_with_len}
 use Rattle.std.proofs.lemmas.List.{append-nil, length-map, take_more, length_push}
 use Rattle.std.proofs.lemmas.List.Elements.{filter_map-append, filter-append, All-from_recursion}
 use Rattle.std.proofs.lemmas.Grind.{flat_map-append}
@@ -21,6 +21,7 @@ use Rattle.table_core.specs.Numbered.{numbered}
 use Rattle.version_core.specs.Rows.{drafts_of, part, parts_of_all, parts_of, removes, set_at, with_parts}
 use Rattle.version_core.specs.Finding.{passes}
 use Rattle.version_core.specs.OpenVersions.{closed, closed_at, current, is_open, is_taken, places_from, versions_after}
+use Rattle.version_core.specs.Plans.{parts_at, picked}
 use Rattle.version_core.specs.Made.{made}
 use Rattle.version_core.specs.declared.change.Change.{Change}
 use Rattle.version_core.specs.declared.change.Change.TheVariants.{Make, Load, Update, Delete}
@@ -45,10 +46,6 @@ pub places_from-bounded : (test : Version → Bool) (vs : List Version)
 places_from-bounded test vs =
     All-from_recursion (λ place. place < length vs) (places_from test 0 vs)
     (bounded test 0 (length vs) vs (omega arith))
-
--- the versions at places
-abbrev pub picked : List Version → List ℕ → List Version
-picked vs places = filter_map (slice_get vs) places
 
 -- what is said of `done` and the versions behind it, of one version more
 module _ (X : Type 0) (of : List Version → List ℕ → X) where
@@ -303,10 +300,6 @@ length-open at (v ∷ vs) =
       | true ↦ omega (arith, rest)
       | false ↦ rest
     ]
-
--- the parts of the rows at places
-abbrev pub parts_at : Change → List Column → List Version → List ℕ → List Draft
-parts_at c schema vs places = flat_map (λ v. parts_of c schema v.row) (picked vs places)
 
 -- one place more
 pub parts_at-push : (c : Change) (schema : List Column) (vs : List Version) (places : List ℕ) (place : ℕ) (v : Version)

@@ -1,5 +1,5 @@
 -- Lists of places, by which a change finds the versions that it closes.
-use Rattle.std.specs.Prelude.{◌≡◌, ℕ, ◌+◌, ◌<◌, List, [], length, filter, Bool, ◌&&◌, if◌then◌else◌, option_map, slice_get, unwrap_or, Option, ◌*◌, ◌%◌, ◌≤◌, get_or, fold, All, true, false, None, ◌==◌, unsigned_abs, is_some, IfSome}
+use Rattle.std.specs.Prelude.{◌≡◌, ℕ, ◌+◌, ◌<◌, List, [], length, filter, Bool, ◌&&◌, if◌then◌else◌, option_map, slice_get, unwrap_or, Option, ◌*◌, ◌%◌, ◌≤◌, get_or, fold, All, true, false, Some, None, ◌==◌, unsigned_abs, is_some, IfSome}
 use Rattle.period_core.specs.Period.{meet}
 use Rattle.period_core.specs.declared.period.Period.{Period}
 use Rattle.row_core.specs.Schema.{column_of}
@@ -82,9 +82,17 @@ reaches (Load table rows) period = false
 reaches (Update table portion sets conds) period = is_some (meet period portion)
 reaches (Delete table portion conds) period = is_some (meet period portion)
 
--- the change reaches the row at a place
-abbrev pub is_reached : Change → List Draft → ℕ → Bool
-is_reached c rows place = unwrap_or (option_map (λ (row : Draft). reaches c row.period) (slice_get rows place)) false
+-- the portion of a change of one
+abbrev pub portion_of : Change → Option Period
+portion_of (Make table schema) = None
+portion_of (Load table rows) = None
+portion_of (Update table portion sets conds) = Some portion
+portion_of (Delete table portion conds) = Some portion
+
+-- the row at a place shares an instant with the portion
+abbrev pub is_reached : Period → List Draft → ℕ → Bool
+is_reached portion rows place =
+    unwrap_or (option_map (λ (row : Draft). is_some (meet row.period portion)) (slice_get rows place)) false
 
 -- the values of all rows that the change takes out fall into the bucket
 abbrev pub IsLookupOf : Change → List Column → Lookup → Type 0

@@ -7,7 +7,7 @@ ghost use Rattle.row_core.specs.Schema.{column_of};
 ghost use Rattle.row_core.specs.ValueOrder.{same_value};
 ghost use Rattle.row_core.specs.declared.schema.Column.{Column};
 ghost use Rattle.table_core.specs.Lent.{lent_row};
-ghost use Rattle.version_core.specs.Finding.{AreSought, reaches};
+ghost use Rattle.version_core.specs.Finding.{AreSought, portion_of, reaches};
 ghost use Rattle.version_core.specs.Rows.{conds_of, is_touched, is_equal_at, removes, part, parts_of, set_at};
 
 use crate::change::Change;
@@ -185,18 +185,39 @@ fn columns_named(schema: &Schema, pairs: &[(Name, Value)]) -> [Option<u32>; SOUG
     columns
 }
 
+/// The portion of a change of one.
+pub(crate) fn portion_of(change: &Change) -> Option<Period>
+    ensures { result ≡ portion_of change.now }
+{
+    match change {
+        Change::Make { .. } => None,
+        Change::Load { .. } => None,
+        Change::Update { portion, .. } => Some(*portion),
+        Change::Delete { portion, .. } => Some(*portion),
+    }
+}
+
 /// Whether the change is one of a portion that shares an instant with the period. It takes out no row where
 /// it isn't.
 #[inline(always)]
-pub(crate) fn reaches(change: &Change, period: Period) -> bool
-    ensures { result ≡ reaches change.now period }
+pub(crate) fn reaches(change: &Change, period: &Period) -> bool
+    ensures { result ≡ reaches change.now period.now }
 {
     match change {
         Change::Make { .. } => false,
         Change::Load { .. } => false,
-        Change::Update { portion, .. } => period.meet(portion).is_some(),
-        Change::Delete { portion, .. } => period.meet(portion).is_some(),
+        Change::Update { portion, .. } => share_instant(period, portion),
+        Change::Delete { portion, .. } => share_instant(period, portion),
     }
+}
+
+/// Whether some instant lies in both. Both ends are always compared: of periods in no order a branch
+/// after the first would often be foretold wrong.
+#[inline(always)]
+pub(crate) fn share_instant(period: &Period, portion: &Period) -> bool
+    ensures { result ≡ is_some (meet period.now portion.now) }
+{
+    (period.from < portion.to) & (portion.from < period.to)
 }
 
 /// Whether the change takes out the row. `columns` are those that its conditions name. This and what
@@ -235,7 +256,7 @@ fn is_touched(
     requires { AreSought schema.now conds.now columns.now }
     ensures { result ≡ is_touched schema.now portion.now conds.now (lent_row row.entry) }
 {
-    meets_all(schema, row, conds, columns) && row.period().meet(portion).is_some()
+    meets_all(schema, row, conds, columns) && share_instant(&row.period(), portion)
 }
 
 /// Whether the row meets all conditions. Where there are none, all rows do.

@@ -10,13 +10,13 @@ ghost use Rattle.row_core.specs.declared.row.Row.{Row as AnyRow};
 ghost use Rattle.row_core.specs.declared.schema.Column.{Column};
 ghost use Rattle.table_core.specs.Lent.{lent_row};
 ghost use Rattle.table_core.specs.Numbered.{numbered};
-ghost use Rattle.version_core.specs.Finding.{AreCandidates, IsIndex, IsLookupOf, AreSought, is_reached};
+ghost use Rattle.version_core.specs.Finding.{AreCandidates, IsIndex, IsLookupOf, AreSought, is_reached, passes};
 ghost use Rattle.version_core.specs.KeyIndex.{IsKeyIndex};
 ghost use Rattle.version_core.specs.Keys.{overlap_after, rows_left, break_key};
 ghost use Rattle.version_core.specs.Limits.{bucket_count, version_limit};
 ghost use Rattle.version_core.specs.Made.{made};
 ghost use Rattle.version_core.specs.OpenVersions.{closed_at, current, is_taken, places_from, versions_after};
-ghost use Rattle.version_core.specs.Plans.{IsPlanOf};
+ghost use Rattle.version_core.specs.Plans.{IsPlanOf, parts_at};
 ghost use Rattle.version_core.specs.Rows.{conds_of, drafts_of, parts_of_all, removes, unnumbered, with_parts};
 ghost use Rattle.version_core.specs.Shown.{shown, versions_as_of};
 ghost use Rattle.version_core.specs.Stored.{version_of};
@@ -30,12 +30,15 @@ use crate::index::{
 use crate::key_index::KeyIndex;
 use crate::keys::{KeyOverlap, collide_among, collide_among_all, may_overlap};
 use crate::places::Places;
-use crate::portion::{SOUGHT_LIMIT, columns_sought, count_of, is_removed, push_parts, reaches};
+use crate::portion::{
+    SOUGHT_LIMIT, columns_sought, count_of, is_removed, portion_of, push_parts, reaches,
+    share_instant,
+};
 use crate::stored::{Span, StoredVersions};
 use crate::version::{VersionList, rows_holding, rows_shown, versions_seen};
 use draft_core::Drafts;
 use list_core::DeepCopy;
-use period_core::Point;
+use period_core::{Period, Point};
 use row_core::{Failure, NoMemory, Schema};
 use std::alloc::Global;
 use std::marker::Model;
@@ -214,7 +217,6 @@ impl Versions {
         change: &Change,
         lookup: Option<Lookup>,
     ) -> Result<Plan, NoMemory>
-        requires few { length self.now ≤ version_limit }
         requires bucket { IfSome lookup (λ lookup. lookup.bucket < bucket_count) }
         requires lookup { IfSome lookup (IsLookupOf change.now schema.now) }
         ensures { IfOk result (IsPlanOf change.now schema.now self.now) }
@@ -409,7 +411,12 @@ fn new_rows(change: Change, parts: Drafts) -> Drafts
     }
 }
 
-/// Works out a change without making it, so that a refusal leaves all as it was.
+/// How many places a change looks at before it branches. For most blocks of so many rows one branch tells
+/// that the change reaches none; of the few that it reaches, it goes over more rows the larger they are.
+const BLOCK: usize = 32;
+
+/// Works out a change without making it, so that a refusal leaves all as it was. Only blocks of places are
+/// looked into where its portion reaches a row.
 fn plan_change(
     alloc: Global,
     schema: &Schema,
@@ -417,16 +424,21 @@ fn plan_change(
     places: &[u32],
     change: &Change,
 ) -> Result<Plan, NoMemory>
-    requires few { length versions.now ≤ version_limit }
-    requires places { AreCandidates change.now schema.now versions.now places.now }
+    requires { AreCandidates change.now schema.now versions.now places.now }
     ensures { IfOk result (IsPlanOf change.now schema.now versions.now) }
 {
-    match change {
-        Change::Make { .. } => Ok(Plan::empty(alloc)),
-        Change::Load { .. } => Ok(Plan::empty(alloc)),
-        Change::Update { .. } => plan_reached(alloc, schema, versions, places, change),
-        Change::Delete { .. } => plan_reached(alloc, schema, versions, places, change),
+    let mut plan = Plan::empty(alloc);
+    let Some(portion) = portion_of(change) else {
+        return Ok(plan);
+    };
+    let seeker = Seeker::of(schema, change);
+    let (rows, _) = versions.rows_and_spans();
+    for block in places.chunks(BLOCK) {
+        if any_reached(rows, &portion, block) {
+            plan_block(alloc, &mut plan, &seeker, versions, block)?;
+        }
     }
+    Ok(plan)
 }
 
 impl Plan {
@@ -442,103 +454,46 @@ impl Plan {
     }
 }
 
-/// Works out a change of a portion, by the places where it reaches rows.
-fn plan_reached(
-    alloc: Global,
-    schema: &Schema,
-    versions: &StoredVersions,
-    places: &[u32],
-    change: &Change,
-) -> Result<Plan, NoMemory>
-    requires few { length versions.now ≤ version_limit }
-    requires places { AreCandidates change.now schema.now versions.now places.now }
-    ensures parts { IfOk result (λ plan. plan.parts
-        ≡ parts_of_all change.now schema.now (current versions.now)) }
-    ensures taken { IfOk result (λ plan. plan.taken.items
-        ≡ places_from (is_taken change.now schema.now) 0 versions.now) }
-{
-    let (rows, _) = versions.rows_and_spans();
-    let reached = places_reached(alloc, change, rows, places)?;
-    plan_portion(alloc, schema, versions, &reached, change)
-}
-
-/// Those of the places at which the change reaches a row.
-fn places_reached(
-    alloc: Global,
-    change: &Change,
-    rows: &Drafts,
-    places: &[u32],
-) -> Result<Vec<u32>, NoMemory>
+/// Whether the portion shares an instant with a row at one of the places. This writes nothing and doesn't
+/// branch at a row, so that it takes the same short time wherever the periods lie.
+fn any_reached(rows: &Drafts, portion: &Period, places: &[u32]) -> bool
     requires { All (λ place. place < length rows.now) places.now }
-    ensures { IfOk result (λ reached. reached.items
-        ≡ filter (is_reached change.now rows.now) places.now) }
+    ensures { result ≡ list_any (is_reached portion.now rows.now) places.now }
 {
-    let mut reached = Vec::new(alloc);
-    let mut next = first_reached(change, rows, places, 0);
-    while next < places.len() {
-        reached.push(places[next])?;
-        next = first_reached(change, rows, places, next + 1);
+    let mut any = false;
+    for place in places {
+        any |= share_instant(&rows.at(*place as usize).period(), portion);
     }
-    Ok(reached)
+    any
 }
 
-/// The first place in the list, from that one on, at which the change reaches a row; past the last where it
-/// reaches none. Most changes reach few of many rows, so this pass writes nothing: all that it reads of a row
-/// but its period stays the same, and is read once.
-fn first_reached(change: &Change, rows: &Drafts, places: &[u32], from: usize) -> usize
-    requires inside { All (λ place. place < length rows.now) places.now }
-    requires from { from ≤ length places.now }
-    ensures within { result ≤ length places.now }
-    ensures on { from ≤ result }
-    ensures before { filter (is_reached change.now rows.now) (take result places.now)
-        ≡ filter (is_reached change.now rows.now) (take from places.now) }
-    ensures there { IfSome (slice_get places.now result)
-        (λ place. is_reached change.now rows.now place ≡ true) }
-{
-    for i in from..places.len() {
-        if is_reached(change, rows, places[i] as usize) {
-            return i;
-        }
-    }
-    places.len()
-}
-
-/// Whether the change reaches the row at that place.
-#[inline(always)]
-fn is_reached(change: &Change, rows: &Drafts, place: usize) -> bool
-    requires { place < length rows.now }
-    ensures { result ≡ is_reached change.now rows.now place }
-{
-    reaches(change, rows.at(place).period())
-}
-
-/// Works out a change of a portion.
-fn plan_portion(
+/// Adds to the plan what the change does at those places.
+fn plan_block(
     alloc: Global,
-    schema: &Schema,
+    plan: &mut Plan,
+    seeker: &Seeker<'_>,
     versions: &StoredVersions,
     places: &[u32],
-    change: &Change,
-) -> Result<Plan, NoMemory>
-    requires few { length versions.now ≤ version_limit }
-    requires places { AreCandidates change.now schema.now versions.now places.now }
-    ensures parts { IfOk result (λ plan. plan.parts
-        ≡ parts_of_all change.now schema.now (current versions.now)) }
-    ensures taken { IfOk result (λ plan. plan.taken.items
-        ≡ places_from (is_taken change.now schema.now) 0 versions.now) }
+) -> Result<(), NoMemory>
+    requires inside { All (λ place. place < length versions.now) places.now }
+    requires sought { AreSought seeker.now.schema.now (conds_of seeker.now.change.now)
+        seeker.now.columns }
+    requires parts { plan.old.parts
+        ≡ parts_at seeker.now.change.now seeker.now.schema.now versions.now plan.old.taken.items }
+    ensures parts { OnOk result (plan.new.parts
+        ≡ parts_at seeker.now.change.now seeker.now.schema.now versions.now plan.new.taken.items) }
+    ensures taken { OnOk result (plan.new.taken.items ≡ plan.old.taken.items ++ filter
+        (passes versions.now (is_taken seeker.now.change.now seeker.now.schema.now)) places.now) }
 {
-    let mut parts = Drafts::new(alloc);
-    let mut taken = Vec::new(alloc);
-    let columns = columns_sought(schema, change);
     let (drafts, spans) = versions.rows_and_spans();
     for place in places {
         let row = RowRef::of_draft(*place as usize, drafts.at(*place as usize));
-        if is_taken(schema, change, &columns, row, &spans[*place as usize]) {
-            push_parts(alloc, &mut parts, schema, change, row)?;
-            taken.push(*place)?;
+        if seeker.takes(row, &spans[*place as usize]) {
+            push_parts(alloc, &mut plan.parts, seeker.schema, seeker.change, row)?;
+            plan.taken.push(*place)?;
         }
     }
-    Ok(Plan { parts, taken })
+    Ok(())
 }
 
 /// How many rows come in the place of those that the change takes out.
@@ -548,31 +503,51 @@ fn count_parts(schema: &Schema, versions: &StoredVersions, places: &[u32], chang
     ensures { result ≡ length (parts_of_all change.now schema.now (current versions.now)) }
 {
     let mut count = 0;
-    let columns = columns_sought(schema, change);
+    let seeker = Seeker::of(schema, change);
     let (drafts, spans) = versions.rows_and_spans();
     for place in places {
         let row = RowRef::of_draft(*place as usize, drafts.at(*place as usize));
-        if is_taken(schema, change, &columns, row, &spans[*place as usize]) {
+        if seeker.takes(row, &spans[*place as usize]) {
             count += count_of(change, row);
         }
     }
     count
 }
 
-/// Whether a version is open, and the change takes out its row. The period is tested first: it tells
-/// of most versions that they stay, and of those no commits are read.
-#[inline(always)]
-fn is_taken(
-    schema: &Schema,
-    change: &Change,
-    columns: &[Option<u32>; SOUGHT_LIMIT],
-    row: RowRef<'_>,
-    span: &Span,
-) -> bool
-    requires { AreSought schema.now (conds_of change.now) columns.now }
-    ensures { result ≡ is_taken change.now schema.now (version_of (lent_row row.entry) span.now) }
-{
-    reaches(change, row.period()) && span.to.is_none() && is_removed(schema, change, columns, row)
+/// A change, and the places of the columns that its conditions name.
+#[derive(Clone, Copy)]
+struct Seeker<'a> {
+    schema: &'a Schema,
+    change: &'a Change,
+    columns: [Option<u32>; SOUGHT_LIMIT],
+}
+
+impl<'a> Seeker<'a> {
+    /// What seeks the rows of that change.
+    fn of(schema: &'a Schema, change: &'a Change) -> Self
+        ensures schema { result.schema.now ≡ schema.entry.now }
+        ensures change { result.change.now ≡ change.entry.now }
+        ensures sought { AreSought result.schema.now (conds_of result.change.now) result.columns }
+    {
+        Seeker {
+            schema,
+            change,
+            columns: columns_sought(schema, change),
+        }
+    }
+
+    /// Whether a version is open, and the change takes out its row. The period is tested first: it tells
+    /// of most versions that they stay, and of those no commits are read.
+    #[inline(always)]
+    fn takes(&self, row: RowRef<'_>, span: &Span) -> bool
+        requires { AreSought self.now.schema.now (conds_of self.now.change.now) self.now.columns }
+        ensures { result ≡ is_taken self.now.change.now self.now.schema.now
+            (version_of (lent_row row.entry) span.now) }
+    {
+        reaches(self.change, &row.period())
+            && span.to.is_none()
+            && is_removed(self.schema, self.change, &self.columns, row)
+    }
 }
 
 /// Adds the versions from that place on to all indexes. Those at the places, which are closed, stay in

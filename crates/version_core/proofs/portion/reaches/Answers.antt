@@ -1,5 +1,4 @@
-use Rattle.std.proofs.Common.{◌∙◌, ap, refl}
-use Rattle.std.specs.Prelude.{is_some}
+use Rattle.std.proofs.Common.{refl}
 use Rattle.version_core.proofs.portion.reaches.Goals as goal
 
 pub returns-in-Make : goal.returns-in-Make
@@ -10,8 +9,8 @@ returns-in-Load c = rw c.in-Load.is refl
 
 pub returns-in-Update : goal.returns-in-Update
 returns-in-Update c =
-    rw c.in-Update.is (c.is_some.ensures ∙ ap is_some c.meet.ensures.ends)
+    rw c.in-Update.is c.share_instant.ensures
 
 pub returns-in-Delete : goal.returns-in-Delete
 returns-in-Delete c =
-    rw c.in-Delete.is (c.is_some-in-Delete.ensures ∙ ap is_some c.meet-in-Delete.ensures.ends)
+    rw c.in-Delete.is c.share_instant-in-Delete.ensures

@@ -1,4 +1,4 @@
-use Rattle.std.proofs.Common.{◌<◌, ◌++◌, ◌∷◌, [], ◌∙◌, ap, sym, refl, length, get_or, None, arith, length-append, take}
+use Rattle.std.proofs.Common.{◌≡◌, ◌<◌, ◌++◌, true, false, ◌∷◌, [], ◌∙◌, ap, sym, refl, length, get_or, None, arith, length-append, take}
 use Rattle.std.specs.Prelude.{filter}
 use Rattle.std.proofs.lemmas.List.{get_or_default, take_all}
 use Rattle.version_core.specs.Finding.{passes}
@@ -8,9 +8,10 @@ use Rattle.draft_core.specs.Lent.{lent_draft}
 use Rattle.table_core.specs.Lent.{lent_row}
 use Rattle.version_core.specs.Stored.{version_of}
 use Rattle.version_core.proofs.StoredLemmas.{version-at}
-use Rattle.version_core.proofs.OpenLemmas.{parts_at, parts_at-push, parts_at-taken, place-no, place-yes}
+use Rattle.version_core.specs.Plans.{parts_at}
+use Rattle.version_core.proofs.OpenLemmas.{parts_at-push, parts_at-taken, place-no, place-yes}
 use Rattle.version_core.proofs.versions.count_parts.Goals as goal
-use Rattle.version_core.proofs.versions.count_parts.Goals.{then-is_taken, else-is_taken}
+use Rattle.version_core.proofs.versions.count_parts.Goals.{then-takes, else-takes}
 
 pub at-requires : goal.at-requires
 at-requires c =
@@ -41,9 +42,10 @@ loop-place-preserved c =
     (get_or_default c.rows_and_spans.result.1.now (get_or places i 0) _ span beside) in
     let counted = c.loop-place.invariant.counted in
     let few = c.loop-place.invariant.few in
-    elim c.if-is_taken.branch [
-      | then-is_taken w ↦
-          let test = sym c.is_taken.ensures ∙ w.if-is_taken.true in
+    elim c.if-takes.branch [
+      | then-takes w ↦
+          let test : taken version ≡ true =
+          rw (← c.of-seeker.ensures.change, ← c.of-seeker.ensures.schema) (sym c.takes.ensures ∙ w.if-takes.true) in
           let more = place-yes vs taken places i version so_far
           (so_far ++ get_or places i 0 ∷ []) c.loop-place-test.true inside found test refl refl
           in
@@ -67,8 +69,9 @@ loop-place-preserved c =
             );
             few = omega (arith, few, three, sum);
           }
-      | else-is_taken w ↦
-          let test = sym c.is_taken.ensures ∙ w.if-is_taken.false in
+      | else-takes w ↦
+          let test : taken version ≡ false =
+          rw (← c.of-seeker.ensures.change, ← c.of-seeker.ensures.schema) (sym c.takes.ensures ∙ w.if-takes.false) in
           let same = place-no vs taken places i version so_far so_far c.loop-place-test.true inside
           found test refl refl in
           let kept = w.count-is in

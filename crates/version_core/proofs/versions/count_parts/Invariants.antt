@@ -2,7 +2,7 @@ use Rattle.std.proofs.Common.{◌≡◌, ◌≤◌, ◌*◌, take, length}
 use Rattle.std.specs.Prelude.{filter}
 use Rattle.version_core.specs.Finding.{passes}
 use Rattle.version_core.specs.OpenVersions.{is_taken}
-use Rattle.version_core.proofs.OpenLemmas.{parts_at}
+use Rattle.version_core.specs.Plans.{parts_at}
 use Rattle.version_core.proofs.versions.count_parts.Given as goal
 
 -- the parts of the rows that are taken at the places so far, at most three of a row

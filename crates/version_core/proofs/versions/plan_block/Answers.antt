@@ -1,0 +1,75 @@
+use Rattle.std.proofs.Common.{◌<◌, ◌++◌, ◌∷◌, [], ◌∙◌, ap, sym, refl, length, get_or, None, arith, append_assoc, take}
+use Rattle.std.specs.Prelude.{filter}
+use Rattle.std.proofs.lemmas.List.{get_or_default, take_all}
+use Rattle.version_core.specs.Finding.{passes}
+use Rattle.version_core.specs.OpenVersions.{is_taken}
+use Rattle.draft_core.specs.Lent.{lent_draft}
+use Rattle.table_core.specs.Lent.{lent_row}
+use Rattle.version_core.specs.Stored.{version_of}
+use Rattle.version_core.specs.Plans.{parts_at}
+use Rattle.version_core.proofs.StoredLemmas.{version-at}
+use Rattle.version_core.proofs.OpenLemmas.{made-push, place-no, place-yes}
+use Rattle.version_core.proofs.versions.plan_block.Goals as goal
+use Rattle.version_core.proofs.versions.plan_block.Goals.{then-takes+in_ok-push_parts+in_ok-push, else-takes}
+
+pub at-requires : goal.at-requires
+at-requires c =
+    let inside = c.requires.inside c.loop-place.place-index 0 c.loop-place-test.true in
+    omega (arith, inside, c.rows_and_spans.ensures.rows)
+
+pub bounds-spans-place : goal.bounds-spans-place
+bounds-spans-place c =
+    let inside = c.requires.inside c.loop-place.place-index 0 c.loop-place-test.true in
+    omega (arith, inside, c.rows_and_spans.ensures.spans)
+
+pub loop-place-preserved : goal.loop-place-preserved
+loop-place-preserved c =
+    let vs = c.args.versions.now in
+    let places = c.args.places.now in
+    let i = c.loop-place.place-index in
+    let span = get_or c.rows_and_spans.result.1.now (get_or places i 0) (record { from = 0; to = None }) in
+    let row = lent_row c.of_draft-row.result in
+    let version = version_of row span in
+    let taken = is_taken c.args.seeker.now.change.now c.args.seeker.now.schema.now in
+    let start = c.args.plan.now.taken.items in
+    let so_far = filter (passes vs taken) (take i places) in
+    let inside : get_or places i 0 < length vs = c.requires.inside i 0 c.loop-place-test.true in
+    let beside : get_or places i 0 < length c.rows_and_spans.result.1.now =
+    omega (arith, inside, c.rows_and_spans.ensures.spans) in
+    let found = version-at c.rows_and_spans.result.0.now c.rows_and_spans.result.1.now (get_or places i 0)
+    (lent_draft c.at.result) row span vs c.rows_and_spans.ensures.versions
+    (omega (arith, inside, c.rows_and_spans.ensures.rows)) beside c.at.ensures c.of_draft-row.ensures
+    (get_or_default c.rows_and_spans.result.1.now (get_or places i 0) _ span beside) in
+    elim c.if-takes.branch [
+      | then-takes+in_ok-push_parts+in_ok-push w ↦
+          let test = sym c.takes.ensures ∙ w.if-takes.true in
+          let grown = ap (λ p. p.taken.items) w.plan-is ∙ w.in_ok-push.ensures.items in
+          record {
+            made = made-push c.args.seeker.now.change.now c.args.seeker.now.schema.now vs c.loop-place.plan.taken.items
+                c.if-takes.plan.taken.items (get_or places i 0) version c.loop-place.plan.parts
+                c.if-takes.plan.parts inside found c.loop-place.invariant.made
+                (ap (λ p. p.parts) w.plan-is ∙ w.in_ok-push_parts.ensures) grown;
+            taken = grown ∙ ap (λ l. l ++ get_or places i 0 ∷ []) c.loop-place.invariant.taken
+                ∙ append_assoc start so_far (get_or places i 0 ∷ [])
+                ∙ ap (λ l. start ++ l)
+                (place-yes vs taken places i version so_far (so_far ++ get_or places i 0 ∷ []) c.loop-place-test.true
+                inside found test refl refl);
+          }
+      | else-takes w ↦
+          let test = sym c.takes.ensures ∙ w.if-takes.false in
+          let same = ap (λ p. p.taken.items) w.plan-is in
+          record {
+            made = ap (λ p. p.parts) w.plan-is ∙ c.loop-place.invariant.made
+                ∙ ap (parts_at c.args.seeker.now.change.now c.args.seeker.now.schema.now vs) (sym same);
+            taken = same ∙ c.loop-place.invariant.taken
+                ∙ ap (λ l. start ++ l)
+                (place-no vs taken places i version so_far so_far c.loop-place-test.true inside found test refl refl);
+          }
+    ]
+
+pub returns-clause-taken : goal.returns-clause-taken
+returns-clause-taken c =
+    c.loop-place.invariant.taken
+    ∙ ap (λ l. c.args.plan.now.taken.items ++ filter
+    (passes c.args.versions.now (is_taken c.args.seeker.now.change.now c.args.seeker.now.schema.now)) l)
+    (take_all c.loop-place.place-index c.args.places.now (omega arith))
