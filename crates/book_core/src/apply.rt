@@ -23,7 +23,7 @@ use list_core::DeepCopy;
 use row_core::{Failure, Name, NoMemory, Schema, Value};
 use std::alloc::Global;
 use std::sync::Arc;
-use version_core::{Change, KeyOverlap, VERSION_LIMIT, VersionCounts, Versions};
+use version_core::{Change, CommitNumber, KeyOverlap, VERSION_LIMIT, VersionCounts, Versions};
 
 /// The most commits of a book.
 pub(crate) const COMMIT_LIMIT: usize = 1_000_000;
@@ -196,8 +196,19 @@ fn change_table(
         });
     };
     let table = &mut tables[at];
-    let commit = (commits + 1) as u32;
+    let commit = next_commit(commits);
     change_versions(alloc, &mut table.versions, &table.schema, commit, change)
+}
+
+/// The number of the commit that follows so many.
+fn next_commit(commits: u64) -> CommitNumber
+    requires { commits < commit_limit }
+    ensures { result ≡ commits + 1 }
+{
+    match CommitNumber::new((commits + 1) as u32) {
+        Some(commit) => commit,
+        None => unreachable!(),
+    }
 }
 
 /// Changes the versions of a table by that commit. Where others share them, a copy is changed, and
@@ -206,7 +217,7 @@ fn change_versions(
     alloc: Global,
     shared: &mut Arc<Versions>,
     schema: &Schema,
-    commit: u32,
+    commit: CommitNumber,
     change: Change,
 ) -> Result<VersionCounts, Failure<KeyOverlap>>
     requires room { length (arc_value shared.old)

@@ -17,9 +17,8 @@ use Rattle.version_core.specs.OpenVersions.{closed, current, is_open, is_taken, 
 use Rattle.version_core.specs.Made.{made}
 use Rattle.table_core.specs.Numbered.{numbered, row_of}
 use Rattle.version_core.specs.Rows.{drafts_of, is_equal_at, parts_of_all, removes}
-use Rattle.version_core.specs.Stored.{version_of, versions_of}
+use Rattle.version_core.specs.Stored.{SystemPeriod, version_of, versions_of}
 use Rattle.version_core.specs.declared.change.Change.TheVariants.{Make, Load, Update, Delete}
-use Rattle.version_core.specs.declared.stored.Span.{Span}
 use Rattle.period_core.specs.Period.{meet}
 use Rattle.period_core.specs.declared.period.Period.{Period}
 use Rattle.row_core.specs.declared.draft.Draft.{Draft}
@@ -346,7 +345,7 @@ taken-reached (Delete t p conds) schema portion v e taken =
     ap (λ q. is_some (meet v.row.period q)) (sym same)
     ∙ (and_parts (list_all (is_equal_at schema v.row.values) conds) (is_some (meet v.row.period p)) touched).1
 
-reached-at : (c : Change) (schema : List Column) (portion : Period) (used : ℕ) (rows : List Draft) (spans : List Span)
+reached-at : (c : Change) (schema : List Column) (portion : Period) (used : ℕ) (rows : List Draft) (spans : List SystemPeriod)
     (place : ℕ) → portion_of c ≡ Some portion
     → passes (versions_of (numbered used rows) spans) (is_taken c schema) place ≡ true
     → is_reached portion rows place ≡ true
@@ -358,7 +357,7 @@ reached-at c schema portion used (d ∷ ds) (s ∷ ss) (suc place) of taken =
     reached-at c schema portion (used + 1) ds ss place of taken
 
 -- so where the portion reaches none of some rows, the change takes out none of them
-pub none-reached : (c : Change) (schema : List Column) (portion : Period) (rows : List Draft) (spans : List Span)
+pub none-reached : (c : Change) (schema : List Column) (portion : Period) (rows : List Draft) (spans : List SystemPeriod)
     (vs : List Version) (places : List ℕ) → portion_of c ≡ Some portion → versions_of (numbered 0 rows) spans ≡ vs
     → list_any (is_reached portion rows) places ≡ false → filter (passes vs (is_taken c schema)) places ≡ []
 none-reached c schema portion rows spans vs [] of is none = refl

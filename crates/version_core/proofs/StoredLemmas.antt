@@ -11,12 +11,11 @@ use Rattle.table_core.proofs.NumberedLemmas.{length-numbered, slice_get-numbered
 use Rattle.version_core.specs.Made.{made}
 use Rattle.version_core.specs.OpenVersions.{closed_at}
 use Rattle.version_core.specs.Shown.{is_behind, shown, shows}
-use Rattle.version_core.specs.Stored.{version_of, versions_of}
-use Rattle.version_core.specs.declared.stored.Span.{Span}
+use Rattle.version_core.specs.Stored.{SystemPeriod, version_of, versions_of}
 use Rattle.version_core.specs.declared.version.Version.{Version}
 
 -- as many versions as rows
-pub length-versions_of : (rows : List Row) (spans : List Span) → length rows ≡ length spans
+pub length-versions_of : (rows : List Row) (spans : List SystemPeriod) → length rows ≡ length spans
     → length (versions_of rows spans) ≡ length spans
 length-versions_of [] spans same = same
 length-versions_of (r ∷ rs) [] same = absurd (omega (arith, same))
@@ -29,7 +28,7 @@ slice_get-inside [] place x e = absurd (cc)
 slice_get-inside (y ∷ ys) zero x e = omega arith
 slice_get-inside (y ∷ ys) (suc place) x e = let rest = slice_get-inside ys place x e in omega (arith, rest)
 
-pub slice_get-versions_of : (rows : List Row) (spans : List Span) (place : ℕ) (row : Row) (span : Span)
+pub slice_get-versions_of : (rows : List Row) (spans : List SystemPeriod) (place : ℕ) (row : Row) (span : SystemPeriod)
     → length rows ≡ length spans → slice_get rows place ≡ Some row → span ≡ get_or spans place span
     → Some (version_of row span) ≡ slice_get (versions_of rows spans) place
 slice_get-versions_of [] spans place row span same r s = absurd (cc)
@@ -41,7 +40,7 @@ slice_get-versions_of (r ∷ rs) (s ∷ ss) (suc place) row span same e f =
     slice_get-versions_of rs ss place row span (omega (arith, same)) e f
 
 -- a version, by its row and what stands beside it
-pub get_or-versions_of : (rows : List Row) (spans : List Span) (place : ℕ) (row : Row) (span : Span)
+pub get_or-versions_of : (rows : List Row) (spans : List SystemPeriod) (place : ℕ) (row : Row) (span : SystemPeriod)
     (vs : List Version) → versions_of rows spans ≡ vs → place < length rows → place < length spans
     → row ≡ get_or rows place row → span ≡ get_or spans place span
     → version_of row span ≡ get_or vs place (version_of row span)
@@ -54,7 +53,7 @@ get_or-versions_of (x ∷ xs) (y ∷ ys) (suc place) row span vs e inside beside
     ∙ ap (λ l. get_or l (suc place) (version_of row span)) e
 
 -- the version of the draft at a place
-pub version-at : (drafts : List Draft) (spans : List Span) (place : ℕ) (draft : Draft) (row : Row) (span : Span)
+pub version-at : (drafts : List Draft) (spans : List SystemPeriod) (place : ℕ) (draft : Draft) (row : Row) (span : SystemPeriod)
     (vs : List Version) → versions_of (numbered 0 drafts) spans ≡ vs → place < length drafts → place < length spans
     → slice_get drafts place ≡ Some draft → row ≡ row_of (place + 1) draft → span ≡ get_or spans place span
     → version_of row span ≡ get_or vs place (version_of row span)
@@ -66,7 +65,7 @@ version-at drafts spans place draft row span vs e inside beside d r s =
     get_or-versions_of (numbered 0 drafts) spans place row span vs e within beside
     (sym (get_or_from_slice_get (numbered 0 drafts) place row row there)) s
 
-pub slice_get-past : (rows : List Row) (spans : List Span) (place : ℕ) → length rows ≡ length spans
+pub slice_get-past : (rows : List Row) (spans : List SystemPeriod) (place : ℕ) → length rows ≡ length spans
     → slice_get rows place ≡ None → slice_get (versions_of rows spans) place ≡ None
 slice_get-past [] [] place same e = refl
 slice_get-past [] (s ∷ ss) place same e = absurd (omega (arith, same))
@@ -75,13 +74,13 @@ slice_get-past (r ∷ rs) (s ∷ ss) zero same e = absurd (cc)
 slice_get-past (r ∷ rs) (s ∷ ss) (suc place) same e = slice_get-past rs ss place (omega (arith, same)) e
 
 -- their rows
-pub rows-versions_of : (rows : List Row) (spans : List Span) → length rows ≡ length spans
+pub rows-versions_of : (rows : List Row) (spans : List SystemPeriod) → length rows ≡ length spans
     → rows ≡ map (λ (v : Version). v.row) (versions_of rows spans)
 rows-versions_of [] spans same = refl
 rows-versions_of (r ∷ rs) [] same = absurd (omega (arith, same))
 rows-versions_of (r ∷ rs) (s ∷ ss) same = ap (λ l. r ∷ l) (rows-versions_of rs ss (omega (arith, same)))
 
-versions_of-append : (rows more : List Row) (spans others : List Span) → length rows ≡ length spans
+versions_of-append : (rows more : List Row) (spans others : List SystemPeriod) → length rows ≡ length spans
     → versions_of (rows ++ more) (spans ++ others) ≡ versions_of rows spans ++ versions_of more others
 versions_of-append [] more [] others same = refl
 versions_of-append [] more (s ∷ ss) others same = absurd (omega (arith, same))
@@ -96,7 +95,7 @@ versions_of-made n (r ∷ rs) =
     ap (λ l. version_of r (record { from = n; to = None }) ∷ l) (versions_of-made n rs)
 
 -- more of them, which a commit makes
-pub versions_of-grown : (n : ℕ) (rows more all : List Row) (spans now : List Span) (count : ℕ)
+pub versions_of-grown : (n : ℕ) (rows more all : List Row) (spans now : List SystemPeriod) (count : ℕ)
     → length rows ≡ length spans → all ≡ rows ++ more → count ≡ length more
     → now ≡ spans ++ replicate count (record { from = n; to = None })
     → versions_of all now ≡ versions_of rows spans ++ made n more
@@ -118,24 +117,24 @@ closed_at-behind n v vs place =
     ]
 
 -- one of them that a commit ends
-pub closed_at-versions_of : (n : ℕ) (rows : List Row) (spans : List Span) (place : ℕ) (span : Span)
+pub closed_at-versions_of : (n : ℕ) (rows : List Row) (spans : List SystemPeriod) (place : ℕ) (span : SystemPeriod)
     → length rows ≡ length spans → place < length spans → span ≡ get_or spans place span
     → versions_of rows (set spans place (record { from = span.from; to = Some n }))
     ≡ closed_at n (versions_of rows spans) place
 closed_at-versions_of n [] spans place span same inside e = absurd (omega (arith, same, inside))
 closed_at-versions_of n (r ∷ rs) [] place span same inside e = absurd (omega (arith, same))
 closed_at-versions_of n (r ∷ rs) (s ∷ ss) zero span same inside e =
-    ap (λ (x : Span). version_of r (record { from = x.from; to = Some n }) ∷ versions_of rs ss) e
+    ap (λ (x : SystemPeriod). version_of r (record { from = x.from; to = Some n }) ∷ versions_of rs ss) e
 closed_at-versions_of n (r ∷ rs) (s ∷ ss) (suc place) span same inside e =
     ap (λ l. version_of r s ∷ l)
     (closed_at-versions_of n rs ss place span (omega (arith, same)) (omega (arith, inside)) e)
     ∙ sym (closed_at-behind n (version_of r s) (versions_of rs ss) place)
 
-pub length-closed : (n : ℕ) (rows : List Row) (spans : List Span) (place from : ℕ) → length rows ≡ length spans
+pub length-closed : (n : ℕ) (rows : List Row) (spans : List SystemPeriod) (place from : ℕ) → length rows ≡ length spans
     → length (versions_of rows (set spans place (record { from = from; to = Some n })))
     ≡ length (versions_of rows spans)
 length-closed n rows spans place from same =
-    let span : Span = record { from = from; to = Some n } in
+    let span : SystemPeriod = record { from = from; to = Some n } in
     length-versions_of rows (set spans place span) (same ∙ sym (length-set spans place span))
     ∙ length-set spans place span ∙ sym (length-versions_of rows spans same)
 
@@ -162,18 +161,18 @@ shown-all n (v ∷ vs) = by_test (length-shown n vs) (shown-all n vs) (shows n v
   by_test few rest false same = absurd (omega (arith, few, same))
 
 -- how many of them are shown
-pub length-shown_of : (n : ℕ) (rows : List Row) (spans : List Span) (vs : List Version) → versions_of rows spans ≡ vs
+pub length-shown_of : (n : ℕ) (rows : List Row) (spans : List SystemPeriod) (vs : List Version) → versions_of rows spans ≡ vs
     → length rows ≡ length spans
-    → count_by (λ (span : Span). leb span.from n && is_behind span.to n) spans ≡ length (shown n vs)
+    → count_by (λ (span : SystemPeriod). leb span.from n && is_behind span.to n) spans ≡ length (shown n vs)
 length-shown_of n [] [] vs e same = ap (λ l. length (shown n l)) e
 length-shown_of n [] (s ∷ ss) vs e same = absurd (omega (arith, same))
 length-shown_of n (r ∷ rs) [] vs e same = absurd (omega (arith, same))
 length-shown_of n (r ∷ rs) (s ∷ ss) vs e same =
-    count-cons (λ (span : Span). leb span.from n && is_behind span.to n) s ss
+    count-cons (λ (span : SystemPeriod). leb span.from n && is_behind span.to n) s ss
     ∙ by_test (length-shown_of n rs ss (versions_of rs ss) refl (omega (arith, same))) (shows n (version_of r s))
     ∙ ap (λ l. length (shown n l)) e where
-      by_test : count_by (λ (span : Span). leb span.from n && is_behind span.to n) ss ≡ length (shown n (versions_of rs ss))
-          → (b : Bool) → cond b 1 0 + count_by (λ (span : Span). leb span.from n && is_behind span.to n) ss
+      by_test : count_by (λ (span : SystemPeriod). leb span.from n && is_behind span.to n) ss ≡ length (shown n (versions_of rs ss))
+          → (b : Bool) → cond b 1 0 + count_by (λ (span : SystemPeriod). leb span.from n && is_behind span.to n) ss
           ≡ length (cons_option (cond b (Some r) None) (shown n (versions_of rs ss)))
       by_test rest true = omega (arith, rest)
       by_test rest false = omega (arith, rest)

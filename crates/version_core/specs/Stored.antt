@@ -1,15 +1,19 @@
 -- Versions as they are kept: the rows, and beside each the commits that show it.
-use Rattle.std.specs.Prelude.{List, [], ◌∷◌}
+use Rattle.std.specs.Prelude.{ℕ, List, [], ◌∷◌, Option}
 use Rattle.row_core.specs.declared.row.Row.{Row}
-use Rattle.version_core.specs.declared.stored.Span.{Span}
 use Rattle.version_core.specs.declared.version.Version.{Version}
 
+-- the commits that show a version: those from one on, and before another where it is told
+pub record SystemPeriod : Type 0 where
+  pub from : ℕ
+  pub to : Option ℕ
+
 -- the version of a row that those commits show
-abbrev pub version_of : Row → Span → Version
+abbrev pub version_of : Row → SystemPeriod → Version
 version_of row span = record { row = row; sysfrom = span.from; systo = span.to }
 
 -- the versions of rows, each with what stands beside it
-abbrev pub versions_of : List Row → List Span → List Version
+abbrev pub versions_of : List Row → List SystemPeriod → List Version
 versions_of [] spans = []
 versions_of (row ∷ rows) [] = []
 versions_of (row ∷ rows) (span ∷ spans) = version_of row span ∷ versions_of rows spans

@@ -5,18 +5,21 @@ ghost use Rattle.std.specs.List.{list_all};
 ghost use Rattle.row_core.specs.Lent.{lent_value};
 ghost use Rattle.row_core.specs.declared.row.Row.{Row};
 ghost use Rattle.row_core.specs.declared.schema.Column.{Column};
+ghost use Rattle.table_core.specs.Lent.{lent_row};
 ghost use Rattle.version_core.specs.Finding.{AreCandidates, AreFound, IsIndex, IsLookupOf, bucket_in, bucket_of, bucket_of_bytes, falls_into};
 ghost use Rattle.version_core.specs.Limits.{bucket_count, version_limit};
 ghost use Rattle.version_core.specs.Rows.{conds_of, is_equal_at};
-ghost use Rattle.version_core.specs.StoredRef.{version_at};
+ghost use Rattle.version_core.specs.Stored.{version_of};
 ghost use Rattle.version_core.specs.declared.change.Change.{Change};
 ghost use Rattle.version_core.specs.declared.version.Version.{Version};
 
 use crate::change::Change;
 use crate::places::Places;
-use crate::stored::{StoredVersions, VersionRef};
+use crate::span::Span;
+use crate::stored::StoredVersions;
 use row_core::{Name, NoMemory, Schema, Value, ValueRef};
 use std::alloc::Global;
+use table_core::RowRef;
 
 /// How many buckets an index has. It is prime, so that numbers in equal steps spread over them.
 const BUCKET_COUNT: usize = 8_191;
@@ -77,7 +80,8 @@ impl Index {
         requires before { IsIndex (take place versions.now) self.old }
         ensures { OnOk result (IsIndex (take (place + 1) versions.now) self.new) }
     {
-        if let Some(bucket) = bucket_in(self.column, &versions.at(place)) {
+        let version = versions.at(place);
+        if let Some(bucket) = bucket_in(self.column, version.row, &version.span) {
             self.buckets[bucket].push(place as u32)?;
         }
         Ok(())
@@ -116,14 +120,14 @@ fn empty_buckets(alloc: Global) -> Result<Vec<Places>, NoMemory>
 }
 
 /// The bucket of a version's value in the column, where it is open and has one.
-fn bucket_in(column: u32, version: &VersionRef<'_>) -> Option<usize>
-    ensures bucket { result ≡ bucket_in column (version_at version.now) }
+fn bucket_in(column: u32, row: RowRef<'_>, span: &Span) -> Option<usize>
+    ensures bucket { result ≡ bucket_in column (version_of (lent_row row.entry) span.now) }
     ensures few { IfSome result (λ bucket. bucket < bucket_count) }
 {
-    if version.span.to.is_some() {
+    if !span.is_open() {
         return None;
     }
-    match version.row.value(column as usize) {
+    match row.value(column as usize) {
         Some(value) => Some(bucket_of(value)),
         None => None,
     }

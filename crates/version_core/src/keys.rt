@@ -134,7 +134,7 @@ fn is_left(
     requires { AreSought schema.now (conds_of change.now) columns.now }
     ensures { result ≡ is_left change.now schema.now (version_at version.now) }
 {
-    version.span.to.is_none() && !is_removed(schema, change, columns, version.row)
+    version.span.is_open() && !is_removed(schema, change, columns, version.row)
 }
 
 /// Adds the rows.

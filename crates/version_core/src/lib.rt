@@ -3,16 +3,19 @@
 //! The versions of a table's rows: what a change takes out and puts in, and what a commit shows of them.
 
 mod change;
+mod commit_number;
 mod index;
 mod key_index;
 mod keys;
 mod places;
 mod portion;
+mod span;
 mod stored;
 mod version;
 mod versions;
 
 pub use change::{Change, Pairs};
+pub use commit_number::CommitNumber;
 pub use keys::KeyOverlap;
 pub use table_core::SharedRows;
 pub use version::{Version, VersionList};

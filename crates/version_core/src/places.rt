@@ -120,7 +120,7 @@ fn is_open_at(versions: &StoredVersions, place: u32) -> bool
     ensures { result ≡ passes versions.now is_open place }
 {
     match versions.get(place as usize) {
-        Some(version) => version.span.to.is_none(),
+        Some(version) => version.span.is_open(),
         None => false,
     }
 }

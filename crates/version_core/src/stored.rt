@@ -8,19 +8,13 @@ ghost use Rattle.version_core.specs.OpenVersions.{closed_at};
 ghost use Rattle.version_core.specs.Stored.{versions_of};
 ghost use Rattle.version_core.specs.StoredRef.{version_at};
 
+use crate::commit_number::CommitNumber;
+use crate::span::Span;
 use draft_core::Drafts;
 use row_core::NoMemory;
 use std::alloc::Global;
 use std::marker::Model;
 use table_core::{RowRef, SharedRows, TableRows};
-
-/// The commits that show a version: those from `from` on, and before `to` where it is told. There
-/// are so few that 32 bits hold one.
-#[derive(Clone, Copy)]
-pub(crate) struct Span {
-    pub from: u32,
-    pub to: Option<u32>,
-}
 
 /// A version where it is kept.
 #[derive(Clone, Copy)]
@@ -132,7 +126,7 @@ impl StoredVersions {
         &mut self,
         alloc: Global,
         rows: Drafts,
-        commit: u32,
+        commit: CommitNumber,
     ) -> Result<(), NoMemory>
         ensures ok { OnOk result (self.new ≡ self.old
             ++ made commit (numbered (length self.old) rows)) }
@@ -148,26 +142,23 @@ impl StoredVersions {
     }
 
     /// Ends the version at that place with the commit.
-    pub(crate) fn close(&mut self, place: usize, commit: u32)
+    pub(crate) fn close(&mut self, place: usize, commit: CommitNumber)
         requires { place < length self.old }
         ensures closed { self.new ≡ closed_at commit self.old place }
         ensures len { length self.new ≡ length self.old }
     {
-        self.spans[place].to = Some(commit);
+        self.spans[place].close(commit);
     }
 }
 
 /// Adds what stands beside so many rows that a commit makes. On refusal there is none more.
-fn push_spans(spans: &mut Vec<Span>, count: usize, commit: u32) -> Result<(), NoMemory>
+fn push_spans(spans: &mut Vec<Span>, count: usize, commit: CommitNumber) -> Result<(), NoMemory>
     ensures ok { OnOk result (spans.new.items
         ≡ spans.old.items ++ replicate count (record { from = commit; to = None })) }
     ensures err { OnErr result (spans.new.items ≡ spans.old.items) }
 {
     let before = spans.len();
-    let span = Span {
-        from: commit,
-        to: None,
-    };
+    let span = Span::since(commit);
     for _ in 0..count {
         if let Err(error) = spans.push(span) {
             spans.truncate(before);

@@ -8,7 +8,8 @@ ghost use Rattle.table_core.specs.Places.{at_places};
 ghost use Rattle.version_core.specs.Shown.{holds_where, shows, shown, versions_as_of, end_at, is_behind};
 ghost use Rattle.version_core.specs.Stored.{version_of};
 
-use crate::stored::{Span, StoredVersions};
+use crate::span::Span;
+use crate::stored::StoredVersions;
 use list_core::List;
 use period_core::{Period, Point};
 use row_core::{NoMemory, Row};
@@ -28,7 +29,7 @@ pub struct Version {
 fn is_shown(span: &Span, n: u64) -> bool
     ensures { result ≡ (nat_le span.now.from n && is_behind span.now.to n) }
 {
-    span.from as u64 <= n && span.to.is_none_or(|to| n < to as u64)
+    span.from() as u64 <= n && span.to().is_none_or(|to| n < to as u64)
 }
 
 /// The rows that commit n shows, which are not copied.
@@ -126,11 +127,12 @@ pub(crate) fn versions_seen(
     for i in 0..drafts.len() {
         let row = RowRef::of_draft(i, drafts.at(i));
         let span = &spans[i];
-        let end = end_at(at, span.to);
-        if is_seen(span.from as u64, end, at, m, last) {
+        let from = span.from() as u64;
+        let end = end_at(at, span.to());
+        if is_seen(from, end, at, m, last) {
             seen.push(Version {
                 row: row.copy(alloc)?,
-                sysfrom: span.from as u64,
+                sysfrom: from,
                 systo: end,
             })?;
         }

@@ -23,6 +23,7 @@ ghost use Rattle.version_core.specs.Stored.{version_of};
 ghost use Rattle.version_core.specs.declared.change.Change.{Change};
 
 use crate::change::Change;
+use crate::commit_number::CommitNumber;
 use crate::index::{
     Index, Lookup, candidates, drop_closed_at, extend_indexes, lookup_of, make_indexes,
     sweep_indexes,
@@ -34,7 +35,8 @@ use crate::portion::{
     SOUGHT_LIMIT, columns_sought, count_of, is_removed, portion_of, push_parts, reaches,
     share_instant,
 };
-use crate::stored::{Span, StoredVersions};
+use crate::span::Span;
+use crate::stored::StoredVersions;
 use crate::version::{VersionList, rows_holding, rows_shown, versions_seen};
 use draft_core::Drafts;
 use list_core::DeepCopy;
@@ -167,7 +169,7 @@ impl Versions {
         &mut self,
         alloc: Global,
         schema: &Schema,
-        commit: u32,
+        commit: CommitNumber,
         change: Change,
     ) -> Result<VersionCounts, Failure<KeyOverlap>>
         requires room { length self.old
@@ -262,7 +264,7 @@ impl Versions {
         alloc: Global,
         schema: &Schema,
         key: &[u32],
-        commit: u32,
+        commit: CommitNumber,
         change: Change,
         plan: Plan,
     ) -> Result<VersionCounts, Failure<KeyOverlap>>
@@ -545,7 +547,7 @@ impl<'a> Seeker<'a> {
             (version_of (lent_row row.entry) span.now) }
     {
         reaches(self.change, &row.period())
-            && span.to.is_none()
+            && span.is_open()
             && is_removed(self.schema, self.change, &self.columns, row)
     }
 }
@@ -597,7 +599,7 @@ fn add_versions(
     versions: &mut StoredVersions,
     places: &mut Places,
     new: Drafts,
-    commit: u32,
+    commit: CommitNumber,
 ) -> Result<(), NoMemory>
     requires { length versions.old + length new ≤ version_limit }
     ensures ok { OnOk result (versions.new ≡ versions.old
@@ -617,7 +619,7 @@ fn add_versions(
 }
 
 /// Ends the versions at those places with the commit.
-fn close_all(versions: &mut StoredVersions, places: &[u32], commit: u32)
+fn close_all(versions: &mut StoredVersions, places: &[u32], commit: CommitNumber)
     requires { All (λ place. place < length versions.old) places.now }
     ensures { versions.new ≡ fold (closed_at commit) versions.old places.now }
 {

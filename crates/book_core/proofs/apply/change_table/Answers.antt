@@ -97,7 +97,8 @@ returns-clause-ok c =
     (at c) c.index_mut-table.ensures.value
     (ap (λ vs. with_versions
     (record { name = c.table.inside.name; schema = c.table.inside.schema; versions = arc_value c.table.inside.versions }) vs)
-    e
+    (e ∙ ap (λ n. versions_after n change c.table.inside.schema (arc_value c.table.inside.versions))
+    c.next_commit-commit.ensures)
     ∙ ap (λ t. with_versions t (versions_after (c.args.commits + 1) change t.schema t.versions)) c.table.view_is
     ∙ versions_after-kept c.args.commits change c.index_mut-table.result.now (well c)))
     c.change_versions.ensures.ok

@@ -1,6 +1,6 @@
-use Rattle.std.proofs.Common.{◌<◌, All, length, map, None, arith, sym, subst, get_or, ◌∙◌, ap, ◌++◌, ◌∷◌, [], Global, Vec, ℕ}
+use Rattle.std.proofs.Common.{◌<◌, All, length, map, arith, sym, subst, ◌∙◌, ap, ◌++◌, ◌∷◌, [], Global, Vec, ℕ}
 use Rattle.std.specs.Prelude.{filter}
-use Rattle.std.proofs.lemmas.List.{get_or_default, take_all}
+use Rattle.std.proofs.lemmas.List.{take_all}
 use Rattle.std.proofs.lemmas.List.Elements.{All-push}
 use Rattle.table_core.specs.Places.{at_places}
 use Rattle.table_core.proofs.PlaceLemmas.{at_places-more}
@@ -23,12 +23,12 @@ loop-i-preserved c =
     let spans = c.rows_and_spans.result.1.now in
     let inside : i < length vs = omega (arith, c.loop-i-test.true, c.rows_and_spans.ensures.rows) in
     let beside : i < length spans = omega (arith, inside, c.rows_and_spans.ensures.spans) in
-    let span = get_or spans i (record { from = 0; to = None }) in
+    let span = c.index-spans-i.result in
     let row = lent_row c.of_draft.result in
     let v = version_of row span in
     let found = version-at drafts spans i (lent_draft c.at.result) row span vs c.rows_and_spans.ensures.versions
     (omega (arith, c.loop-i-test.true)) beside c.at.ensures c.of_draft.ensures
-    (get_or_default spans i _ span beside) in
+    c.index-spans-i.is in
     elim c.if-is_listed.branch [
       | then-is_listed+in_ok-as_place+in_ok-push w ↦
           let grown = ap (λ (u : Vec ℕ Global). u.items) w.places-is ∙ w.in_ok-push.ensures.items

@@ -1,8 +1,8 @@
-use Rattle.std.proofs.Common.{◌<◌, length, None, get_or, arith, sym, ◌∙◌, ap, ◌++◌, ◌∷◌, [], ◌&&◌, leb}
-use Rattle.std.proofs.lemmas.List.{get_or_default, take_all}
+use Rattle.std.proofs.Common.{◌<◌, length, arith, sym, ◌∙◌, ap, ◌++◌, ◌∷◌, [], ◌&&◌, leb}
+use Rattle.std.proofs.lemmas.List.{take_all}
 use Rattle.draft_core.specs.Lent.{lent_draft}
 use Rattle.table_core.specs.Lent.{lent_row}
-use Rattle.version_core.specs.Shown.{is_behind, versions_as_of}
+use Rattle.version_core.specs.Shown.{end_at, is_behind, versions_as_of}
 use Rattle.version_core.specs.Stored.{version_of}
 use Rattle.version_core.proofs.StoredLemmas.{version-at}
 use Rattle.version_core.proofs.Seen.{versions_as_of-more, versions_as_of-same}
@@ -17,21 +17,24 @@ loop-i-preserved c =
     let spans = c.rows_and_spans.result.1.now in
     let inside : i < length vs = omega (arith, c.loop-i-test.true, c.rows_and_spans.ensures.rows) in
     let beside : i < length spans = omega (arith, inside, c.rows_and_spans.ensures.spans) in
-    let span = get_or spans i (record { from = 0; to = None }) in
+    let span = c.index-spans-i.result in
     let row = lent_row c.of_draft-row.result in
     let v = version_of row span in
     let found = version-at drafts spans i (lent_draft c.at.result) row span vs c.rows_and_spans.ensures.versions
     (omega (arith, c.loop-i-test.true)) beside c.at.ensures c.of_draft-row.ensures
-    (get_or_default spans i _ span beside) in
-    let test = ap (λ end. leb v.sysfrom c.args.at && (leb v.sysfrom c.args.last && is_behind end c.args.m))
-    (sym c.end_at-end.ensures) ∙ sym c.is_seen.ensures in
+    c.index-spans-i.is in
+    let ends = sym (c.end_at-end.ensures ∙ ap (end_at c.args.at) c.to.ensures) in
+    let test = ap (λ end. leb v.sysfrom c.args.at && (leb v.sysfrom c.args.last && is_behind end c.args.m)) ends
+    ∙ ap (λ from. leb from c.args.at && (leb from c.args.last && is_behind c.end_at-end.result c.args.m))
+    (sym c.from-from.ensures) ∙ sym c.is_seen.ensures in
     elim c.if-is_seen.branch [
       | then-is_seen+in_ok-copy+in_ok-push w ↦
           w.seen-is ∙ w.in_ok-push.ensures.ok
-          ∙ ap (λ row. c.loop-i.seen ++ record { row = row; sysfrom = v.sysfrom; systo = c.end_at-end.result } ∷ [])
+          ∙ ap (λ row. c.loop-i.seen ++ record { row = row; sysfrom = c.from-from.result; systo = c.end_at-end.result } ∷ [])
           w.in_ok-copy.ensures
-          ∙ ap (λ end. c.loop-i.seen ++ record { row = v.row; sysfrom = v.sysfrom; systo = end } ∷ [])
-          c.end_at-end.ensures
+          ∙ ap (λ from. c.loop-i.seen ++ record { row = v.row; sysfrom = from; systo = c.end_at-end.result } ∷ [])
+          c.from-from.ensures
+          ∙ ap (λ end. c.loop-i.seen ++ record { row = v.row; sysfrom = v.sysfrom; systo = end } ∷ []) (sym ends)
           ∙ versions_as_of-more c.args.at c.args.m c.args.last i vs v
           c.loop-i.seen inside found (test ∙ w.if-is_seen.true) c.loop-i.invariant
       | else-is_seen w ↦

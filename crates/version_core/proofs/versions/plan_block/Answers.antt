@@ -1,6 +1,6 @@
-use Rattle.std.proofs.Common.{◌<◌, ◌++◌, ◌∷◌, [], ◌∙◌, ap, sym, refl, length, get_or, None, arith, append_assoc, take}
+use Rattle.std.proofs.Common.{◌<◌, ◌++◌, ◌∷◌, [], ◌∙◌, ap, sym, refl, length, get_or, arith, append_assoc, take}
 use Rattle.std.specs.Prelude.{filter}
-use Rattle.std.proofs.lemmas.List.{get_or_default, take_all}
+use Rattle.std.proofs.lemmas.List.{take_all}
 use Rattle.version_core.specs.Finding.{passes}
 use Rattle.version_core.specs.OpenVersions.{is_taken}
 use Rattle.draft_core.specs.Lent.{lent_draft}
@@ -27,7 +27,7 @@ loop-place-preserved c =
     let vs = c.args.versions.now in
     let places = c.args.places.now in
     let i = c.loop-place.place-index in
-    let span = get_or c.rows_and_spans.result.1.now (get_or places i 0) (record { from = 0; to = None }) in
+    let span = c.index-spans-place.result in
     let row = lent_row c.of_draft-row.result in
     let version = version_of row span in
     let taken = is_taken c.args.seeker.now.change.now c.args.seeker.now.schema.now in
@@ -39,7 +39,7 @@ loop-place-preserved c =
     let found = version-at c.rows_and_spans.result.0.now c.rows_and_spans.result.1.now (get_or places i 0)
     (lent_draft c.at.result) row span vs c.rows_and_spans.ensures.versions
     (omega (arith, inside, c.rows_and_spans.ensures.rows)) beside c.at.ensures c.of_draft-row.ensures
-    (get_or_default c.rows_and_spans.result.1.now (get_or places i 0) _ span beside) in
+    c.index-spans-place.is in
     elim c.if-takes.branch [
       | then-takes+in_ok-push_parts+in_ok-push w ↦
           let test = sym c.takes.ensures ∙ w.if-takes.true in

@@ -1,4 +1,4 @@
-use Rattle.std.proofs.Common.{◌≡◌, ◌∙◌, ap, not, refl}
+use Rattle.std.proofs.Common.{◌≡◌, ◌∙◌, ap, refl, sym}
 use Rattle.version_core.specs.KeyIndex.{entry_of}
 use Rattle.version_core.specs.StoredRef.{version_at}
 use Rattle.version_core.proofs.KeyIndexLemmas.{key_index-added, key_index-skipped}
@@ -13,7 +13,7 @@ returns-in_default c =
     (record c.args.self.now { entries = c.insert.new.self }) c.requires.inside c.at-version.ensures refl
     (rw entry at c.in_default.ensures.updates) c.requires.before
 
-pub returns-else-is_none : goal.returns-else-is_none
-returns-else-is_none c =
+pub returns-else-is_open : goal.returns-else-is_open
+returns-else-is_open c =
     key_index-skipped c.args.versions.now c.args.place (version_at c.at-version.result) c.args.self.now
-    c.args.self.now c.requires.inside c.at-version.ensures refl (ap not c.if-is_none.ensures) refl c.requires.before
+    c.args.self.now c.requires.inside c.at-version.ensures refl (sym c.is_open.ensures ∙ c.if-is_open.false) refl c.requires.before

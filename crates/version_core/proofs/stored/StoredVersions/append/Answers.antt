@@ -3,8 +3,7 @@ use Rattle.std.proofs.lemmas.List.{length-replicate}
 use Rattle.table_core.specs.Numbered.{numbered}
 use Rattle.table_core.proofs.NumberedLemmas.{length-numbered}
 use Rattle.version_core.specs.Made.{made}
-use Rattle.version_core.specs.Stored.{versions_of}
-use Rattle.version_core.specs.declared.stored.Span.{Span}
+use Rattle.version_core.specs.Stored.{SystemPeriod, versions_of}
 use Rattle.version_core.proofs.StoredLemmas.{length-versions_of, versions_of-grown}
 use Rattle.version_core.proofs.stored.StoredVersions.append.Goals as goal
 
@@ -13,7 +12,7 @@ invariant_of-self-in_default c =
     let rows = c.self.inside.rows in
     let spans = c.self.inside.spans.items in
     let more = c.args.rows in
-    let span : Span = record { from = c.args.commit; to = None } in
+    let span : SystemPeriod = record { from = c.args.commit; to = None } in
     omega (
       arith,
       c.self.invariant,

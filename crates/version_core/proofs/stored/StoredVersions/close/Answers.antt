@@ -1,5 +1,6 @@
-use Rattle.std.proofs.Common.{◌∙◌, ap, arith, length}
+use Rattle.std.proofs.Common.{◌∙◌, ap, arith, length, set}
 use Rattle.version_core.specs.OpenVersions.{closed_at}
+use Rattle.version_core.specs.Stored.{versions_of}
 use Rattle.version_core.proofs.StoredLemmas.{closed_at-versions_of, length-closed, length-versions_of}
 use Rattle.version_core.proofs.stored.StoredVersions.close.Goals as goal
 
@@ -11,12 +12,14 @@ index_mut-requires c =
 pub returns-clause-closed : goal.returns-clause-closed
 returns-clause-closed c =
     let same = length-versions_of c.self.inside.rows c.self.inside.spans.items c.self.invariant in
-    closed_at-versions_of c.args.commit c.self.inside.rows c.self.inside.spans.items c.args.place
+    ap (λ span. versions_of c.self.inside.rows (set c.self.inside.spans.items c.args.place span)) c.close.ensures
+    ∙ closed_at-versions_of c.args.commit c.self.inside.rows c.self.inside.spans.items c.args.place
     c.index_mut.result.now c.self.invariant (omega (arith, c.requires, same, ap length c.self.view_is))
     c.index_mut.ensures.value
     ∙ ap (λ vs. closed_at c.args.commit vs c.args.place) c.self.view_is
 
 pub returns-clause-len : goal.returns-clause-len
 returns-clause-len c =
-    length-closed c.args.commit c.self.inside.rows c.self.inside.spans.items c.args.place
+    ap (λ span. length (versions_of c.self.inside.rows (set c.self.inside.spans.items c.args.place span))) c.close.ensures
+    ∙ length-closed c.args.commit c.self.inside.rows c.self.inside.spans.items c.args.place
     c.index_mut.result.now.from c.self.invariant ∙ ap length c.self.view_is
