@@ -9,6 +9,7 @@ use Rattle.std.proofs.lemmas.Bool.Decides.{same_from_decides}
 use Rattle.std.proofs.lemmas.List.{length-map, take_more}
 use Rattle.std.proofs.lemmas.List.Elements.{All-cons, All-head, All-tail, All-nil, filter-append}
 use Rattle.std.proofs.lemmas.List.Sorted.{All-permutation, ranks_by, sorted_far}
+use Rattle.std.proofs.lemmas.Option.{get_or_from_slice_get, slice_get_within}
 use Rattle.std.proofs.lemmas.Slice.Zip.{all_zipped_more}
 use Rattle.row_core.specs.ValueOrder.{same_maybe, value_cmp}
 use Rattle.row_core.specs.declared.row.Row.{Row}
@@ -16,9 +17,8 @@ use Rattle.row_core.specs.declared.value.Value.{Value}
 use Rattle.row_core.proofs.ValueLemmas.{maybe_decides, value_total}
 use Rattle.agg_core.specs.declared.entries.Entry.{Entry}
 use Rattle.share_core.specs.declared.range.Range.{Range}
-use Rattle.agg_core.specs.declared.keys.Key.{Key}
 use Rattle.agg_core.specs.Groups.{rows_of_group}
-use Rattle.agg_core.specs.Entries.{AreEntries, AreEntriesSorted, AreInGroups, IsEntry, entry_row, entry_value, value_at_place}
+use Rattle.agg_core.specs.Entries.{AreEntries, AreEntriesSorted, AreInGroups, HaveRows, IsEntry, entry_row, entry_value, no_row, value_at_place}
 use Rattle.agg_core.specs.KeyRanges.{in_range, rows_in_range}
 use Rattle.agg_core.proofs.OrderLemmas.{not_after, not_after-from, value_lt}
 
@@ -35,60 +35,95 @@ AllZip-more {A} {B} R xs i x ys new y inside at put r all =
 
 -- ---- entries of rows
 
--- what each entry keeps wherever it stands
-abbrev IsKept : ℕ → Entry → Type 0
-IsKept place e = slice_get (entry_row e).values place ≡ Some (entry_value e)
+module _ {K : Type 0} (value_of : K → Value) (all : List Row) where
+  -- what each entry keeps wherever it stands
+  abbrev IsKept : ℕ → Entry K → Type 0
+  IsKept place e = slice_get (entry_row all e).values place ≡ Some (entry_value value_of e)
 
--- each entry has its row's value
-entries_kept : (place : ℕ) (rows : List Row) (es : List Entry) → AreEntries place rows es → All (IsKept place) es
-entries_kept place [] [] all = All-nil (IsKept place)
-entries_kept place [] (e ∷ es) all = absurd all
-entries_kept place (r ∷ rows) [] all = absurd all
-entries_kept place (r ∷ rows) (e ∷ es) all =
-    All-cons (IsKept place) e es
-    (ap (λ (x : Row). slice_get x.values place) all.0.row_is ∙ all.0.value_is)
-    (entries_kept place rows es all.1)
+  -- the row of an entry of it
+  row_there : (place : ℕ) (r : Row) (e : Entry K) → IsEntry value_of all place r e → entry_row all e ≡ r
+  row_there place r e is = get_or_from_slice_get all e.row r no_row is.row_is
 
--- the rows of the entries are the rows
-pub rows_in_entries : (place : ℕ) (rows : List Row) (es : List Entry) → AreEntries place rows es → map entry_row es ≡ rows
-rows_in_entries place [] [] all = refl
-rows_in_entries place [] (e ∷ es) all = absurd all
-rows_in_entries place (r ∷ rows) [] all = absurd all
-rows_in_entries place (r ∷ rows) (e ∷ es) all =
-    ap (λ (x : Row). x ∷ map entry_row es) all.0.row_is ∙ ap (λ l. r ∷ l) (rows_in_entries place rows es all.1)
+  -- each entry has its row's value
+  entries_kept : (place : ℕ) (rows : List Row) (es : List (Entry K)) → AreEntries value_of all place rows es
+      → All (IsKept place) es
+  entries_kept place [] [] are = All-nil (IsKept place)
+  entries_kept place [] (e ∷ es) are = absurd are
+  entries_kept place (r ∷ rows) [] are = absurd are
+  entries_kept place (r ∷ rows) (e ∷ es) are =
+      All-cons (IsKept place) e es
+      (ap (λ (x : Row). slice_get x.values place) (row_there place r e are.0) ∙ are.0.value_is)
+      (entries_kept place rows es are.1)
 
--- one more row, and its entry, if its value is in the range
-rows_in_range-more : (group_of : Row → Option Value) (range : Range Key) (rows : List Row) (i : ℕ) (row : Row)
-    → i < length rows → row ≡ get_or rows i row
-    → rows_in_range group_of range (take (i + 1) rows)
-    ≡ rows_in_range group_of range (take i rows) ++ cond (in_range range (group_of row)) (row ∷ []) []
-rows_in_range-more group_of range rows i row inside at =
-    ap (rows_in_range group_of range) (take_more rows i row inside ∙ ap (λ (z : Row). take i rows ++ z ∷ []) (sym at))
-    ∙ filter-append (λ (r : Row). in_range range (group_of r)) (take i rows) (row ∷ [])
+  -- each has a row
+  pub entries_there : (place : ℕ) (rows : List Row) (es : List (Entry K)) → AreEntries value_of all place rows es
+      → HaveRows all es
+  entries_there place [] [] are = All-nil (λ (e : Entry K). e.row < length all)
+  entries_there place [] (e ∷ es) are = absurd are
+  entries_there place (r ∷ rows) [] are = absurd are
+  entries_there place (r ∷ rows) (e ∷ es) are =
+      All-cons (λ (x : Entry K). x.row < length all) e es (slice_get_within all e.row r are.0.row_is)
+      (entries_there place rows es are.1)
 
--- one more entry, of a row of the range
-pub entry_more : (place : ℕ) (range : Range Key) (rows : List Row) (i : ℕ) (row : Row) (es new : List Entry) (e : Entry)
-    → i < length rows → row ≡ get_or rows i row → in_range range (value_at_place (Some place) row) ≡ true
-    → new ≡ es ++ e ∷ [] → IsEntry place row e
-    → AreEntries place (rows_in_range (value_at_place (Some place)) range (take i rows)) es
-    → AreEntries place (rows_in_range (value_at_place (Some place)) range (take (i + 1) rows)) new
-entry_more place range rows i row es new e inside at within put is all =
-    let before = rows_in_range (value_at_place (Some place)) range (take i rows) in
-    subst (λ (l : List Row). AreEntries place l new)
-    (sym (rows_in_range-more (value_at_place (Some place)) range rows i row inside at
-    ∙ ap (λ b. before ++ cond b (row ∷ []) []) within))
-    (subst (AreEntries place (before ++ row ∷ [])) (sym put) (all_zipped_more (IsEntry place) before es row e all is))
+  -- the rows of the entries are the rows
+  pub rows_in_entries : (place : ℕ) (rows : List Row) (es : List (Entry K)) → AreEntries value_of all place rows es
+      → map (entry_row all) es ≡ rows
+  rows_in_entries place [] [] are = refl
+  rows_in_entries place [] (e ∷ es) are = absurd are
+  rows_in_entries place (r ∷ rows) [] are = absurd are
+  rows_in_entries place (r ∷ rows) (e ∷ es) are =
+      ap (λ (x : Row). x ∷ map (entry_row all) es) (row_there place r e are.0)
+      ∙ ap (λ l. r ∷ l) (rows_in_entries place rows es are.1)
 
--- and none, of a row of other values
-pub entry_same : (place : ℕ) (range : Range Key) (rows : List Row) (i : ℕ) (row : Row) (es : List Entry)
-    → i < length rows → row ≡ get_or rows i row → in_range range (value_at_place (Some place) row) ≡ false
-    → AreEntries place (rows_in_range (value_at_place (Some place)) range (take i rows)) es
-    → AreEntries place (rows_in_range (value_at_place (Some place)) range (take (i + 1) rows)) es
-entry_same place range rows i row es inside at without all =
-    let before = rows_in_range (value_at_place (Some place)) range (take i rows) in
-    subst (λ (l : List Row). AreEntries place l es)
-    (sym (rows_in_range-more (value_at_place (Some place)) range rows i row inside at
-    ∙ ap (λ b. before ++ cond b (row ∷ []) []) without ∙ append-nil before)) all
+  -- their rows are of their values' groups
+  pub grouped_entries : (place : ℕ) (rows : List Row) (es : List (Entry K)) → AreEntries value_of all place rows es
+      → AreInGroups value_of all (value_at_place (Some place)) es
+  grouped_entries place rows es are = entries_kept place rows es are
+
+  -- there are as many as rows
+  pub length-entries : (place : ℕ) (rows : List Row) (es : List (Entry K)) → AreEntries value_of all place rows es
+      → length es ≡ length rows
+  length-entries place rows es are =
+      sym (length-map es (entry_row all)) ∙ ap length (rows_in_entries place rows es are)
+
+  -- one more row, and its entry, if its value is in the range
+  rows_in_range-more : (group_of : Row → Option Value) (range : Range K) (rows : List Row) (i : ℕ) (row : Row)
+      → i < length rows → row ≡ get_or rows i row
+      → rows_in_range value_of group_of range (take (i + 1) rows)
+      ≡ rows_in_range value_of group_of range (take i rows) ++ cond (in_range value_of range (group_of row))
+      (row ∷ []) []
+  rows_in_range-more group_of range rows i row inside at =
+      ap (rows_in_range value_of group_of range)
+      (take_more rows i row inside ∙ ap (λ (z : Row). take i rows ++ z ∷ []) (sym at))
+      ∙ filter-append (λ (r : Row). in_range value_of range (group_of r)) (take i rows) (row ∷ [])
+
+  -- one more entry, of a row of the range
+  pub entry_more : (place : ℕ) (range : Range K) (rows : List Row) (i : ℕ) (row : Row) (es new : List (Entry K))
+      (e : Entry K)
+      → i < length rows → row ≡ get_or rows i row → in_range value_of range (value_at_place (Some place) row) ≡ true
+      → new ≡ es ++ e ∷ [] → IsEntry value_of all place row e
+      → AreEntries value_of all place (rows_in_range value_of (value_at_place (Some place)) range (take i rows)) es
+      → AreEntries value_of all place (rows_in_range value_of (value_at_place (Some place)) range (take (i + 1) rows))
+      new
+  entry_more place range rows i row es new e inside at within put is are =
+      let before = rows_in_range value_of (value_at_place (Some place)) range (take i rows) in
+      subst (λ (l : List Row). AreEntries value_of all place l new)
+      (sym (rows_in_range-more (value_at_place (Some place)) range rows i row inside at
+      ∙ ap (λ b. before ++ cond b (row ∷ []) []) within))
+      (subst (AreEntries value_of all place (before ++ row ∷ [])) (sym put)
+      (all_zipped_more (IsEntry value_of all place) before es row e are is))
+
+  -- and none, of a row of other values
+  pub entry_same : (place : ℕ) (range : Range K) (rows : List Row) (i : ℕ) (row : Row) (es : List (Entry K))
+      → i < length rows → row ≡ get_or rows i row → in_range value_of range (value_at_place (Some place) row) ≡ false
+      → AreEntries value_of all place (rows_in_range value_of (value_at_place (Some place)) range (take i rows)) es
+      → AreEntries value_of all place (rows_in_range value_of (value_at_place (Some place)) range (take (i + 1) rows))
+      es
+  entry_same place range rows i row es inside at without are =
+      let before = rows_in_range value_of (value_at_place (Some place)) range (take i rows) in
+      subst (λ (l : List Row). AreEntries value_of all place l es)
+      (sym (rows_in_range-more (value_at_place (Some place)) range rows i row inside at
+      ∙ ap (λ b. before ++ cond b (row ∷ []) []) without ∙ append-nil before)) are
 
 -- ---- filters
 
@@ -125,88 +160,83 @@ filter_first {A} p (x ∷ xs) = split (p x) refl (filter_first p xs)
 
 -- ---- entries of one value, after a stable sort
 
--- the entry is of the group
-abbrev in_group : Option Value → Entry → Bool
-in_group group e = same_maybe (Some (entry_value e)) group
-
 -- where both are denied, both are false
 neither : (p q : Bool) → not p && not q ≡ true → (p ≡ false) × (q ≡ false)
 neither true q e = cc
 neither false true e = cc
 neither false false e = (refl, refl)
 
--- two entries tie where they are of one group
-tie_decides : (x m : Entry) → Decides (ties value_lt x m) (Some (entry_value m) ≡ Some (entry_value x))
-tie_decides x m = (
-  λ e. (let n = neither (value_lt x m) (value_lt m x) e in
-      elim (not_after (Some (entry_value m)) (Some (entry_value x)) n.0) [
-        | inl less ↦ absurd (let bad : true ≡ false = ap is_lt (sym less) ∙ n.1 in cc)
-        | inr same ↦ same
-      ]),
-  λ e. ap (λ t. not t && not (value_lt m x)) (not_after-from (Some (entry_value m)) (Some (entry_value x)) (inr e))
-      ∙ ap (λ t. not t) (not_after-from (Some (entry_value x)) (Some (entry_value m)) (inr (sym e))),
-)
+module _ {K : Type 0} (value_of : K → Value) where
+  -- the entry is of the group
+  abbrev in_group : Option Value → Entry K → Bool
+  in_group group e = same_maybe (Some (entry_value value_of e)) group
 
--- entries tie with those of their group
-tie_is : (x m : Entry) → ties value_lt x m ≡ in_group (Some (entry_value x)) m
-tie_is x m =
-    same_from_decides (ties value_lt x m) (in_group (Some (entry_value x)) m) (tie_decides x m)
-    (maybe_decides (Some (entry_value m)) (Some (entry_value x)))
+  -- two entries tie where they are of one group
+  tie_decides : (x m : Entry K)
+      → Decides (ties (value_lt value_of) x m) (Some (entry_value value_of m) ≡ Some (entry_value value_of x))
+  tie_decides x m = (
+    λ e. (let n = neither (value_lt value_of x m) (value_lt value_of m x) e in
+        elim (not_after (Some (entry_value value_of m)) (Some (entry_value value_of x)) n.0) [
+          | inl less ↦ absurd (let bad : true ≡ false = ap is_lt (sym less) ∙ n.1 in cc)
+          | inr same ↦ same
+        ]),
+    λ e. ap (λ t. not t && not (value_lt value_of m x))
+        (not_after-from (Some (entry_value value_of m)) (Some (entry_value value_of x)) (inr e))
+        ∙ ap (λ t. not t) (not_after-from (Some (entry_value value_of x)) (Some (entry_value value_of m))
+        (inr (sym e))),
+  )
 
--- the entries of a group stand in the order in which they stood
-group_stable : (old new : List Entry) → IsStableByKey entry_value value_cmp old new → (group : Option Value)
-    → filter (in_group group) new ≡ filter (in_group group) old
-group_stable old new stable group = elim (filter_first (in_group group) new) [
-  | inr f ↦ by f.0 ((maybe_decides (Some (entry_value f.0)) group).0 f.1)
-  | inl none ↦ elim (filter_first (in_group group) old) [
-    | inr f ↦ by f.0 ((maybe_decides (Some (entry_value f.0)) group).0 f.1)
-    | inl also ↦ none ∙ sym also
+  -- entries tie with those of their group
+  tie_is : (x m : Entry K) → ties (value_lt value_of) x m ≡ in_group (Some (entry_value value_of x)) m
+  tie_is x m =
+      same_from_decides (ties (value_lt value_of) x m) (in_group (Some (entry_value value_of x)) m) (tie_decides x m)
+      (maybe_decides (Some (entry_value value_of m)) (Some (entry_value value_of x)))
+
+  -- the entries of a group stand in the order in which they stood
+  group_stable : (old new : List (Entry K)) → IsStableByKey (entry_value value_of) value_cmp old new
+      → (group : Option Value)
+      → filter (in_group group) new ≡ filter (in_group group) old
+  group_stable old new stable group = elim (filter_first (in_group group) new) [
+    | inr f ↦ by f.0 ((maybe_decides (Some (entry_value value_of f.0)) group).0 f.1)
+    | inl none ↦ elim (filter_first (in_group group) old) [
+      | inr f ↦ by f.0 ((maybe_decides (Some (entry_value value_of f.0)) group).0 f.1)
+      | inl also ↦ none ∙ sym also
+    ]
   ]
-]
-  where
-    tied : (x : Entry) (zs : List Entry) → Some (entry_value x) ≡ group
-        → filter (in_group group) zs ≡ filter (ties value_lt x) zs
-    tied x zs e =
-        filter_alike (in_group group) (ties value_lt x) zs
-        (λ k d h. ap (λ (v : Option Value). in_group v (get_or zs k d)) (sym e) ∙ sym (tie_is x (get_or zs k d)))
+    where
+      tied : (x : Entry K) (zs : List (Entry K)) → Some (entry_value value_of x) ≡ group
+          → filter (in_group group) zs ≡ filter (ties (value_lt value_of) x) zs
+      tied x zs e =
+          filter_alike (in_group group) (ties (value_lt value_of) x) zs
+          (λ k d h. ap (λ (v : Option Value). in_group v (get_or zs k d)) (sym e) ∙ sym (tie_is x (get_or zs k d)))
 
-    by : (x : Entry) → Some (entry_value x) ≡ group → filter (in_group group) new ≡ filter (in_group group) old
-    by x e = tied x new e ∙ stable x ∙ sym (tied x old e)
+      by : (x : Entry K) → Some (entry_value value_of x) ≡ group
+          → filter (in_group group) new ≡ filter (in_group group) old
+      by x e = tied x new e ∙ stable x ∙ sym (tied x old e)
 
--- a group's rows are those of its entries
-group_rows : (group_of : Row → Option Value) (group : Option Value) (es : List Entry) → AreInGroups group_of es
-    → rows_of_group group_of group (map entry_row es) ≡ map entry_row (filter (in_group group) es)
-group_rows group_of group es grouped =
-    filter-map entry_row (λ (r : Row). same_maybe (group_of r) group) es
-    ∙ ap (map entry_row)
-    (filter_alike (λ (e : Entry). same_maybe (group_of (entry_row e)) group) (in_group group) es
-    (λ k d h. ap (λ (v : Option Value). same_maybe v group) (grouped k d h)))
+  -- a group's rows are those of its entries
+  group_rows : (all : List Row) (group_of : Row → Option Value) (group : Option Value) (es : List (Entry K))
+      → AreInGroups value_of all group_of es
+      → rows_of_group group_of group (map (entry_row all) es) ≡ map (entry_row all) (filter (in_group group) es)
+  group_rows all group_of group es grouped =
+      filter-map (entry_row all) (λ (r : Row). same_maybe (group_of r) group) es
+      ∙ ap (map (entry_row all))
+      (filter_alike (λ (e : Entry K). same_maybe (group_of (entry_row all e)) group) (in_group group) es
+      (λ k d h. ap (λ (v : Option Value). same_maybe v group) (grouped k d h)))
 
--- ---- what is known of the entries of rows
-
--- their rows are of their values' groups
-pub grouped_entries : (place : ℕ) (rows : List Row) (es : List Entry) → AreEntries place rows es
-    → AreInGroups (value_at_place (Some place)) es
-grouped_entries place rows es all = entries_kept place rows es all
-
--- there are as many as rows
-pub length-entries : (place : ℕ) (rows : List Row) (es : List Entry) → AreEntries place rows es
-    → length es ≡ length rows
-length-entries place rows es all =
-    sym (length-map es entry_row) ∙ ap length (rows_in_entries place rows es all)
-
--- ---- sorted entries
-
--- entries that a stable sort has moved
-pub entries_sorted : (old new : List Entry) → IsPermutation old new
-    → IsSortedByKey entry_value value_cmp new → IsStableByKey entry_value value_cmp old new → AreEntriesSorted old new
-entries_sorted old new moved sorted stable = record {
-  rise = λ i j d below inside.
-      sorted_far value_lt (ranks_by value_total entry_value) new sorted i j d (omega arith) inside;
-  moved = moved;
-  kept = λ group_of grouped group.
-      group_rows group_of group new
-      (All-permutation (λ (e : Entry). group_of (entry_row e) ≡ Some (entry_value e)) old new moved grouped)
-      ∙ ap (map entry_row) (group_stable old new stable group)
-      ∙ sym (group_rows group_of group old grouped);
-}
+  -- entries that a stable sort has moved
+  pub entries_sorted : (old new : List (Entry K)) → IsPermutation old new
+      → IsSortedByKey (entry_value value_of) value_cmp new → IsStableByKey (entry_value value_of) value_cmp old new
+      → AreEntriesSorted value_of old new
+  entries_sorted old new moved sorted stable = record {
+    rise = λ i j d below inside.
+        sorted_far (value_lt value_of) (ranks_by value_total (entry_value value_of)) new sorted i j d (omega arith)
+        inside;
+    moved = moved;
+    kept = λ all group_of grouped group.
+        group_rows all group_of group new
+        (All-permutation (λ (e : Entry K). group_of (entry_row all e) ≡ Some (entry_value value_of e)) old new moved
+        grouped)
+        ∙ ap (map (entry_row all)) (group_stable old new stable group)
+        ∙ sym (group_rows all group_of group old grouped);
+  }

@@ -111,92 +111,102 @@ class_of_added value old new class rise upto not_last put e =
 
 -- ---- numbered rows
 
--- no group so far comes after the value of the next entry
-pub upto_next : (amount_of : Row → ℤ) (entries : List Entry) (i : ℕ) (e : Entry) (items : List Item)
-    (groups : List (Option Value)) → AreRising entries → i < length entries → e ≡ get_or entries i e
-    → AreItemsByGroup amount_of (take i entries) items groups → AreNotAfter groups (Some (entry_value e))
-upto_next amount_of entries i e items groups rising inside at numbered k d h =
-    let (before, (j, near, is), same) = numbered.listed (get_or groups k d) (Contains-get_or groups k d h) in
-    subst (λ (g : Option Value). is_lt (maybe_cmp (Some (entry_value e)) g) ≡ false) same (earlier before j near is)
-  where
-    earlier : (before : Entry) (j : ℕ) → j < length (take i entries) → get_or (take i entries) j before ≡ before
-        → is_lt (value_cmp (entry_value e) (entry_value before)) ≡ false
-    earlier before j near is =
-        let long : length (take i entries) ≡ i = length-take-le i entries (omega arith) in
-        let less : j < i = omega (arith, near, long) in
-        let there : get_or entries j before ≡ before = sym (get_or-take i entries j before less) ∙ is in
-        let here : get_or entries i before ≡ e = get_or_default entries i before e inside ∙ sym at in
-        subst (λ (x : Entry). is_lt (value_cmp (entry_value x) (entry_value before)) ≡ false) here
-        (subst (λ (x : Entry). is_lt (value_cmp (entry_value (get_or entries i before)) (entry_value x)) ≡ false) there
-        (rising j i before less inside))
+module _ {K : Type 0} (value_of : K → Value) (source : List Row) where
+  -- no group so far comes after the value of the next entry
+  pub upto_next : (amount_of : Row → ℤ) (entries : List (Entry K)) (i : ℕ) (e : Entry K) (items : List Item)
+      (groups : List (Option Value)) → AreRising value_of entries → i < length entries → e ≡ get_or entries i e
+      → AreItemsByGroup value_of source amount_of (take i entries) items groups
+      → AreNotAfter groups (Some (entry_value value_of e))
+  upto_next amount_of entries i e items groups rising inside at numbered k d h =
+      let (before, (j, near, is), same) = numbered.listed (get_or groups k d) (Contains-get_or groups k d h) in
+      subst (λ (g : Option Value). is_lt (maybe_cmp (Some (entry_value value_of e)) g) ≡ false) same
+      (earlier before j near is)
+    where
+      earlier : (before : Entry K) (j : ℕ) → j < length (take i entries) → get_or (take i entries) j before ≡ before
+          → is_lt (value_cmp (entry_value value_of e) (entry_value value_of before)) ≡ false
+      earlier before j near is =
+          let long : length (take i entries) ≡ i = length-take-le i entries (omega arith) in
+          let less : j < i = omega (arith, near, long) in
+          let there : get_or entries j before ≡ before = sym (get_or-take i entries j before less) ∙ is in
+          let here : get_or entries i before ≡ e = get_or_default entries i before e inside ∙ sym at in
+          subst (λ (x : Entry K). is_lt (value_cmp (entry_value value_of x) (entry_value value_of before)) ≡ false) here
+          (subst (λ (x : Entry K). is_lt
+          (value_cmp (entry_value value_of (get_or entries i before)) (entry_value value_of x)) ≡ false) there
+          (rising j i before less inside))
 
--- numbers stay where groups are added
-each_kept : (amount_of : Row → ℤ) (old new : List (Option Value)) (es : List Entry) (items : List Item)
-    → ((c : ℕ) (g : Option Value) → slice_get old c ≡ Some g → slice_get new c ≡ Some g)
-    → AllZip (IsNumberedItem amount_of old) es items → AllZip (IsNumberedItem amount_of new) es items
-each_kept amount_of old new [] [] kept all = tt
-each_kept amount_of old new [] (x ∷ items) kept all = absurd all
-each_kept amount_of old new (e ∷ es) [] kept all = absurd all
-each_kept amount_of old new (e ∷ es) (x ∷ items) kept all = (
-  record { is = all.0.is; at = kept x.class (Some (entry_value e)) all.0.at },
-  each_kept amount_of old new es items kept all.1,
-)
+  -- numbers stay where groups are added
+  each_kept : (amount_of : Row → ℤ) (old new : List (Option Value)) (es : List (Entry K)) (items : List Item)
+      → ((c : ℕ) (g : Option Value) → slice_get old c ≡ Some g → slice_get new c ≡ Some g)
+      → AllZip (IsNumberedItem value_of source amount_of old) es items
+      → AllZip (IsNumberedItem value_of source amount_of new) es items
+  each_kept amount_of old new [] [] kept all = tt
+  each_kept amount_of old new [] (x ∷ items) kept all = absurd all
+  each_kept amount_of old new (e ∷ es) [] kept all = absurd all
+  each_kept amount_of old new (e ∷ es) (x ∷ items) kept all = (
+    record { is = all.0.is; at = kept x.class (Some (entry_value value_of e)) all.0.at },
+    each_kept amount_of old new es items kept all.1,
+  )
 
--- each item's class is the number of a group
-pub classes_within : (amount_of : Row → ℤ) (groups : List (Option Value)) (es : List Entry) (items : List Item)
-    → AllZip (IsNumberedItem amount_of groups) es items → All (λ (x : Item). x.class < length groups) items
-classes_within amount_of groups [] [] all = All-nil (λ (x : Item). x.class < length groups)
-classes_within amount_of groups [] (x ∷ items) all = absurd all
-classes_within amount_of groups (e ∷ es) [] all = absurd all
-classes_within amount_of groups (e ∷ es) (x ∷ items) all =
-    All-cons (λ (y : Item). y.class < length groups) x items
-    (slice_get_within groups x.class (Some (entry_value e)) all.0.at) (classes_within amount_of groups es items all.1)
+  -- each item's class is the number of a group
+  pub classes_within : (amount_of : Row → ℤ) (groups : List (Option Value)) (es : List (Entry K)) (items : List Item)
+      → AllZip (IsNumberedItem value_of source amount_of groups) es items
+      → All (λ (x : Item). x.class < length groups) items
+  classes_within amount_of groups [] [] all = All-nil (λ (x : Item). x.class < length groups)
+  classes_within amount_of groups [] (x ∷ items) all = absurd all
+  classes_within amount_of groups (e ∷ es) [] all = absurd all
+  classes_within amount_of groups (e ∷ es) (x ∷ items) all =
+      All-cons (λ (y : Item). y.class < length groups) x items
+      (slice_get_within groups x.class (Some (entry_value value_of e)) all.0.at)
+      (classes_within amount_of groups es items all.1)
 
--- one entry more
-pub numbered_more : (amount_of : Row → ℤ) (entries : List Entry) (i : ℕ) (e : Entry) (items new : List Item) (x : Item)
-    (groups groups' : List (Option Value)) (class : ℕ) → i < length entries → e ≡ get_or entries i e
-    → IsClassOf (entry_value e) groups groups' class → x ≡ amount_item amount_of class (entry_row e) → new ≡ items ++ x ∷ []
-    → AreItemsByGroup amount_of (take i entries) items groups
-    → AreItemsByGroup amount_of (take (i + 1) entries) new groups'
-numbered_more amount_of entries i e items new x groups groups' class inside at is made put was = record {
-  classes = subst (AllPairs (λ (a b : Item). a.class ≤ b.class)) (sym put)
-      (AllPairs-append (λ (a b : Item). a.class ≤ b.class) items (x ∷ []) was.classes
-      (AllPairs-one (λ (a b : Item). a.class ≤ b.class) x) below);
-  rise = is.rise;
-  each = AllZip-more (IsNumberedItem amount_of groups') entries i e items new x inside at put
-      (record {
-        is = made ∙ ap (λ c. amount_item amount_of c (entry_row e)) (sym classed);
-        at = ap (slice_get groups') classed ∙ is.at;
-      })
-      (each_kept amount_of groups groups' (take i entries) items is.kept was.each);
-  listed = λ g h. elim (is.added g h) [
-    | inl old ↦ let (before, there, same) = was.listed g old in
-        (before, taken before (Contains-append_left (take i entries) (e ∷ []) before there), same)
-    | inr same ↦ (e, taken e (Contains-push (take i entries) e), sym same)
-  ];
-}
-  where
-    classed : x.class ≡ class
-    classed = ap (λ (y : Item). y.class) made
+  -- one entry more
+  pub numbered_more : (amount_of : Row → ℤ) (entries : List (Entry K)) (i : ℕ) (e : Entry K) (items new : List Item)
+      (x : Item)
+      (groups groups' : List (Option Value)) (class : ℕ) → i < length entries → e ≡ get_or entries i e
+      → IsClassOf (entry_value value_of e) groups groups' class → x ≡ amount_item amount_of class (entry_row source e)
+      → new ≡ items ++ x ∷ []
+      → AreItemsByGroup value_of source amount_of (take i entries) items groups
+      → AreItemsByGroup value_of source amount_of (take (i + 1) entries) new groups'
+  numbered_more amount_of entries i e items new x groups groups' class inside at is made put was = record {
+    classes = subst (AllPairs (λ (a b : Item). a.class ≤ b.class)) (sym put)
+        (AllPairs-append (λ (a b : Item). a.class ≤ b.class) items (x ∷ []) was.classes
+        (AllPairs-one (λ (a b : Item). a.class ≤ b.class) x) below);
+    rise = is.rise;
+    each = AllZip-more (IsNumberedItem value_of source amount_of groups') entries i e items new x inside at put
+        (record {
+          is = made ∙ ap (λ c. amount_item amount_of c (entry_row source e)) (sym classed);
+          at = ap (slice_get groups') classed ∙ is.at;
+        })
+        (each_kept amount_of groups groups' (take i entries) items is.kept was.each);
+    listed = λ g h. elim (is.added g h) [
+      | inl old ↦ let (before, there, same) = was.listed g old in
+          (before, taken before (Contains-append_left (take i entries) (e ∷ []) before there), same)
+      | inr same ↦ (e, taken e (Contains-push (take i entries) e), sym same)
+    ];
+  }
+    where
+      classed : x.class ≡ class
+      classed = ap (λ (y : Item). y.class) made
 
-    taken : (b : Entry) → Contains (take i entries ++ e ∷ []) b → Contains (take (i + 1) entries) b
-    taken b h =
-        subst (λ l. Contains l b)
-        (sym (take_more entries i e inside ∙ ap (λ (z : Entry). take i entries ++ z ∷ []) (sym at))) h
+      taken : (b : Entry K) → Contains (take i entries ++ e ∷ []) b → Contains (take (i + 1) entries) b
+      taken b h =
+          subst (λ l. Contains l b)
+          (sym (take_more entries i e inside ∙ ap (λ (z : Entry K). take i entries ++ z ∷ []) (sym at))) h
 
-    below : (a b : Item) → Contains items a → Contains (x ∷ []) b → a.class ≤ b.class
-    below a b h k =
-        let within : All (λ (y : Item). y.class < length groups') items =
-        classes_within amount_of groups' (take i entries) items
-        (each_kept amount_of groups groups' (take i entries) items is.kept was.each) in
-        let less : a.class < length groups' = All-contains (λ (y : Item). y.class < length groups') items a within h in
-        let last = is.last in
-        elim (Contains-cons_cases x [] b k) [
-          | inl same ↦
-              let here : class ≡ b.class = sym classed ∙ ap (λ (y : Item). y.class) same in
-              omega (arith, less, last, here)
-          | inr later ↦ absurd (Contains-none b later)
-        ]
+      below : (a b : Item) → Contains items a → Contains (x ∷ []) b → a.class ≤ b.class
+      below a b h k =
+          let within : All (λ (y : Item). y.class < length groups') items =
+          classes_within amount_of groups' (take i entries) items
+          (each_kept amount_of groups groups' (take i entries) items is.kept was.each) in
+          let less : a.class < length groups' =
+          All-contains (λ (y : Item). y.class < length groups') items a within h in
+          let last = is.last in
+          elim (Contains-cons_cases x [] b k) [
+            | inl same ↦
+                let here : class ≡ b.class = sym classed ∙ ap (λ (y : Item). y.class) same in
+                omega (arith, less, last, here)
+            | inr later ↦ absurd (Contains-none b later)
+          ]
 
 -- ---- the items of a class
 
@@ -207,75 +217,81 @@ cond-item f x r b true items rows same is all =
     ap (λ t. cond t (x ∷ items) items) same ∙ ap (λ (y : Item). y ∷ items) (is refl) ∙ ap (λ l. f r ∷ l) all
 cond-item f x r b false items rows same is all = ap (λ t. cond t (x ∷ items) items) same ∙ all
 
--- the items of a group's number are the rows of that group
-of_class-rows : (amount_of : Row → ℤ) (group_of : Row → Option Value) (groups : List (Option Value))
-    (es : List Entry) (items : List Item) (c : ℕ) (g : Option Value) → RisesByGroup groups → slice_get groups c ≡ Some g
-    → ((e : Entry) → Contains es e → group_of (entry_row e) ≡ Some (entry_value e))
-    → AllZip (IsNumberedItem amount_of groups) es items
-    → of_class c items ≡ map (amount_item amount_of c) (rows_of_group group_of g (map entry_row es))
-of_class-rows amount_of group_of groups [] [] c g rise at grouped all = refl
-of_class-rows amount_of group_of groups [] (x ∷ items) c g rise at grouped all = absurd all
-of_class-rows amount_of group_of groups (e ∷ es) [] c g rise at grouped all = absurd all
-of_class-rows amount_of group_of groups (e ∷ es) (x ∷ items) c g rise at grouped all =
-    cond-item (amount_item amount_of c) x (entry_row e) (x.class == c) (same_maybe (group_of (entry_row e)) g)
-    (of_class c items)
-    (rows_of_group group_of g (map entry_row es)) alike
-    (λ t. all.0.is ∙ ap (λ n. amount_item amount_of n (entry_row e))
-    (to_class ((maybe_decides (group_of (entry_row e)) g).0 t)))
-    (of_class-rows amount_of group_of groups es items c g rise at
-    (λ b h. grouped b (Contains-cons e es b h)) all.1)
-  where
-    here : group_of (entry_row e) ≡ Some (entry_value e)
-    here = grouped e (Contains-head e es)
+module _ {K : Type 0} (value_of : K → Value) (source : List Row) where
+  -- the items of a group's number are the rows of that group
+  of_class-rows : (amount_of : Row → ℤ) (group_of : Row → Option Value) (groups : List (Option Value))
+      (es : List (Entry K)) (items : List Item) (c : ℕ) (g : Option Value) → RisesByGroup groups
+      → slice_get groups c ≡ Some g
+      → ((e : Entry K) → Contains es e → group_of (entry_row source e) ≡ Some (entry_value value_of e))
+      → AllZip (IsNumberedItem value_of source amount_of groups) es items
+      → of_class c items ≡ map (amount_item amount_of c) (rows_of_group group_of g (map (entry_row source) es))
+  of_class-rows amount_of group_of groups [] [] c g rise at grouped all = refl
+  of_class-rows amount_of group_of groups [] (x ∷ items) c g rise at grouped all = absurd all
+  of_class-rows amount_of group_of groups (e ∷ es) [] c g rise at grouped all = absurd all
+  of_class-rows amount_of group_of groups (e ∷ es) (x ∷ items) c g rise at grouped all =
+      cond-item (amount_item amount_of c) x (entry_row source e) (x.class == c)
+      (same_maybe (group_of (entry_row source e)) g)
+      (of_class c items)
+      (rows_of_group group_of g (map (entry_row source) es)) alike
+      (λ t. all.0.is ∙ ap (λ n. amount_item amount_of n (entry_row source e))
+      (to_class ((maybe_decides (group_of (entry_row source e)) g).0 t)))
+      (of_class-rows amount_of group_of groups es items c g rise at
+      (λ b h. grouped b (Contains-cons e es b h)) all.1)
+    where
+      here : group_of (entry_row source e) ≡ Some (entry_value value_of e)
+      here = grouped e (Contains-head e es)
 
-    to_class : group_of (entry_row e) ≡ g → x.class ≡ c
-    to_class same = place_once groups x.class c g rise (all.0.at ∙ ap Some (sym here ∙ same)) at
+      to_class : group_of (entry_row source e) ≡ g → x.class ≡ c
+      to_class same = place_once groups x.class c g rise (all.0.at ∙ ap Some (sym here ∙ same)) at
 
-    to_group : x.class ≡ c → group_of (entry_row e) ≡ g
-    to_group same =
-        let one : Some (Some (entry_value e)) ≡ Some g = sym all.0.at ∙ ap (slice_get groups) same ∙ at in
-        here ∙ ap (λ (o : Option (Option Value)). unwrap_or o g) one
+      to_group : x.class ≡ c → group_of (entry_row source e) ≡ g
+      to_group same =
+          let one : Some (Some (entry_value value_of e)) ≡ Some g = sym all.0.at ∙ ap (slice_get groups) same ∙ at in
+          here ∙ ap (λ (o : Option (Option Value)). unwrap_or o g) one
 
-    alike : (x.class == c) ≡ same_maybe (group_of (entry_row e)) g
-    alike =
-        same_from_decides (x.class == c) (same_maybe (group_of (entry_row e)) g)
-        (λ t. to_group ((Decides-eqb x.class c).0 t), λ same. (Decides-eqb x.class c).1 (to_class same))
-        (maybe_decides (group_of (entry_row e)) g)
+      alike : (x.class == c) ≡ same_maybe (group_of (entry_row source e)) g
+      alike =
+          same_from_decides (x.class == c) (same_maybe (group_of (entry_row source e)) g)
+          (λ t. to_group ((Decides-eqb x.class c).0 t), λ same. (Decides-eqb x.class c).1 (to_class same))
+          (maybe_decides (group_of (entry_row source e)) g)
 
--- ---- rows by group
+  -- some item has the number of an entry's group
+  entry_listed : (amount_of : Row → ℤ) (groups : List (Option Value)) (es : List (Entry K)) (items : List Item)
+      → AllZip (IsNumberedItem value_of source amount_of groups) es items → (e : Entry K) → Contains es e
+      → Contains groups (Some (entry_value value_of e))
+  entry_listed amount_of groups [] items all e h = absurd (Contains-none e h)
+  entry_listed amount_of groups (b ∷ es) [] all e h = absurd all
+  entry_listed amount_of groups (b ∷ es) (x ∷ items) all e h = elim (Contains-cons_cases b es e h) [
+    | inl same ↦ subst (λ (d : Entry K). Contains groups (Some (entry_value value_of d))) same
+        (subst (Contains groups)
+        (get_or_from_slice_get groups x.class (Some (entry_value value_of b)) (Some (entry_value value_of b)) all.0.at)
+        (Contains-get_or groups x.class (Some (entry_value value_of b))
+        (slice_get_within groups x.class (Some (entry_value value_of b)) all.0.at)))
+    | inr later ↦ entry_listed amount_of groups es items all.1 e later
+  ]
 
--- some item has the number of an entry's group
-entry_listed : (amount_of : Row → ℤ) (groups : List (Option Value)) (es : List Entry) (items : List Item)
-    → AllZip (IsNumberedItem amount_of groups) es items → (e : Entry) → Contains es e
-    → Contains groups (Some (entry_value e))
-entry_listed amount_of groups [] items all e h = absurd (Contains-none e h)
-entry_listed amount_of groups (b ∷ es) [] all e h = absurd all
-entry_listed amount_of groups (b ∷ es) (x ∷ items) all e h = elim (Contains-cons_cases b es e h) [
-  | inl same ↦ subst (λ (d : Entry). Contains groups (Some (entry_value d))) same
-      (subst (Contains groups) (get_or_from_slice_get groups x.class (Some (entry_value b)) (Some (entry_value b)) all.0.at)
-      (Contains-get_or groups x.class (Some (entry_value b))
-      (slice_get_within groups x.class (Some (entry_value b)) all.0.at)))
-  | inr later ↦ entry_listed amount_of groups es items all.1 e later
-]
-
--- the rows of entries that were numbered
-pub grouping_of : (amount_of : Row → ℤ) (group_of : Row → Option Value) (es : List Entry) (items : List Item)
-    (groups : List (Option Value)) → AreInGroups group_of es → AreItemsByGroup amount_of es items groups
-    → IsGrouping amount_of group_of (map entry_row es) items groups
-grouping_of amount_of group_of es items groups grouped numbered = record {
-  classes = numbered.classes;
-  count = AllZip-long (IsNumberedItem amount_of groups) es items numbered.each ∙ sym (length-map es entry_row);
-  within = classes_within amount_of groups es items numbered.each;
-  rise = numbered.rise;
-  listed = λ row h.
-      let (e, there, is) = Contains-map_source entry_row es row h in
-      subst (Contains groups) (sym (own e there) ∙ ap group_of is)
-      (entry_listed amount_of groups es items numbered.each e there);
-  of_classes = λ c g at. of_class-rows amount_of group_of groups es items c g numbered.rise at own numbered.each;
-}
-  where
-    own : (e : Entry) → Contains es e → group_of (entry_row e) ≡ Some (entry_value e)
-    own e there = All-contains (λ (b : Entry). group_of (entry_row b) ≡ Some (entry_value b)) es e grouped there
+  -- the rows of entries that were numbered
+  pub grouping_of : (amount_of : Row → ℤ) (group_of : Row → Option Value) (es : List (Entry K)) (items : List Item)
+      (groups : List (Option Value)) → AreInGroups value_of source group_of es
+      → AreItemsByGroup value_of source amount_of es items groups
+      → IsGrouping amount_of group_of (map (entry_row source) es) items groups
+  grouping_of amount_of group_of es items groups grouped numbered = record {
+    classes = numbered.classes;
+    count = AllZip-long (IsNumberedItem value_of source amount_of groups) es items numbered.each
+        ∙ sym (length-map es (entry_row source));
+    within = classes_within value_of source amount_of groups es items numbered.each;
+    rise = numbered.rise;
+    listed = λ row h.
+        let (e, there, is) = Contains-map_source (entry_row source) es row h in
+        subst (Contains groups) (sym (own e there) ∙ ap group_of is)
+        (entry_listed amount_of groups es items numbered.each e there);
+    of_classes = λ c g at. of_class-rows amount_of group_of groups es items c g numbered.rise at own numbered.each;
+  }
+    where
+      own : (e : Entry K) → Contains es e → group_of (entry_row source e) ≡ Some (entry_value value_of e)
+      own e there =
+          All-contains (λ (b : Entry K). group_of (entry_row source b) ≡ Some (entry_value value_of b)) es e grouped
+          there
 
 -- ---- one group of all rows
 

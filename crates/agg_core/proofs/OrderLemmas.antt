@@ -11,13 +11,10 @@ use Rattle.row_core.proofs.ValueLemmas.{maybe_exact, maybe_total}
 use Rattle.list_core.proofs.RisingLemmas.{IsListOf-unique}
 use Rattle.list_core.proofs.OrderedLemmas.{before-asym}
 use Rattle.agg_core.specs.declared.entries.Entry.{Entry}
-use Rattle.agg_core.specs.declared.keys.Key.{Key}
-use Rattle.agg_core.specs.declared.keys.Key.TheVariants as key
 use Rattle.agg_core.specs.declared.rows.AggRow.{AggRow}
-use Rattle.agg_core.specs.contracts.keys.KeyOrd.TheImpl.{ghosts}
 use Rattle.agg_core.specs.Agg.{AggHasOneList, IsAggRow, amount_in, measure_of, value_in}
 use Rattle.agg_core.specs.Groups.{AggRowBefore, agg_row_cmp}
-use Rattle.agg_core.specs.Entries.{entry_value, value_of_key}
+use Rattle.agg_core.specs.Entries.{entry_value}
 use Rattle.agg_core.specs.Grouping.{GroupBefore}
 
 -- ---- groups
@@ -48,24 +45,22 @@ not_after-from a b (inr e) =
 
 -- ---- keys
 
--- keys are compared as their values are
-pub key_cmp-value : (a b : Key) → ghosts.cmp a b ≡ value_cmp (value_of_key a) (value_of_key b)
-key_cmp-value (key.Number a) (key.Number b) = refl
-key_cmp-value (key.Number a) (key.Text b) = refl
-key_cmp-value (key.Text a) (key.Number b) = refl
-key_cmp-value (key.Text a) (key.Text b) = refl
+-- keys are in the order of their values
+abbrev pub AreOrdered : {K : Type 0} → (K → Value) → (K → K → Ordering) → Type 0
+AreOrdered {K} value_of cmp = (a b : K) → cmp a b ≡ value_cmp (value_of a) (value_of b)
 
 -- an entry's key is below another's
-abbrev pub key_lt : Entry → Entry → Bool
-key_lt x y = is_lt (ghosts.cmp x.key y.key)
+abbrev pub key_lt : {K : Type 0} → (K → K → Ordering) → Entry K → Entry K → Bool
+key_lt cmp x y = is_lt (cmp x.key y.key)
 
 -- an entry's value is below another's
-abbrev pub value_lt : Entry → Entry → Bool
-value_lt x y = is_lt (value_cmp (entry_value x) (entry_value y))
+abbrev pub value_lt : {K : Type 0} → (K → Value) → Entry K → Entry K → Bool
+value_lt value_of x y = is_lt (value_cmp (entry_value value_of x) (entry_value value_of y))
 
 -- both tests are one
-pub key_lt-value : key_lt ≡ value_lt
-key_lt-value = λ i x y. is_lt (key_cmp-value x.key y.key i)
+pub key_lt-value : {K : Type 0} (value_of : K → Value) (cmp : K → K → Ordering) → AreOrdered value_of cmp
+    → key_lt cmp ≡ value_lt value_of
+key_lt-value value_of cmp ordered = λ i x y. is_lt (ordered x.key y.key i)
 
 -- ---- rows of aggregates
 

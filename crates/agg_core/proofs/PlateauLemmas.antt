@@ -1,14 +1,16 @@
 -- The rows of an aggregate are those of the plateaus of its groups' numbers.
-use Rattle.std.proofs.Common.{rules, ⊎_elim, get_or, IsTrue, ◌≢◌, ◌≡◌, ◌<◌, ◌==◌, ℕ, ℤ, pos, Bool, true, List, [], ◌∷◌, length, map, All, Option, Some, None, inl, inr, refl, sym, ap, subst, ◌∙◌, arith}
-use Rattle.std.specs.Prelude.{bytes_eq, filter, slice_get, slice_index_or, ◌<ℤ◌, Contains}
+use Rattle.std.proofs.Common.{rules, get_or, IsTrue, ◌≡◌, ◌<◌, ◌==◌, ℕ, ℤ, zero, suc, pos, Bool, true, List, [], ◌∷◌, length, map, All, Option, Some, None, inl, inr, refl, sym, ap, subst, ◌∙◌, arith}
+use Rattle.std.specs.Prelude.{bytes_eq, filter, option_map, IfSome, slice_get, slice_index_or, ◌<ℤ◌, Contains}
 use Rattle.std.specs.declared.cmp.Ordering.{Ordering}
 use Rattle.std.specs.declared.cmp.Ordering.TheVariants.{Less}
 use Rattle.std.specs.Ordering.{int_cmp, ordering_then}
-use Rattle.std.proofs.lemmas.Bool.{cases_eq, true≢false}
+use Rattle.std.proofs.lemmas.Bool.{and_parts}
 use Rattle.std.proofs.lemmas.Bool.Decides.{Decides-eqb}
 use Rattle.std.proofs.lemmas.List.Quantifiers.{position-Some}
-use Rattle.row_core.specs.Schema.{column_of, fits}
-use Rattle.row_core.proofs.FitsLemmas.{fits-lengths}
+use Rattle.row_core.specs.Schema.{fits}
+use Rattle.row_core.specs.Value.{kind_of, same_kind}
+use Rattle.row_core.specs.declared.value.Kind.{Kind}
+use Rattle.row_core.specs.declared.value.Kind.TheVariants as kind
 use Rattle.std.proofs.lemmas.Cmp.{tied_itself}
 use Rattle.std.proofs.lemmas.Int.{ints}
 use Rattle.std.proofs.lemmas.List.{length-map}
@@ -37,9 +39,9 @@ use Rattle.round_core.proofs.PlateauExistence.{some_tally}
 use Rattle.agg_core.specs.declared.rows.AggRow.{AggRow}
 use Rattle.agg_core.specs.declared.func.Func.{Func}
 use Rattle.agg_core.specs.Agg.{AreAggRows, ComeTo, HoldAndComeTo, IsAgg, IsAggRow, amount_in, measure_of, number_column, amount_of_value, rows_on, value_in}
-use Rattle.agg_core.specs.Entries.{amount_at, place_in, value_at_place}
+use Rattle.agg_core.specs.Entries.{HaveValues, amount_at, place_in, value_at_place}
 use Rattle.agg_core.specs.Groups.{AggRowBefore, rows_of_group}
-use Rattle.agg_core.specs.Grouping.{ArePlateauRows, HaveValues, IsGrouping, agg_row_of, amount_item}
+use Rattle.agg_core.specs.Grouping.{ArePlateauRows, IsGrouping, agg_row_of, amount_item}
 use Rattle.agg_core.proofs.EntryLemmas.{filter-map}
 
 -- ---- lists
@@ -282,31 +284,40 @@ value_at_place-place_in : (columns : List Column) (name : Option (List ℕ))
 value_at_place-place_in columns None = refl
 value_at_place-place_in columns (Some n) = refl
 
--- values that fit columns are as many
-fit-lengths : (columns : List Column) (values : List Value) → IsTrue (fits columns values)
-    → length columns ≡ length values
-fit-lengths columns values fit =
-    ⊎_elim (λ (same : length columns ≡ length values). same)
-    (λ (differ : length columns ≢ length values).
-    absurd (true≢false (sym fit ∙ fits-lengths columns values differ)))
-    (cases_eq (length columns) (length values))
+-- the place of a group's column, where one is named, is that of a column
+pub group-there : (columns : List Column) (group : Option (List ℕ)) (by : Option ℕ) → by ≡ place_in columns group
+    → IfSome by (λ place. place < length columns)
+group-there columns group None e = tt
+group-there columns None (Some place) e = cc
+group-there [] (Some name) (Some place) e = absurd (search rules)
+group-there (first ∷ columns) (Some name) (Some place) e =
+    (position-Some (λ (c : Column). bytes_eq c.name name) (first ∷ columns) place first (sym e)).0
 
--- rows that fit columns have a value at the place of each
-column-values : (columns : List Column) (rows : List Row) (name : List ℕ) (by : Option ℕ) → column_of columns name ≡ by
-    → All (λ (row : Row). IsTrue (fits columns row.values)) rows → HaveValues by rows
-column-values columns rows name None e fit = tt
-column-values [] rows name (Some p) e fit = absurd (search rules)
-column-values (first ∷ columns) rows name (Some p) e fit = λ k d inside.
-    let values = (get_or rows k d).values in
-    let there = (position-Some (λ (c : Column). bytes_eq c.name name) (first ∷ columns) p first e).0 in
-    let same = fit-lengths (first ∷ columns) values (fit k d inside) in
-    omega (arith, there, same)
+-- kinds that are told to be one are
+kind_is : (k l : Kind) → same_kind k l ≡ true → k ≡ l
+kind_is kind.Int kind.Int h = refl
+kind_is kind.Int kind.Text h = cc
+kind_is kind.Text kind.Int h = cc
+kind_is kind.Text kind.Text h = refl
 
--- so they have one at the place of a group's column, where one is named
-pub group-values : (columns : List Column) (rows : List Row) (group : Option (List ℕ)) (by : Option ℕ)
-    → by ≡ place_in columns group → All (λ (row : Row). IsTrue (fits columns row.values)) rows → HaveValues by rows
-group-values columns rows None by e fit = subst (λ (b : Option ℕ). HaveValues b rows) (sym e) tt
-group-values columns rows (Some name) by e fit = column-values columns rows name by (sym e) fit
+-- values that fit columns are of their kinds
+kind_there : (columns : List Column) (values : List Value) (place : ℕ) (k : Kind) → fits columns values ≡ true
+    → option_map (λ (c : Column). c.kind) (slice_get columns place) ≡ Some k
+    → option_map kind_of (slice_get values place) ≡ Some k
+kind_there [] values place k fit e = cc
+kind_there (c ∷ columns) [] place k fit e = cc
+kind_there (c ∷ columns) (v ∷ values) zero k fit e =
+    ap Some (sym (kind_is c.kind (kind_of v) (and_parts (same_kind c.kind (kind_of v)) (fits columns values) fit).0))
+    ∙ e
+kind_there (c ∷ columns) (v ∷ values) (suc place) k fit e =
+    kind_there columns values place k (and_parts (same_kind c.kind (kind_of v)) (fits columns values) fit).1 e
+
+-- rows that fit columns have values of the kind of each
+pub kinds_there : (columns : List Column) (rows : List Row) (place : ℕ) (k : Kind)
+    → All (λ (row : Row). IsTrue (fits columns row.values)) rows
+    → option_map (λ (c : Column). c.kind) (slice_get columns place) ≡ Some k → HaveValues k place rows
+kinds_there columns rows place k fit e i d inside =
+    kind_there columns (get_or rows i d).values place k (fit i d inside) e
 
 -- an aggregate by places is one by names
 pub agg_by_names : (columns : List Column) (func : Func) (group : Option (List ℕ)) (rows : List Row) (measure : Measure)

@@ -24,8 +24,6 @@ use Rattle.share_core.proofs.ShareLemmas.{all_come}
 use Rattle.merge_core.specs.Gaps.{IsMaximal}
 use Rattle.round_core.specs.declared.measure.Measure.{Measure}
 use Rattle.agg_core.specs.declared.entries.Entry.{Entry}
-use Rattle.agg_core.specs.declared.keys.Key.{Key}
-use Rattle.agg_core.specs.contracts.keys.KeyOrd.TheImpl.{ghosts}
 use Rattle.agg_core.specs.declared.rows.AggRow.{AggRow}
 use Rattle.agg_core.specs.Agg.{AreAggRows, HoldAndComeTo, IsAggRow}
 use Rattle.agg_core.specs.Groups.{AggRowBefore, rows_of_group}
@@ -36,7 +34,7 @@ use Rattle.agg_core.specs.Shares.{rows_in, rows_in_shares}
 use Rattle.agg_core.specs.declared.rows.AggShare.{AggShare}
 use Rattle.agg_core.proofs.EntryLemmas.{grouped_entries, rows_in_entries}
 use Rattle.agg_core.proofs.GroupLemmas.{grouping_of}
-use Rattle.agg_core.proofs.OrderLemmas.{key_cmp-value, not_after}
+use Rattle.agg_core.proofs.OrderLemmas.{AreOrdered, not_after}
 use Rattle.agg_core.proofs.PlateauLemmas.{answer_of, row_of_group}
 
 -- ---- rows of a group
@@ -274,25 +272,6 @@ module _ (group_of : Row → Option Value) (rows : List Row) (v : Option Value) 
 
 -- ---- shares by range
 
--- a range has begun at a key where the range of its groups has at the key's
-begun_same : (from : Option Key) (key : Key)
-    → has_begun ghosts.cmp from key ≡ has_begun maybe_cmp (option_map group_of_key from) (group_of_key key)
-begun_same None key = refl
-begun_same (Some first) key = ap (λ o. not (is_lt o)) (key_cmp-value key first)
-
--- it is over there where that is
-ended_same : (end : Option Key) (key : Key)
-    → has_ended ghosts.cmp end key ≡ has_ended maybe_cmp (option_map group_of_key end) (group_of_key key)
-ended_same None key = refl
-ended_same (Some first) key = ap (λ o. not (is_lt o)) (key_cmp-value key first)
-
--- a range has a key where the range of its groups has the key's
-pub has_same : (keys : Range Key) (key : Key) → has ghosts.cmp keys key ≡ in_range keys (group_of_key key)
-has_same keys key =
-    ap (λ b. b && not (has_ended ghosts.cmp keys.before key)) (begun_same keys.from key)
-    ∙ ap (λ b. has_begun maybe_cmp (option_map group_of_key keys.from) (group_of_key key) && not b)
-    (ended_same keys.before key)
-
 -- what passes one test and then another passes both
 filter_twice : {A : Type 0} (p q : A → Bool) (xs : List A) → filter q (filter p xs) ≡ filter (λ x. p x && q x) xs
 filter_twice p q [] = refl
@@ -304,73 +283,102 @@ filter_twice p q (x ∷ xs) = split (p x) (filter_twice p q xs)
     split true rest = ap (λ l. cond (q x) (x ∷ l) l) rest
     split false rest = rest
 
--- what the rows of a range without an end come to, from those of its values before a key's and those from it on
-AreAggRows-ranges : (measure : Measure) (amount_of : Row → ℤ) (group_of : Row → Option Value) (from : Option Key)
-    (at : Key) (rows : List Row) (answer more : List AggRow) → has_begun ghosts.cmp from at ≡ true
-    → AreAggRows measure amount_of group_of (rows_in_range group_of (range from (Some at)) rows) answer
-    → AreAggRows measure amount_of group_of (rows_in_range group_of (range (Some at) None) rows) more
-    → AreAggRows measure amount_of group_of (rows_in_range group_of (range from None) rows) (answer ++ more)
-unfolding low_of high_of
-AreAggRows-ranges measure amount_of group_of from at rows answer more begun one other =
-    let some = rows_in_range group_of (range from None) rows in
-    let v = group_of_key at in
-    let first = option_map group_of_key from in
-    let reached : has_begun maybe_cmp first v ≡ true = sym (begun_same from at) ∙ begun in
-    let low : filter (low_of group_of some v) some ≡ rows_in_range group_of (range from (Some at)) rows =
-    filter_twice (λ (r : Row). in_range (range from None) (group_of r)) (low_of group_of some v) rows
-    ∙ sym (λ i. filter (λ (r : Row). low_has maybe_cmp maybe_total first v (group_of r) i) rows) in
-    let high : filter (high_of group_of some v) some ≡ rows_in_range group_of (range (Some at) None) rows =
-    filter_twice (λ (r : Row). in_range (range from None) (group_of r)) (high_of group_of some v) rows
-    ∙ sym (λ i. filter (λ (r : Row). high_has maybe_cmp maybe_total first v (group_of r) reached i) rows) in
-    same_answer measure amount_of group_of (filter (low_of group_of some v) some ++ filter (high_of group_of some v) some)
-    some (answer ++ more) (same_group group_of some v)
-    (both_shares measure amount_of group_of (filter (low_of group_of some v) some)
-    (filter (high_of group_of some v) some) (values_apart group_of some v) answer more
-    (subst (λ (l : List Row). AreAggRows measure amount_of group_of l answer) (sym low) one)
-    (subst (λ (l : List Row). AreAggRows measure amount_of group_of l more) (sym high) other))
+module _ {K : Type 0} (value_of : K → Value) (cmp : K → K → Ordering) (ordered : AreOrdered value_of cmp) where
+  -- a range has begun at a key where the range of its groups has at the key's
+  begun_same : (from : Option K) (key : K)
+      → has_begun cmp from key ≡ has_begun maybe_cmp (option_map (group_of_key value_of) from)
+      (group_of_key value_of key)
+  begun_same None key = refl
+  begun_same (Some first) key = ap (λ o. not (is_lt o)) (ordered key first)
 
--- a range without ends has all rows
-rows_in_range-all : (group_of : Row → Option Value) (rows : List Row)
-    → rows_in_range group_of (range None None) rows ≡ rows
-rows_in_range-all group_of [] = refl
-rows_in_range-all group_of (row ∷ rows) = ap (λ l. row ∷ l) (rows_in_range-all group_of rows)
+  -- it is over there where that is
+  ended_same : (end : Option K) (key : K)
+      → has_ended cmp end key ≡ has_ended maybe_cmp (option_map (group_of_key value_of) end) (group_of_key value_of key)
+  ended_same None key = refl
+  ended_same (Some first) key = ap (λ o. not (is_lt o)) (ordered key first)
 
--- what the rows of each range come to, one behind another, is what all rows come to
-pub rows-all : (measure : Measure) (amount_of : Row → ℤ) (group_of : Row → Option Value) (rows : List Row)
-    (post : Range Key → ℕ → Result AggShare AllocError → Type 0) (cuts : List (Cut Key)) (shares : List AggShare)
-    → ((keys : Range Key) (n : ℕ) (share : AggShare) → post keys n (Ok share)
-    → AreAggRows measure amount_of group_of (rows_in_range group_of keys rows) (rows_in share))
-    → GivesFrom ghosts.cmp (Gives post) None cuts shares
-    → AreAggRows measure amount_of group_of rows (rows_in_shares shares)
-rows-all measure amount_of group_of rows post cuts shares told given =
-    subst (λ (l : List Row). AreAggRows measure amount_of group_of l (rows_in_shares shares))
-    (rows_in_range-all group_of rows)
-    (all_come ghosts.cmp (Gives post)
-    (λ (keys : Range Key) (all : List AggShare).
-    AreAggRows measure amount_of group_of (rows_in_range group_of keys rows) (rows_in_shares all))
-    (λ keys share own.
-    subst (AreAggRows measure amount_of group_of (rows_in_range group_of keys rows)) (sym (append-nil (rows_in share)))
-    (told keys own.0 share own.1))
-    (λ from at share more begun one others.
-    AreAggRows-ranges measure amount_of group_of from at rows (rows_in share) (rows_in_shares more) begun
-    (told (range from (Some at)) one.0 share one.1) others)
-    None cuts shares given)
+  -- a range has a key where the range of its groups has the key's
+  pub has_same : (keys : Range K) (key : K) → has cmp keys key ≡ in_range value_of keys (group_of_key value_of key)
+  has_same keys key =
+      ap (λ b. b && not (has_ended cmp keys.before key)) (begun_same keys.from key)
+      ∙ ap
+      (λ b. has_begun maybe_cmp (option_map (group_of_key value_of) keys.from) (group_of_key value_of key) && not b)
+      (ended_same keys.before key)
+
+  -- what the rows of a range without an end come to, from those of its values before a key's and those from it on
+  AreAggRows-ranges : (measure : Measure) (amount_of : Row → ℤ) (group_of : Row → Option Value) (from : Option K)
+      (at : K) (rows : List Row) (answer more : List AggRow) → has_begun cmp from at ≡ true
+      → AreAggRows measure amount_of group_of (rows_in_range value_of group_of (range from (Some at)) rows) answer
+      → AreAggRows measure amount_of group_of (rows_in_range value_of group_of (range (Some at) None) rows) more
+      → AreAggRows measure amount_of group_of (rows_in_range value_of group_of (range from None) rows) (answer ++ more)
+  unfolding low_of high_of
+  AreAggRows-ranges measure amount_of group_of from at rows answer more begun one other =
+      let some = rows_in_range value_of group_of (range from None) rows in
+      let v = group_of_key value_of at in
+      let first = option_map (group_of_key value_of) from in
+      let reached : has_begun maybe_cmp first v ≡ true = sym (begun_same from at) ∙ begun in
+      let low : filter (low_of group_of some v) some ≡ rows_in_range value_of group_of (range from (Some at)) rows =
+      filter_twice (λ (r : Row). in_range value_of (range from None) (group_of r)) (low_of group_of some v) rows
+      ∙ sym (λ i. filter (λ (r : Row). low_has maybe_cmp maybe_total first v (group_of r) i) rows) in
+      let high : filter (high_of group_of some v) some ≡ rows_in_range value_of group_of (range (Some at) None) rows =
+      filter_twice (λ (r : Row). in_range value_of (range from None) (group_of r)) (high_of group_of some v) rows
+      ∙ sym (λ i. filter (λ (r : Row). high_has maybe_cmp maybe_total first v (group_of r) reached i) rows) in
+      same_answer measure amount_of group_of
+      (filter (low_of group_of some v) some ++ filter (high_of group_of some v) some)
+      some (answer ++ more) (same_group group_of some v)
+      (both_shares measure amount_of group_of (filter (low_of group_of some v) some)
+      (filter (high_of group_of some v) some) (values_apart group_of some v) answer more
+      (subst (λ (l : List Row). AreAggRows measure amount_of group_of l answer) (sym low) one)
+      (subst (λ (l : List Row). AreAggRows measure amount_of group_of l more) (sym high) other))
+
+  -- a range without ends has all rows
+  rows_in_range-all : (group_of : Row → Option Value) (rows : List Row)
+      → rows_in_range value_of group_of (range None None) rows ≡ rows
+  rows_in_range-all group_of [] = refl
+  rows_in_range-all group_of (row ∷ rows) = ap (λ l. row ∷ l) (rows_in_range-all group_of rows)
+
+  -- what the rows of each range come to, one behind another, is what all rows come to
+  pub rows-all : (measure : Measure) (amount_of : Row → ℤ) (group_of : Row → Option Value) (rows : List Row)
+      (post : Range K → ℕ → Result AggShare AllocError → Type 0) (cuts : List (Cut K)) (shares : List AggShare)
+      → ((keys : Range K) (n : ℕ) (share : AggShare) → post keys n (Ok share)
+      → AreAggRows measure amount_of group_of (rows_in_range value_of group_of keys rows) (rows_in share))
+      → GivesFrom cmp (Gives post) None cuts shares
+      → AreAggRows measure amount_of group_of rows (rows_in_shares shares)
+  rows-all measure amount_of group_of rows post cuts shares told given =
+      subst (λ (l : List Row). AreAggRows measure amount_of group_of l (rows_in_shares shares))
+      (rows_in_range-all group_of rows)
+      (all_come cmp (Gives post)
+      (λ (keys : Range K) (all : List AggShare).
+      AreAggRows measure amount_of group_of (rows_in_range value_of group_of keys rows) (rows_in_shares all))
+      (λ keys share own.
+      subst (AreAggRows measure amount_of group_of (rows_in_range value_of group_of keys rows))
+      (sym (append-nil (rows_in share)))
+      (told keys own.0 share own.1))
+      (λ from at share more begun one others.
+      AreAggRows-ranges measure amount_of group_of from at rows (rows_in share) (rows_in_shares more) begun
+      (told (range from (Some at)) one.0 share one.1) others)
+      None cuts shares given)
 
 -- ---- what listed rows come to
 
 -- what rows come to, from the plateaus of their sorted entries
-pub answer_of_entries : (measure : Measure) (amount_of : Row → ℤ) (place : ℕ) (rows : List Row) (made sorted : List Entry)
-    (items : List Item) (groups : List (Option Value)) (answer : List AggRow) → AreEntries place rows made
-    → AreEntriesSorted made sorted → AreItemsByGroup amount_of sorted items groups
+pub answer_of_entries : {K : Type 0} (value_of : K → Value) (source : List Row) (measure : Measure)
+    (amount_of : Row → ℤ) (place : ℕ) (rows : List Row) (made sorted : List (Entry K))
+    (items : List Item) (groups : List (Option Value)) (answer : List AggRow)
+    → AreEntries value_of source place rows made
+    → AreEntriesSorted value_of made sorted → AreItemsByGroup value_of source amount_of sorted items groups
     → ArePlateauRows measure items groups answer
     → AreAggRows measure amount_of (value_at_place (Some place)) rows answer
-answer_of_entries measure amount_of place rows made sorted items groups answer are by_value numbered plateaus =
+answer_of_entries {K} value_of source measure amount_of place rows made sorted items groups answer are by_value
+    numbered plateaus =
     let group_of = value_at_place (Some place) in
-    let grouped : AreInGroups group_of made = grouped_entries place rows made are in
-    let moved : AreInGroups group_of sorted =
-    All-permutation (λ (e : Entry). group_of (entry_row e) ≡ Some (entry_value e)) made sorted by_value.moved grouped in
-    subst (λ (l : List Row). AreAggRows measure amount_of group_of l answer) (rows_in_entries place rows made are)
-    (same_answer measure amount_of group_of (map entry_row sorted) (map entry_row made) answer
-    (by_value.kept group_of grouped)
-    (answer_of measure amount_of group_of (map entry_row sorted) items groups
-    (grouping_of amount_of group_of sorted items groups moved numbered) answer plateaus))
+    let grouped : AreInGroups value_of source group_of made = grouped_entries value_of source place rows made are in
+    let moved : AreInGroups value_of source group_of sorted =
+    All-permutation (λ (e : Entry K). group_of (entry_row source e) ≡ Some (entry_value value_of e)) made sorted
+    by_value.moved grouped in
+    subst (λ (l : List Row). AreAggRows measure amount_of group_of l answer)
+    (rows_in_entries value_of source place rows made are)
+    (same_answer measure amount_of group_of (map (entry_row source) sorted) (map (entry_row source) made) answer
+    (by_value.kept source group_of grouped)
+    (answer_of measure amount_of group_of (map (entry_row source) sorted) items groups
+    (grouping_of value_of source amount_of group_of sorted items groups moved numbered) answer plateaus))

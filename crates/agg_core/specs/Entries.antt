@@ -1,19 +1,19 @@
 -- Rows sorted by the values that they are grouped by.
-use Rattle.std.specs.Prelude.{◌≡◌, ℕ, ℤ, List, map, All, AllPairs, false, Option, Some, option_and_then, slice_get, IsPermutation}
+use Rattle.std.specs.Prelude.{◌≡◌, ◌<◌, ℕ, ℤ, List, length, map, All, AllPairs, false, Option, Some, option_and_then, option_map, slice_get, slice_index_or, IsPermutation}
 use Rattle.std.specs.List.{AllZip}
 use Rattle.std.specs.Ordering.{is_lt}
+use Rattle.draft_core.specs.Lent.{no_draft}
 use Rattle.row_core.specs.Schema.{column_of}
+use Rattle.row_core.specs.Value.{kind_of}
 use Rattle.row_core.specs.ValueOrder.{value_cmp}
 use Rattle.row_core.specs.declared.row.Row.{Row}
 use Rattle.row_core.specs.declared.schema.Column.{Column}
+use Rattle.row_core.specs.declared.value.Kind.{Kind}
 use Rattle.row_core.specs.declared.value.Value.{Value}
-use Rattle.row_core.specs.declared.value.Value.TheVariants as value
-use Rattle.table_core.specs.Lent.{lent_row}
+use Rattle.table_core.specs.Numbered.{row_of}
 use Rattle.agg_core.specs.Agg.{amount_of_value}
 use Rattle.agg_core.specs.Groups.{rows_of_group}
 use Rattle.agg_core.specs.declared.entries.Entry.{Entry}
-use Rattle.agg_core.specs.declared.keys.Key.{Key}
-use Rattle.agg_core.specs.declared.keys.Key.TheVariants.{Number, Text}
 
 -- the place of a column, where one is named
 abbrev pub place_in : List Column → Option (List ℕ) → Option ℕ
@@ -27,39 +27,58 @@ value_at_place place row = option_and_then (slice_get row.values) place
 abbrev pub amount_at : Option ℕ → Row → ℤ
 amount_at place row = amount_of_value (value_at_place place row)
 
--- the value of a key
-abbrev pub value_of_key : Key → Value
-value_of_key (Number number) = value.Int number
-value_of_key (Text text) = value.Text text.now
+-- the kind of the row's value at that place
+abbrev pub kind_at : ℕ → Row → Option Kind
+kind_at place row = option_map kind_of (slice_get row.values place)
 
--- the value by which an entry's row is grouped
-abbrev pub entry_value : Entry → Value
-entry_value entry = value_of_key entry.key
+-- each row has a value of the kind at that place
+abbrev pub HaveValues : Kind → ℕ → List Row → Type 0
+HaveValues kind place rows = All (λ row. kind_at place row ≡ Some kind) rows
 
--- an entry's row
-abbrev pub entry_row : Entry → Row
-entry_row entry = lent_row entry.row
+-- the value by which an entry's row is grouped: that of its key
+abbrev pub entry_value : {K : Type 0} → (K → Value) → Entry K → Value
+entry_value value_of entry = value_of entry.key
 
--- the entry of a row, by its value at the place
-pub record IsEntry (place : ℕ) (row : Row) (entry : Entry) : Type 0 where
-  pub row_is : entry_row entry ≡ row
-  pub value_is : slice_get row.values place ≡ Some (entry_value entry)
+-- what stands for a row past the last of a list
+abbrev pub no_row : Row
+no_row = row_of 0 no_draft
 
--- the entries of rows, in their order
-abbrev pub AreEntries : ℕ → List Row → List Entry → Type 0
-AreEntries place rows entries = AllZip (IsEntry place) rows entries
+-- the row at that place
+abbrev pub row_at : List Row → ℕ → Row
+row_at all place = slice_index_or all place no_row
+
+-- an entry's row, among all
+abbrev pub entry_row : {K : Type 0} → List Row → Entry K → Row
+entry_row all entry = row_at all entry.row
+
+-- the entry of a row of all, by its value at the place
+pub record IsEntry {K : Type 0} (value_of : K → Value) (all : List Row) (place : ℕ) (row : Row) (entry : Entry K)
+    : Type 0 where
+  pub row_is : slice_get all entry.row ≡ Some row
+  pub value_is : slice_get row.values place ≡ Some (entry_value value_of entry)
+
+-- the entries of some rows of all, in their order
+abbrev pub AreEntries : {K : Type 0} → (K → Value) → List Row → ℕ → List Row → List (Entry K) → Type 0
+AreEntries value_of all place rows entries = AllZip (IsEntry value_of all place) rows entries
 
 -- no value is before that of an earlier entry
-abbrev pub AreRising : List Entry → Type 0
-AreRising entries = AllPairs (λ (a b : Entry). is_lt (value_cmp (entry_value b) (entry_value a)) ≡ false) entries
+abbrev pub AreRising : {K : Type 0} → (K → Value) → List (Entry K) → Type 0
+AreRising {K} value_of entries =
+    AllPairs (λ (a b : Entry K). is_lt (value_cmp (entry_value value_of b) (entry_value value_of a)) ≡ false) entries
+
+-- each entry has a row
+abbrev pub HaveRows : {K : Type 0} → List Row → List (Entry K) → Type 0
+HaveRows {K} all entries = All (λ (e : Entry K). e.row < length all) entries
 
 -- each entry's row is of the group of the entry's value
-abbrev pub AreInGroups : (Row → Option Value) → List Entry → Type 0
-AreInGroups group_of entries = All (λ (e : Entry). group_of (entry_row e) ≡ Some (entry_value e)) entries
+abbrev pub AreInGroups : {K : Type 0} → (K → Value) → List Row → (Row → Option Value) → List (Entry K) → Type 0
+AreInGroups {K} value_of all group_of entries =
+    All (λ (e : Entry K). group_of (entry_row all e) ≡ Some (entry_value value_of e)) entries
 
 -- the entries by rising value, so that each group's rows stand in the order in which they stood
-pub record AreEntriesSorted (old new : List Entry) : Type 0 where
-  pub rise : AreRising new
+pub record AreEntriesSorted {K : Type 0} (value_of : K → Value) (old new : List (Entry K)) : Type 0 where
+  pub rise : AreRising value_of new
   pub moved : IsPermutation old new
-  pub kept : (group_of : Row → Option Value) → AreInGroups group_of old → (group : Option Value)
-      → rows_of_group group_of group (map entry_row new) ≡ rows_of_group group_of group (map entry_row old)
+  pub kept : (all : List Row) (group_of : Row → Option Value) → AreInGroups value_of all group_of old
+      → (group : Option Value)
+      → rows_of_group group_of group (map (entry_row all) new) ≡ rows_of_group group_of group (map (entry_row all) old)

@@ -1,5 +1,5 @@
 -- Rows as items whose classes are the numbers of their groups.
-use Rattle.std.specs.Prelude.{None, slice_index_or, ◌≡◌, ◌+◌, ◌-◌, ◌<◌, ◌≤◌, ◌⊎◌, ℕ, ℤ, List, length, map, All, AllPairs, Contains, false, Option, Some, slice_get, IfSome}
+use Rattle.std.specs.Prelude.{None, slice_index_or, ◌≡◌, ◌+◌, ◌-◌, ◌<◌, ◌≤◌, ◌⊎◌, ℕ, ℤ, List, length, map, All, AllPairs, Contains, false, Option, Some, slice_get}
 use Rattle.std.specs.List.{AllZip}
 use Rattle.std.specs.declared.cmp.Ordering.TheVariants.{Less}
 use Rattle.std.specs.Ordering.{is_lt}
@@ -18,10 +18,6 @@ use Rattle.agg_core.specs.declared.rows.AggRow.{AggRow}
 -- a row with its amount, as an item of a class
 abbrev pub amount_item : (Row → ℤ) → ℕ → Row → Item
 amount_item amount_of class row = record { period = row.period; id = row.id; class = class; amount = amount_of row }
-
--- each row has a value at the place, if one is given
-abbrev pub HaveValues : Option ℕ → List Row → Type 0
-HaveValues place rows = IfSome place (λ p. All (λ row. p < length row.values) rows)
 
 -- a group comes before another: that of no value before those of values, and these by value
 abbrev pub GroupBefore : Option Value → Option Value → Type 0
@@ -48,18 +44,19 @@ pub record IsClassOf (value : Value) (old new : List (Option Value)) (class : �
   pub added : (g : Option Value) → Contains new g → Contains old g ⊎ (g ≡ Some value)
 
 -- an entry's row as an item, whose class is the number of the group of the entry's value
-pub record IsNumberedItem (amount_of : Row → ℤ) (groups : List (Option Value)) (entry : Entry) (x : Item) : Type 0 where
-  pub is : x ≡ amount_item amount_of x.class (entry_row entry)
-  pub at : slice_get groups x.class ≡ Some (Some (entry_value entry))
+pub record IsNumberedItem {K : Type 0} (value_of : K → Value) (all : List Row) (amount_of : Row → ℤ)
+    (groups : List (Option Value)) (entry : Entry K) (x : Item) : Type 0 where
+  pub is : x ≡ amount_item amount_of x.class (entry_row all entry)
+  pub at : slice_get groups x.class ≡ Some (Some (entry_value value_of entry))
 
 -- the rows of entries as items, by rising class, and the groups of their values
-pub record AreItemsByGroup (amount_of : Row → ℤ) (entries : List Entry) (items : List Item)
-    (groups : List (Option Value))
-    : Type 0 where
+pub record AreItemsByGroup {K : Type 0} (value_of : K → Value) (all : List Row) (amount_of : Row → ℤ)
+    (entries : List (Entry K)) (items : List Item) (groups : List (Option Value)) : Type 0 where
   pub classes : AllPairs (λ (a b : Item). a.class ≤ b.class) items
   pub rise : RisesByGroup groups
-  pub each : AllZip (IsNumberedItem amount_of groups) entries items
-  pub listed : (g : Option Value) → Contains groups g → (e : Entry) × Contains entries e × (Some (entry_value e) ≡ g)
+  pub each : AllZip (IsNumberedItem value_of all amount_of groups) entries items
+  pub listed : (g : Option Value) → Contains groups g
+      → (e : Entry K) × Contains entries e × (Some (entry_value value_of e) ≡ g)
 
 -- rows as items, by rising class: class c is that of the rows of group number c, and each row is of one of the groups,
 -- which rise

@@ -1,23 +1,21 @@
 //! The aggregate of the rows of a table.
 
-ghost use Rattle.std.specs.Prelude.{◌≡◌, ◌<◌, ◌≤◌, IfOk, length};
-ghost use Rattle.dip_core.specs.Item.{item_limit};
+ghost use Rattle.std.specs.Prelude.{◌≡◌, ◌<◌, ◌≤◌, IfOk, IfSome, length};
 ghost use Rattle.row_core.specs.Refusals.{AnswersOr};
 ghost use Rattle.work_core.specs.Limits.{worker_limit};
 ghost use Rattle.agg_core.specs.Agg.{AreAggRows, IsAgg, agg_refusal};
 ghost use Rattle.agg_core.specs.Entries.{amount_at, place_in, value_at_place};
-ghost use Rattle.agg_core.specs.Grouping.{HaveValues};
 
 use crate::func::{Asked, Func, agg_refusal, measure_of, number_column};
 use crate::group_rows::rows_by_group;
+use crate::keys::{Numbers, Texts};
 use crate::one_group::rows_of_one_group;
 use crate::rows::AggRows;
 use match_core::{QueryRefused, Side};
 use period_core::NoMemory;
-use row_core::{Failure, Name, Schema};
+use row_core::{Failure, Kind, Name, Schema};
 use std::alloc::Global;
 use std::thread::Threads;
-use table_core::SharedRows;
 use work_core::{Crew, Gate};
 
 /// For each group of rows, those that are equal in the named column, the maximal periods at each instant of which
@@ -52,24 +50,29 @@ pub fn agg<R: Threads + Sync, G: Gate>(
     let by = place_in(side.schema, group);
     let measure = measure_of(&func);
     let crew = Crew::new(rt, alloc, workers, gate);
-    Ok(agg_rows(&crew, Asked { measure, amount }, side.rows, by)?)
+    Ok(agg_rows(&crew, Asked { measure, amount }, side, by)?)
 }
 
-/// The aggregate of rows by the values at one place, or as one group where there is none.
+/// The aggregate of a side's rows by the values at one place, or as one group where there is none. The kind of these
+/// is looked at once, so each of them is sorted by no more than its kind needs.
 fn agg_rows<R: Threads + Sync, G: Gate>(
     crew: &Crew<'_, R, G>,
     asked: Asked,
-    rows: &SharedRows,
+    side: Side<'_>,
     by: Option<u32>,
 ) -> Result<AggRows, NoMemory>
-    requires few { length rows.now ≤ item_limit }
-    requires values { HaveValues by rows.now }
+    requires there { IfSome by (λ place. place < length side.schema.now) }
     ensures { IfOk result (λ answer.
-        AreAggRows asked.measure (amount_at asked.amount) (value_at_place by) rows.now answer) }
+        AreAggRows asked.measure (amount_at asked.amount) (value_at_place by)
+        side.entry.rows.now answer) }
 {
-    match by {
-        None => rows_of_one_group(crew, asked, rows),
-        Some(place) => rows_by_group(crew, asked, rows, place),
+    let Some(place) = by else {
+        return rows_of_one_group(crew, asked, side.rows);
+    };
+    let rows = side.rows;
+    match side.schema.kind(place) {
+        Kind::Int => rows_by_group::<R, G, i64, Numbers>(crew, asked, Numbers { rows, place }),
+        Kind::Text => rows_by_group::<R, G, &str, Texts>(crew, asked, Texts { rows, place }),
     }
 }
 

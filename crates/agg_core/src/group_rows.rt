@@ -1,7 +1,7 @@
 //! The rows of the groups of a table's rows. Workers share these out by ranges of the values that they are grouped by, so
 //! no group is in two shares, and each share is listed and sorted by itself.
 
-ghost use Rattle.std.specs.Prelude.{◌<◌, ◌≤◌, All, IfOk, Some, length};
+ghost use Rattle.std.specs.Prelude.{◌<◌, ◌≤◌, IfOk, Some, length};
 ghost use Rattle.std.specs.Thread.{IsSync};
 ghost use Rattle.dip_core.specs.Item.{item_limit};
 ghost use Rattle.work_core.specs.Limits.{worker_limit};
@@ -10,50 +10,46 @@ ghost use Rattle.agg_core.specs.Entries.{amount_at, value_at_place};
 ghost use Rattle.agg_core.specs.KeyRanges.{rows_in_range};
 ghost use Rattle.agg_core.specs.Shares.{rows_in};
 
-use crate::entries::{entries_of, key_at_place, sorted};
+use crate::entries::{entries_of, sorted};
 use crate::func::Asked;
 use crate::groups::group_entries;
-use crate::keys::Key;
+use crate::keys::GroupColumn;
 use crate::rows::{AggRows, AggShare, share_of_groups};
 use period_core::NoMemory;
 use share_core::{Range, Shares, shared_out};
 use std::thread::Threads;
-use table_core::SharedRows;
 use work_core::{Crew, Gate};
 
 /// The share of the groups of one range's values.
-fn share_of_range<R: Threads + Sync, G: Gate>(
+fn share_of_range<R: Threads + Sync, G: Gate, K: Ord + Copy + Send + Sync, S: GroupColumn<K>>(
     crew: &Crew<'_, R, G>,
     asked: Asked,
-    rows: &SharedRows,
-    place: u32,
-    range: &Range<Key<'_>>,
+    column: S,
+    range: &Range<K>,
 ) -> Result<AggShare, NoMemory>
-    requires few { length rows.now ≤ item_limit }
-    requires values { All (λ row. place < length row.values) rows.now }
+    requires few { length (S.rows column) ≤ item_limit }
     ensures { IfOk result (λ share.
-        AreAggRows asked.measure (amount_at asked.amount) (value_at_place (Some place))
-        (rows_in_range (value_at_place (Some place)) range.entry.now rows.entry.now)
-        (rows_in share)) }
+        AreAggRows asked.measure (amount_at asked.amount) (value_at_place (Some (S.place column)))
+        (rows_in_range S.value_of (value_at_place (Some (S.place column))) range.now
+        (S.rows column)) (rows_in share)) }
 {
-    let entries = entries_of(crew.alloc, rows, place, range)?;
-    let entries = sorted(crew.rt, crew.alloc, entries, crew.workers)?;
-    let grouped = group_entries(crew.alloc, &entries, place, asked.amount)?;
+    let entries = entries_of::<K, S>(crew.alloc, column, range)?;
+    let entries = sorted::<R, K, S>(crew.rt, crew.alloc, entries, crew.workers)?;
+    let grouped = group_entries::<K, S>(crew.alloc, column, &entries, asked.amount)?;
     share_of_groups(crew, asked.measure, grouped)
 }
 
-/// The rows of the groups of rows, those that are of one value at a place.
-pub(crate) fn rows_by_group<R: Threads + Sync, G: Gate>(
-    crew: &Crew<'_, R, G>,
-    asked: Asked,
-    rows: &SharedRows,
-    place: u32,
-) -> Result<AggRows, NoMemory>
-    requires few { length rows.now ≤ item_limit }
-    requires values { All (λ row. place < length row.values) rows.now }
+/// The rows of the groups of rows, those that are of one value in the column.
+pub(crate) fn rows_by_group<
+    R: Threads + Sync,
+    G: Gate,
+    K: Ord + Copy + Send + Sync,
+    S: GroupColumn<K>,
+>(crew: &Crew<'_, R, G>, asked: Asked, column: S) -> Result<AggRows, NoMemory>
+    requires few { length (S.rows column) ≤ item_limit }
     ensures { IfOk result (λ answer.
-        AreAggRows asked.measure (amount_at asked.amount) (value_at_place (Some place))
-        rows.now answer) }
+        AreAggRows asked.measure (amount_at asked.amount) (value_at_place (Some (S.place column)))
+        (S.rows column) answer) }
 {
     let Crew {
         rt,
@@ -63,27 +59,28 @@ pub(crate) fn rows_by_group<R: Threads + Sync, G: Gate>(
     } = *crew;
     let shares = Shares::of(
         alloc,
-        rows.len(),
+        column.rows().len(),
         crew.workers,
-        &|i: usize| -> Key<'_>
-            requires { (i < length rows.now) × All (λ row. place < length row.values) rows.now }
-        { key_at_place(rows.at(i), place) },
+        &|i: usize| -> K
+            requires { i < length (S.rows column) }
+        { column.key_at(i) },
     )?;
     let found = shared_out(
         rt,
         alloc,
         &shares,
-        &|range: Range<Key<'_>>, workers: u32| -> Result<AggShare, NoMemory>
+        &|range: Range<K>, workers: u32| -> Result<AggShare, NoMemory>
             requires { IsSync R.row × IsSync G.row × (0 < workers) × (workers ≤ worker_limit)
-                × (length rows.now ≤ item_limit)
-                × All (λ row. place < length row.values) rows.now }
+                × (length (S.rows column) ≤ item_limit) }
             ensures { IfOk result (λ share.
-                AreAggRows asked.measure (amount_at asked.amount) (value_at_place (Some place))
-                (rows_in_range (value_at_place (Some place)) range.entry rows.entry.now)
+                AreAggRows asked.measure (amount_at asked.amount)
+                (value_at_place (Some (S.place column)))
+                (rows_in_range S.value_of (value_at_place (Some (S.place column))) range
+                (S.rows column))
                 (rows_in share)) }
         {
             let crew = Crew::new(rt, alloc, workers, gate);
-            share_of_range(&crew, asked, rows, place, &range)
+            share_of_range::<R, G, K, S>(&crew, asked, column, &range)
         },
     )?;
     AggRows::of_shares(found)

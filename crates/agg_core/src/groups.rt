@@ -1,15 +1,14 @@
 //! Rows by group: each is an item whose class is the number of its group.
 
 ghost use Rattle.std.specs.Prelude.{◌≡◌, ◌≢◌, IfOk, MatchBool, Some};
+ghost use Rattle.row_core.specs.Lent.{lent_value};
 ghost use Rattle.table_core.specs.Lent.{lent_row};
 ghost use Rattle.agg_core.specs.Entries.{
   AreInGroups,
   AreRising,
+  HaveRows,
   amount_at,
-  entry_row,
-  entry_value,
   value_at_place,
-  value_of_key,
 };
 ghost use Rattle.agg_core.specs.Grouping.{
   AreItemsByGroup,
@@ -21,7 +20,7 @@ ghost use Rattle.agg_core.specs.Grouping.{
 };
 
 use crate::entries::Entry;
-use crate::keys::Key;
+use crate::keys::GroupColumn;
 use dip_core::Item;
 use list_core::DeepCopy;
 use period_core::NoMemory;
@@ -38,46 +37,55 @@ pub(crate) struct GroupedRows {
     pub groups: Vec<Option<Value>>,
 }
 
-/// The rows of entries that stand by rising value, each value at a place a group, with the numbers that they have at
-/// another.
-pub(crate) fn group_entries(
+/// The rows of entries that stand by rising value, each value a group, with the numbers that they have at a place.
+pub(crate) fn group_entries<K: Ord, S: GroupColumn<K>>(
     alloc: Global,
-    entries: &[Entry<'_>],
-    place: u32,
+    column: S,
+    entries: &[Entry<K>],
     amount: Option<u32>,
 ) -> Result<GroupedRows, NoMemory>
-    requires rise { AreRising entries.now }
-    requires grouped { AreInGroups (value_at_place (Some place)) entries.now }
-    ensures { IfOk result (λ grouped. AreItemsByGroup (amount_at amount) entries.now
-        grouped.items.items grouped.groups.items) }
+    requires there { HaveRows (S.rows column) entries.now }
+    requires rise { AreRising S.value_of entries.now }
+    requires grouped { AreInGroups S.value_of (S.rows column)
+        (value_at_place (Some (S.place column))) entries.now }
+    ensures { IfOk result (λ grouped. AreItemsByGroup S.value_of (S.rows column) (amount_at amount)
+        entries.now grouped.items.items grouped.groups.items) }
 {
     let mut items = Vec::with_capacity(alloc, entries.len())?;
     let mut groups = Vec::new(alloc);
     for entry in entries {
-        let class = enter_group(alloc, &mut groups, entry, place)?;
-        items.push(amount_item(entry.row, amount, class))?;
+        let row = column.rows().at(entry.row);
+        let class = enter_group(
+            alloc,
+            &mut groups,
+            S::value(&entry.key),
+            row,
+            column.place(),
+        )?;
+        items.push(amount_item(row, amount, class))?;
     }
     Ok(GroupedRows { items, groups })
 }
 
-/// The number of the group of an entry's value, which its row has at the place: it is the last one, or is added behind it.
+/// The number of the group of a value, which the row has at the place: it is the last one, or is added behind it.
 fn enter_group(
     alloc: Global,
     groups: &mut Vec<Option<Value>>,
-    entry: &Entry<'_>,
+    value: ValueRef<'_>,
+    row: RowRef<'_>,
     place: u32,
 ) -> Result<u64, NoMemory>
-    requires there { value_at_place (Some place) (entry_row entry.now) ≡ Some (entry_value entry.now) }
+    requires there { value_at_place (Some place) (lent_row row) ≡ Some (lent_value value) }
     requires rise { RisesByGroup groups.old.items }
-    requires upto { AreNotAfter groups.old.items (Some (entry_value entry.now)) }
+    requires upto { AreNotAfter groups.old.items (Some (lent_value value)) }
     ensures { IfOk result (λ class.
-        IsClassOf (entry_value entry.now) groups.old.items groups.new.items class) }
+        IsClassOf (lent_value value.entry) groups.old.items groups.new.items class) }
 {
-    if is_last(groups, &entry.key) {
+    if is_last(groups, value) {
         return Ok(groups.len() as u64 - 1);
     }
     let class = groups.len() as u64;
-    groups.push(group_of_row(alloc, entry.row, place)?)?;
+    groups.push(group_of_row(alloc, row, place)?)?;
     Ok(class)
 }
 
@@ -92,30 +100,31 @@ fn group_of_row(alloc: Global, row: RowRef<'_>, place: u32) -> Result<Option<Val
     }
 }
 
-/// Whether the key's value is that of the last group.
-fn is_last(groups: &[Option<Value>], key: &Key<'_>) -> bool
-    ensures { MatchBool result (IsLast groups.now (Some (value_of_key key.now)))
-        (IsLast groups.now (Some (value_of_key key.now)) → ⊥) }
+/// Whether the value is that of the last group.
+fn is_last(groups: &[Option<Value>], value: ValueRef<'_>) -> bool
+    ensures { MatchBool result (IsLast groups.now (Some (lent_value value.entry)))
+        (IsLast groups.now (Some (lent_value value.entry)) → ⊥) }
 {
     match groups.last() {
-        Some(Some(last)) => is_key_of(key, last),
+        Some(Some(last)) => is_same(value, last),
         Some(None) => false,
         None => false,
     }
 }
 
-/// Whether the key is the value's.
-fn is_key_of(key: &Key<'_>, value: &Value) -> bool
-    ensures { MatchBool result (value.now ≡ value_of_key key.now) (value.now ≢ value_of_key key.now) }
+/// Whether both are one value.
+fn is_same(lent: ValueRef<'_>, value: &Value) -> bool
+    ensures { MatchBool result (value.now ≡ lent_value lent.entry)
+        (value.now ≢ lent_value lent.entry) }
 {
     match value {
-        Value::Int(number) => match key {
-            Key::Number(other) => number == other,
-            Key::Text(_) => false,
+        Value::Int(number) => match lent {
+            ValueRef::Int(other) => *number == other,
+            ValueRef::Text(_) => false,
         },
-        Value::Text(text) => match key {
-            Key::Number(_) => false,
-            Key::Text(other) => text.as_str() == *other,
+        Value::Text(text) => match lent {
+            ValueRef::Int(_) => false,
+            ValueRef::Text(other) => text.as_str() == other,
         },
     }
 }

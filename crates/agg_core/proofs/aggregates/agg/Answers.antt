@@ -1,6 +1,6 @@
 use Rattle.std.proofs.Common.{sym, ap, ◌∙◌}
 use Rattle.agg_core.specs.Entries.{place_in}
-use Rattle.agg_core.proofs.PlateauLemmas.{agg_by_names, group-values}
+use Rattle.agg_core.proofs.PlateauLemmas.{agg_by_names, group-there}
 use Rattle.agg_core.proofs.aggregates.agg.Goals as goal
 
 pub returns : goal.returns
@@ -15,10 +15,6 @@ returns g c = (
 pub returns-in-Some : goal.returns-in-Some
 returns-in-Some g c = sym c.agg_refusal.ensures ∙ c.in-Some.is
 
-pub agg_rows-requires-clause-few : goal.agg_rows-requires-clause-few
-agg_rows-requires-clause-few g c = λ κs outlives. c.args.side.few
-
-pub agg_rows-requires-clause-values : goal.agg_rows-requires-clause-values
-agg_rows-requires-clause-values g c = λ κs outlives.
-    group-values c.args.side.schema.now c.args.side.rows.now c.args.group c.place_in-by.result c.place_in-by.ensures
-    c.args.side.fit
+pub agg_rows-requires-clause-there : goal.agg_rows-requires-clause-there
+agg_rows-requires-clause-there g c κs outlives =
+    group-there c.args.side.schema.now c.args.group c.place_in-by.result c.place_in-by.ensures

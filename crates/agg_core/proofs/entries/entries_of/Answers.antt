@@ -1,57 +1,54 @@
-use Rattle.std.proofs.Common.{◌≡◌, ◌∙◌, ◌+◌, ◌<◌, ◌≤◌, Global, List, Some, Vec, arith, get_or, length, refl, sym, subst, ap, take, take_all}
-use Rattle.std.proofs.lemmas.Option.{get_or_from_slice_get}
+use Rattle.std.proofs.Common.{◌≡◌, ◌∙◌, ◌+◌, ◌<◌, ◌≤◌, Global, List, Some, Vec, arith, get_or, length, sym, subst, ap, take, take_all}
+use Rattle.std.proofs.lemmas.List.{get_or_default}
+use Rattle.std.proofs.lemmas.Option.{slice_get-get_or}
 use Rattle.row_core.specs.declared.row.Row.{Row}
-use Rattle.table_core.specs.Lent.{lent_row}
 use Rattle.agg_core.specs.declared.entries.Entry.{Entry}
-use Rattle.agg_core.specs.Entries.{AreEntries, value_at_place}
+use Rattle.agg_core.specs.Entries.{AreEntries, no_row, row_at, value_at_place}
 use Rattle.agg_core.specs.KeyRanges.{in_range, rows_in_range}
 use Rattle.agg_core.proofs.EntryLemmas.{entry_more, entry_same}
 use Rattle.agg_core.proofs.entries.entries_of.Goals as goal
-use Rattle.agg_core.proofs.entries.entries_of.Goals.{then-has_key+in_default, else-has_key}
+use Rattle.agg_core.proofs.entries.entries_of.Goals.{then-has_key+in_ok-push, else-has_key}
 
-pub key_at_place-key-requires : goal.key_at_place-key-requires
-key_at_place-key-requires c =
-    let rows = c.args.rows.now in
-    let i = c.loop-i.i in
-    let row = lent_row c.at-row.result in
-    let inside : i < length rows = omega (arith, c.loop-i-test.true, c.len-i-end.ensures) in
-    subst (λ (r : Row). c.args.place < length r.values) (get_or_from_slice_get rows i row row c.at-row.ensures)
-    (c.requires i row inside)
-
-pub loop-i-preserved : goal.loop-i-preserved
-loop-i-preserved c =
-    let place = c.args.place in
+pub loop-row-preserved : goal.loop-row-preserved
+loop-row-preserved g c =
+    let value_of = g.S.GroupColumn.value_of in
+    let place = g.S.GroupColumn.place c.args.column in
     let range = c.args.range.now in
-    let rows = c.args.rows.now in
-    let i = c.loop-i.i in
-    let row = lent_row c.at-row.result in
-    let inside : i < length rows = omega (arith, c.loop-i-test.true, c.len-i-end.ensures) in
-    let at : row ≡ get_or rows i row = sym (get_or_from_slice_get rows i row row c.at-row.ensures) in
-    let told : c.has_key.result ≡ in_range range (value_at_place (Some place) row) =
-    c.has_key.ensures ∙ ap (in_range range) (sym c.key_at_place-key.ensures) in
+    let rows = g.S.GroupColumn.rows c.args.column in
+    let i = c.loop-row.row in
+    let row = row_at rows i in
+    let test = c.loop-row-test.true in
+    let counted = c.len-count.ensures in
+    let whole = ap length c.rows.ensures in
+    let inside : i < length rows = omega (arith, test, counted, whole) in
+    let at : row ≡ get_or rows i row = get_or_default rows i no_row row inside in
+    let told : c.has_key.result ≡ in_range value_of range (value_at_place (Some place) row) =
+    c.has_key.ensures ∙ ap (in_range value_of range) (sym c.key_at-key.ensures) in
+    let Next = λ (v : Vec (Entry g.row.K.Denot) Global). AreEntries value_of rows place
+    (rows_in_range value_of (value_at_place (Some place)) range (take (i + 1) rows)) v.items in
     elim c.if-has_key.branch [
-      | then-has_key+in_default w ↦
-          subst
-          (λ (v : Vec Entry Global). AreEntries place
-          (rows_in_range (value_at_place (Some place)) range (take (i + 1) rows)) v.items)
-          (sym w.entries-is)
-          (entry_more place range rows i row c.loop-i.entries.items _ _ inside at (sym told ∙ w.if-has_key.true)
-          w.in_default.ensures.items (record { row_is = refl; value_is = c.key_at_place-key.ensures })
-          c.loop-i.invariant)
+      | then-has_key+in_ok-push w ↦
+          subst Next (sym w.entries-is)
+          (entry_more value_of rows place range rows i row c.loop-row.entries.items _ _ inside at
+          (sym told ∙ w.if-has_key.true) w.in_ok-push.ensures.items
+          (record { row_is = slice_get-get_or rows i no_row inside; value_is = c.key_at-key.ensures })
+          c.loop-row.invariant)
       | else-has_key w ↦
-          subst
-          (λ (v : Vec Entry Global). AreEntries place
-          (rows_in_range (value_at_place (Some place)) range (take (i + 1) rows)) v.items)
-          (sym w.entries-is)
-          (entry_same place range rows i row c.loop-i.entries.items inside at (sym told ∙ w.if-has_key.false)
-          c.loop-i.invariant)
+          subst Next (sym w.entries-is)
+          (entry_same value_of rows place range rows i row c.loop-row.entries.items inside at
+          (sym told ∙ w.if-has_key.false) c.loop-row.invariant)
     ]
 
 pub returns : goal.returns
-returns c =
-    let rows = c.args.rows.now in
-    let end : length rows ≤ c.loop-i.i = omega (arith, c.loop-i-test.false, c.len-i-end.ensures) in
+returns g c =
+    let value_of = g.S.GroupColumn.value_of in
+    let place = g.S.GroupColumn.place c.args.column in
+    let rows = g.S.GroupColumn.rows c.args.column in
+    let test = c.loop-row-test.false in
+    let counted = c.len-count.ensures in
+    let whole = ap length c.rows.ensures in
+    let end : length rows ≤ c.loop-row.row = omega (arith, test, counted, whole) in
     subst
-    (λ (l : List Row). AreEntries c.args.place
-    (rows_in_range (value_at_place (Some c.args.place)) c.args.range.now l) c.loop-i.entries.items)
-    (take_all c.loop-i.i rows end) c.loop-i.invariant
+    (λ (l : List Row). AreEntries value_of rows place
+    (rows_in_range value_of (value_at_place (Some place)) c.args.range.now l) c.loop-row.entries.items)
+    (take_all c.loop-row.row rows end) c.loop-row.invariant

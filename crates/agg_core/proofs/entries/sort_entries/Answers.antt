@@ -9,12 +9,17 @@ use Rattle.agg_core.proofs.entries.sort_entries.Goals as goal
 
 pub returns-clause-sorted : goal.returns-clause-sorted
 returns-clause-sorted g c =
+    let laws = g.met.S.GroupColumn g.world.𝓛 g.world.𝓜 g.world.𝓡 ((λ s x. x), (λ x. x), (λ x. x), λ x. x) in
     on_ok_weaker c.sort_by_key.result
-    (λ h. subst (λ lt. IsSortedBy lt c.sort_by_key.new.items.items) key_lt-value
-    (h (λ (e : Entry). e.key) (answers_always _ _ _ (λ f a r g called. search rules))))
+    (λ h. subst (λ lt. IsSortedBy lt c.sort_by_key.new.items.items)
+    (key_lt-value g.S.GroupColumn.value_of g.K.Ord.cmp laws.ordered)
+    (h (λ (e : Entry g.row.K.Denot). e.key) (answers_always _ _ _ (λ f a r g called. search rules))))
     c.sort_by_key.ensures.sorted
 
 pub returns-clause-stable : goal.returns-clause-stable
 returns-clause-stable g c =
-    subst (λ lt. IsStableBy lt c.args.entries.now.items c.sort_by_key.new.items.items) key_lt-value
-    (c.sort_by_key.ensures.stable (λ (e : Entry). e.key) (answers_always _ _ _ (λ f a r g called. search rules)))
+    let laws = g.met.S.GroupColumn g.world.𝓛 g.world.𝓜 g.world.𝓡 ((λ s x. x), (λ x. x), (λ x. x), λ x. x) in
+    subst (λ lt. IsStableBy lt c.args.entries.now.items c.sort_by_key.new.items.items)
+    (key_lt-value g.S.GroupColumn.value_of g.K.Ord.cmp laws.ordered)
+    (c.sort_by_key.ensures.stable (λ (e : Entry g.row.K.Denot). e.key)
+    (answers_always _ _ _ (λ f a r g called. search rules)))
