@@ -22,7 +22,6 @@ ghost use Rattle.agg_core.specs.Grouping.{
 use crate::entries::Entry;
 use crate::keys::GroupColumn;
 use dip_core::Item;
-use list_core::DeepCopy;
 use period_core::NoMemory;
 use row_core::{Value, ValueRef};
 use std::alloc::Global;
@@ -85,19 +84,8 @@ fn enter_group(
         return Ok(groups.len() as u64 - 1);
     }
     let class = groups.len() as u64;
-    groups.push(group_of_row(alloc, row, place)?)?;
+    groups.push(row.copy_value(alloc, place as usize)?)?;
     Ok(class)
-}
-
-/// A copy of the row's value at the place.
-fn group_of_row(alloc: Global, row: RowRef<'_>, place: u32) -> Result<Option<Value>, NoMemory>
-    ensures { IfOk result (λ group. group ≡ value_at_place (Some place) (lent_row row.entry)) }
-{
-    let row = row.copy(alloc)?;
-    match row.values.get(place as usize) {
-        None => Ok(None),
-        Some(value) => Ok(Some(value.copy(alloc)?)),
-    }
 }
 
 /// Whether the value is that of the last group.

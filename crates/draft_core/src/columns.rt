@@ -136,6 +136,23 @@ impl Columns {
         }
     }
 
+    /// A copy of the value of the row at that place in a column; none past the last.
+    pub(crate) fn copy_value_at(
+        &self,
+        alloc: Global,
+        place: usize,
+        column: usize,
+    ) -> Result<Option<Value>, NoMemory>
+        requires { place < length self.now.rows }
+        ensures { IfOk result (λ value. value
+            ≡ slice_get (get_or self.now.rows place no_draft).values column) }
+    {
+        match column_at(&self.values, column) {
+            Some(values) => Ok(Some(values.copy_at(alloc, place)?)),
+            None => Ok(None),
+        }
+    }
+
     /// Copies of the values of the row at that place.
     pub(crate) fn values_at(&self, alloc: Global, place: usize) -> Result<Vec<Value>, NoMemory>
         requires { place < length self.now.rows }

@@ -43,6 +43,17 @@ impl<'a> DraftRef<'a> {
         self.drafts.value_at(self.place, column)
     }
 
+    /// A copy of its value in the column at that place; none past the last.
+    ///
+    /// # Errors
+    ///
+    /// `NoMemory` where a growth is refused.
+    pub fn copy_value(self, alloc: Global, column: usize) -> Result<Option<Value>, NoMemory>
+        ensures { IfOk result (λ value. value ≡ slice_get (lent_draft self.entry).values column) }
+    {
+        self.drafts.copy_value_at(alloc, self.place, column)
+    }
+
     /// Copies of its values.
     ///
     /// # Errors

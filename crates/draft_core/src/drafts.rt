@@ -171,6 +171,23 @@ impl Drafts {
         }
     }
 
+    /// A copy of the value of the draft at that place in a column; none past the last.
+    pub(crate) fn copy_value_at(
+        &self,
+        alloc: Global,
+        place: usize,
+        column: usize,
+    ) -> Result<Option<Value>, NoMemory>
+        requires { place < length self.now }
+        ensures { IfOk result (λ value. value
+            ≡ slice_get (get_or self.now place no_draft).values column) }
+    {
+        match &self.form {
+            Form::Alike(columns) => columns.copy_value_at(alloc, place, column),
+            Form::Apart(drafts) => copy_value(alloc, &drafts[place].values, column),
+        }
+    }
+
     /// Copies of the values of the draft at that place.
     pub(crate) fn values_at(&self, alloc: Global, place: usize) -> Result<Vec<Value>, NoMemory>
         requires { place < length self.now }
@@ -202,6 +219,16 @@ fn value_apart(drafts: &[Draft], place: usize, column: usize) -> Option<ValueRef
     match drafts[place].values.get(column) {
         Some(value) => Some(ValueRef::from(value)),
         None => None,
+    }
+}
+
+/// A copy of the value at that place; none past the last.
+fn copy_value(alloc: Global, values: &Values, place: usize) -> Result<Option<Value>, NoMemory>
+    ensures { IfOk result (λ value. value ≡ slice_get values.now place) }
+{
+    match values.get(place) {
+        Some(value) => Ok(Some(value.copy(alloc)?)),
+        None => Ok(None),
     }
 }
 

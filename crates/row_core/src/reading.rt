@@ -172,7 +172,8 @@ fn read_row<F: AsSlice<u8>>(
     columns: &[Column],
     fields: &[F],
 ) -> Result<Draft, Failure<RowRefused>>
-    ensures { Reads {T = AnyDraft} (λ row. row) (row_of columns.now (map F.items fields.now)) result }
+    ensures { Reads {T = AnyDraft} (λ row. row)
+        (row_of columns.now (map F.items fields.now)) result }
 {
     if fields.len() != columns.len() + 2 {
         return Err(Failure::Refused(RowRefused::WrongWidth));

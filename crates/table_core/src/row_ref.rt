@@ -9,7 +9,7 @@ ghost use Rattle.table_core.specs.Numbered.{row_of};
 use crate::NoMemory;
 use draft_core::DraftRef;
 use period_core::Period;
-use row_core::{Draft, Row, ValueRef};
+use row_core::{Draft, Row, Value, ValueRef};
 use std::alloc::Global;
 
 /// A row of a table, lent by a list of rows.
@@ -68,6 +68,17 @@ impl<'a> RowRef<'a> {
         ensures { option_map lent_value result ≡ slice_get (lent_row self.entry).values column }
     {
         self.draft.value(column)
+    }
+
+    /// A copy of its value in the column at that place; none past the last.
+    ///
+    /// # Errors
+    ///
+    /// `NoMemory` where a growth is refused.
+    pub fn copy_value(self, alloc: Global, column: usize) -> Result<Option<Value>, NoMemory>
+        ensures { IfOk result (λ value. value ≡ slice_get (lent_row self.entry).values column) }
+    {
+        self.draft.copy_value(alloc, column)
     }
 
     /// A copy of the row.

@@ -15,5 +15,5 @@ returns c =
     (λ last. c.if-is_last.ensures
     (subst (λ (l : List (Option Value)). IsLast l (Some value)) (sym c.deref.ensures.value) last))
     (c.in_ok-push.ensures.items
-    ∙ ap (λ (group : Option Value). old ++ group ∷ []) (c.in_ok-group_of_row.ensures ∙ c.requires.there))
+    ∙ ap (λ (group : Option Value). old ++ group ∷ []) (c.in_ok-copy_value.ensures ∙ c.requires.there))
     counted
