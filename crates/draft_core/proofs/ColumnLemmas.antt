@@ -247,30 +247,42 @@ step-values count i j cs c now more v long inside at is there =
 
 -- ---- rows of columns that kept their first values
 
-pub view-kept : (ps : List Period) (old new : List ColumnValues) → Keep (length ps) old new
-    → alike (map kind_of_column new) (rows_by_column 0 ps (all_values new))
+pub view-kept : (ps qs : List Period) (old new : List ColumnValues) (count : ℕ) → qs ≡ ps → count ≡ length ps
+    → Keep count old new
+    → alike (map kind_of_column new) (rows_by_column 0 qs (all_values new))
     ≡ alike (map kind_of_column old) (rows_by_column 0 ps (all_values old))
-view-kept ps old new kept =
+view-kept ps qs old new count same size keep =
+    let kept = subst (λ n. Keep n old new) size keep in
     let within : 0 + length ps ≤ length ps = omega arith in
-    ap (λ kinds. alike kinds (rows_by_column 0 ps (all_values new))) kept.0
+    ap (λ l. alike (map kind_of_column new) (rows_by_column 0 l (all_values new))) same
+    ∙ ap (λ kinds. alike kinds (rows_by_column 0 ps (all_values new))) kept.0
     ∙ ap (alike (map kind_of_column old)) (rows-kept (length ps) 0 ps old new kept.1 within)
 
-pub view-push : (ps : List Period) (p : Period) (old new : List ColumnValues) (values : List Value)
-    → Keep (length ps) old new → values_at (all_values new) (length ps) ≡ values
-    → alike (map kind_of_column new) (rows_by_column 0 (ps ++ p ∷ []) (all_values new))
+pub view-push : (ps qs : List Period) (p : Period) (old new : List ColumnValues) (values : List Value) (count : ℕ)
+    → qs ≡ ps ++ p ∷ [] → count ≡ length ps → Keep count old new → values_at (all_values new) count ≡ values
+    → alike (map kind_of_column new) (rows_by_column 0 qs (all_values new))
     ≡ alike (map kind_of_column old)
     (rows_by_column 0 ps (all_values old) ++ record { period = p; values = values } ∷ [])
-view-push ps p old new values kept last =
-    ap (λ kinds. alike kinds (rows_by_column 0 (ps ++ p ∷ []) (all_values new))) kept.0
+view-push ps qs p old new values count grown size keep at =
+    let kept = subst (λ n. Keep n old new) size keep in
+    let last = subst (λ n. values_at (all_values new) n ≡ values) size at in
+    ap (λ l. alike (map kind_of_column new) (rows_by_column 0 l (all_values new))) grown
+    ∙ ap (λ kinds. alike kinds (rows_by_column 0 (ps ++ p ∷ []) (all_values new))) kept.0
     ∙ ap (alike (map kind_of_column old)) (rows-push ps p old new values kept.1 last)
 
-pub view-append : (ps qs : List Period) (old new more : List ColumnValues) → Keep (length ps) old new
-    → ((i : ℕ) → i < length qs → values_at (all_values new) (length ps + i) ≡ values_at (all_values more) i)
-    → alike (map kind_of_column new) (rows_by_column 0 (ps ++ qs) (all_values new))
+pub view-append : (ps qs all : List Period) (old new more : List ColumnValues) (count more_count : ℕ)
+    → all ≡ ps ++ qs → count ≡ length ps → more_count ≡ length qs → Keep count old new
+    → ((i : ℕ) → i < more_count → values_at (all_values new) (count + i) ≡ values_at (all_values more) i)
+    → alike (map kind_of_column new) (rows_by_column 0 all (all_values new))
     ≡ alike (map kind_of_column old)
     (rows_by_column 0 ps (all_values old) ++ rows_by_column 0 qs (all_values more))
-view-append ps qs old new more kept behind =
-    ap (λ kinds. alike kinds (rows_by_column 0 (ps ++ qs) (all_values new))) kept.0
+view-append ps qs all old new more count more_count grown size more_size keep at =
+    let kept = subst (λ n. Keep n old new) size keep in
+    let behind : (i : ℕ) → i < length qs → values_at (all_values new) (length ps + i) ≡ values_at (all_values more) i =
+    λ i before.
+    ap (λ n. values_at (all_values new) (n + i)) (sym size) ∙ at i (subst (λ n. i < n) (sym more_size) before) in
+    ap (λ l. alike (map kind_of_column new) (rows_by_column 0 l (all_values new))) grown
+    ∙ ap (λ kinds. alike kinds (rows_by_column 0 (ps ++ qs) (all_values new))) kept.0
     ∙ ap (alike (map kind_of_column old)) (rows-put_behind ps qs old new more kept.1 behind)
 
 -- ---- two lists with the same kinds
