@@ -6,7 +6,7 @@ ghost use Rattle.answer_core.specs.PrintedRecords.{IsPrintedAs, errors_in};
 use crate::joined::Joined;
 use crate::unmatched::Unmatched;
 use agg_core::AggRows;
-use book_core::{Log, VersionList};
+use book_core::{Log, SharedVersions};
 use cert_core::Verdict;
 use command_core::Fault;
 use dip_core::Division;
@@ -22,7 +22,7 @@ pub enum Answer {
     /// Rows, by rising id.
     Rows(SharedRows),
     /// Versions of rows, by rising id.
-    Versions(VersionList),
+    Versions(SharedVersions),
     /// A division of so many rows.
     Division { rows: usize, division: Division },
     /// Rows of two tables that held together.

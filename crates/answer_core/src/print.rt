@@ -12,7 +12,7 @@ use crate::answer::Answer;
 use crate::ranges::RecordList;
 use crate::record_text::RecordText;
 use crate::writer::AnswerWriter;
-use book_core::{Log, Version, VersionList};
+use book_core::{Log, SharedVersions};
 use cert_core::Verdict;
 use command_core::Fault;
 use period_core::NoMemory;
@@ -38,14 +38,14 @@ impl<'a> RecordList for RowRecords<'a> {
 /// The records of versions.
 #[derive(Drop)]
 struct VersionRecords<'a> {
-    versions: &'a [Version],
+    versions: &'a SharedVersions,
 }
 
 impl<'a> RecordList for VersionRecords<'a> {
     ghost records = { λ r. map version_record r.versions.now };
 
     fn print_piece(&self, text: &mut RecordText, places: Range<usize>) -> Result<(), NoMemory> {
-        text.versions(piece(places, self.versions))
+        text.some_versions(self.versions, places)
     }
 }
 
@@ -153,14 +153,11 @@ impl AnswerWriter {
     fn version_list<R: Threads + Sync, G>(
         &mut self,
         crew: &Crew<'_, R, G>,
-        versions: &VersionList,
+        versions: &SharedVersions,
     ) -> Result<(), NoMemory>
         ensures { OnOk result (Adds self.old self.new (version_records versions.now)) }
     {
-        let records = VersionRecords {
-            versions: versions.as_slice(),
-        };
-        self.by_places(crew, versions.len(), &records)?;
+        self.by_places(crew, versions.len(), &VersionRecords { versions })?;
         self.end(versions.len() as u64)
     }
 }
@@ -214,30 +211,38 @@ impl RecordText {
         self.begin(b"row")?;
         self.number(row.id())?;
         self.period(&row.period())?;
-        self.lent_values(row)?;
+        self.values(row)?;
         self.end()
     }
 
-    fn versions(&mut self, versions: &[Version]) -> Result<(), NoMemory>
-        ensures { OnOk result
-            (self.new ≡ self.old ++ bytes_of (map version_record versions.now)) }
+    /// The versions of a range of places.
+    fn some_versions(
+        &mut self,
+        versions: &SharedVersions,
+        places: Range<usize>,
+    ) -> Result<(), NoMemory>
+        ensures { OnOk result (self.new ≡ self.old
+            ++ bytes_of (piece places (map version_record versions.now))) }
     {
-        for version in versions {
-            self.version(version)?;
+        let (start, end) = places_within(places, versions.len());
+        for place in start..end {
+            let version = versions.at(place);
+            let row: RowRef<'_> = version.row();
+            self.version(row, version.sysfrom(), version.systo())?;
         }
         Ok(())
     }
 
-    fn version(&mut self, version: &Version) -> Result<(), NoMemory>
-        ensures { OnOk result
-            (self.new ≡ self.old ++ row_text answer_writer (version_record version.now)) }
+    fn version(&mut self, row: RowRef<'_>, sysfrom: u64, systo: Option<u64>) -> Result<(), NoMemory>
+        ensures { OnOk result (self.new ≡ self.old ++ row_text answer_writer (version_record
+            (record { row = lent_row row.entry; sysfrom = sysfrom; systo = systo }))) }
     {
         self.begin(b"version")?;
-        self.number(version.row.id)?;
-        self.period(&version.row.period)?;
-        self.number(version.sysfrom)?;
-        self.system_end(version.systo)?;
-        self.values(version.row.values.as_slice())?;
+        self.number(row.id())?;
+        self.period(&row.period())?;
+        self.number(sysfrom)?;
+        self.system_end(systo)?;
+        self.values(row)?;
         self.end()
     }
 

@@ -136,19 +136,8 @@ impl RecordText {
         }
     }
 
-    /// Adds values.
-    pub(crate) fn values(&mut self, values: &[Value]) -> Result<(), NoMemory>
-        ensures { OnOk result
-            (self.new ≡ self.old ++ fields_text answer_writer (map value_text values.now)) }
-    {
-        for value in values {
-            self.value(ValueRef::from(value))?;
-        }
-        Ok(())
-    }
-
     /// Adds the values of a row.
-    pub(crate) fn lent_values(&mut self, row: RowRef<'_>) -> Result<(), NoMemory>
+    pub(crate) fn values(&mut self, row: RowRef<'_>) -> Result<(), NoMemory>
         ensures { OnOk result (self.new ≡ self.old
             ++ fields_text answer_writer (map value_text (lent_row row.entry).values)) }
     {
@@ -167,7 +156,7 @@ impl RecordText {
             (option_map_or (λ row. (lent_row row).values) row.entry []))) }
     {
         match row {
-            Some(row) => self.lent_values(row),
+            Some(row) => self.values(row),
             None => Ok(()),
         }
     }

@@ -26,7 +26,7 @@ use row_core::{Failure, Name, NoMemory, Schema};
 use std::alloc::Global;
 use std::fmt;
 use std::marker::Model;
-use version_core::{Change, SharedRows, VersionList};
+use version_core::{Change, SharedRows, SharedVersions};
 
 /// The most tables of a book.
 const TABLE_LIMIT: usize = 64;
@@ -263,7 +263,7 @@ impl Book {
         m: u64,
         n: u64,
         name: Name,
-    ) -> Result<VersionList, Failure<VersionsRefused>>
+    ) -> Result<SharedVersions, Failure<VersionsRefused>>
         ensures refused { IfSome (between_refusal self.now at (nat_lt n m) name)
             (λ refused. result ≡ Err (Refused refused)) }
         ensures given { IfNone (between_refusal self.now at (nat_lt n m) name)
@@ -299,7 +299,7 @@ impl Book {
         m: u64,
         n: u64,
         name: Name,
-    ) -> Result<VersionList, Failure<VersionsRefused>>
+    ) -> Result<SharedVersions, Failure<VersionsRefused>>
         ensures refused { IfSome (between_refusal self.now at (nat_le n m) name)
             (λ refused. result ≡ Err (Refused refused)) }
         ensures given { IfNone (between_refusal self.now at (nat_le n m) name)

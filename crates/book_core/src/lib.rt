@@ -16,4 +16,6 @@ pub use commit::Commit;
 pub use laws::{history_has_one_list_of_versions, no_id_is_used_again, rows_rise};
 pub use log::{ChangeKind, Entry, Log};
 pub use refusal::{BookRefused, NoTable, RowsRefused, VersionsRefused};
-pub use version_core::{Change, Pairs, SharedRows, Version, VersionList};
+pub use version_core::{
+    Change, Pairs, SharedRows, SharedVersions, Version, VersionList, VersionRef,
+};

@@ -13,7 +13,7 @@ ghost use Rattle.book_core.specs.Versions.{AreBetween, AreFromTo};
 ghost use Rattle.store_core.specs.Histories.{IsLegal-prop};
 
 use crate::refusal::{Future, RangeRefused};
-use book_core::{Book, NoTable, RowsRefused, SharedRows, VersionList, VersionsRefused};
+use book_core::{Book, NoTable, RowsRefused, SharedRows, SharedVersions, VersionsRefused};
 use period_core::Point;
 use row_core::{Failure, Name, Schema};
 use std::sync::Arc;
@@ -140,7 +140,12 @@ impl Snapshot {
     /// # Errors
     ///
     /// `BadPeriod` where m is greater than n; `NoTable`; `NoMemory`, in this order.
-    pub fn between(&self, m: u64, n: u64, name: Name) -> Result<VersionList, Failure<RangeRefused>>
+    pub fn between(
+        &self,
+        m: u64,
+        n: u64,
+        name: Name,
+    ) -> Result<SharedVersions, Failure<RangeRefused>>
         ensures given { AnswersOr (refusal_of_range (history self.now) (nat_lt n m) name)
             (AreBetween (history self.now) (number_shown self.now) m n name) result }
 
@@ -167,7 +172,12 @@ impl Snapshot {
     /// # Errors
     ///
     /// `BadPeriod` where m isn't less than n; `NoTable`; `NoMemory`, in this order.
-    pub fn from_to(&self, m: u64, n: u64, name: Name) -> Result<VersionList, Failure<RangeRefused>>
+    pub fn from_to(
+        &self,
+        m: u64,
+        n: u64,
+        name: Name,
+    ) -> Result<SharedVersions, Failure<RangeRefused>>
         ensures given { AnswersOr (refusal_of_range (history self.now) (nat_le n m) name)
             (AreFromTo (history self.now) (number_shown self.now) m n name) result }
     {

@@ -63,15 +63,15 @@ fn apply(alloc: Global, book: &mut Book, number: u64) -> Result<(), Ended> {
 }
 
 // The versions that stood at some commits: the row before it was updated.
-fn ask_versions(book: &Book, table: Name) -> Result<(), Ended> {
-    let open = book.between(2, 2, 9, table)?;
+fn ask_versions(alloc: Global, book: &Book, table: Name) -> Result<(), Ended> {
+    let open = book.between(2, 2, 9, table)?.list(alloc)?;
     holds(open.len() == 1)?;
     let version = open.get(0).ok_or(Ended::Wrong)?;
     holds(version.row.id == 1 && version.systo.is_none())?;
     let closed = book.from_to(3, 2, 3, table)?;
     holds(closed.len() == 1)?;
-    let version = closed.get(0).ok_or(Ended::Wrong)?;
-    holds(version.row.id == 1 && version.systo == Some(3))
+    let version = closed.at(0);
+    holds(version.row().id() == 1 && version.systo() == Some(3))
 }
 
 // What is asked of the book of three changes, and what it refuses.
@@ -79,7 +79,7 @@ fn ask(alloc: Global, book: &mut Book) -> Result<(), Ended> {
     let table = name(b"u")?;
     let rows = book.rows_at(2, table)?;
     holds(rows.len() == 1 && rows.at(0).id() == 1)?;
-    ask_versions(book, table)?;
+    ask_versions(alloc, book, table)?;
     holds(book.log()?.len() == 3)?;
     refuses(book.rows_at(4, table), RowsRefused::Future)?;
     let wrong = load(alloc, table, Value::Int(1))?;

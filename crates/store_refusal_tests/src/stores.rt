@@ -102,8 +102,8 @@ fn ask_snapshot<R: Wait>(rt: &R, alloc: Global) -> Result<(), Ended> {
     let (store, mut pass) = one_row(rt, alloc)?;
     let snapshot = store.snapshot(rt, &mut pass, Some(1))?;
     let table = name(b"t")?;
-    holds(snapshot.between(0, 9, table)?.is_empty())?;
-    holds(snapshot.from_to(0, 9, table)?.is_empty())?;
+    holds(snapshot.between(0, 9, table)?.len() == 0)?;
+    holds(snapshot.from_to(0, 9, table)?.len() == 0)?;
     holds(shown(&snapshot)? == (1, 0) && shown(&snapshot.as_of(0)?)? == (0, 0))
 }
 

@@ -1,7 +1,9 @@
 //! Changes of a portion of time: what commits show of them, their versions, the log, and copies.
 
 use crate::fixtures::{name, period, schema, text};
-use book_core::{Book, Change, ChangeKind, Entry, Pairs, RowsRefused, Version, VersionsRefused};
+use book_core::{
+    Book, Change, ChangeKind, Entry, Pairs, RowsRefused, SharedVersions, VersionsRefused,
+};
 use draft_core::Drafts;
 use list_core::DeepCopy;
 use period_core::Period;
@@ -157,30 +159,32 @@ fn puts_parts_in_place_of_a_row(rt: HostRuntime) {
 // The id of a version, the commit that shows it first, and the one that shows it no more.
 type Span = (u64, u64, Option<u64>);
 
-fn span(version: &Version) -> Span {
-    (version.row.id, version.sysfrom, version.systo)
-}
-
-fn are_spans(versions: &[Version], want: &[Span]) -> bool {
-    versions.len() == want.len()
-        && versions
-            .iter()
-            .zip(want)
-            .all(|(version, want)| span(version) == *want)
+// Whether the versions have these ids and commits.
+fn are_spans(versions: &SharedVersions, want: &[Span]) -> bool {
+    if versions.len() != want.len() {
+        return false;
+    }
+    for place in 0..versions.len() {
+        let version = versions.at(place);
+        if (version.row().id(), version.sysfrom(), version.systo()) != want[place] {
+            return false;
+        }
+    }
+    true
 }
 
 fn check_between(rt: &impl Abort, book: &Book, [at, m, n]: [u64; 3], want: &[Span]) {
     let versions = book
         .between(at, m, n, name(rt, b"u"))
         .expect(rt, "versions");
-    assert!(rt; are_spans(versions.as_slice(), want));
+    assert!(rt; are_spans(&versions, want));
 }
 
 fn check_from_to(rt: &impl Abort, book: &Book, [at, m, n]: [u64; 3], want: &[Span]) {
     let versions = book
         .from_to(at, m, n, name(rt, b"u"))
         .expect(rt, "versions");
-    assert!(rt; are_spans(versions.as_slice(), want));
+    assert!(rt; are_spans(&versions, want));
 }
 
 #[test]

@@ -1,11 +1,16 @@
 -- The versions that the first commits show, and the rows that one shows.
-use Rattle.std.proofs.Common.{◌≡◌, ℕ, ◌+◌, ◌<◌, List, [], ◌∷◌, ◌++◌, length, map, zero, suc, Bool, true, false, cond, Some, None, refl, ap, sym, ◌∙◌, take, get_or, ◌&&◌, leb, arith}
+use Rattle.std.proofs.Common.{◌≡◌, ℕ, ◌+◌, ◌<◌, List, [], ◌∷◌, ◌++◌, length, map, zero, suc, Bool, true, false, cond, Some, None, refl, ap, subst, sym, ◌∙◌, take, get_or, ◌&&◌, leb, arith}
 use Rattle.std.specs.List.{cons_option, filter, slice_get}
-use Rattle.std.proofs.lemmas.List.{append-nil, take_more}
+use Rattle.std.specs.Prelude.{All}
+use Rattle.std.proofs.lemmas.List.{append-nil, length-map, take_more}
 use Rattle.std.proofs.lemmas.List.Elements.{filter-append, filter_map-append}
 use Rattle.row_core.specs.declared.row.Row.{Row}
+use Rattle.table_core.specs.Places.{at_places}
+use Rattle.table_core.proofs.PlaceLemmas.{at_places-more, length-at_places}
 use Rattle.version_core.specs.Shown.{holds_where, shows, row_shown, shown, is_behind, end_at, version_as_of, versions_as_of}
+use Rattle.version_core.specs.Stored.{SystemPeriod, version_of, versions_of}
 use Rattle.version_core.specs.declared.version.Version.{Version}
+use Rattle.version_core.proofs.StoredLemmas.{versions_of-append}
 
 versions_as_of-take_more : (at m last i : ℕ) (vs : List Version) (v : Version) → i < length vs → v ≡ get_or vs i v
     → versions_as_of at m last (take (i + 1) vs)
@@ -82,3 +87,16 @@ row-at (w ∷ ws) (suc i) v inside e = row-at ws i v (omega (arith, inside)) e
 pub all-held : (rows : List Row) → filter (holds_where None) rows ≡ rows
 all-held [] = refl
 all-held (row ∷ rows) = ap (λ l. row ∷ l) (all-held rows)
+
+-- the versions of the rows at some places, and one more
+pub versions_of-at_places : (places : List ℕ) (spans : List SystemPeriod) (vs : List Version) (place : ℕ) (row : Row)
+    (span : SystemPeriod) → All (λ p. p < length vs) places → length places ≡ length spans
+    → slice_get (map (λ (v : Version). v.row) vs) place ≡ Some row
+    → versions_of (at_places (places ++ place ∷ []) (map (λ (v : Version). v.row) vs)) (spans ++ span ∷ [])
+    ≡ versions_of (at_places places (map (λ (v : Version). v.row) vs)) spans ++ version_of row span ∷ []
+versions_of-at_places places spans vs place row span within beside there =
+    let rows = map (λ (v : Version). v.row) vs in
+    let inside = subst (λ n. All (λ p. p < n) places) (sym (length-map vs (λ (v : Version). v.row))) within in
+    let same = length-at_places places rows inside ∙ beside in
+    ap (λ l. versions_of l (spans ++ span ∷ [])) (at_places-more places rows place row there)
+    ∙ versions_of-append (at_places places rows) (row ∷ []) spans (span ∷ []) same

@@ -52,6 +52,22 @@ get_or-versions_of (x ∷ xs) (y ∷ ys) (suc place) row span vs e inside beside
     get_or-versions_of xs ys place row span (versions_of xs ys) refl (omega (arith, inside)) (omega (arith, beside)) r s
     ∙ ap (λ l. get_or l (suc place) (version_of row span)) e
 
+-- the version of some row, by what stands beside it
+pub version-beside : (rows : List Row) (spans : List SystemPeriod) (place : ℕ) (span : SystemPeriod) (vs : List Version)
+    → versions_of rows spans ≡ vs → length rows ≡ length spans → place < length spans → span ≡ get_or spans place span
+    → (row : Row) × (version_of row span ≡ get_or vs place (version_of row span))
+version-beside [] spans place span vs e same inside s = absurd (omega (arith, same, inside))
+version-beside (x ∷ xs) [] place span vs e same inside s = absurd (omega (arith, inside))
+version-beside (x ∷ xs) (y ∷ ys) zero span vs e same inside s = (
+  x,
+  ap (version_of x) s ∙ ap (λ l. get_or l zero (version_of x span)) e,
+)
+version-beside (x ∷ xs) (y ∷ ys) (suc place) span vs e same inside s =
+    let rest = version-beside xs ys place span (versions_of xs ys) refl (omega (arith, same)) (omega (arith, inside)) s in (
+      rest.0,
+      rest.1 ∙ ap (λ l. get_or l (suc place) (version_of rest.0 span)) e,
+    )
+
 -- the version of the draft at a place
 pub version-at : (drafts : List Draft) (spans : List SystemPeriod) (place : ℕ) (draft : Draft) (row : Row) (span : SystemPeriod)
     (vs : List Version) → versions_of (numbered 0 drafts) spans ≡ vs → place < length drafts → place < length spans
@@ -80,7 +96,7 @@ rows-versions_of [] spans same = refl
 rows-versions_of (r ∷ rs) [] same = absurd (omega (arith, same))
 rows-versions_of (r ∷ rs) (s ∷ ss) same = ap (λ l. r ∷ l) (rows-versions_of rs ss (omega (arith, same)))
 
-versions_of-append : (rows more : List Row) (spans others : List SystemPeriod) → length rows ≡ length spans
+pub versions_of-append : (rows more : List Row) (spans others : List SystemPeriod) → length rows ≡ length spans
     → versions_of (rows ++ more) (spans ++ others) ≡ versions_of rows spans ++ versions_of more others
 versions_of-append [] more [] others same = refl
 versions_of-append [] more (s ∷ ss) others same = absurd (omega (arith, same))

@@ -1,6 +1,7 @@
 pub mod Finding
 pub mod KeyIndex
 pub mod Keys
+pub mod Lent
 pub mod Limits
 pub mod Made
 pub mod OpenVersions
@@ -8,4 +9,3 @@ pub mod Plans
 pub mod Rows
 pub mod Shown
 pub mod Stored
-pub mod StoredRef

@@ -10,13 +10,14 @@ ghost use Rattle.version_core.specs.KeyIndex.{IsKeyIndex, IsLastNear, entry_of, 
 ghost use Rattle.version_core.specs.Keys.{rows_left};
 ghost use Rattle.version_core.specs.OpenVersions.{current, is_open};
 ghost use Rattle.version_core.specs.Rows.{unnumbered};
-ghost use Rattle.version_core.specs.StoredRef.{version_at};
+ghost use Rattle.version_core.specs.Lent.{lent_version};
 ghost use Rattle.version_core.specs.declared.version.Version.{Version};
 
 use crate::change::Change;
 use crate::keys::collides_at;
 use crate::portion::columns_sought;
-use crate::stored::{StoredVersions, VersionRef};
+use crate::stored::StoredVersions;
+use crate::version_ref::VersionRef;
 use draft_core::DraftRef;
 use key_core::same_key;
 use period_core::Point;
@@ -201,7 +202,7 @@ fn is_last_near(
 /// Whether the version is open, of the new row's key, and begins where the entry says, which is no
 /// later than the new row does.
 fn is_open_before(key: &[u32], version: &VersionRef<'_>, from: Point, new: DraftRef<'_>) -> bool
-    ensures open { result ≡ true → is_open (version_at version.now) ≡ true }
+    ensures open { result ≡ true → is_open (lent_version version.now) ≡ true }
     ensures begins { result ≡ true → (lent_row version.now.row).period.from ≡ from }
     ensures before { result ≡ true → from ≤ℤ (lent_draft new.entry).period.from }
     ensures key { result ≡ true → same_key key.now (lent_row version.now.row).values

@@ -9,12 +9,13 @@ ghost use Rattle.version_core.specs.Finding.{ListsOpen, any_row, AreSought, pass
 ghost use Rattle.version_core.specs.Keys.{collides_left, is_column_of, is_left, overlap_after, rows_left, sets_key, break_key};
 ghost use Rattle.version_core.specs.OpenVersions.{current};
 ghost use Rattle.version_core.specs.Rows.{conds_of, unnumbered};
-ghost use Rattle.version_core.specs.StoredRef.{version_at};
+ghost use Rattle.version_core.specs.Lent.{lent_version};
 ghost use Rattle.version_core.specs.declared.version.Version.{Version};
 
 use crate::change::Change;
 use crate::portion::{SOUGHT_LIMIT, columns_sought, is_removed};
-use crate::stored::{StoredVersions, VersionRef};
+use crate::stored::StoredVersions;
+use crate::version_ref::VersionRef;
 use draft_core::{DraftRef, Drafts};
 use key_core::{collide, have_collision};
 use row_core::{Name, NoMemory, Schema, Value};
@@ -132,7 +133,7 @@ fn is_left(
     version: &VersionRef<'_>,
 ) -> bool
     requires { AreSought schema.now (conds_of change.now) columns.now }
-    ensures { result ≡ is_left change.now schema.now (version_at version.now) }
+    ensures { result ≡ is_left change.now schema.now (lent_version version.now) }
 {
     version.span.is_open() && !is_removed(schema, change, columns, version.row)
 }
@@ -182,7 +183,7 @@ fn collides_left(
 ) -> bool
     requires { AreSought schema.now (conds_of change.now) columns.now }
     ensures { result ≡ collides_left change.now schema.now key.now (lent_draft new.entry)
-        (version_at version.now) }
+        (lent_version version.now) }
 {
     is_left(schema, change, columns, version) && collide(key, version.row.draft(), new)
 }

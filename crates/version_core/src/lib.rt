@@ -9,14 +9,18 @@ mod key_index;
 mod keys;
 mod places;
 mod portion;
+mod shared_versions;
 mod span;
 mod stored;
 mod version;
+mod version_ref;
 mod versions;
 
 pub use change::{Change, Pairs};
 pub use commit_number::CommitNumber;
 pub use keys::KeyOverlap;
+pub use shared_versions::SharedVersions;
 pub use table_core::SharedRows;
 pub use version::{Version, VersionList};
+pub use version_ref::VersionRef;
 pub use versions::{VERSION_LIMIT, VersionCounts, Versions};

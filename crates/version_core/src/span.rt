@@ -1,6 +1,7 @@
 //! The commits that show a version, as they are kept.
 
 ghost use Rattle.std.specs.Prelude.{◌≡◌, is_none, Some, None};
+ghost use Rattle.version_core.specs.Shown.{end_at};
 
 use crate::commit_number::CommitNumber;
 use std::marker::Model;
@@ -51,6 +52,20 @@ impl Span {
         ensures { result ≡ self.now.to }
     {
         if self.to == 0 { None } else { Some(self.to) }
+    }
+
+    /// The same as the first `at` commits know it: an end past them is open.
+    pub(crate) fn as_of(&self, at: u64) -> Span
+        ensures { result ≡ record { from = self.now.from; to = end_at at self.now.to } }
+    {
+        if self.to as u64 <= at {
+            *self
+        } else {
+            Span {
+                from: self.from,
+                to: 0,
+            }
+        }
     }
 
     /// Whether no commit has closed it.

@@ -6,22 +6,16 @@ ghost use Rattle.table_core.specs.Places.{at_places};
 ghost use Rattle.version_core.specs.Made.{made};
 ghost use Rattle.version_core.specs.OpenVersions.{closed_at};
 ghost use Rattle.version_core.specs.Stored.{versions_of};
-ghost use Rattle.version_core.specs.StoredRef.{version_at};
+ghost use Rattle.version_core.specs.Lent.{lent_version};
 
 use crate::commit_number::CommitNumber;
 use crate::span::Span;
+use crate::version_ref::VersionRef;
 use draft_core::Drafts;
 use row_core::NoMemory;
 use std::alloc::Global;
 use std::marker::Model;
-use table_core::{RowRef, SharedRows, TableRows};
-
-/// A version where it is kept.
-#[derive(Clone, Copy)]
-pub(crate) struct VersionRef<'a> {
-    pub row: RowRef<'a>,
-    pub span: Span,
-}
+use table_core::{SharedRows, TableRows};
 
 /// The versions of a table, whose rows a list of all of them shares. Contracts see the list of
 /// versions.
@@ -74,7 +68,7 @@ impl StoredVersions {
     /// The version at that place.
     pub(crate) fn at(&self, place: usize) -> VersionRef<'_>
         requires { place < length self.now }
-        ensures { version_at result ≡ get_or self.now place (version_at result) }
+        ensures { lent_version result ≡ get_or self.now place (lent_version result) }
     {
         match self.get(place) {
             Some(version) => version,
@@ -84,7 +78,7 @@ impl StoredVersions {
 
     /// The version at that place; none past the last.
     pub(crate) fn get(&self, place: usize) -> Option<VersionRef<'_>>
-        ensures { option_map version_at result ≡ slice_get self.now place }
+        ensures { option_map lent_version result ≡ slice_get self.now place }
     {
         match self.rows.get(place) {
             Some(row) => Some(VersionRef {

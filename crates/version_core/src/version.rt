@@ -5,9 +5,10 @@ ghost use Rattle.period_core.specs.Period.{holds_at};
 ghost use Rattle.row_core.specs.declared.row.Row.{Row};
 ghost use Rattle.table_core.specs.Lent.{lent_row};
 ghost use Rattle.table_core.specs.Places.{at_places};
-ghost use Rattle.version_core.specs.Shown.{holds_where, shows, shown, versions_as_of, end_at, is_behind};
+ghost use Rattle.version_core.specs.Shown.{holds_where, shows, shown, versions_as_of, is_behind};
 ghost use Rattle.version_core.specs.Stored.{version_of};
 
+use crate::shared_versions::SharedVersions;
 use crate::span::Span;
 use crate::stored::StoredVersions;
 use list_core::List;
@@ -112,53 +113,35 @@ fn holds_where(period: Period, point: Option<Point>) -> bool
 /// Versions of one table, by rising id.
 pub type VersionList = List<Version>;
 
-/// The versions of the first `at` commits that begin up to `last` and are not over by `m`.
+/// The versions of the first `at` commits that begin up to `last` and are not over by `m`, whose rows are
+/// not copied.
 pub(crate) fn versions_seen(
     alloc: Global,
     versions: &StoredVersions,
     at: u64,
     m: u64,
     last: u64,
-) -> Result<VersionList, NoMemory>
+) -> Result<SharedVersions, NoMemory>
     ensures { IfOk result (λ list. list ≡ versions_as_of at m last versions.now) }
 {
-    let (drafts, spans) = versions.rows_and_spans();
-    let mut seen = VersionList::new(alloc);
-    for i in 0..drafts.len() {
-        let row = RowRef::of_draft(i, drafts.at(i));
-        let span = &spans[i];
-        let from = span.from() as u64;
-        let end = end_at(at, span.to());
-        if is_seen(from, end, at, m, last) {
-            seen.push(Version {
-                row: row.copy(alloc)?,
-                sysfrom: from,
-                systo: end,
-            })?;
+    let (_, spans) = versions.rows_and_spans();
+    let mut places = Vec::new(alloc);
+    let mut seen = Vec::new(alloc);
+    for i in 0..spans.len() {
+        let span = spans[i].as_of(at);
+        if is_seen(&span, at, m, last) {
+            places.push(as_place(i)?)?;
+            seen.push(span)?;
         }
     }
-    Ok(seen)
+    SharedVersions::at_places(versions, places, seen)
 }
 
-/// The end as the first `at` commits know it: one past them is open.
-fn end_at(at: u64, systo: Option<u32>) -> Option<u64>
-    ensures { result ≡ end_at at systo }
+/// Whether commits show a version that begins up to `at` and up to `last`, and is not over by m.
+fn is_seen(span: &Span, at: u64, m: u64, last: u64) -> bool
+    ensures { result ≡ (nat_le span.now.from at
+        && (nat_le span.now.from last && is_behind span.now.to m)) }
 {
-    match systo {
-        None => None,
-        Some(to) => {
-            if to as u64 <= at {
-                Some(to as u64)
-            } else {
-                None
-            }
-        }
-    }
-}
-
-/// Whether a version begins up to `at` and up to `last`, and is not over by m.
-fn is_seen(sysfrom: u64, end: Option<u64>, at: u64, m: u64, last: u64) -> bool
-    ensures { result ≡ (nat_le sysfrom at && (nat_le sysfrom last && is_behind end m)) }
-{
-    sysfrom <= at && (sysfrom <= last && end.is_none_or(|to| m < to))
+    let from = span.from() as u64;
+    from <= at && (from <= last && span.to().is_none_or(|to| m < to as u64))
 }

@@ -35,9 +35,10 @@ use crate::portion::{
     SOUGHT_LIMIT, columns_sought, count_of, is_removed, portion_of, push_parts, reaches,
     share_instant,
 };
+use crate::shared_versions::SharedVersions;
 use crate::span::Span;
 use crate::stored::StoredVersions;
-use crate::version::{VersionList, rows_holding, rows_shown, versions_seen};
+use crate::version::{rows_holding, rows_shown, versions_seen};
 use draft_core::Drafts;
 use list_core::DeepCopy;
 use period_core::{Period, Point};
@@ -123,14 +124,15 @@ impl Versions {
         rows_shown(alloc, &self.items, n)
     }
 
-    /// The versions of the first `at` commits that begin up to `last` and are not over by `m`.
+    /// The versions of the first `at` commits that begin up to `last` and are not over by `m`, whose rows
+    /// are not copied.
     pub fn versions_seen(
         &self,
         alloc: Global,
         at: u64,
         m: u64,
         last: u64,
-    ) -> Result<VersionList, NoMemory>
+    ) -> Result<SharedVersions, NoMemory>
         ensures { IfOk result (λ list. list ≡ versions_as_of at m last self.now) }
     {
         versions_seen(alloc, &self.items, at, m, last)

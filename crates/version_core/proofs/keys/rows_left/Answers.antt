@@ -5,7 +5,7 @@ use Rattle.draft_core.specs.Lent.{lent_draft}
 use Rattle.version_core.specs.Finding.{passes}
 use Rattle.version_core.specs.Keys.{is_left}
 use Rattle.version_core.specs.Rows.{unnumbered}
-use Rattle.version_core.specs.StoredRef.{version_at}
+use Rattle.version_core.specs.Lent.{lent_version}
 use Rattle.version_core.proofs.KeyLemmas.{drafts_at, left-listed, left-no, left-yes}
 use Rattle.version_core.proofs.keys.rows_left.Goals as goal
 use Rattle.version_core.proofs.keys.rows_left.Goals.{then-is_left+in_default, else-is_left}
@@ -18,7 +18,7 @@ loop-place-preserved c =
     let vs = c.args.versions.now in
     let places = c.args.open_at.now in
     let i = c.loop-place.place-index in
-    let version = (version_at c.at-version.result) in
+    let version = (lent_version c.at-version.result) in
     let left = is_left c.args.change.now c.args.schema.now in
     let inside : get_or places i 0 < length vs = c.requires.inside i 0 c.loop-place-test.true in
     elim c.if-is_left.branch [

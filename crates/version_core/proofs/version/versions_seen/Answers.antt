@@ -1,50 +1,64 @@
-use Rattle.std.proofs.Common.{◌<◌, length, arith, sym, ◌∙◌, ap, ◌++◌, ◌∷◌, [], ◌&&◌, leb}
-use Rattle.std.proofs.lemmas.List.{take_all}
-use Rattle.draft_core.specs.Lent.{lent_draft}
-use Rattle.table_core.specs.Lent.{lent_row}
-use Rattle.version_core.specs.Shown.{end_at, is_behind, versions_as_of}
-use Rattle.version_core.specs.Stored.{version_of}
-use Rattle.version_core.proofs.StoredLemmas.{version-at}
-use Rattle.version_core.proofs.Seen.{versions_as_of-more, versions_as_of-same}
+use Rattle.std.proofs.Common.{◌≡◌, ◌<◌, ◌&&◌, All, Global, Vec, length, length-append, leb, map, arith, subst, sym, ◌∙◌, ap, ◌++◌, ◌∷◌, [], ℕ}
+use Rattle.std.proofs.lemmas.List.Elements.{All-push}
+use Rattle.table_core.specs.Numbered.{numbered}
+use Rattle.table_core.specs.Places.{at_places}
+use Rattle.table_core.proofs.NumberedLemmas.{length-numbered}
+use Rattle.version_core.specs.Shown.{is_behind}
+use Rattle.version_core.specs.Stored.{SystemPeriod, version_of, versions_of}
+use Rattle.version_core.specs.declared.version.Version.{Version}
+use Rattle.version_core.proofs.Seen.{row-at, versions_as_of-more, versions_as_of-same, versions_of-at_places}
+use Rattle.version_core.proofs.StoredLemmas.{version-beside}
 use Rattle.version_core.proofs.version.versions_seen.Goals as goal
-use Rattle.version_core.proofs.version.versions_seen.Goals.{then-is_seen+in_ok-copy+in_ok-push, else-is_seen}
+use Rattle.version_core.proofs.version.versions_seen.Goals.{then-is_seen+in_ok-as_place+in_ok-push+in_ok-push-2, else-is_seen}
 
 pub loop-i-preserved : goal.loop-i-preserved
 loop-i-preserved c =
     let vs = c.args.versions.now in
+    let all = map (λ (v : Version). v.row) vs in
     let i = c.loop-i.i in
     let drafts = c.rows_and_spans.result.0.now in
     let spans = c.rows_and_spans.result.1.now in
-    let inside : i < length vs = omega (arith, c.loop-i-test.true, c.rows_and_spans.ensures.rows) in
-    let beside : i < length spans = omega (arith, inside, c.rows_and_spans.ensures.spans) in
+    let beside : i < length spans = omega (arith, c.loop-i-test.true) in
+    let inside : i < length vs = omega (arith, beside, c.rows_and_spans.ensures.spans) in
+    let same : length (numbered 0 drafts) ≡ length spans =
+    omega (arith, length-numbered 0 drafts, c.rows_and_spans.ensures.rows, c.rows_and_spans.ensures.spans) in
     let span = c.index-spans-i.result in
-    let row = lent_row c.of_draft-row.result in
-    let v = version_of row span in
-    let found = version-at drafts spans i (lent_draft c.at.result) row span vs c.rows_and_spans.ensures.versions
-    (omega (arith, c.loop-i-test.true)) beside c.at.ensures c.of_draft-row.ensures
+    let found = version-beside (numbered 0 drafts) spans i span vs c.rows_and_spans.ensures.versions same beside
     c.index-spans-i.is in
-    let ends = sym (c.end_at-end.ensures ∙ ap (end_at c.args.at) c.to.ensures) in
-    let test = ap (λ end. leb v.sysfrom c.args.at && (leb v.sysfrom c.args.last && is_behind end c.args.m)) ends
-    ∙ ap (λ from. leb from c.args.at && (leb from c.args.last && is_behind c.end_at-end.result c.args.m))
-    (sym c.from-from.ensures) ∙ sym c.is_seen.ensures in
+    let v = version_of found.0 span in
+    let now = c.as_of-span.result in
+    let places = c.loop-i.places.items in
+    let seen = c.loop-i.seen.items in
+    let test = ap (λ (s : SystemPeriod). leb s.from c.args.at && (leb s.from c.args.last && is_behind s.to c.args.m))
+    (sym c.as_of-span.ensures) ∙ sym c.is_seen.ensures in
     elim c.if-is_seen.branch [
-      | then-is_seen+in_ok-copy+in_ok-push w ↦
-          w.seen-is ∙ w.in_ok-push.ensures.ok
-          ∙ ap (λ row. c.loop-i.seen ++ record { row = row; sysfrom = c.from-from.result; systo = c.end_at-end.result } ∷ [])
-          w.in_ok-copy.ensures
-          ∙ ap (λ from. c.loop-i.seen ++ record { row = v.row; sysfrom = from; systo = c.end_at-end.result } ∷ [])
-          c.from-from.ensures
-          ∙ ap (λ end. c.loop-i.seen ++ record { row = v.row; sysfrom = v.sysfrom; systo = end } ∷ []) (sym ends)
-          ∙ versions_as_of-more c.args.at c.args.m c.args.last i vs v
-          c.loop-i.seen inside found (test ∙ w.if-is_seen.true) c.loop-i.invariant
+      | then-is_seen+in_ok-as_place+in_ok-push+in_ok-push-2 w ↦
+          let grown = ap (λ (u : Vec ℕ Global). u.items) w.places-is ∙ w.in_ok-push.ensures.items
+          ∙ ap (λ place. places ++ place ∷ []) w.in_ok-as_place.ensures in
+          let more = ap (λ (u : Vec SystemPeriod Global). u.items) w.seen-is ∙ w.in_ok-push-2.ensures.items in
+          record {
+            within = subst (All (λ place. place < length vs)) (sym grown)
+                (All-push (λ place. place < length vs) places i c.loop-i.invariant.within inside);
+            beside = let one = ap length grown in let other = ap length more in
+                omega (arith, one, other, length-append places (i ∷ []), length-append seen (now ∷ []), c.loop-i.invariant.beside);
+            seen = ap (λ l. versions_of (at_places l all) c.if-is_seen.seen.items) grown
+                ∙ ap (versions_of (at_places (places ++ i ∷ []) all)) more
+                ∙ versions_of-at_places places seen vs i v.row now c.loop-i.invariant.within c.loop-i.invariant.beside
+                (row-at vs i v inside found.1)
+                ∙ ap (λ s. versions_of (at_places places all) seen ++ version_of v.row s ∷ []) c.as_of-span.ensures
+                ∙ versions_as_of-more c.args.at c.args.m c.args.last i vs v
+                (versions_of (at_places places all) seen) inside found.1 (test ∙ w.if-is_seen.true) c.loop-i.invariant.seen;
+          }
       | else-is_seen w ↦
-          w.seen-is
-          ∙ versions_as_of-same c.args.at c.args.m c.args.last i vs v
-          c.loop-i.seen inside found (test ∙ w.if-is_seen.false) c.loop-i.invariant
+          let same_places = ap (λ (u : Vec ℕ Global). u.items) w.places-is in
+          let same_seen = ap (λ (u : Vec SystemPeriod Global). u.items) w.seen-is in
+          record {
+            within = subst (All (λ place. place < length vs)) (sym same_places) c.loop-i.invariant.within;
+            beside = ap length same_places ∙ c.loop-i.invariant.beside ∙ sym (ap length same_seen);
+            seen = ap (λ l. versions_of (at_places l all) c.if-is_seen.seen.items) same_places
+                ∙ ap (versions_of (at_places places all)) same_seen
+                ∙ versions_as_of-same c.args.at c.args.m c.args.last i vs v
+                (versions_of (at_places places all) seen) inside found.1 (test ∙ w.if-is_seen.false)
+                c.loop-i.invariant.seen;
+          }
     ]
-
-pub returns : goal.returns
-returns c =
-    c.loop-i.invariant
-    ∙ ap (versions_as_of c.args.at c.args.m c.args.last)
-    (take_all c.loop-i.i c.args.versions.now (omega (arith, c.loop-i-test.false, c.rows_and_spans.ensures.rows)))

@@ -1,5 +1,5 @@
 use Rattle.std.proofs.Common.{◌∙◌, ◌++◌, ◌∷◌, [], sym, refl, arith}
-use Rattle.version_core.specs.StoredRef.{version_at}
+use Rattle.version_core.specs.Lent.{lent_version}
 use Rattle.version_core.proofs.IndexLemmas.{index-pushed, index-skipped, index-written}
 use Rattle.version_core.proofs.index.Index.add.Goals as goal
 
@@ -11,10 +11,10 @@ returns-in_ok-push c =
     let written = index-written c.args.self.now.buckets.items c.in-Some.bucket c.index_mut.result.now c.push.new.self
     (λ places. places ++ c.args.place ∷ [])
     (omega (arith, small, whole)) c.index_mut.ensures.value c.in_ok-push.ensures.ok in
-    index-pushed c.args.versions.now c.args.place (version_at c.at-version.result) c.args.self.now _ c.in-Some.bucket
+    index-pushed c.args.versions.now c.args.place (lent_version c.at-version.result) c.args.self.now _ c.in-Some.bucket
     c.requires.inside c.at-version.ensures small bucket refl written c.requires.before
 
 pub returns-in_default : goal.returns-in_default
 returns-in_default c =
-    index-skipped c.args.versions.now c.args.place (version_at c.at-version.result) c.args.self.now c.requires.inside
+    index-skipped c.args.versions.now c.args.place (lent_version c.at-version.result) c.args.self.now c.requires.inside
     c.at-version.ensures (sym c.bucket_in.ensures.bucket ∙ c.in_default.is) c.requires.before

@@ -1,0 +1,101 @@
+//! Versions of a table whose rows a list shares with it.
+
+ghost use Rattle.std.specs.Prelude.{◌≡◌, ◌<◌, All, Some, length, map, slice_get, IfOk};
+ghost use Rattle.table_core.specs.Places.{at_places};
+ghost use Rattle.version_core.specs.Lent.{lent_version};
+ghost use Rattle.version_core.specs.Stored.{versions_of};
+
+use crate::span::Span;
+use crate::stored::StoredVersions;
+use crate::version::{Version, VersionList};
+use crate::version_ref::VersionRef;
+use row_core::NoMemory;
+use std::alloc::Global;
+use std::marker::Model;
+use table_core::{RowRef, SharedRows};
+
+/// Versions of a table, by rising id, whose rows no list copies: it shares them, and has beside each the
+/// commits that show it. Contracts see the list.
+#[derive(Drop)]
+pub struct SharedVersions {
+    rows: SharedRows,
+    spans: Vec<Span>,
+}
+
+impl Model for SharedVersions {
+    ghost use Rattle.std.specs.Prelude.{◌≡◌, List, length};
+    ghost use Rattle.version_core.specs.Stored.{versions_of};
+    ghost use Rattle.version_core.specs.declared.version.Version.{Version};
+
+    ghost Value = { List Version };
+
+    ghost view = { λ s. versions_of s.rows s.spans.items };
+
+    ghost invariant = { λ s. length s.rows ≡ length s.spans.items };
+}
+
+impl SharedVersions {
+    /// The versions of the rows at those places, each with what stands beside it.
+    pub(crate) fn at_places(
+        versions: &StoredVersions,
+        places: Vec<u32>,
+        spans: Vec<Span>,
+    ) -> Result<SharedVersions, NoMemory>
+        requires within { All (λ place. place < length versions.now) places.items }
+        requires beside { length places.items ≡ length spans.items }
+        ensures { IfOk result (λ shared. shared ≡ versions_of
+            (at_places places.items (map (λ v. v.row) versions.now)) spans.items) }
+    {
+        Ok(SharedVersions {
+            rows: versions.at_places(places)?,
+            spans,
+        })
+    }
+
+    /// How many there are.
+    pub fn len(&self) -> usize
+        ensures { result ≡ length self.now }
+    {
+        self.spans.len()
+    }
+
+    /// The version at that place, from 0.
+    pub fn at(&self, place: usize) -> VersionRef<'_>
+        requires { place < length self.now }
+        ensures { slice_get self.now place ≡ Some (lent_version result) }
+    {
+        VersionRef {
+            row: self.rows.at(place),
+            span: self.spans[place],
+        }
+    }
+
+    /// A copy of the version at that place.
+    fn copy_at(&self, alloc: Global, place: usize) -> Result<Version, NoMemory>
+        requires { place < length self.now }
+        ensures { IfOk result (λ version. slice_get self.now place ≡ Some version) }
+    {
+        let version = self.at(place);
+        let row: RowRef<'_> = version.row();
+        Ok(Version {
+            row: row.copy(alloc)?,
+            sysfrom: version.sysfrom(),
+            systo: version.systo(),
+        })
+    }
+
+    /// A list of them, which are copied.
+    ///
+    /// # Errors
+    ///
+    /// `NoMemory` where a growth is refused.
+    pub fn list(&self, alloc: Global) -> Result<VersionList, NoMemory>
+        ensures { IfOk result (λ list. list ≡ self.now) }
+    {
+        let mut list = Vec::with_capacity(alloc, self.len())?;
+        for i in 0..self.len() {
+            list.push(self.copy_at(alloc, i)?)?;
+        }
+        Ok(VersionList::from(list))
+    }
+}

@@ -1,0 +1,42 @@
+//! A version where it is kept.
+
+ghost use Rattle.std.specs.Prelude.{◌≡◌};
+
+use crate::span::Span;
+use table_core::RowRef;
+
+/// A version of a table, lent by a list of versions.
+#[derive(Clone, Copy)]
+pub struct VersionRef<'a> {
+    pub(crate) row: RowRef<'a>,
+    pub(crate) span: Span,
+}
+
+impl<'a> VersionRef<'a> {
+    ghost use Rattle.table_core.specs.Lent.{lent_row};
+    ghost use Rattle.version_core.specs.Lent.{lent_version};
+
+    /// Its row.
+    pub fn row(&self) -> RowRef<'a>
+        ensures { lent_row result ≡ (lent_version self.now).row }
+    {
+        self.row
+    }
+
+    /// The first commit that shows it.
+    pub fn sysfrom(&self) -> u64
+        ensures { result ≡ (lent_version self.now).sysfrom }
+    {
+        self.span.from() as u64
+    }
+
+    /// The commit that closed it; none where it is open.
+    pub fn systo(&self) -> Option<u64>
+        ensures { result ≡ (lent_version self.now).systo }
+    {
+        match self.span.to() {
+            None => None,
+            Some(commit) => Some(commit as u64),
+        }
+    }
+}
