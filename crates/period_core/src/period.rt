@@ -1,6 +1,6 @@
 //! Periods, and how two of them lie.
 
-ghost use Rattle.std.specs.Prelude.{◌≡◌, ℤ, ◌<ℤ◌, ◌≤ℤ◌, ◌↔◌, IsTrue, IsOk, IfOk};
+ghost use Rattle.std.specs.Prelude.{◌≡◌, ℤ, ◌<ℤ◌, ◌≤ℤ◌, ◌↔◌, is_some, IsTrue, IsOk, IfOk};
 ghost use Rattle.std.specs.Result.{result_ok};
 
 use crate::Point;
@@ -56,12 +56,15 @@ impl Period {
         self.to
     }
 
-    /// Whether some instant lies in both. Periods that touch don't overlap.
+    /// Whether some instant lies in both. Periods that touch don't overlap. Both ends are always compared:
+    /// of periods in no order a branch after the first would often be foretold wrong.
+    #[inline(always)]
     pub fn overlaps(self, other: Period) -> bool
         ensures ends { IsTrue result ↔ ((self.from <ℤ other.to) × (other.from <ℤ self.to)) }
         ensures instants { IsTrue result ↔ Overlap self other }
+        ensures shared { result ≡ is_some (meet self other) }
     {
-        self.from < other.to && other.from < self.to
+        (self.from < other.to) & (other.from < self.to)
     }
 
     /// Whether both have the same instants.

@@ -206,18 +206,9 @@ pub(crate) fn reaches(change: &Change, period: &Period) -> bool
     match change {
         Change::Make { .. } => false,
         Change::Load { .. } => false,
-        Change::Update { portion, .. } => share_instant(period, portion),
-        Change::Delete { portion, .. } => share_instant(period, portion),
+        Change::Update { portion, .. } => period.overlaps(*portion),
+        Change::Delete { portion, .. } => period.overlaps(*portion),
     }
-}
-
-/// Whether some instant lies in both. Both ends are always compared: of periods in no order a branch
-/// after the first would often be foretold wrong.
-#[inline(always)]
-pub(crate) fn share_instant(period: &Period, portion: &Period) -> bool
-    ensures { result ≡ is_some (meet period.now portion.now) }
-{
-    (period.from < portion.to) & (portion.from < period.to)
 }
 
 /// Whether the change takes out the row. `columns` are those that its conditions name. This and what
@@ -256,7 +247,7 @@ fn is_touched(
     requires { AreSought schema.now conds.now columns.now }
     ensures { result ≡ is_touched schema.now portion.now conds.now (lent_row row.entry) }
 {
-    meets_all(schema, row, conds, columns) && share_instant(&row.period(), portion)
+    meets_all(schema, row, conds, columns) && row.period().overlaps(*portion)
 }
 
 /// Whether the row meets all conditions. Where there are none, all rows do.

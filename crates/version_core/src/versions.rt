@@ -33,7 +33,6 @@ use crate::keys::{KeyOverlap, collide_among, collide_among_all, may_overlap};
 use crate::places::Places;
 use crate::portion::{
     SOUGHT_LIMIT, columns_sought, count_of, is_removed, portion_of, push_parts, reaches,
-    share_instant,
 };
 use crate::shared_versions::SharedVersions;
 use crate::span::Span;
@@ -466,7 +465,7 @@ fn any_reached(rows: &Drafts, portion: &Period, places: &[u32]) -> bool
 {
     let mut any = false;
     for place in places {
-        any |= share_instant(&rows.at(*place as usize).period(), portion);
+        any |= rows.at(*place as usize).period().overlaps(*portion);
     }
     any
 }

@@ -9,8 +9,8 @@ returns-in-Load c = rw c.in-Load.is refl
 
 pub returns-in-Update : goal.returns-in-Update
 returns-in-Update c =
-    rw c.in-Update.is c.share_instant.ensures
+    rw c.in-Update.is c.overlaps.ensures.shared
 
 pub returns-in-Delete : goal.returns-in-Delete
 returns-in-Delete c =
-    rw c.in-Delete.is c.share_instant-in-Delete.ensures
+    rw c.in-Delete.is c.overlaps-in-Delete.ensures.shared

@@ -18,10 +18,10 @@ loop-place-preserved c =
     let portion = c.args.portion.now in
     let i = c.loop-place.place-index in
     let test = is_reached portion rows in
-    let there : test (get_or places i 0) ≡ c.share_instant-any.result =
+    let there : test (get_or places i 0) ≡ c.overlaps-any.result =
     ap (λ o. unwrap_or (option_map (λ (row : Draft). is_some (meet row.period portion)) o) false) c.at.ensures
-    ∙ ap (λ p. is_some (meet p portion)) (sym c.period.ensures) ∙ sym c.share_instant-any.ensures in
-    ap (λ b. b || c.share_instant-any.result) c.loop-place.invariant
+    ∙ ap (λ p. is_some (meet p portion)) (sym c.period.ensures) ∙ sym c.overlaps-any.ensures.shared in
+    ap (λ b. b || c.overlaps-any.result) c.loop-place.invariant
     ∙ ap (λ b. list_any test (take i places) || b) (sym there)
     ∙ sym (list_any_more test places i 0 c.loop-place-test.true)
 
