@@ -1,11 +1,11 @@
 //! What the values of a column are compared by.
 
-ghost use Rattle.std.specs.Prelude.{◌≡◌, ◌<◌, ℕ, ℤ, List, Option, Some, length, slice_get};
+ghost use Rattle.std.specs.Prelude.{◌≡◌, ◌<◌, ℤ, length};
 ghost use Rattle.row_core.specs.Lent.{lent_value};
 ghost use Rattle.row_core.specs.declared.value.Kind.{Kind};
 ghost use Rattle.row_core.specs.declared.value.Kind.TheVariants as kinds;
 ghost use Rattle.row_core.specs.declared.value.Value.{Value};
-ghost use Rattle.match_core.specs.Cells.{IsCellAt, classes_in, column_in};
+ghost use Rattle.match_core.specs.Cells.{IsCellAt};
 ghost use Rattle.match_core.specs.Compared.{
   Compares,
   IsNumberIn,
@@ -16,9 +16,9 @@ ghost use Rattle.match_core.specs.Compared.{
   text_in,
   texts_compare,
 };
-ghost use Rattle.match_core.specs.SideLaws.{class_there, value_there};
 
 use crate::cells::Cell;
+use crate::classed::Classed;
 use crate::side_column::SideColumn;
 use crate::side_values::{class_at, value_at};
 use row_core::ValueRef;
@@ -26,34 +26,17 @@ use std::hash::{FoldHasher, Hasher};
 
 /// A column of one side, whose values are compared by something that is made of them: smaller than any value, and sooner
 /// compared. The kind of the values is known; what is made of a value of the other kind tells nothing.
-pub(crate) trait Comparable<V: Ord>: Copy + Send + Sync {
+pub(crate) trait Comparable<V: Ord>: Classed {
     // The kind of values that are told apart.
     ghost kind: { Kind };
 
     // This is made of the value.
     ghost IsOf: { Value → V → Type 0 };
 
-    // The class of each row so far.
-    ghost classes: { Self → List ℕ };
-
-    // The value of each row.
-    ghost column: { Self → List (Option Value) };
-
-    /// How many rows there are.
-    fn len(&self) -> usize
-        ensures { result ≡ length (column self.now) };
-
     /// The cell of the row at that place.
     fn cell_at(&self, i: usize) -> Cell<V>
-        requires { i < length (column self.now) }
-        ensures { IsCellAt IsOf (classes self.now) (column self.now) i result };
-
-    // Each row has a class so far.
-    ghost counted: { (side : Self) → length (classes side) ≡ length (column side) };
-
-    // Each row has a value.
-    ghost there: { (side : Self) (i : ℕ) → i < length (column side)
-        → (value : Value) × (slice_get (column side) i ≡ Some (Some value)) };
+        requires { i < length (Self.column self.now) }
+        ensures { IsCellAt IsOf (Self.classes self.now) (Self.column self.now) i result };
 
     // Values of the kind are one exactly where what is made of them ties.
     ghost compares: { Compares kind IsOf V.cmp };
@@ -65,19 +48,7 @@ impl Comparable<i64> for SideColumn<'_, '_> {
 
     ghost IsOf = { IsNumberIn };
 
-    ghost classes = { classes_in };
-
-    ghost column = { column_in };
-
-    ghost counted = { λ side. class_there side.place side.classes side.rows.now side.count };
-
-    ghost there = { λ side. value_there side.place side.rows.now side.wide };
-
     ghost compares = { numbers_compare };
-
-    fn len(&self) -> usize {
-        self.rows.len()
-    }
 
     fn cell_at(&self, i: usize) -> Cell<i64> {
         Cell {
@@ -100,19 +71,7 @@ impl<'a> Comparable<HashedText<'a>> for SideColumn<'a, '_> {
 
     ghost IsOf = { IsTextIn };
 
-    ghost classes = { classes_in };
-
-    ghost column = { column_in };
-
-    ghost counted = { λ side. class_there side.place side.classes side.rows.now side.count };
-
-    ghost there = { λ side. value_there side.place side.rows.now side.wide };
-
     ghost compares = { texts_compare };
-
-    fn len(&self) -> usize {
-        self.rows.len()
-    }
 
     fn cell_at(&self, i: usize) -> Cell<HashedText<'a>> {
         Cell {

@@ -4,6 +4,7 @@
 //! two rows match exactly where they have one class.
 
 mod cells;
+mod classed;
 mod classes;
 mod columns;
 mod comparable;

@@ -13,8 +13,8 @@ loop-i-preserved g c =
     let total = g.met.V.Ord.total in
     let compares = laws.compares in
     let range = c.args.range.now in
-    let classes = g.S.Comparable.classes c.args.side in
-    let column = g.S.Comparable.column c.args.side in
+    let classes = g.S.Classed.classes c.args.side in
+    let column = g.S.Classed.column c.args.side in
     let i = c.loop-i.i in
     let Next = λ (v : Vec (Cell g.row.V.Denot) Global). Listed cmp IsOf range classes column (i + 1) v.items in
     elim c.if-has_cell.branch [
@@ -35,5 +35,5 @@ returns g c =
     let end = c.loop-i-test.false in
     let len = c.len-i-end.ensures in
     all_listed g.S.Comparable.kind g.S.Comparable.IsOf g.V.Ord.cmp g.met.V.Ord.total laws.compares
-    c.args.range.now (g.S.Comparable.classes c.args.side) (g.S.Comparable.column c.args.side) c.loop-i.i
+    c.args.range.now (g.S.Classed.classes c.args.side) (g.S.Classed.column c.args.side) c.loop-i.i
     c.loop-i.cells.items (omega (arith, end, len)) c.loop-i.invariant

@@ -12,11 +12,12 @@ pub returns : goal.returns
 returns g c =
     let order = g.met.V.Ord g.world.𝓛 g.world.𝓜 g.world.𝓡 ((λ s x. x), (λ x. x), (λ x. x), λ x. x) in
     let laws = g.met.S.Comparable g.world.𝓛 g.world.𝓜 g.world.𝓡 ((λ s x. x), (λ x. x), (λ x. x), λ x. x) in
+    let sides = g.met.S.Classed g.world.𝓛 g.world.𝓜 g.world.𝓡 ((λ s x. x), (λ x. x), (λ x. x), λ x. x) in
     let IsOf = g.S.Comparable.IsOf in
     let cmp = g.V.Ord.cmp in
     let total = order.total in
-    let classes = g.S.Comparable.classes c.args.side in
-    let column = g.S.Comparable.column c.args.side in
+    let classes = g.S.Classed.classes c.args.side in
+    let column = g.S.Classed.column c.args.side in
     let post : Range (Cell g.row.V.Denot) → ℕ → Result (Vec (Cell g.row.V.Denot)) AllocError → Type 0 =
     λ r n found. Range (Cell g.row.V.Denot)
     × IfOk found (λ (cells : Vec (Cell g.row.V.Denot)). AreSortedIn cmp IsOf r classes column cells.items) in
@@ -24,6 +25,6 @@ returns g c =
     (λ lists given.
     sorted_lists cmp total IsOf classes column post c.in_ok-shares.shares.cuts.items lists.items
     (cell_there g.S.Comparable.kind IsOf cmp total laws.compares classes column
-    (laws.there c.args.side))
+    (sides.there c.args.side))
     (λ r n cells is. is.1) given)
     c.shared_out.ensures

@@ -12,8 +12,8 @@ pub returns : goal.returns
 returns g c =
     let IsOf = g.S.Comparable.IsOf in
     let cmp = g.V.Ord.cmp in
-    let classes = g.S.Comparable.classes c.args.side in
-    let column = g.S.Comparable.column c.args.side in
+    let classes = g.S.Classed.classes c.args.side in
+    let column = g.S.Classed.column c.args.side in
     let cells = all_in c.in_ok-lists.lists.items in
     let firsts = c.in_ok-firsts.firsts.items in
     let old = c.in_ok-ranks.ranks.items in

@@ -8,7 +8,7 @@ returns g c =
     let side = c.captures.side in
     record {
       are = cells_moved g.S.Comparable.kind g.S.Comparable.IsOf g.V.Ord.cmp order.total
-          laws.compares c.args.range (g.S.Comparable.classes side) (g.S.Comparable.column side)
+          laws.compares c.args.range (g.S.Classed.classes side) (g.S.Classed.column side)
           c.in_ok-cells.cells.items c.sort_unstable.new.items.items c.sort_unstable.ensures.permutation
           c.in_ok-cells.ensures;
       rise = c.sort_unstable.ensures.sorted;
