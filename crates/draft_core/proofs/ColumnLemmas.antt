@@ -125,7 +125,7 @@ alike kinds rows = record { kinds = kinds; rows = rows }
 
 -- ---- single columns
 
-pub long-at : (count : ℕ) (cs : List ColumnValues) (i : ℕ) (c : ColumnValues) → slice_get cs i ≡ Some c
+long-at : (count : ℕ) (cs : List ColumnValues) (i : ℕ) (c : ColumnValues) → slice_get cs i ≡ Some c
     → AreLong count cs → count ≤ length (values_of_column c)
 long-at count [] i c e long = absurd (cc)
 long-at count (x ∷ xs) zero c e long =
@@ -135,7 +135,7 @@ long-at count (x ∷ xs) (suc i) c e long =
     long-at count xs i c e (All-tail (λ y. count ≤ length (values_of_column y)) x xs long)
 
 -- a row's value in a column
-pub value-at : (place : ℕ) (cs : List ColumnValues) (i : ℕ) (c : ColumnValues) (v : Value) → slice_get cs i ≡ Some c
+value-at : (place : ℕ) (cs : List ColumnValues) (i : ℕ) (c : ColumnValues) (v : Value) → slice_get cs i ≡ Some c
     → slice_get (values_of_column c) place ≡ Some v → slice_get (values_at (all_values cs) place) i ≡ Some v
 value-at place [] i c v e there = absurd (cc)
 value-at place (x ∷ xs) zero c v e there =
@@ -145,7 +145,7 @@ value-at place (x ∷ xs) zero c v e there =
     (ap (λ y. slice_get (values_of_column y) place) (sym same) ∙ there))
 value-at place (x ∷ xs) (suc i) c v e there = value-at place xs i c v e there
 
-pub no_value-at : (place : ℕ) (cs : List ColumnValues) (i : ℕ) → slice_get cs i ≡ None
+no_value-at : (place : ℕ) (cs : List ColumnValues) (i : ℕ) → slice_get cs i ≡ None
     → slice_get (values_at (all_values cs) place) i ≡ None
 no_value-at place [] i e = refl
 no_value-at place (x ∷ xs) zero e = absurd (cc)
@@ -194,6 +194,28 @@ values-in_row ps cs a place is inside =
     ap (λ (b : AlikeRows). (get_or b.rows place no_draft).values) (sym is)
     ∙ ap (λ (d : Draft). d.values) (get_or-rows 0 ps (all_values cs) place no_draft.period no_draft within)
     ∙ ap (values_at (all_values cs)) here
+
+-- a row's value in one of its columns
+pub place-in_column : (ps : List Period) (cs : List ColumnValues) (a : AlikeRows) (place i : ℕ) (c : ColumnValues)
+    → alike (map kind_of_column cs) (rows_by_column 0 ps (all_values cs)) ≡ a → place < length a.rows
+    → AreLong (length ps) cs → slice_get cs i ≡ Some c → place < length (values_of_column c)
+place-in_column ps cs a place i c is inside long there =
+    let sizes : length (rows_by_column 0 ps (all_values cs)) ≡ length a.rows =
+    ap (λ (b : AlikeRows). length b.rows) is in
+    omega (arith, inside, sizes, length-rows 0 ps (all_values cs), long-at (length ps) cs i c there long)
+
+pub value-in_column : (ps : List Period) (cs : List ColumnValues) (a : AlikeRows) (place i : ℕ) (c : ColumnValues)
+    (v : Value) → alike (map kind_of_column cs) (rows_by_column 0 ps (all_values cs)) ≡ a → place < length a.rows
+    → slice_get cs i ≡ Some c → slice_get (values_of_column c) place ≡ Some v
+    → Some v ≡ slice_get (get_or a.rows place no_draft).values i
+value-in_column ps cs a place i c v is inside there at =
+    sym (ap (λ l. slice_get l i) (values-in_row ps cs a place is inside) ∙ value-at place cs i c v there at)
+
+pub no_value-in_column : (ps : List Period) (cs : List ColumnValues) (a : AlikeRows) (place i : ℕ)
+    → alike (map kind_of_column cs) (rows_by_column 0 ps (all_values cs)) ≡ a → place < length a.rows
+    → slice_get cs i ≡ None → None ≡ slice_get (get_or a.rows place no_draft).values i
+no_value-in_column ps cs a place i is inside none =
+    sym (ap (λ l. slice_get l i) (values-in_row ps cs a place is inside) ∙ no_value-at place cs i none)
 
 -- ---- columns in turn, each replaced by one that has more behind the first values
 
