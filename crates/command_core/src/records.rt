@@ -1,5 +1,5 @@
 //! The records of a script, which workers read by pieces.
-ghost use Rattle.std.specs.Prelude.{◌≡◌, ◌<◌, ◌^◌, [], length, get_or, map, slice_get, IfOk, Ok, Some};
+ghost use Rattle.std.specs.Prelude.{◌≡◌, ◌<◌, ◌^◌, [], length, get_or, map, slice_get, IfOk, Some};
 ghost use Rattle.command_core.specs.Lines.{fields_in};
 ghost use Rattle.command_core.specs.Records.{AreScriptRecords};
 ghost use Rattle.command_core.specs.Seams.{AreRead, joined};
@@ -8,6 +8,7 @@ use crate::batch::{Batch, read_batch};
 use crate::line::Line;
 use crate::seams::{are_seams, pieces_of};
 use period_core::NoMemory;
+use share_core::all_found;
 use std::alloc::Global;
 use std::marker::Model;
 use std::thread;
@@ -140,16 +141,5 @@ fn read_each<R: Threads + Sync>(
                 (get_or (map (λ p. p.now) pieces.entry.now) number []) batch) }
         { read_batch(alloc, pieces[number]) },
     )?;
-    all_read(alloc, read)
-}
-
-/// What was read, if nothing was refused.
-fn all_read(alloc: Global, read: Vec<Result<Batch, NoMemory>>) -> Result<Vec<Batch>, NoMemory>
-    ensures { IfOk result (λ batches. read.items ≡ map Ok batches.items) }
-{
-    let mut batches = Vec::with_capacity(alloc, read.len())?;
-    for batch in read {
-        batches.push(batch?)?;
-    }
-    Ok(batches)
+    all_found(alloc, read)
 }

@@ -10,5 +10,5 @@ mod shares;
 
 pub use pieces::{piece, places_within};
 pub use range::Range;
-pub use shared::shared_out;
+pub use shared::{all_found, shared_out};
 pub use shares::{Cut, Shares};

@@ -41,8 +41,12 @@ pub fn shared_out<
     all_found(alloc, answers)
 }
 
-/// What was found, if nothing was refused.
-fn all_found<X: Drop>(
+/// What was found by each, in their order, where nothing was refused.
+///
+/// # Errors
+///
+/// The first refusal that is among the answers, and `AllocError` where a growth is refused.
+pub fn all_found<X: Drop>(
     alloc: Global,
     answers: Vec<Result<X, AllocError>>,
 ) -> Result<Vec<X>, AllocError>

@@ -19,4 +19,4 @@ returns g c =
     let got = c.in_ok-read.ensures.each i answer (omega (arith, within, count)) in
     subst (λ (a : Result (List Record) AllocError). IfOk a (λ records. AreScriptRecords (get_or texts i []) records))
     (sym at) got.1.met)
-    c.all_read.result c.all_read.ensures
+    c.all_found.result c.all_found.ensures
