@@ -6,7 +6,6 @@ import subprocess
 import sys
 import unittest
 import xml.etree.ElementTree
-from importlib.util import find_spec
 from pathlib import Path
 from typing import Iterator, List, Tuple
 
@@ -20,6 +19,15 @@ from tests.support import TOP
 SCRIPTS = sorted([*TOP.glob("examples/*.csv"), *TOP.glob("tests/**/*.csv")])
 # So many records of a script's answers are left out and doubled, one by one.
 DAMAGED = 60
+
+
+def has_pandas(python: str) -> bool:
+    there = Path(python).exists()
+    return there and subprocess.run([python, "-c", "import pandas"], stderr=subprocess.DEVNULL).returncode == 0
+
+
+# This Python, or else Debian's, which has what its packages install.
+PANDAS = next(filter(has_pandas, (sys.executable, "/usr/bin/python3")), None)
 
 
 def output_of(script: Path) -> bytes:
@@ -108,12 +116,12 @@ class Scripts(unittest.TestCase):
                 with self.subTest(script.name, record=number), self.assertRaises(Misfit):
                     answers.of(script, output)
 
-    @unittest.skipUnless(find_spec("pandas"), "pandas isn't installed")
+    @unittest.skipUnless(PANDAS, "pandas isn't installed")
     def test_the_lines_for_pandas_make_a_frame(self) -> None:
         recipe = (TOP / "docs" / "RECIPES.md").read_text(encoding="utf-8")
         [lines] = re.findall(r"^```python\n(.*?)^```$", recipe, re.MULTILINE | re.DOTALL)
         code = lines + "print(list(frame.columns), frame.shape, frame.euros.sum())\n"
-        ran = subprocess.run([sys.executable, "-c", code], cwd=TOP, stdout=subprocess.PIPE, check=True)
+        ran = subprocess.run([str(PANDAS), "-c", code], cwd=TOP, stdout=subprocess.PIPE, check=True)
         self.assertEqual(
             ran.stdout.decode(), "['row_id', 'valid_from', 'valid_to', 'person', 'euros'] (2, 5) 10200\n",
         )
