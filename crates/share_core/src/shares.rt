@@ -1,6 +1,6 @@
 //! Shares.
 
-ghost use Rattle.std.specs.Prelude.{◌≡◌, ◌+◌, ℕ, ◌<◌, ◌≤◌, None, length, IfOk, IfSome, true};
+ghost use Rattle.std.specs.Prelude.{◌≡◌, ◌+◌, ◌/◌, max, min, ℕ, ◌<◌, ◌≤◌, None, length, IfOk, IfSome, true};
 ghost use Rattle.share_core.specs.Ranges.{is_from};
 ghost use Rattle.share_core.specs.Shares.{AreCuts, HaveEach, end_at, range_at, workers_in};
 
@@ -109,7 +109,7 @@ fn end_of<T: Copy>(cuts: &[Cut<T>], number: usize) -> Option<T>
 /// How many parts of so many items are worth a worker each.
 fn parts_for(count: usize, workers: u32) -> u32
     requires { 0 < workers }
-    ensures { (0 < result) × (result ≤ workers) }
+    ensures { result ≡ max 1 (min (count / ITEMS_OF_SHARE) workers) }
 {
     let most = count / ITEMS_OF_SHARE;
     if most >= workers as usize {
