@@ -15,3 +15,4 @@ pub mod DivisionLemmas
 pub mod SortedLemmas
 pub mod DipUniqueness
 pub mod DipExistence
+pub mod Steps

@@ -10,10 +10,15 @@ pub record Ending : Type 0 where
   pub end : ℤ
   pub number : ℕ
 
--- what contracts see of last ends: their list, and how many looks at them were taken
+-- what contracts see of last ends: their list, how many looks at them are counted, and how many were ever taken
 pub record Endings : Type 0 where
   pub ends : List Ending
   pub looks : ℕ
+  pub all_looks : ℕ
+
+-- between the two as many looks were taken as were counted, so none was taken back
+abbrev pub CountsEachLook : Endings → Endings → Type 0
+CountsEachLook before after = after.all_looks + before.looks ≡ before.all_looks + after.looks
 
 -- x comes no later than y: it ends before y, or with y and its part's number is no higher
 abbrev pub ComesFirst : Ending → Ending → Type 0

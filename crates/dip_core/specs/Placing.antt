@@ -1,15 +1,23 @@
 -- How items are placed one after another, none below the one before it.
-use Rattle.std.specs.Prelude.{◌≡◌, ◌⊎◌, ℕ, zero, suc, ◌-◌, ◌≤◌, ℤ, ◌≤ℤ◌, ◌<ℤ◌, List, [], ◌∷◌, ◌++◌, length, All, Contains, Option, Some, MatchOption, option_map, slice_get}
+use Rattle.std.specs.Prelude.{◌≡◌, ◌⊎◌, ℕ, zero, suc, ◌+◌, ◌-◌, ◌≤◌, ℤ, ◌≤ℤ◌, ◌<ℤ◌, List, [], ◌∷◌, ◌++◌, length, All, Contains, Option, Some, MatchOption, option_map, slice_get}
 use Rattle.dip_core.specs.declared.item.Item.{Item}
 use Rattle.dip_core.specs.Item.{IsBelow}
 use Rattle.dip_core.specs.Division.{all_of, part_at}
 
--- what contracts see of a placer: its parts, the item that was placed last, and how many comparisons of a
--- last end with a start, or of two last ends and their numbers, its items took
+-- what contracts see of a placer: its parts, the item that was placed last, how many comparisons of a last end with a
+-- start, or of two last ends and their numbers, its items took, and how many those took as well that were refused memory
 pub record Placing : Type 0 where
   pub parts : List (List Item)
   pub last : Option Item
   pub looks : ℕ
+  pub all_looks : ℕ
+
+-- after a refused placement: only a look may have been taken, which isn't counted
+pub record IsAsBefore (before after : Placing) : Type 0 where
+  pub parts : after.parts ≡ before.parts
+  pub last : after.last ≡ before.last
+  pub looks : after.looks ≡ before.looks
+  pub once : after.all_looks ≤ before.all_looks + 1
 
 -- the end of the part's last item
 abbrev pub last_end : List Item → Option ℤ

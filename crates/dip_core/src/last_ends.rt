@@ -1,22 +1,53 @@
 //! The last ends of parts, with the number of times that they were looked at.
 //!
-//! Nothing outside this file sees an end. Each answer about one is a look, and raises that number by one.
+//! Nothing outside this file sees an end. `is_over` and `comes_first` alone answer about ends, and each counts itself as
+//! one look. That a call compares one end, or two, and that no other function here compares any, is to be read: a
+//! clause sees what is counted.
 
 ghost use Rattle.std.specs.Prelude.{◌≡◌, ◌+◌, ◌-◌, ◌^◌, ◌<◌, ◌≤◌, ◌≤ℤ◌, ◌<ℤ◌, [], ◌∷◌, ◌++◌, MatchBool, OnErr, OnOk, length, set, take, IsPermutation};
 ghost use Rattle.std.specs.List.{HoldsAt, SwappedAt};
-ghost use Rattle.dip_core.specs.Heap.{ComesFirstAt};
+ghost use Rattle.dip_core.specs.Heap.{ComesFirst, ComesFirstAt};
 
 use crate::NoMemory;
-use crate::last_end::LastEnd;
+use crate::all_looks::AllLooks;
 use period_core::Point;
 use std::alloc::Global;
 use std::marker::Model;
 
-/// Last ends, in the order that a placement gives them. Contracts see their list, and how many looks were taken.
+/// Where the last item of a part ends, and the part's number.
+#[derive(Clone, Copy)]
+struct LastEnd {
+    end: Point,
+    number: usize,
+}
+
+impl Model for LastEnd {
+    ghost use Rattle.dip_core.specs.Heap.{Ending};
+
+    ghost Value = { Ending };
+
+    ghost view = { λ e. record { end = e.end; number = e.number } };
+
+    ghost inverse = { λ e. record { end = e.end; number = e.number } };
+}
+
+/// Whether the part ends before the other, or with it and has the lower number.
+fn comes_before(one: &LastEnd, other: &LastEnd) -> bool
+    ensures { MatchBool result (ComesFirst one.now other.now) (ComesFirst other.now one.now) }
+{
+    if one.end == other.end {
+        return one.number < other.number;
+    }
+    one.end < other.end
+}
+
+/// Last ends, in the order that a placement gives them. Contracts see their list, how many looks are counted, and how
+/// many were ever taken.
 #[derive(Drop)]
 pub(crate) struct LastEnds {
     ends: Vec<LastEnd>,
     looks: u64,
+    all_looks: AllLooks,
 }
 
 impl Model for LastEnds {
@@ -24,17 +55,18 @@ impl Model for LastEnds {
 
     ghost Value = { Endings };
 
-    ghost view = { λ l. record { ends = l.ends.items; looks = l.looks } };
+    ghost view = { λ l. record { ends = l.ends.items; looks = l.looks; all_looks = l.all_looks.count } };
 }
 
 impl LastEnds {
     /// No last end, and no look.
     pub fn new(alloc: Global) -> LastEnds
-        ensures { result ≡ record { ends = []; looks = 0 } }
+        ensures { result ≡ record { ends = []; looks = 0; all_looks = 0 } }
     {
         LastEnds {
             ends: Vec::new(alloc),
             looks: 0,
+            all_looks: AllLooks::none(),
         }
     }
 
@@ -56,7 +88,7 @@ impl LastEnds {
         requires { place < length self.now.ends }
         ensures { HoldsAt (λ e. e.number ≡ result) self.now.ends place }
     {
-        self.ends[place].number()
+        self.ends[place].number
     }
 
     /// Whether the part at that place has ended by the start: one look.
@@ -66,9 +98,11 @@ impl LastEnds {
         ensures over { MatchBool result (HoldsAt (λ e. e.end ≤ℤ start) self.old.ends place)
             (HoldsAt (λ e. start <ℤ e.end) self.old.ends place) }
         ensures counted { self.new.looks ≡ self.old.looks + 1 }
+        ensures all_looks { self.new.all_looks ≡ self.old.all_looks + 1 }
         ensures ends { self.new.ends ≡ self.old.ends }
     {
-        self.ends[place].is_over(start, &mut self.looks)
+        self.count_look();
+        self.ends[place].end <= start
     }
 
     /// Whether the part at a place ends before that at the other, or with it and has the lower number: one look.
@@ -79,9 +113,22 @@ impl LastEnds {
         ensures first { MatchBool result (ComesFirstAt self.old.ends place other)
             (ComesFirstAt self.old.ends other place) }
         ensures counted { self.new.looks ≡ self.old.looks + 1 }
+        ensures all_looks { self.new.all_looks ≡ self.old.all_looks + 1 }
         ensures ends { self.new.ends ≡ self.old.ends }
     {
-        self.ends[place].comes_first(&self.ends[other], &mut self.looks)
+        self.count_look();
+        comes_before(&self.ends[place], &self.ends[other])
+    }
+
+    /// One look more.
+    fn count_look(&mut self)
+        requires { self.old.looks + 1 < 2 ^ 64 }
+        ensures counted { self.new.looks ≡ self.old.looks + 1 }
+        ensures all_looks { self.new.all_looks ≡ self.old.all_looks + 1 }
+        ensures ends { self.new.ends ≡ self.old.ends }
+    {
+        self.looks += 1;
+        self.all_looks = self.all_looks.and_one();
     }
 
     /// The ends at both places change them.
@@ -92,6 +139,7 @@ impl LastEnds {
         ensures same { IsPermutation self.old.ends self.new.ends }
         ensures long { length self.new.ends ≡ length self.old.ends }
         ensures looks { self.new.looks ≡ self.old.looks }
+        ensures all_looks { self.new.all_looks ≡ self.old.all_looks }
     {
         self.ends.swap(place, other);
     }
@@ -102,8 +150,9 @@ impl LastEnds {
         ensures ends { self.new.ends
             ≡ set self.old.ends 0 (record { end = end; number = number }) }
         ensures looks { self.new.looks ≡ self.old.looks }
+        ensures all_looks { self.new.all_looks ≡ self.old.all_looks }
     {
-        self.ends[0] = LastEnd::new(end, number);
+        self.ends[0] = LastEnd { end, number };
     }
 
     /// Adds a last end behind the others. On NoMemory nothing is changed.
@@ -111,9 +160,10 @@ impl LastEnds {
         ensures ends { OnOk result
             (self.new.ends ≡ self.old.ends ++ record { end = end; number = number } ∷ []) }
         ensures looks { OnOk result (self.new.looks ≡ self.old.looks) }
+        ensures all_looks { OnOk result (self.new.all_looks ≡ self.old.all_looks) }
         ensures err { OnErr result (self.new ≡ self.old) }
     {
-        self.ends.push(LastEnd::new(end, number))?;
+        self.ends.push(LastEnd { end, number })?;
         Ok(())
     }
 
@@ -122,15 +172,17 @@ impl LastEnds {
         requires { 0 < length self.old.ends }
         ensures ends { self.new.ends ≡ take (length self.old.ends - 1) self.old.ends }
         ensures looks { self.new.looks ≡ self.old.looks }
+        ensures all_looks { self.new.all_looks ≡ self.old.all_looks }
     {
         let kept = self.ends.len() - 1;
         self.ends.truncate(kept);
     }
 
-    /// Takes the looks of a refused placement back: there are as many as before it.
+    /// Takes the looks of a refused placement back: as many are counted as before it. They were taken, though.
     pub fn take_back(&mut self, before: u64)
         requires { before ≤ self.old.looks }
-        ensures { self.new ≡ record { ends = self.old.ends; looks = before } }
+        ensures { self.new
+            ≡ record { ends = self.old.ends; looks = before; all_looks = self.old.all_looks } }
     {
         self.looks = before;
     }

@@ -3,10 +3,10 @@
 //! Divides items into the least number of parts in which no two items overlap, and gives an instant that as
 //! many items hold as there are parts.
 
+mod all_looks;
 mod division;
 mod ids;
 mod item;
-mod last_end;
 mod last_ends;
 mod laws;
 mod part;

@@ -3,7 +3,7 @@
 ghost use Rattle.std.specs.Prelude.{◌≡◌, ℕ, ◌+◌, ◌-◌, ◌*◌, ◌^◌, ◌<◌, ◌≤◌, ◌<ℤ◌, MatchOption, IfOk, OnErr, OnOk, All, length, IsPermutation};
 ghost use Rattle.std.specs.List.{HoldsAt};
 ghost use Rattle.dip_core.specs.Placing.{IsPlaceFor, added};
-ghost use Rattle.dip_core.specs.Heap.{ComesFirstBelow, HoldLastEnds, IsFirstOver, IsHeap, IsHeapButAbove, IsHeapButBelow};
+ghost use Rattle.dip_core.specs.Heap.{ComesFirstBelow, CountsEachLook, HoldLastEnds, IsFirstOver, IsHeap, IsHeapButAbove, IsHeapButBelow};
 
 use crate::last_ends::LastEnds;
 use crate::parts::Parts;
@@ -32,6 +32,8 @@ pub(crate) fn place_item(
     ensures parts_err { OnErr result (parts.new ≡ parts.old) }
     ensures ends_err { OnErr result (ends.new.ends ≡ ends.old.ends) }
     ensures more { ends.old.looks ≤ ends.new.looks }
+    ensures honest { CountsEachLook ends.old ends.new }
+    ensures once { OnErr result (ends.new.looks ≤ ends.old.looks + 1) }
 {
     match first_over(ends, item.period.from) {
         Some(number) => join_part(parts, ends, number, item),
@@ -49,6 +51,7 @@ fn first_over(ends: &mut LastEnds, start: Point) -> Option<usize>
     ensures same { ends.new.ends ≡ ends.old.ends }
     ensures looked { 0 < length ends.old.ends → ends.new.looks ≡ ends.old.looks + 1 }
     ensures none { length ends.old.ends ≡ 0 → ends.new.looks ≡ ends.old.looks }
+    ensures honest { CountsEachLook ends.old ends.new }
 {
     if ends.len() == 0 {
         return None;
@@ -81,6 +84,7 @@ fn join_part(
         → ends.new.looks + 2 ≤ ends.old.looks + 2 * digits) }
     ensures parts_err { OnErr result (parts.new ≡ parts.old) }
     ensures ends_err { OnErr result (ends.new ≡ ends.old) }
+    ensures honest { OnOk result (CountsEachLook ends.old ends.new) }
 {
     parts.push(number, item)?;
     ends.replace_first(item.period.to, number);
@@ -107,6 +111,7 @@ fn open_part(
         → ends.new.looks ≤ ends.old.looks + digits) }
     ensures parts_err { OnErr result (parts.new ≡ parts.old) }
     ensures ends_err { OnErr result (ends.new ≡ ends.old) }
+    ensures honest { OnOk result (CountsEachLook ends.old ends.new) }
 {
     let number = parts.len();
     ends.push(item.period.to, number)?;
@@ -129,6 +134,7 @@ fn first_below(ends: &mut LastEnds, place: usize) -> usize
     ensures same { ends.new.ends ≡ ends.old.ends }
     ensures more { ends.old.looks ≤ ends.new.looks }
     ensures few { ends.new.looks ≤ ends.old.looks + 1 }
+    ensures honest { CountsEachLook ends.old ends.new }
 {
     let many = ends.len();
     let left = place * 2 + 1;
@@ -153,6 +159,7 @@ fn sift_down(ends: &mut LastEnds)
     ensures more { ends.old.looks ≤ ends.new.looks }
     ensures few { (digits : ℕ) → length ends.old.ends < 2 ^ digits
         → ends.new.looks + 2 ≤ ends.old.looks + 2 * digits }
+    ensures honest { CountsEachLook ends.old ends.new }
 {
     let mut place = 0;
     while place < ends.len() / 2 {
@@ -175,6 +182,7 @@ fn sift_up(ends: &mut LastEnds)
     ensures more { ends.old.looks ≤ ends.new.looks }
     ensures few { (digits : ℕ) → length ends.old.ends ≤ 2 ^ digits
         → ends.new.looks ≤ ends.old.looks + digits }
+    ensures honest { CountsEachLook ends.old ends.new }
 {
     let mut place = ends.len() - 1;
     while place > 0 {

@@ -4,7 +4,7 @@ ghost use Rattle.std.specs.Prelude.{◌≡◌, ℕ, ◌+◌, ◌*◌, ◌<◌, �
 ghost use Rattle.std.specs.Option.{ForSome};
 ghost use Rattle.dip_core.specs.Item.{IsBelow, HasDistinctIds, item_limit};
 ghost use Rattle.dip_core.specs.Division.{all_of, IsDip, IsLeastDivision};
-ghost use Rattle.dip_core.specs.Placing.{IsGreatest, IsPlaceFor, added};
+ghost use Rattle.dip_core.specs.Placing.{IsAsBefore, IsGreatest, IsPlaceFor, added};
 ghost use Rattle.dip_core.specs.Digits.{HasBinaryDigits};
 
 use crate::last_ends::LastEnds;
@@ -14,8 +14,8 @@ use crate::{Division, Item, NoMemory};
 use std::alloc::Global;
 use std::marker::Model;
 
-/// Places items one after another, none below the one before it, into parts without overlaps. Contracts see
-/// the parts, the item that was placed last, and how many comparisons of last ends that took.
+/// Places items one after another, none below the one before it, into parts without overlaps. Contracts see the parts,
+/// the item that was placed last, how many comparisons of last ends that took, and how many were ever made.
 #[derive(Drop)]
 pub struct Placer {
     alloc: Global,
@@ -31,7 +31,12 @@ impl Model for Placer {
 
     ghost Value = { Placing };
 
-    ghost view = { λ p. record { parts = p.parts; last = p.last; looks = p.ends.looks } };
+    ghost view = { λ p. record {
+      parts = p.parts;
+      last = p.last;
+      looks = p.ends.looks;
+      all_looks = p.ends.all_looks;
+    } };
 
     ghost invariant = { λ p. IsPlacing p.parts p.ends p.last p.len };
 }
@@ -39,7 +44,7 @@ impl Model for Placer {
 impl Placer {
     /// A placer without parts.
     pub fn new(alloc: Global) -> Placer
-        ensures { result ≡ record { parts = []; last = None; looks = 0 } }
+        ensures { result ≡ record { parts = []; last = None; looks = 0; all_looks = 0 } }
     {
         Placer {
             alloc,
@@ -81,12 +86,15 @@ impl Placer {
         requires rises { ForSome self.old.last (λ last. ¬ IsBelow item last) }
         requires room { length (all_of self.old.parts) < item_limit }
         ensures place { IfOk result (IsPlaceFor self.old.parts item.period.from) }
-        ensures added { IfOk result (λ number. self.new
-            ≡ record { parts = added self.old.parts number item; last = Some item; looks = self.new.looks }) }
-        ensures err { OnErr result (self.new ≡ self.old) }
+        ensures added { IfOk result (λ number. self.new.parts ≡ added self.old.parts number item) }
+        ensures last { OnOk result (self.new.last ≡ Some item) }
+        ensures err { OnErr result (IsAsBefore self.old self.new) }
 
-        // At most two looks for each binary digit of the number of parts, and one at least where there is one.
+        // At most two looks for each binary digit of the number of parts, and one at least where there is one. All that
+        // were taken are counted.
         ensures looked { OnOk result (0 < length self.old.parts → self.old.looks < self.new.looks) }
+        ensures honest { OnOk result
+            (self.new.all_looks + self.old.looks ≡ self.old.all_looks + self.new.looks) }
         ensures few_looks { OnOk result ((digits : ℕ) × HasBinaryDigits (length self.old.parts) digits
             × (self.new.looks ≤ self.old.looks + 2 * digits)) }
     {

@@ -1,4 +1,4 @@
-use Rattle.std.proofs.Common.{arith, ◌≡◌, ◌<◌, ◌≤◌, ◌+◌, ◌-◌, length, take, get_or, subst, sym, ap, List, Option, ℕ}
+use Rattle.std.proofs.Common.{arith, ◌≡◌, ◌<◌, ◌≤◌, ◌+◌, ◌-◌, length, take, get_or, subst, sym, List, Option, ℕ}
 use Rattle.std.specs.Prelude.{IsPermutation, MatchOption}
 use Rattle.std.proofs.lemmas.Option.{MatchOption-at_some}
 use Rattle.std.proofs.lemmas.List.{take_all, length-take-le}
@@ -6,7 +6,6 @@ use Rattle.std.proofs.lemmas.List.Sorted.{length_permutation}
 use Rattle.dip_core.specs.declared.item.Item.{Item}
 use Rattle.dip_core.specs.Item.{item_limit}
 use Rattle.dip_core.specs.Division.{all_of}
-use Rattle.dip_core.specs.Placing.{Placing}
 use Rattle.dip_core.proofs.SortedLemmas.{sorted_step, placed_more}
 use Rattle.dip_core.proofs.division.place_all.Goals as goal
 
@@ -34,19 +33,18 @@ place-requires-clause-room c =
 pub loop-item-preserved : goal.loop-item-preserved
 loop-item-preserved c =
     let within : c.loop-item.item-index < length c.args.sorted.now = omega arith in
-    let grown = c.in_ok-place.ensures.added in
     record {
       placed = subst
           (λ (parts : List (List Item)). IsPermutation
           (take (c.loop-item.item-index + 1) c.args.sorted.now) (all_of parts))
-          (sym (ap (λ (p : Placing). p.parts) grown))
+          (sym c.in_ok-place.ensures.added)
           (placed_more c.args.sorted.now c.loop-item.item-index c.item-item.result c.loop-item.placer.parts
           c.in_ok-place.field-0 within c.item-item.is c.loop-item.invariant.placed);
       last = subst
           (λ (last : Option Item). MatchOption last (c.loop-item.item-index + 1 ≡ 0)
           (λ y. (0 < c.loop-item.item-index + 1)
           × (y ≡ get_or c.args.sorted.now (c.loop-item.item-index + 1 - 1) y)))
-          (sym (ap (λ (p : Placing). p.last) grown)) (
+          (sym c.in_ok-place.ensures.last) (
             omega arith,
             subst (λ n. c.item-item.result ≡ get_or c.args.sorted.now n c.item-item.result)
                 (back c.loop-item.item-index) c.item-item.is,

@@ -33,6 +33,7 @@ loop-place-preserved c =
     let next : 2 ^ (level + 1) ≡ 2 * 2 ^ level = power-more level in
     record {
       long = long ∙ was.long;
+      honest = omega (arith, was.honest, c.comes_first.ensures.all_looks, c.comes_first.ensures.counted, c.swap.ensures.all_looks, c.swap.ensures.looks, found.honest);
       within = omega arith;
       heap =
           down-goes xs ys place below swapped long found.from found.to found.within before found.first was.heap;

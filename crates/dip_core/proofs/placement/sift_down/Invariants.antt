@@ -1,12 +1,13 @@
 use Rattle.std.proofs.Common.{ℕ, ◌+◌, ◌-◌, ◌*◌, ◌^◌, ◌<◌, ◌≤◌, ◌≡◌, length}
 use Rattle.std.specs.Prelude.{IsPermutation}
-use Rattle.dip_core.specs.Heap.{IsHeapButBelow}
+use Rattle.dip_core.specs.Heap.{CountsEachLook, IsHeapButBelow}
 use Rattle.dip_core.proofs.placement.sift_down.Given as goal
 
 -- each place further down costs two looks, and lies beyond the places above it, which double from level to level
 abbrev pub invariant-loop-place : goal.invariant-loop-place
 invariant-loop-place l = record {
   long : length l.ends.ends ≡ length l.initial.ends.ends;
+  honest : CountsEachLook l.initial.ends l.ends;
   within : l.place < length l.ends.ends;
   heap : IsHeapButBelow l.ends.ends l.place;
   same : IsPermutation l.initial.ends.ends l.ends.ends;

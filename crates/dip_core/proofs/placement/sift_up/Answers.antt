@@ -30,6 +30,7 @@ loop-place-preserved c =
     let long : length ys ≡ length xs = c.swap.ensures.long ∙ ap length looked in
     record {
       long = long ∙ was.long;
+      honest = omega (arith, was.honest, c.comes_first.ensures.all_looks, c.comes_first.ensures.counted, c.swap.ensures.all_looks, c.swap.ensures.looks);
       within = omega arith;
       heap = up-goes xs ys above place swapped long (omega arith) (omega arith) was.within before was.heap;
       same = IsPermutation-trans c.args.ends.now.ends xs ys was.same moved;

@@ -1,12 +1,13 @@
 use Rattle.std.proofs.Common.{ℕ, ◌+◌, ◌^◌, ◌<◌, ◌≤◌, ◌≡◌, length}
 use Rattle.std.specs.Prelude.{IsPermutation}
-use Rattle.dip_core.specs.Heap.{IsHeapButAbove}
+use Rattle.dip_core.specs.Heap.{CountsEachLook, IsHeapButAbove}
 use Rattle.dip_core.proofs.placement.sift_up.Given as goal
 
 -- each place further up costs one look, and leaves one level less above it
 abbrev pub invariant-loop-place : goal.invariant-loop-place
 invariant-loop-place l = record {
   long : length l.ends.ends ≡ length l.initial.ends.ends;
+  honest : CountsEachLook l.initial.ends l.ends;
   within : l.place < length l.ends.ends;
   heap : IsHeapButAbove l.ends.ends l.place;
   same : IsPermutation l.initial.ends.ends l.ends.ends;

@@ -1,0 +1,27 @@
+-- A value of no bytes, for one look more.
+use Rattle.dip_core.proofs.Steps.{[], ◌+◌, ◌∷◌, refl, proved, named, Val, vptr, vstruct, vnil, tables, ‵, raw, ◌⊛◌, ◌$◌, ◌∵◌, !, qed, keep, move, split, suffices, done, no_more, returns, enter, agg, alloc_all, pass_all, free_all, look_at, sets, yes, owns, shr_vals, shr_Tells, pure_i, plain, types_at, alive, says, stay_none_ref, Stays, walk_of, ends_at, Goes-none_ref}
+use Rattle.dip_core.specs.contracts.all_looks.AllLooks as made
+use Rattle.dip_core.specs.contracts.all_looks.AllLooks.and_one as f
+use Rattle.dip_core.proofs.all_looks.AllLooks.and_one.Statement.{statement}
+use Rattle.dip_core.proofs.all_looks.AllLooks.and_one.Code as code
+
+abbrev stayed : Stays f.ended.signature.params f.ended.kept
+stayed = (stay_none_ref (0 ∷ []) tt (plain (λ _. made.the_row)) yes, tt)
+
+pub and_one_spec : {M : Type 1} → statement M
+and_one_spec 𝓤 𝓛 𝓜 𝓡 wired =
+    let c = f.clauses 𝓛 𝓜.mem 𝓡.returns in
+    let W = walk_of 𝓛 f.ended stayed c in
+    let 𝓣 = tables 𝓤 𝓛.H 𝓜 𝓡 𝓡.env in
+    proved 𝓛 f.ended stayed c 𝓜 𝓡 (Goes-none_ref 𝓛 1 (0 ∷ []) tt (plain (λ _. made.the_row)) yes, tt)
+    f.Key.name code.function (code.unfolded 𝓤 𝓛.H 𝓜 𝓡 wired)
+    (λ κs. (shr_vals, tt)) (λ κs. (shr_Tells (named 0) κs.0 made.the_row, tt)) (λ κs qs bounds a g are.
+    let before : Val = vptr a.0.ref_ptr.0 a.0.ref_ptr.1 in
+    let y : W.Ghost = ((κs, qs, bounds, a, (before ∷ [], tt)), g) in
+    qed 𝓛 ((raw (alive 𝓛 f.signature κs qs) ⊛ ‵ (owns (types_at f.signature.params κs) a y.0.4)) ∷ raw ((c κs a).requires g) ∷ []) ∵
+    keep ! (0 ∷ []) $ split ! $ enter ! 𝓣.C 𝓣.Λ code.function (before ∷ []) (W.post y) $
+    alloc_all ! (λ l. pass_all ! refl ((tt, tt), tt) $ sets ! (agg ! (no_more !)) refl (tt, tt) $
+    returns ! (look_at ! 0 refl) $ free_all ! refl $
+    suffices ! _ (ends_at 𝓛 f.ended stayed c y (vstruct vnil) (record { count = a.0.now.count + 1 }) (tt, tt) (tt, tt)) $
+    says ! refl $ pure_i ! (made.the_row.own_val (record { count = a.0.now.count + 1 }) (vstruct vnil ∷ [])) ((λ vss. (tt, tt)), tt) ((tt, (refl, tt)), tt) $
+    move ! (1 ∷ 2 ∷ 0 ∷ []) $ done !))
