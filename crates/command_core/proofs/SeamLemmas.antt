@@ -1,7 +1,8 @@
 -- What `csv` reads of a text that is cut behind a line end.
-use Rattle.std.proofs.Common.{◌≡◌, ◌≢◌, ◌⊎◌, ℕ, suc, ◌+◌, ◌<◌, ◌==◌, ◌||◌, ◌&&◌, List, [], ◌∷◌, ◌++◌, Bool, true, false, cond, Option, Some, None, length, refl, sym, ap, subst, inl, inr, ◌∙◌, arith, append-nil, slice_get, ◌-◌, ◌^◌, ◌≤◌, zero, take, drop, get_or, map, length-append, Result, Ok, Err}
-use Rattle.std.specs.Prelude.{IfOk, IfSome, IsTrue, MatchBool, not}
-use Rattle.std.proofs.lemmas.Bool.{cases_Bool, eqb-true}
+use Rattle.std.proofs.Common.{◌≡◌, ◌≢◌, ◌⊎◌, ℕ, suc, ◌+◌, ◌<◌, ◌==◌, ◌||◌, ◌&&◌, List, [], ◌∷◌, ◌++◌, Bool, true, false, cond, Option, Some, None, length, refl, sym, ap, subst, inl, inr, ◌∙◌, arith, append-nil, append_assoc, slice_get, ◌-◌, ◌^◌, ◌≤◌, zero, take, drop, get_or, map, length-append, Result, Ok, Err}
+use Rattle.std.specs.Prelude.{◌↔◌, IfOk, IfSome, IsFalse, IsTrue, MatchBool, nat_eq, not}
+use Rattle.std.specs.List.{starts_with}
+use Rattle.std.proofs.lemmas.Bool.{cases_Bool, eq-eqb, eqb-true, ne_eqb}
 use Rattle.std.proofs.lemmas.Option.{same_Some}
 use native.Mathlib.Decide.{dec_lt}
 use Rattle.std.proofs.lemmas.List.{drop-drop, drop_all, get_or-map, get_or_read, length-map, take-append-drop}
@@ -300,15 +301,58 @@ last-at (x ∷ y ∷ items) =
 
 -- pieces
 
+-- one piece more, and the rest behind it
+pub joined-more : {P : Type 0} (text : P → List ℕ) (pieces : List P) (p : P) (back : List ℕ)
+    → joined (map text (pieces ++ p ∷ [])) ++ back ≡ joined (map text pieces) ++ (text p ++ back)
+joined-more text [] p back = ap (λ l. l ++ back) (append-nil (text p))
+joined-more text (q ∷ pieces) p back =
+    append_assoc (text q) (joined (map text (pieces ++ p ∷ []))) back
+    ∙ ap (λ l. text q ++ l) (joined-more text pieces p back)
+    ∙ sym (append_assoc (text q) (joined (map text pieces)) (text p ++ back))
+
 -- a text that doesn't begin with the first byte of a byte order mark begins with none
-pub unmarked : (text : List ℕ) (first : Option ℕ) → first ≡ slice_get text 0
-    → IfSome first (λ byte. (byte == 0xEF) ≡ false) → strip_bom text ≡ text
+unmarked : (first : ℕ) (text : List ℕ) → (first == 0xEF) ≡ false → strip_bom (first ∷ text) ≡ first ∷ text
 unfolding strip_bom
-unmarked [] first is other = refl
-unmarked (a ∷ []) first is other = refl
-unmarked (a ∷ b ∷ []) first is other = refl
-unmarked (a ∷ b ∷ c ∷ rest) first is other =
-    let plain : (a == 0xEF) ≡ false = rw is at other in rw plain refl
+unmarked a [] other = refl
+unmarked a (b ∷ []) other = refl
+unmarked a (b ∷ c ∷ rest) other = rw other refl
+
+same_either : (a b : ℕ) → (a == b) ≡ (b == a)
+same_either a b = elim (cases_Bool (a == b)) [
+  | inl same ↦ rw (eqb-true a b same) refl
+  | inr other ↦ rw (other, ne_eqb b a (λ e. cc (sym (eq-eqb a b (sym e)) ∙ other))) refl
+]
+
+and_false : (x : Bool) → (x && false) ≡ false
+and_false true = refl
+and_false false = refl
+
+all_three : (x y z : Bool) → (x && (y && (z && true))) ≡ (x && y && z)
+all_three true true true = refl
+all_three true true false = refl
+all_three true false z = refl
+all_three false y z = refl
+
+starts_bom : (a b c : ℕ) → starts_with nat_eq (a ∷ b ∷ c ∷ []) (0xEF ∷ 0xBB ∷ 0xBF ∷ []) ≡ is_bom a b c
+starts_bom a b c =
+    rw (same_either 0xEF a, same_either 0xBB b, same_either 0xBF c) (all_three (a == 0xEF) (b == 0xBB) (c == 0xBF))
+
+-- a text is as it is without a byte order mark just where it begins with none
+pub marked_or_not : (text : List ℕ)
+    → IsFalse (starts_with nat_eq text (0xEF ∷ 0xBB ∷ 0xBF ∷ [])) ↔ (strip_bom text ≡ text)
+unfolding strip_bom
+marked_or_not [] = (λ none. refl, λ same. refl)
+marked_or_not (a ∷ []) = (λ none. refl, λ same. and_false (0xEF == a))
+marked_or_not (a ∷ b ∷ []) = (
+  λ none. refl,
+  λ same. rw (and_false (0xBB == b)) (and_false (0xEF == a)),
+)
+marked_or_not (a ∷ b ∷ c ∷ rest) = elim (cases_Bool (is_bom a b c)) [
+  | inl marked ↦
+      let size : rest ≡ a ∷ b ∷ c ∷ rest → ⊥ = λ same. omega (arith, ap (λ (l : List ℕ). length l) same) in
+      rw (starts_bom a b c, marked) (λ none. cc none, λ same. absurd (size same))
+  | inr plain ↦ rw (starts_bom a b c, plain) (λ none. refl, λ same. refl)
+]
 
 -- a text that ends a line begins with a byte order mark as it does with others behind it
 strip_bom-append : (text back : List ℕ) → last text ≡ Some 10 → strip_bom (text ++ back) ≡ strip_bom text ++ back
@@ -316,7 +360,7 @@ unfolding strip_bom
 strip_bom-append [] back ends = absurd (cc ends)
 strip_bom-append (a ∷ []) back ends =
     let line : a ≡ 10 = cc in
-    subst (λ z. strip_bom (z ∷ back) ≡ z ∷ back) (sym line) (unmarked (10 ∷ back) (Some 10) refl refl)
+    subst (λ z. strip_bom (z ∷ back) ≡ z ∷ back) (sym line) (unmarked 10 back refl)
 strip_bom-append (a ∷ b ∷ []) [] ends = refl
 strip_bom-append (a ∷ b ∷ []) (c ∷ back) ends =
     let line : b ≡ 10 = cc in elim (cases_Bool (a == 0xEF)) [
@@ -389,12 +433,12 @@ joined-cut from (end ∷ ends) xs (h, more) =
     ∙ take-append-drop (end - from) (drop from xs)
 
 -- the last field of records that are kept flat
-pub ends_in_field : (ends : List ℕ) (fields : Record) (records : List Record) (found : Option (List ℕ))
+pub last-flat : (ends : List ℕ) (fields : Record) (records : List Record) (found : Option (List ℕ))
     → EndsAt 0 ends (length fields) → cut 0 ends fields ≡ records → found ≡ last fields
-    → IfSome found (λ field. last field ≢ Some 10) → EndsInField records
-ends_in_field ends fields records found at are is holds =
+    → found ≡ last (joined records)
+last-flat ends fields records found at are is =
     let all : joined records ≡ fields = ap joined (sym are) ∙ joined-cut 0 ends fields at in
-    subst (λ o. IfSome o (λ field. last field ≢ Some 10)) (is ∙ ap last (sym all)) holds
+    is ∙ ap last (sym all)
 
 -- whether the last byte is a line feed
 
@@ -409,9 +453,9 @@ pub none_last : (text : List ℕ) → last text ≡ None → last text ≢ Some 
 none_last text none e = absurd (cc (sym none ∙ e))
 
 pub not_line : (text : List ℕ) (ends : Bool) → MatchBool ends (last text ≡ Some 10) (last text ≢ Some 10)
-    → IsTrue (not ends) → last text ≢ Some 10
-not_line text true told e = cc e
-not_line text false told e = told
+    → IsTrue (not ends) ↔ (last text ≢ Some 10)
+not_line text true told = (λ e. cc e, λ other. absurd (other told))
+not_line text false told = (λ e. told, λ other. refl)
 
 -- what threads read
 
@@ -447,6 +491,21 @@ all_found {V} {E} texts answers items len each (Ok found) is =
           ∙ get_or-map made (items found) i [] one (omega (arith, count, within)))),
     )
 
+-- two pieces that follow one another, as they stand among the texts
+pub seam-at : {P : Type 0} (text : P → List ℕ) (pieces : List P) (lists : List (List Record)) (place : ℕ) (p : P)
+    (records : List Record) → place < length pieces → length pieces ≡ length lists
+    → records ≡ get_or lists (place - 1) records
+    → IsSeam (text (get_or pieces (place - 1) p)) records (text (get_or pieces place p))
+    ↔ IsSeam (get_or (map text pieces) (place - 1) []) (get_or lists (place - 1) []) (get_or (map text pieces) place [])
+seam-at text pieces lists place p records inside same at =
+    let first : text (get_or pieces (place - 1) p) ≡ get_or (map text pieces) (place - 1) [] =
+    sym (get_or-map text pieces (place - 1) p [] (omega (arith, inside))) in
+    let second : text (get_or pieces place p) ≡ get_or (map text pieces) place [] =
+    sym (get_or-map text pieces place p [] inside) in
+    let held : records ≡ get_or lists (place - 1) [] =
+    get_or_read lists (place - 1) records (omega (arith, inside, same)) at [] in
+    rw (first, second, held) (λ seam. seam, λ seam. seam)
+
 -- one seam more
 pub seams-more : {P : Type 0} (text : P → List ℕ) (pieces : List P) (lists : List (List Record)) (place : ℕ) (p : P)
     (records : List Record) → 0 < place → place < length pieces → length pieces ≡ length lists
@@ -461,14 +520,20 @@ seams-more text pieces lists place p records some inside same at before seam i w
   | no last ↦
       let here : place ≡ suc i = omega (arith, within) in
       let front : place - 1 ≡ i = omega (arith, here) in
-      let first : text (get_or pieces i p) ≡ get_or (map text pieces) i [] =
-      sym (get_or-map text pieces i p [] (omega (arith, inside, here))) in
-      let second : text (get_or pieces (suc i) p) ≡ get_or (map text pieces) (suc i) [] =
-      sym (get_or-map text pieces (suc i) p [] (omega (arith, inside, here))) in
-      let held : records ≡ get_or lists i [] =
-      get_or_read lists i records (omega (arith, inside, here, same)) (rw front at at) [] in
-      rw (front, here, first, second, held) at seam
+      rw (front, here) at ((seam-at text pieces lists place p records inside same at).0 seam)
 ]
+
+-- no seams, where one of them is none
+pub no_seams : {P : Type 0} (text : P → List ℕ) (pieces : List P) (lists : List (List Record)) (place : ℕ) (p : P)
+    (records : List Record) → 0 < place → place < length pieces → length pieces ≡ length lists
+    → records ≡ get_or lists (place - 1) records
+    → ¬ IsSeam (text (get_or pieces (place - 1) p)) records (text (get_or pieces place p))
+    → ¬ AreSeams (map text pieces) lists
+no_seams text pieces lists place p records some inside same at none seams =
+    let here : suc (place - 1) ≡ place = omega (arith, some) in
+    let count = length-map pieces text in
+    none ((seam-at text pieces lists place p records inside same at).1
+    (rw here at (seams (place - 1) (omega (arith, here, inside, count)))))
 
 -- a script's records can be counted
 pub countable : (script : List ℕ) (records : List Record) → length script < 2 ^ 31 → AreScriptRecords script records

@@ -1,6 +1,6 @@
 //! The records of a piece of a script, kept flat: all their fields one behind another, and where
 //! each record ends among them.
-ghost use Rattle.std.specs.Prelude.{◌≡◌, ◌<◌, ◌^◌, length, slice_get, IfOk, IsTrue, Some, true};
+ghost use Rattle.std.specs.Prelude.{◌≡◌, ◌↔◌, ◌<◌, ◌^◌, length, slice_get, IfOk, IsTrue, Some, true};
 ghost use Rattle.csv.specs.Reading.{error_kind, stops_reader};
 ghost use Rattle.list_core.specs.Cut.{cut, EndsAt};
 ghost use Rattle.command_core.specs.Lines.{fields_in};
@@ -54,7 +54,7 @@ impl Batch {
 
     /// Whether the last field doesn't end with a line feed.
     pub(crate) fn end_in_field(&self) -> bool
-        ensures { IsTrue result → EndsInField self.now }
+        ensures { IsTrue result ↔ EndsInField self.now }
     {
         match self.fields.last() {
             Some(field) => !ends_line(field),

@@ -77,9 +77,6 @@ fn count_of(batches: &[Batch]) -> usize
     count
 }
 
-/// A worker with fewer bytes to read would be over before another had started.
-const BYTES_OF_PIECE: usize = 1_048_576;
-
 /// The records of a script's bytes, as `csv` reads them, without a header and of any length. Large
 /// scripts are read by the workers, each a piece. The bytes are in memory, so what fails is memory.
 ///
@@ -95,8 +92,7 @@ pub fn read_records<R: Threads + Sync>(
     requires { length script.now < 2 ^ 31 }
     ensures { IfOk result (AreScriptRecords script.now) }
 {
-    let count = (script.len() / BYTES_OF_PIECE).min(workers as usize);
-    let pieces = pieces_of(alloc, script, count)?;
+    let pieces = pieces_of(alloc, script, workers)?;
     read_pieces(rt, alloc, script, &pieces)
 }
 

@@ -1,6 +1,6 @@
 //! Seams of a script: it is cut behind line ends, and its pieces are read one by one. Behind most
 //! line ends a record begins, but some stand within one, between quotes.
-ghost use Rattle.std.specs.Prelude.{◌≡◌, ◌≢◌, ◌<◌, ◌≤◌, length, map, IfOk, IfSome, IsFalse, IsTrue, MatchBool, Some};
+ghost use Rattle.std.specs.Prelude.{◌≡◌, ◌≢◌, ◌↔◌, ◌<◌, ◌≤◌, ◌/◌, length, map, max, min, IfOk, IfSome, IsFalse, IsTrue, MatchBool, Some};
 ghost use Rattle.csv.specs.Machine.{line_feed};
 ghost use Rattle.csv.specs.Reading.{strip_bom};
 ghost use Rattle.command_core.specs.Seams.{AreSeams, IsSeam, joined, last};
@@ -9,14 +9,21 @@ use crate::batch::Batch;
 use period_core::NoMemory;
 use std::alloc::Global;
 
-/// A script cut behind line ends, into so many pieces at most, about as long as one another.
+/// A worker with fewer bytes to read would be over before another had started.
+const BYTES_OF_PIECE: usize = 1_048_576;
+
+/// A script cut behind line ends, into a piece for each worker at most, about as long as one another.
 pub(crate) fn pieces_of<'a>(
     alloc: Global,
     script: &'a [u8],
-    count: usize,
+    workers: u32,
 ) -> Result<Vec<&'a [u8]>, NoMemory>
-    ensures { IfOk result (λ pieces. joined (map (λ p. p.now) pieces.items) ≡ script.entry.now) }
+    ensures whole { IfOk result (λ pieces.
+        joined (map (λ p. p.now) pieces.items) ≡ script.entry.now) }
+    ensures few { IfOk result (λ pieces.
+        length pieces.items ≤ max 1 (min (length script.entry.now / 1_048_576) workers)) }
 {
+    let count = (script.len() / BYTES_OF_PIECE).min(workers as usize);
     let mut pieces = Vec::new(alloc);
     let mut rest = script;
     for left in (2..=count).rev() {
@@ -44,7 +51,7 @@ fn behind_line(text: &[u8], from: usize) -> Option<usize>
 /// these records, another begins.
 pub(crate) fn are_seams(pieces: &[&[u8]], batches: &[Batch]) -> bool
     requires { length pieces.now ≡ length batches.now }
-    ensures { IsTrue result → AreSeams (map (λ p. p.now) pieces.now) batches.now }
+    ensures { IsTrue result ↔ AreSeams (map (λ p. p.now) pieces.now) batches.now }
 {
     for place in 1..pieces.len() {
         if !is_seam(pieces[place - 1], &batches[place - 1], pieces[place]) {
@@ -56,9 +63,9 @@ pub(crate) fn are_seams(pieces: &[&[u8]], batches: &[Batch]) -> bool
 
 /// Whether a record begins behind a piece with these records.
 fn is_seam(piece: &[u8], records: &Batch, behind: &[u8]) -> bool
-    ensures { IsTrue result → IsSeam piece.now records.now behind.now }
+    ensures { IsTrue result ↔ IsSeam piece.now records.now behind.now }
 {
-    ends_line(piece) && records.end_in_field() && !may_be_marked(behind)
+    ends_line(piece) && records.end_in_field() && !is_marked(behind)
 }
 
 /// Whether the last byte is a line feed.
@@ -71,13 +78,9 @@ pub(crate) fn ends_line(text: &[u8]) -> bool
     }
 }
 
-/// Whether a text may begin with a byte order mark. No record that means something begins with that
-/// byte.
-fn may_be_marked(text: &[u8]) -> bool
-    ensures { IsFalse result → strip_bom text.now ≡ text.now }
+/// Whether a text begins with a byte order mark.
+fn is_marked(text: &[u8]) -> bool
+    ensures { IsFalse result ↔ (strip_bom text.now ≡ text.now) }
 {
-    match text.first() {
-        Some(byte) => *byte == 0xEF,
-        None => false,
-    }
+    text.starts_with(b"\xEF\xBB\xBF".as_slice())
 }

@@ -23,7 +23,7 @@ are_read g c = elim c.if-not-are_seams.branch [
       joined-records c.args.script.now texts c.if-not-are_seams.batches.items c.requires.whole
       (subst (AreRead texts) (sym (ap (λ (v : Vec (List Record) Global). v.items) w.batches-is))
       c.in_ok-batches.ensures)
-      (subst (AreSeams texts) kept (w.if-not-are_seams.ensures refl))
+      (subst (AreSeams texts) kept (w.if-not-are_seams.ensures.0 refl))
 ]
 
 pub count_of-count-requires : goal.count_of-count-requires

@@ -1,7 +1,9 @@
-use Rattle.std.proofs.Common.{◌≡◌, ◌++◌, map}
+use Rattle.std.proofs.Common.{◌≡◌, ◌≤◌, ◌+◌, ◌++◌, length, map, max}
 use Rattle.command_core.specs.Seams.{joined}
 use Rattle.command_core.proofs.seams.pieces_of.Given as goal
 
--- the pieces so far, and the rest
+-- the pieces so far, and the rest, which is cut into no more than those that are left
 abbrev pub invariant-loop-left : goal.invariant-loop-left
-invariant-loop-left l = joined (map (λ p. p.now) l.pieces.items) ++ l.rest ≡ l.fn.script
+invariant-loop-left l =
+    (joined (map (λ p. p.now) l.pieces.items) ++ l.rest ≡ l.fn.script)
+    × (length l.pieces.items + max 1 l.left ≤ max 1 l.count)
