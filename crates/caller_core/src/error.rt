@@ -1,7 +1,7 @@
 //! One error for a caller, in place of each call's own.
 ghost use Rattle.std.specs.Prelude.{◌≡◌};
 ghost use Rattle.caller_core.specs.declared.error.StoreError.TheVariants as error;
-ghost use Rattle.caller_core.specs.Errors.{of_snapshot, of_store};
+ghost use Rattle.caller_core.specs.Errors.{of_failure, of_snapshot, of_store};
 
 use book_core::{BookRefused, NoTable};
 use period_core::{BadPeriod, BadPoint};
@@ -176,6 +176,8 @@ impl From<BadPeriod> for StoreError {
 }
 
 impl<E: Into<StoreError>> From<Failure<E>> for StoreError {
+    ghost from_gives = { of_failure E.converts };
+
     fn from(failure: Failure<E>) -> StoreError {
         match failure {
             Failure::Refused(why) => why.into(),
