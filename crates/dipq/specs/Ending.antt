@@ -1,7 +1,16 @@
--- The exit status that each ending of the program has.
-use Rattle.std.specs.Prelude.{ℕ, ◌==◌, if◌then◌else◌}
+-- How a run of the program ends, and the exit status of each ending.
+use Rattle.std.specs.Prelude.{ℕ, ◌==◌, Bool, true, false, if◌then◌else◌, Result, Ok, Err}
+use Rattle.stream_core.specs.declared.fault.RunFault.{RunFault}
+use Rattle.stream_core.specs.declared.fault.RunFault.TheVariants.{WriteFault}
+use Rattle.script_core.specs.declared.outcome.Outcome.{Outcome}
 use Rattle.dipq.specs.declared.Ending.{Ending}
 use Rattle.dipq.specs.declared.Ending.TheVariants.{Answered, Helped, Usage, Fault}
+
+-- the ending of a run with that outcome or fault, whose output could be flushed or couldn't
+abbrev pub ending_of : Result Outcome RunFault → Bool → Ending
+ending_of (Ok outcome) true = Answered outcome
+ending_of (Ok outcome) false = Fault WriteFault
+ending_of (Err fault) is_flushed = Fault fault
 
 -- 0 where no `error` record was printed or the help page was, 1 where an `error` record was, 2 for a fault
 -- in the command line, 3 for a fault of the run

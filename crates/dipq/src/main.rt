@@ -3,7 +3,7 @@
 #![tactic(auto)]
 
 ghost use Rattle.std.specs.Prelude.{◌≡◌, IfOk};
-ghost use Rattle.dipq.specs.Ending.{status_of};
+ghost use Rattle.dipq.specs.Ending.{ending_of, status_of};
 ghost use Rattle.words_core.specs.Words.{IsRunnable, IsWorkers};
 
 mod help;
@@ -55,10 +55,17 @@ fn answer(
     let mut writer = Counted::new(output);
     let outcome = run(rt, rt.alloc(), &mut reader, &mut writer, workers);
     let flushed = writer.into_inner().flush();
-    match (outcome, flushed) {
-        (Ok(outcome), Ok(())) => Ending::Answered(outcome),
-        (Ok(_), Err(_)) => Ending::Fault(RunFault::WriteFault),
-        (Err(fault), _) => Ending::Fault(fault),
+    ending_of(outcome, flushed.is_ok())
+}
+
+/// The ending of a run with that outcome or fault, whose output could be flushed or couldn't.
+fn ending_of(outcome: Result<Outcome, RunFault>, is_flushed: bool) -> Ending
+    ensures { result ≡ ending_of outcome is_flushed }
+{
+    match outcome {
+        Ok(_) if !is_flushed => Ending::Fault(RunFault::WriteFault),
+        Ok(outcome) => Ending::Answered(outcome),
+        Err(fault) => Ending::Fault(fault),
     }
 }
 
