@@ -9,6 +9,7 @@ Python 3.9 and its library are all that is needed. A module stands on those abov
     called              by what names the tools go
     records, forms      CSV as dipq prints it; points, numbers and names
     reader              records with their lines, read one behind another; of many only where they stand
+    naming              names of an answer's columns
     commands, tables    a script's commands; the columns of tables and of answers
     questions           put behind a script
     checking, answers   the forms of many records; the answers of a script, each with its command
@@ -44,7 +45,7 @@ Python 3.9 and its library are all that is needed. A module stands on those abov
 from importlib import import_module
 from typing import Any
 
-FRAMES = ("frames", "join", "anti", "agg", "dip", "Store", "Refused", "Stopped")
+FRAMES = ("frames", "join", "anti", "agg", "dip", "Store", "Refused", "Stopped", "Doubt")
 
 
 def __getattr__(name: str) -> Any:

@@ -3,6 +3,7 @@ from dataclasses import dataclass, field
 from enum import Enum
 from typing import Dict, Iterable, Iterator, List, Optional, Sequence, Tuple, Union
 
+from ruzgalt import naming
 from ruzgalt.commands import Command
 from ruzgalt.errors import Misfit
 from ruzgalt.forms import is_name, read_point
@@ -144,11 +145,7 @@ def prefixed(side: str, columns: Iterable[Column]) -> List[Column]:
 
 
 def unique(columns: Iterable[Column]) -> List[Column]:
-    """The columns, each under a name of its own: one that has a name that stood before has `_` behind it."""
-    taken: List[str] = []
-    for column in columns:
-        name = column.name
-        while name in taken:
-            name += "_"
-        taken.append(name)
-    return [Column(name, column.kind) for name, column in zip(taken, columns)]
+    """The columns, each under a name of its own."""
+    told = list(columns)
+    names = naming.apart([column.name for column in told])
+    return [Column(name, column.kind) for name, column in zip(names, told)]

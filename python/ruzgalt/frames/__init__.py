@@ -4,22 +4,24 @@
     Store                   tables with a past: changes, commits, questions
     Refused                 what all of them raise of a value or a call: name, reason, column, label
     Stopped                 the program ended without all answers
+    Doubt                   the warning of what may not be meant
 
 A module stands on those above it:
 
     arrays, errors          arrays of numpy; the exceptions
+    checks, named           what is given to a call, by its type; a frame's columns by their names
     points, values          columns as seconds, numbers and texts, and back
     sides, script           rows on their way; a script in pieces
     program, output         a run; its answers as columns
     ask, split              a question's run; rows past the limits in parts
-    options                 what may be told to a call
+    options, answer         what may be told to a call; the columns of an answer, and their names
     pairs, groups, division join and anti; agg; dip
     spread, slices          the same of Dask: by value; by time
     calls                   pandas or Dask
     tables, store           a table of a store; the store
 """
 from ruzgalt.frames.calls import agg, anti, dip, join
-from ruzgalt.frames.errors import Refused, Stopped
+from ruzgalt.frames.errors import Doubt, Refused, Stopped
 from ruzgalt.frames.store import Store
 
-__all__ = ["join", "anti", "agg", "dip", "Store", "Refused", "Stopped"]
+__all__ = ["join", "anti", "agg", "dip", "Store", "Refused", "Stopped", "Doubt"]

@@ -4,15 +4,18 @@ from __future__ import annotations
 import sys
 from typing import Any
 
-from ruzgalt.frames import division, groups, pairs
+from ruzgalt.frames import checks, division, groups, pairs
 from ruzgalt.frames.errors import Refused
 from ruzgalt.frames.options import Names, options_of
 
 
-def is_spread(*frames: Any) -> bool:
-    """Whether one is a frame of Dask, which isn't imported for that."""
+def are_spread(**frames: Any) -> bool:
+    """Whether one is a frame of Dask, which isn't imported for that. Raises Refused where one is no frame."""
     dask = sys.modules.get("dask.dataframe")
-    return dask is not None and any(isinstance(frame, dask.DataFrame) for frame in frames)
+    spread = [name for name, frame in frames.items() if dask is not None and isinstance(frame, dask.DataFrame)]
+    for name in frames.keys() - spread:
+        checks.frame(name, frames[name])
+    return bool(spread)
 
 
 def join(left: Any, right: Any, on: Names = None, **options: Any) -> Any:
@@ -24,7 +27,7 @@ def join(left: Any, right: Any, on: Names = None, **options: Any) -> Any:
     frames.options.Options. Raises Refused, Stopped. Of frames of Dask the answer is one, its partitions in no order.
     """
     told = options_of("join", options)
-    if is_spread(left, right):
+    if are_spread(left=left, right=right):
         from ruzgalt.frames import spread
         return spread.paired(pairs.join, left, right, on, told)
     return pairs.join(left, right, on, told)
@@ -37,7 +40,7 @@ def anti(left: Any, right: Any, on: Names = None, **options: Any) -> Any:
     Options: frames.options.Options. Raises Refused, Stopped. Of frames of Dask as join.
     """
     told = options_of("anti", options)
-    if is_spread(left, right):
+    if are_spread(left=left, right=right):
         from ruzgalt.frames import spread
         return spread.paired(pairs.anti, left, right, on, told)
     return pairs.anti(left, right, on, told)
@@ -52,9 +55,10 @@ def agg(frame: Any, function: str, column: Any = None, **options: Any) -> Any:
     without they are in the order of time, and the frame is read once as this is called, for where to cut time.
     """
     told = options_of("agg", options)
-    if is_spread(frame):
+    groups.refuse_call(function, column)
+    if are_spread(frame=frame):
         from ruzgalt.frames import slices, spread
-        asked = slices.agg if told.by is None else spread.agg
+        asked = spread.agg if told.by else slices.agg
         return asked(frame, function, column, told)
     return groups.agg(frame, function, column, told)
 
@@ -66,6 +70,7 @@ def dip(frame: Any, **options: Any) -> Any:
     Period of a second (None without rows), which is why there can't be fewer. Options: frames.options.Options.
     Raises Refused, Stopped.
     """
-    if is_spread(frame):
+    told = options_of("dip", options)
+    if are_spread(frame=frame):
         raise Refused("BadCommand", f"dip of a frame of Dask: a division isn't that of its parts; {division.OTHERWISE}")
-    return division.dip(frame, options_of("dip", options))
+    return division.dip(frame, told)

@@ -1,9 +1,16 @@
-"""The exceptions of frames and stores."""
+"""The exceptions of frames and stores, and the warning."""
 from __future__ import annotations
 
+import contextlib
+import inspect
+import warnings
+from pathlib import Path
 from typing import Any, Optional
 
 from ruzgalt.frames.arrays import Marks
+
+# Files whose lines are never those that a warning is about: the package's, and what leaves a `with` of its.
+OURS = (str(Path(__file__).resolve().parents[1]), str(contextlib.__file__))
 
 
 class Refused(ValueError):
@@ -29,6 +36,18 @@ class Refused(ValueError):
 
 class Stopped(RuntimeError):
     """The program ended without all answers, or there is none: killed, out of memory, not found."""
+
+
+class Doubt(UserWarning):
+    """What was given is taken as it stands, and it may not be what was meant: a warning of Python's `warnings`."""
+
+
+def doubt(told: str) -> None:
+    """Warns of the line that called this package."""
+    level, frame = 1, inspect.currentframe()
+    while frame is not None and frame.f_code.co_filename.startswith(OURS):
+        level, frame = level + 1, frame.f_back
+    warnings.warn(told, Doubt, stacklevel=level)
 
 
 def label_at(marked: Marks, index: Any) -> Optional[Any]:

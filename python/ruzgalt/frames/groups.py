@@ -2,16 +2,17 @@
 from __future__ import annotations
 
 from dataclasses import replace
-from typing import Any, Dict, Sequence, Tuple
+from typing import Any, List, Sequence, Tuple
 
 import numpy as np
-import pandas as pd
 
-from ruzgalt.frames import sides, split
+from ruzgalt.frames import checks, sides, split
+from ruzgalt.frames.answer import Column, Columns
 from ruzgalt.frames.arrays import Ints
 from ruzgalt.frames.errors import Refused
-from ruzgalt.frames.options import Options, names_of
-from ruzgalt.frames.pairs import add, period_of
+from ruzgalt.frames.named import column_of
+from ruzgalt.frames.options import Options
+from ruzgalt.frames.pairs import period_of, with_labels_twice
 from ruzgalt.frames.sides import Side
 from ruzgalt.frames.values import Values
 
@@ -19,30 +20,38 @@ FUNCTIONS = ("count", "sum", "min", "max")
 
 
 def agg(frame: Any, function: str, column: Any, options: Options) -> Any:
-    refuse_call(function, column)
-    groups = names_of(options.by)
+    groups = options.by or ()
     side = side_of(frame, function, column, options)
     codes, firsts = group_codes(side, len(groups))
     amounts = side.columns[len(groups):]
     start, end, group, value = split.agg(replace(side, columns=[codes, *amounts]), function, options.workers)
-    columns: Dict[Any, Any] = {name: frame[name].take(firsts[group]).reset_index(drop=True) for name in groups}
-    for name, cells in period_of(start, end, [side], options).items():
-        add(columns, name, cells)
-    add(columns, name_of(function, column), restored(value, function, amounts))
-    return pd.DataFrame(columns)
+    columns = Columns(groups_at(frame, groups, firsts[group]))
+    columns.add(period_of(start, end, [side], options))
+    columns.add([(name_of(function, column), restored(value, function, amounts))])
+    return columns.frame()
 
 
-def refuse_call(function: str, column: Any) -> None:
-    if function not in FUNCTIONS or (function == "count") != (column is None):
-        raise Refused("BadCommand", "agg(frame, 'count'), or agg(frame, 'sum', COLUMN), 'min' and 'max' likewise")
+def groups_at(frame: Any, names: Sequence[Any], rows: Ints) -> List[Column]:
+    """The cells of these rows in the columns of a group."""
+    return [(name, column_of(with_labels_twice(frame), name).take(rows).reset_index(drop=True)) for name in names]
+
+
+def refuse_call(function: Any, column: Any) -> None:
+    checks.one_of("function", function, FUNCTIONS)
+    if function == "count" and column is not None:
+        raise checks.wrong("column", column, "a count is of rows: agg(frame, 'count')")
+    if function != "count" and column is None:
+        raise Refused("BadCommand", f"{function} is of a column: agg(frame, {function!r}, COLUMN)")
+    if column is not None:
+        checks.name("column", column)
 
 
 def side_of(frame: Any, function: str, column: Any, options: Options) -> Side:
     """The rows with the columns of `by`, and the one that comes together. Raises Refused."""
-    names = [*names_of(options.by), *([column] if column is not None else [])]
+    names = [*(options.by or ()), *([column] if column is not None else [])]
     side = sides.side_of(frame, names, options.period, options.form, options.decimals)
     if column is not None and side.columns[-1].kind != "int":
-        raise Refused("WrongKind", f"{function} is of numbers, and this is a text; by= takes texts", column)
+        raise Refused("WrongKind", f"{function} is of numbers, and these are texts; by= takes texts", column)
     return side
 
 

@@ -5,13 +5,15 @@ so no value of theirs passes through a text.
 """
 from __future__ import annotations
 
-from typing import Any, Dict, List, Sequence
+from typing import Any, Iterable, List, Sequence
 
 import pandas as pd
 
-from ruzgalt.frames import points, sides, split
+from ruzgalt.frames import answer, points, sides, split
+from ruzgalt.frames.answer import Column
 from ruzgalt.frames.arrays import Ints
 from ruzgalt.frames.errors import Refused
+from ruzgalt.frames.named import names_of, place_of, refuse_twice
 from ruzgalt.frames.options import Names, Options, compared
 from ruzgalt.frames.sides import Side
 
@@ -20,32 +22,42 @@ LABELS = ("left_label", "right_label")
 
 def join(left: Any, right: Any, on: Names, options: Options) -> Any:
     for frame in (left, right):
-        refuse_twice(list(frame.columns))
+        refuse_twice(frame)
     both = sides_of(left, right, on, options)
-    start, end, left_places, right_places = split.join(both, options.workers)
-    columns = period_of(start, end, both, options)
+    start, end, *places = split.join(both, options.workers)
+    own = period_of(start, end, both, options)
     if options.labels:
-        for name, frame, places in zip(LABELS, (left, right), (left_places, right_places)):
-            columns[name] = frame.index.to_flat_index().take(places)
+        labels = [frame.index.to_flat_index().take(rows) for frame, rows in zip((left, right), places)]
+        own += zip(LABELS, labels)
     shared = compared(on, options)[1] if on is not None else []
-    frames = [left.drop(columns=list(options.period)), right.drop(columns=[*options.other_period, *shared])]
-    twice = set(frames[0].columns) & set(frames[1].columns) | set(columns)
-    for frame, suffix, places in zip(frames, options.suffixes, (left_places, right_places)):
-        taken = frame.take(places)
-        taken.index = pd.RangeIndex(len(places))
-        for name in taken.columns:
-            add(columns, f"{name}{suffix}" if name in twice else name, taken[name])
-    return pd.DataFrame(columns)
+    columns = [
+        columns_at(frame, names, rows) for frame, names, rows
+        in zip((left, right), (options.period, [*options.other_period, *shared]), places)
+    ]
+    return answer.beside(own, columns, options.suffixes)
 
 
 def anti(left: Any, right: Any, on: Names, options: Options) -> Any:
     both = sides_of(left, right, on, options)
     start, end, places = split.anti(both, options.workers)
-    made = left.take(places)
-    kind = options.kind_of(*(side.kind for side in both))
-    made[options.period[0]] = points.series_of(start, kind, made.index)
-    made[options.period[1]] = options.form.restored_ends(end, kind, made.index)
+    made = with_labels_twice(left).take(places)
+    for name, cells in period_of(start, end, both, options, made.index):
+        made.isetitem(place_of(left, name), cells)
     return made
+
+
+def with_labels_twice(frame: Any) -> Any:
+    """The frame, in which a label may stand several times, as in an answer."""
+    return frame.set_flags(allows_duplicate_labels=True)
+
+
+def columns_at(frame: Any, left_out: Sequence[Any], rows: Ints) -> Iterable[Column]:
+    """The columns but for those left out, each with its cells of these rows."""
+    away = [place_of(frame, name) for name in left_out]
+    kept = [place for place in range(len(frame.columns)) if place not in away]
+    taken = with_labels_twice(frame).iloc[:, kept].take(rows)
+    taken.index = pd.RangeIndex(len(rows))
+    return [(name, taken.iloc[:, place]) for place, name in enumerate(names_of(taken))]
 
 
 def sides_of(left: Any, right: Any, on: Names, options: Options) -> List[Side]:
@@ -60,19 +72,8 @@ def sides_of(left: Any, right: Any, on: Names, options: Options) -> List[Side]:
     return both
 
 
-def period_of(start: Ints, end: Ints, both: Sequence[Side], options: Options) -> Dict[Any, Any]:
+def period_of(start: Ints, end: Ints, both: Sequence[Side], options: Options, index: Any = None) -> List[Column]:
     """The period's two columns of an answer."""
     kind = options.kind_of(*(side.kind for side in both))
-    return dict(zip(options.period, (points.series_of(start, kind), options.form.restored_ends(end, kind))))
-
-
-def refuse_twice(names: List[Any]) -> None:
-    for name in names:
-        if names.count(name) > 1:
-            raise Refused("TwiceNamed", "two columns of the frame have this name: .rename(columns=..)", name)
-
-
-def add(columns: Dict[Any, Any], name: Any, cells: Any) -> None:
-    if name in columns:
-        raise Refused("TwiceNamed", "two columns of the answer have this name: .rename(columns=..), or suffixes=", name)
-    columns[name] = cells
+    cells = points.series_of(start, kind, index), options.form.restored_ends(end, kind, index)
+    return list(zip(options.period, cells))

@@ -45,22 +45,41 @@ class Form:
     is_open: bool = False
     has_last_days: bool = False
 
+    def starts_of(self, column: Any) -> Tuple[Ints, str]:
+        """The starts, and their kind. Raises Refused (BadPoint, WrongKind)."""
+        seconds, kind = seconds_of(column)
+        if self.has_last_days:
+            refuse_times(seconds, column)
+        return seconds, kind
+
     def ends_of(self, column: Any) -> Tuple[Ints, str]:
         """The first points behind the rows, and their kind. Raises Refused (BadPoint, WrongKind)."""
         seconds, kind = seconds_of(column, self.is_open)
         if not self.has_last_days:
             return seconds, kind
-        refuse(seconds % DAY != 0, column, "BadPoint", "a last day has no time; .dt.floor('D') drops it")
-        told = "behind it is 9999-12-31, which stands for no end: an earlier day"
-        refuse(seconds == LAST_BUT_ONE, column, "BadPoint", told)
+        refuse_times(seconds, column)
         if not self.is_open:
             refuse(seconds == NO_END, column, "BadPoint", "no day is behind it; open_end=True takes it for no end")
+            return seconds + DAY, kind
+        told = "behind it is 9999-12-31, which stands for no end: an earlier day"
+        refuse(seconds == LAST_BUT_ONE, column, "BadPoint", told)
         return np.where(seconds == NO_END, seconds, seconds + DAY), kind
 
     def restored_ends(self, seconds: Ints, kind: str, index: Any = None) -> Any:
         """A column of ends, as they came in. Raises Refused (BadPoint)."""
-        told = np.where(seconds == NO_END, seconds, seconds - DAY) if self.has_last_days else seconds
-        return series_of(told, kind, index, self.is_open)
+        if not self.has_last_days:
+            return series_of(seconds, kind, index, self.is_open)
+        with_times = seconds[seconds % DAY != 0]
+        if len(with_times):
+            told = f"a row ends at {text_of(int(with_times[0]))}, so it has no last day"
+            raise Refused("BadPoint", f"{told}; without last_day=True ends are the first points behind rows")
+        stays = (seconds == NO_END) & self.is_open
+        return series_of(np.where(stays, seconds, seconds - DAY), kind, index, self.is_open)
+
+
+def refuse_times(seconds: Ints, column: Any) -> None:
+    told = "with last_day=True points are days, and this has a time; .dt.floor('D') drops it"
+    refuse(seconds % DAY != 0, column, "BadPoint", told)
 
 
 def seconds_of(column: Any, is_open: bool = False) -> Tuple[Ints, str]:

@@ -10,6 +10,7 @@ import numpy as np
 from ruzgalt.frames import points, values
 from ruzgalt.frames.arrays import NO_INTS, Ints, Marks
 from ruzgalt.frames.errors import Refused, label_at
+from ruzgalt.frames.named import column_of
 from ruzgalt.frames.points import Form
 from ruzgalt.frames.values import Values
 
@@ -69,21 +70,18 @@ def together(sides: Sequence[Side]) -> Side:
 
 def side_of(frame: Any, names: Sequence[Any], period: Period, form: Form, decimals: Mapping[Any, int]) -> Side:
     """The rows of a DataFrame with the columns of these names. Raises Refused."""
-    told = list(frame.columns)
-    for name in (*period, *names):
-        if told.count(name) != 1:
-            fault = "several columns have this name" if name in told else f"no such column; there are {told}"
-            raise Refused("NoColumn", fault, name)
-    start, first = points.seconds_of(frame[period[0]])
-    end, last = form.ends_of(frame[period[1]])
-    refuse_empty(start >= end, frame, period)
-    columns = [values.values_of(frame[name], decimals.get(name)) for name in names]
+    starts, ends = (column_of(frame, name) for name in period)
+    found = [column_of(frame, name) for name in names]
+    start, first = form.starts_of(starts)
+    end, last = form.ends_of(ends)
+    refuse_empty(start >= end, starts, ends)
+    columns = [values.values_of(column, decimals.get(column.name)) for column in found]
     return Side(start, end, columns, points.joint_kind(first, last), frame.index, np.arange(len(start)))
 
 
-def refuse_empty(marked: Marks, frame: Any, period: Period) -> None:
+def refuse_empty(marked: Marks, starts: Any, ends: Any) -> None:
     if marked.any():
         place = int(marked.argmax())
-        told = f"it starts at {frame[period[0]].iloc[place]} and ends at {frame[period[1]].iloc[place]}"
+        told = f"it starts at {starts.iloc[place]} and ends at {ends.iloc[place]}"
         remedy = "an end is the first point behind a row, and last_day=True takes it for the last day"
-        raise Refused("BadPeriod", f"{told}: {remedy}", period[1], label_at(marked, frame.index))
+        raise Refused("BadPeriod", f"{told}: {remedy}", ends.name, label_at(marked, ends.index))

@@ -12,6 +12,7 @@ import pandas as pd
 from dask.dataframe.shuffle import rearrange_by_column
 
 from ruzgalt.frames import groups, pairs, points, split
+from ruzgalt.frames.answer import Columns
 from ruzgalt.frames.arrays import NO_INTS, Ints
 from ruzgalt.frames.ask import Found
 from ruzgalt.frames.options import Options
@@ -129,6 +130,6 @@ def fitted(found: Found, plan: Sequence[Tuple[bool, int]], place: int, form: Tup
     goes_on, last = plan[place]
     start, end, value = (column[int(goes_on):].copy() for column in found)
     end[-1:] = last
-    columns = pairs.period_of(start, end, [empty], asked.options)
-    columns[groups.name_of(asked.function, asked.column)] = groups.restored(value, asked.function, empty.columns)
-    return pd.DataFrame(columns)
+    columns = Columns(pairs.period_of(start, end, [empty], asked.options))
+    columns.add([(groups.name_of(asked.function, asked.column), groups.restored(value, asked.function, empty.columns))])
+    return columns.frame()

@@ -13,7 +13,7 @@ from dask.dataframe.shuffle import rearrange_by_column
 
 from ruzgalt.frames import groups, values
 from ruzgalt.frames.errors import Refused
-from ruzgalt.frames.options import Names, Options, compared, names_of
+from ruzgalt.frames.options import Names, Options, compared
 
 PART = "_partitions"
 # Asked of frames of pandas: left, right, on, options.
@@ -40,7 +40,7 @@ def as_spread(frame: Any) -> Any:
 def agg(frame: Any, function: str, column: Any, options: Options) -> Any:
     """Of groups: those in a partition are in order, and partitions are in none."""
     meta = groups.agg(frame._meta, function, column, options)
-    sent = by_value(frame, names_of(options.by), options.decimals, options.parts or frame.npartitions)
+    sent = by_value(frame, options.by or (), options.decimals, options.parts or frame.npartitions)
     return sent.map_partitions(groups.agg, function, column, options, meta=meta, transform_divisions=False)
 
 

@@ -1,0 +1,70 @@
+"""An answer's columns: collected in their order, known by their places, and named last.
+
+    Columns     takes columns with the names that they have where they come from
+    frame()     names that several have get suffixes; a name that still is twice is refused
+    of_table()  of one table: a column whose name is taken has `_` behind it
+    beside()    of two frames or tables
+"""
+from __future__ import annotations
+
+from typing import Any, Iterable, List, Optional, Sequence, Tuple
+
+import pandas as pd
+
+from ruzgalt import naming
+from ruzgalt.frames.checks import Suffixes
+from ruzgalt.frames.errors import Refused
+from ruzgalt.frames.named import same
+
+# A name, and cells: a Series by places from 0 on, or an array.
+Column = Tuple[Any, Any]
+
+
+class Columns:
+    """Columns of an answer. Nothing is looked up by a name, so none stands for another one."""
+
+    def __init__(self, own: Iterable[Column] = ()) -> None:
+        """own: those to which the answer itself gives their names, which stay as they are."""
+        self.names: List[Any] = []
+        self.cells: List[Any] = []
+        self.suffixes: List[Optional[str]] = []
+        self.add(own)
+
+    def add(self, columns: Iterable[Column], suffix: Optional[str] = None) -> None:
+        """Adds columns behind the others, with what is put behind a name that is taken."""
+        for name, cells in columns:
+            self.names.append(same(name))
+            self.cells.append(cells)
+            self.suffixes.append(suffix)
+
+    def frame(self) -> Any:
+        """Raises Refused (TwiceNamed) where suffixes don't part the names."""
+        names = naming.with_suffixes(self.names, self.suffixes)
+        for name in naming.twice(names):
+            remedy = ".rename(columns=..), or other suffixes=" if any(self.suffixes) else ".rename(columns=..)"
+            raise Refused("TwiceNamed", f"two columns of the answer have this name: {remedy}", name)
+        return frame_of(names, self.cells)
+
+    def of_table(self) -> Any:
+        return frame_of(naming.apart(self.names), self.cells)
+
+
+def beside(own: Iterable[Column], sides: Iterable[Iterable[Column]], suffixes: Suffixes) -> Any:
+    """The answer of two frames or tables: its own columns, the left one's, and the right one's but for the compared."""
+    columns = Columns(own)
+    for side, suffix in zip(sides, suffixes):
+        columns.add(side, suffix)
+    return columns.frame()
+
+
+def frame_of(names: Sequence[Any], cells: Sequence[Any]) -> Any:
+    made = pd.DataFrame(dict(enumerate(cells)))
+    made.columns = index_of(names)
+    return made
+
+
+def index_of(names: Sequence[Any]) -> Any:
+    """The names as they are: of 1 and None pandas makes 1.0 and NaN."""
+    index = pd.Index(names)
+    is_kept = list(map(repr, index)) == list(map(repr, names))
+    return index if is_kept else pd.Index(names, dtype=object, tupleize_cols=False)

@@ -1,0 +1,107 @@
+"""What is given to a call is looked at once, by its type, and comes back as the type that is worked with.
+
+A wrong value is refused as BadCommand, by the option's name, with what was given and what is wanted.
+"""
+from __future__ import annotations
+
+from typing import Any, Hashable, Iterable, Mapping, Optional, Sequence, Tuple
+
+import numpy as np
+import pandas as pd
+
+from ruzgalt import naming
+from ruzgalt.frames.errors import Refused
+
+Pair = Tuple[Any, Any]
+Suffixes = Tuple[Optional[str], Optional[str]]
+# What is shown as it was given, up to so many characters; of all else the name of its type.
+SHOWN, LONGEST = (str, bytes, int, float, list, tuple, dict, set, np.generic, type(None)), 60
+MOST_DIGITS = 18
+
+
+def wrong(option: str, given: Any, wanted: str) -> Refused:
+    return Refused("BadCommand", f"{option}={shown(given)}: {wanted}")
+
+
+def shown(given: Any) -> str:
+    text = " ".join(repr(given).split()) if isinstance(given, SHOWN) else f"<{type(given).__name__}>"
+    return text if len(text) <= LONGEST else f"{text[:LONGEST]}.."
+
+
+def flag(option: str, given: Any) -> bool:
+    if not isinstance(given, (bool, np.bool_)):
+        raise wrong(option, given, "True or False is wanted")
+    return bool(given)
+
+
+def whole(option: str, given: Any, least: int, most: Optional[int] = None) -> int:
+    is_whole = isinstance(given, (int, np.integer)) and not isinstance(given, bool)
+    if not is_whole or given < least or (most is not None and given > most):
+        bounds = f"of {least} to {most}" if most is not None else f"of at least {least}"
+        raise wrong(option, given, f"a whole number {bounds} is wanted")
+    return int(given)
+
+
+def one_of(option: str, given: Any, among: Sequence[str]) -> str:
+    if not isinstance(given, str) or given not in among:
+        raise wrong(option, given, f"one of {', '.join(among)} is wanted")
+    return given
+
+
+def is_name(given: Any) -> bool:
+    """Whether it can be the name of a column: nothing that has others in it, but for a text and a tuple."""
+    if isinstance(given, tuple):
+        return all(map(is_name, given))
+    has_others = isinstance(given, Iterable) and not isinstance(given, (str, bytes))
+    return isinstance(given, Hashable) and not has_others and not isinstance(given, (bool, np.bool_))
+
+
+def name(option: str, given: Any) -> Any:
+    if given is None or not is_name(given):
+        raise wrong(option, given, "a column's name is wanted")
+    return given
+
+
+def names(option: str, given: Any) -> Optional[Tuple[Any, ...]]:
+    """A name, or a list or tuple of names, as a tuple; None of None."""
+    if given is None:
+        return None
+    told = tuple(given) if isinstance(given, (list, tuple)) else (given,)
+    if not all(map(is_name, told)):
+        raise wrong(option, given, "a column's name or a list of names is wanted, and list(..) makes one")
+    return told
+
+
+def pair(option: str, given: Any) -> Pair:
+    """Two different names."""
+    told = tuple(given) if isinstance(given, (list, tuple)) else ()
+    if len(told) != 2 or not all(map(is_name, told)) or naming.twice(told):
+        raise wrong(option, given, "two different names are wanted, of the column of starts and of that of ends")
+    return told[0], told[1]
+
+
+def suffixes(option: str, given: Any) -> Suffixes:
+    told = tuple(given) if isinstance(given, (list, tuple)) else ()
+    if len(told) != 2 or not all(one is None or isinstance(one, str) for one in told):
+        raise wrong(option, given, "two texts are wanted, behind the left names and the right ones; None for none")
+    return told[0], told[1]
+
+
+def digits(option: str, given: Any) -> Mapping[Any, int]:
+    """How many decimals columns have."""
+    if not isinstance(given, Mapping) or not all(map(is_name, given)):
+        raise wrong(option, given, "a dict of columns with their numbers of decimals is wanted, as {'pay': 2}")
+    return {one: whole(f"{option}[{one!r}]", count, 0, MOST_DIGITS) for one, count in given.items()}
+
+
+def frame(option: str, given: Any) -> Any:
+    """A frame of pandas."""
+    if not isinstance(given, pd.DataFrame):
+        raise wrong(option, given, f"a frame of pandas is wanted; {remedy_of(given)}")
+    return given
+
+
+def remedy_of(given: Any) -> str:
+    """Frames of Dask have compute, those of other libraries to_pandas, a Series has to_frame."""
+    methods = [f".{method}()" for method in ("compute", "to_pandas", "to_frame") if hasattr(given, method)]
+    return f"{methods[0]} makes one" if methods else "pandas.DataFrame(..) makes one, pandas.read_csv(..) reads one"

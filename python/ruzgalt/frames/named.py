@@ -1,0 +1,39 @@
+"""A frame's columns by their names, whatever these are: texts, numbers, tuples, None. Columns are taken by place."""
+from __future__ import annotations
+
+from typing import Any, List
+
+import numpy as np
+
+from ruzgalt import naming
+from ruzgalt.frames.errors import Refused
+
+
+def same(name: Any) -> Any:
+    """The name; each NaN is made the same one, since no two of them are equal."""
+    return np.nan if isinstance(name, float) and name != name else name
+
+
+def names_of(frame: Any) -> List[Any]:
+    return list(map(same, frame.columns))
+
+
+def place_of(frame: Any, name: Any) -> int:
+    """Where the column of this name stands. Raises Refused (NoColumn)."""
+    told, wanted = names_of(frame), same(name)
+    places = {one: place for place, one in enumerate(told)}
+    if wanted not in places:
+        raise Refused("NoColumn", f"no such column; there are {told}", name)
+    if wanted in naming.twice(told):
+        raise Refused("NoColumn", "several columns have this name; .rename(columns=..)", name)
+    return places[wanted]
+
+
+def column_of(frame: Any, name: Any) -> Any:
+    """The column of this name, as a Series. Raises Refused (NoColumn)."""
+    return frame.iloc[:, place_of(frame, name)]
+
+
+def refuse_twice(frame: Any) -> None:
+    for name in naming.twice(names_of(frame)):
+        raise Refused("TwiceNamed", "two columns of the frame have this name: .rename(columns=..)", name)
