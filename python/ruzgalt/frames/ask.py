@@ -5,7 +5,7 @@ from typing import List, Optional, Sequence, Tuple
 
 from ruzgalt import records
 from ruzgalt.frames import program, script
-from ruzgalt.frames.arrays import NO_INTS, Cells
+from ruzgalt.frames.arrays import NO_INTS, Cells, Ints
 from ruzgalt.frames.errors import Refused, Stopped
 from ruzgalt.frames.output import Output
 from ruzgalt.frames.script import Command
@@ -50,8 +50,8 @@ def first_refused(output: Output, changes: Sequence[Command]) -> Optional[Tuple[
 
 def refusal(command: Command, told: Sequence[str]) -> Exception:
     """Of an answer that is neither ok nor what was asked for."""
-    if told[0] != "error":
-        return Stopped(f"the program answered {records.to_record(told)} to {command.word}")
+    if told[0] != "error" or len(told) < 3:
+        return Stopped(f"the program answered {records.visible(records.to_record(told))} to {command.word}")
     return Refused(told[2], REMEDIES.get(told[2], f"docs/LANGUAGE.md tells it of {command.word}"), label=command.label)
 
 
@@ -69,13 +69,20 @@ def pair(word: str, sides: Sequence[Side]) -> Command:
     return script.command(word, "l", "r", *(["on", *names] if names else []))
 
 
+def rows_of(side: Side, ids: Ints) -> Ints:
+    """The rows with these ids, which count from 1 on. Raises Stopped where there aren't so many."""
+    if len(ids) and not 1 <= ids.min() <= ids.max() <= len(side):
+        raise Stopped("the answers have a row that isn't one of the script")
+    return ids - 1
+
+
 def join(sides: Sequence[Side], workers: int) -> Found:
     """Start, end, place of the left row and of the right one."""
     left, right = sides
     if not len(left) or not len(right):
         return (NO_INTS,) * 4
     start, end, left_ids, right_ids = answered([*loads(sides), pair("join", sides)], workers).block("ppii")
-    return start, end, left.places[left_ids - 1], right.places[right_ids - 1]
+    return start, end, left.places[rows_of(left, left_ids)], right.places[rows_of(right, right_ids)]
 
 
 def anti(sides: Sequence[Side], workers: int) -> Side:
@@ -84,7 +91,7 @@ def anti(sides: Sequence[Side], workers: int) -> Side:
     if not len(left) or not len(right):
         return left
     ids, start, end = answered([*loads(sides), pair("anti", sides)], workers).block("ipp")
-    return left.take(ids - 1).during(start, end)
+    return left.take(rows_of(left, ids)).during(start, end)
 
 
 def agg(side: Side, function: str, workers: int) -> Found:

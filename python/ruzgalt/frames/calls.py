@@ -29,7 +29,7 @@ def join(left: Any, right: Any, on: Names = None, **options: Any) -> Any:
     told = options_of("join", options)
     if are_spread(left=left, right=right):
         from ruzgalt.frames import spread
-        return spread.paired(pairs.join, left, right, on, told)
+        return spread.paired(pairs.join_part, left, right, on, told)
     return pairs.join(left, right, on, told)
 
 
@@ -42,7 +42,7 @@ def anti(left: Any, right: Any, on: Names = None, **options: Any) -> Any:
     told = options_of("anti", options)
     if are_spread(left=left, right=right):
         from ruzgalt.frames import spread
-        return spread.paired(pairs.anti, left, right, on, told)
+        return spread.paired(pairs.anti_part, left, right, on, told)
     return pairs.anti(left, right, on, told)
 
 

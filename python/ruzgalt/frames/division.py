@@ -7,17 +7,18 @@ import numpy as np
 import pandas as pd
 
 from ruzgalt import forms
-from ruzgalt.frames import ask, points, script, sides, split
+from ruzgalt.frames import ask, doubts, points, script, sides, split
 from ruzgalt.frames.arrays import Ints
 from ruzgalt.frames.errors import Refused
 from ruzgalt.frames.options import Options
-from ruzgalt.frames.output import Output
+from ruzgalt.frames.output import Output, reading
 
 OTHERWISE = "agg(frame, 'count') tells how many parts it has, the greatest count, and the instant, where that begins"
 
 
 def dip(frame: Any, options: Options) -> Any:
     side = sides.side_of(frame, [], options.period, options.form, {})
+    doubts.of_ends(side, [], options.period[1], options.last_day)
     if not split.fits([side]):
         limit = f"{len(side):,} rows, and a table has {split.ROWS:,}; a division isn't that of its parts"
         raise Refused("Full", f"{limit}: {OTHERWISE}")
@@ -27,10 +28,11 @@ def dip(frame: Any, options: Options) -> Any:
     if told[0] != "dip":
         raise ask.refusal(commands[-1], told)
     parts = np.zeros(len(side), np.int64)
-    for part in range(int(told[2])):
-        parts[ids_of(output) - 1] = part
-    series = pd.Series(parts, frame.index, name="part")
-    series.attrs = attributes(told)
+    with reading():
+        for part in range(int(told[2])):
+            parts[ask.rows_of(side, ids_of(output))] = part
+        series = pd.Series(parts, frame.index, name="part")
+        series.attrs = attributes(told)
     return series
 
 

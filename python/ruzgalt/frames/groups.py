@@ -6,7 +6,7 @@ from typing import Any, List, Sequence, Tuple
 
 import numpy as np
 
-from ruzgalt.frames import checks, sides, split
+from ruzgalt.frames import checks, doubts, sides, split
 from ruzgalt.frames.answer import Column, Columns
 from ruzgalt.frames.arrays import Ints
 from ruzgalt.frames.errors import Refused
@@ -20,14 +20,27 @@ FUNCTIONS = ("count", "sum", "min", "max")
 
 
 def agg(frame: Any, function: str, column: Any, options: Options) -> Any:
-    groups = options.by or ()
     side = side_of(frame, function, column, options)
+    doubts.of_decimals(options.decimals, frame)
+    doubts.of_groups(side.columns[:len(options.by or ())])
+    doubts.of_ends(side, [], options.period[1], options.last_day)
+    return counted(frame, side, (function, column), options)
+
+
+def agg_part(frame: Any, function: str, column: Any, options: Options) -> Any:
+    """Of a partition, in which nothing is looked at that may not be meant."""
+    return counted(frame, side_of(frame, function, column, options), (function, column), options)
+
+
+def counted(frame: Any, side: Side, asked: Tuple[str, Any], options: Options) -> Any:
+    """asked: the function and its column."""
+    groups, function = options.by or (), asked[0]
     codes, firsts = group_codes(side, len(groups))
     amounts = side.columns[len(groups):]
     start, end, group, value = split.agg(replace(side, columns=[codes, *amounts]), function, options.workers)
     columns = Columns(groups_at(frame, groups, firsts[group]))
     columns.add(period_of(start, end, [side], options))
-    columns.add([(name_of(function, column), restored(value, function, amounts))])
+    columns.add([(name_of(*asked), restored(value, function, amounts))])
     return columns.frame()
 
 

@@ -1,7 +1,8 @@
 """The answers' bytes as columns, by numpy: exact for each text, with quotes, line ends and zero bytes."""
 from __future__ import annotations
 
-from typing import Callable, Dict, List, Sequence, Tuple
+from contextlib import contextmanager
+from typing import Callable, Dict, Iterator, List, Sequence, Tuple
 
 import numpy as np
 
@@ -33,6 +34,16 @@ def line_ends(data: Bytes) -> Ints:
     return np.concatenate(ends)
 
 
+@contextmanager
+def reading() -> Iterator[None]:
+    """Within, what can't be read is said to be answers of no dipq."""
+    try:
+        yield
+    except (IndexError, ValueError, OverflowError) as error:
+        told = "the answers can't be read: is the program dipq, and of this version? The variable DIPQ names it"
+        raise Stopped(f"{told} ({error})") from None
+
+
 class Output:
     """Records one after another; `place` is the number of the next one, from 0 on."""
 
@@ -47,7 +58,8 @@ class Output:
             raise Stopped("the answers end too early")
         data = self.data[self.starts[self.place]:self.ends[self.place]].tobytes()
         self.place += 1
-        return data.decode().split(",")
+        with reading():
+            return data.decode().split(",")
 
     def block(self, kinds: str) -> List[Cells]:
         """The columns of a list of records, which its `end` counts; by kinds of READERS, from the second field on."""
@@ -70,8 +82,11 @@ class Output:
         if not is_even:
             raise Stopped("records of one list of the answers have different numbers of fields")
         marks = marks.reshape(many, -1)
+        if marks.shape[1] <= len(kinds):
+            raise Stopped("records of a list of the answers have too few fields")
         fields = [(kind, marks[:, place] + 1, marks[:, place + 1]) for place, kind in enumerate(kinds)]
-        return [READERS[kind](data, start, stop) for kind, start, stop in fields if kind in READERS]
+        with reading():
+            return [READERS[kind](data, start, stop) for kind, start, stop in fields if kind in READERS]
 
 
 def ints(data: Bytes, start: Ints, stop: Ints) -> Cells:

@@ -9,13 +9,14 @@ from typing import Any, Iterable, List, Sequence
 
 import pandas as pd
 
-from ruzgalt.frames import answer, points, sides, split
+from ruzgalt.frames import answer, doubts, points, sides, split, values
 from ruzgalt.frames.answer import Column
 from ruzgalt.frames.arrays import Ints
 from ruzgalt.frames.errors import Refused
-from ruzgalt.frames.named import names_of, place_of, refuse_twice
+from ruzgalt.frames.named import column_of, names_of, place_of, refuse_twice
 from ruzgalt.frames.options import Names, Options, compared
 from ruzgalt.frames.sides import Side
+from ruzgalt.frames.values import Values
 
 LABELS = ("left_label", "right_label")
 
@@ -24,26 +25,57 @@ def join(left: Any, right: Any, on: Names, options: Options) -> Any:
     for frame in (left, right):
         refuse_twice(frame)
     both = sides_of(left, right, on, options)
+    tell((left, right), both, on, options)
+    return joined((left, right), both, on, options)
+
+
+def join_part(left: Any, right: Any, on: Names, options: Options) -> Any:
+    """Of a partition, in which nothing is looked at that may not be meant."""
+    for frame in (left, right):
+        refuse_twice(frame)
+    return joined((left, right), sides_of(left, right, on, options), on, options)
+
+
+def joined(frames: Sequence[Any], both: Sequence[Side], on: Names, options: Options) -> Any:
     start, end, *places = split.join(both, options.workers)
     own = period_of(start, end, both, options)
     if options.labels:
-        labels = [frame.index.to_flat_index().take(rows) for frame, rows in zip((left, right), places)]
+        labels = [frame.index.to_flat_index().take(rows) for frame, rows in zip(frames, places)]
         own += zip(LABELS, labels)
     shared = compared(on, options)[1] if on is not None else []
-    columns = [
-        columns_at(frame, names, rows) for frame, names, rows
-        in zip((left, right), (options.period, [*options.other_period, *shared]), places)
-    ]
+    left_out = (options.period, [*options.other_period, *shared])
+    columns = [columns_at(frame, names, rows) for frame, names, rows in zip(frames, left_out, places)]
     return answer.beside(own, columns, options.suffixes)
 
 
 def anti(left: Any, right: Any, on: Names, options: Options) -> Any:
     both = sides_of(left, right, on, options)
+    tell((left, right), both, on, options)
+    return left_over(left, both, options)
+
+
+def anti_part(left: Any, right: Any, on: Names, options: Options) -> Any:
+    """Of a partition, as join_part."""
+    return left_over(left, sides_of(left, right, on, options), options)
+
+
+def left_over(left: Any, both: Sequence[Side], options: Options) -> Any:
     start, end, places = split.anti(both, options.workers)
     made = with_labels_twice(left).take(places)
     for name, cells in period_of(start, end, both, options, made.index):
         made.isetitem(place_of(left, name), cells)
     return made
+
+
+def tell(frames: Sequence[Any], both: Sequence[Side], on: Names, options: Options) -> None:
+    """Warns of what may not be meant."""
+    periods = (options.period, options.other_period)
+    if on is None and options.left_on is None:
+        doubts.of_no_columns(frames, periods)
+    doubts.of_decimals(options.decimals, *frames)
+    doubts.of_keys(*(side.columns for side in both))
+    for side, period in zip(both, periods):
+        doubts.of_ends(side, side.columns, period[1], options.last_day)
 
 
 def with_labels_twice(frame: Any) -> Any:
@@ -63,13 +95,32 @@ def columns_at(frame: Any, left_out: Sequence[Any], rows: Ints) -> Iterable[Colu
 def sides_of(left: Any, right: Any, on: Names, options: Options) -> List[Side]:
     """The rows of both frames, with their compared columns. Raises Refused."""
     names = compared(on, options)
+    for pair in zip(*([column_of(frame, name) for name in own] for frame, own in zip((left, right), names))):
+        refuse_float_beside_int(*pair)
     frames = zip((left, right), names, (options.period, options.other_period))
     both = [sides.side_of(frame, own, period, options.form, options.decimals) for frame, own, period in frames]
     for one, other in zip(both[0].columns, both[1].columns):
-        if (one.kind, one.digits) != (other.kind, other.digits):
-            told = f"it is {one.kind}, and {other.name!r} of the right frame {other.kind}, or of other decimals"
-            raise Refused("WrongKind", f"{told}; .astype(..) makes them alike", one.name)
+        refuse_two_kinds(one, other)
     return both
+
+
+def refuse_float_beside_int(one: Any, other: Any) -> None:
+    """With decimals for the float alone the integer would be refused, and without them the float."""
+    kinds = values.number_kind(one.dtype), values.number_kind(other.dtype)
+    if set(kinds) == {"int", "float"}:
+        told = f"it is {one.dtype}, and {other.name!r} of the right frame {other.dtype}"
+        remedy = ".astype('Int64') of both makes whole numbers, .astype('float64') of both with decimals= others"
+        raise Refused("WrongKind", f"{told}; {remedy}", one.name)
+
+
+def refuse_two_kinds(one: Values, other: Values) -> None:
+    if one.kind != other.kind:
+        told = f"it is {one.kind}, and {other.name!r} of the right frame {other.kind}"
+        remedy = ".astype('int64') makes numbers of texts as '001', .astype(str) texts of numbers"
+        raise Refused("WrongKind", f"{told}; {remedy}", one.name)
+    if one.digits != other.digits:
+        told = f"it has {one.digits} decimals, and {other.name!r} of the right frame {other.digits}"
+        raise Refused("WrongKind", f"{told}; decimals= takes as many of both", one.name)
 
 
 def period_of(start: Ints, end: Ints, both: Sequence[Side], options: Options, index: Any = None) -> List[Column]:

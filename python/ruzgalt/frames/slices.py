@@ -36,7 +36,7 @@ class Question:
         return groups.side_of(frame, self.function, self.column, self.options)
 
     def agg(self, frame: Any) -> Any:
-        return groups.agg(frame, self.function, self.column, self.options)
+        return groups.agg_part(frame, self.function, self.column, self.options)
 
 
 def agg(frame: Any, function: str, column: Any, options: Options) -> Any:

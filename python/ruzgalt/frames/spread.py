@@ -13,7 +13,9 @@ from dask.dataframe.shuffle import rearrange_by_column
 
 from ruzgalt.frames import groups, values
 from ruzgalt.frames.errors import Refused
+from ruzgalt.frames.named import column_of
 from ruzgalt.frames.options import Names, Options, compared
+from ruzgalt.frames.pairs import with_labels_twice
 
 PART = "_partitions"
 # Asked of frames of pandas: left, right, on, options.
@@ -34,14 +36,17 @@ def paired(asked: Pairs, left: Any, right: Any, on: Names, options: Options) -> 
 
 
 def as_spread(frame: Any) -> Any:
-    return frame if isinstance(frame, dd.DataFrame) else dd.from_pandas(frame, 1, sort=False)
+    """A frame of Dask; of pandas with labels of several levels, which Dask hasn't, these are tuples."""
+    if isinstance(frame, dd.DataFrame):
+        return frame
+    return dd.from_pandas(with_labels_twice(frame).set_axis(frame.index.to_flat_index()), npartitions=1, sort=False)
 
 
 def agg(frame: Any, function: str, column: Any, options: Options) -> Any:
     """Of groups: those in a partition are in order, and partitions are in none."""
-    meta = groups.agg(frame._meta, function, column, options)
+    meta = groups.agg_part(frame._meta, function, column, options)
     sent = by_value(frame, options.by or (), options.decimals, options.parts or frame.npartitions)
-    return sent.map_partitions(groups.agg, function, column, options, meta=meta, transform_divisions=False)
+    return sent.map_partitions(groups.agg_part, function, column, options, meta=meta, transform_divisions=False)
 
 
 def by_value(frame: Any, names: Sequence[Any], decimals: Mapping[Any, int], parts: int) -> Any:
@@ -58,5 +63,5 @@ def refuse_own_name(frame: Any) -> None:
 
 
 def with_part(frame: Any, names: List[Any], decimals: Mapping[Any, int], parts: int) -> Any:
-    hashed = values.hashes([values.values_of(frame[name], decimals.get(name)) for name in names])
-    return frame.assign(**{PART: (hashed % np.uint64(parts)).astype(np.int64)})
+    hashed = values.hashes([values.values_of(column_of(frame, name), decimals.get(name)) for name in names])
+    return with_labels_twice(frame).assign(**{PART: (hashed % np.uint64(parts)).astype(np.int64)})

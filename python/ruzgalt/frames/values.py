@@ -125,15 +125,31 @@ def values_of(column: Any, digits: Optional[int] = None) -> Values:
         return Values(column.name, "int", ints_of(column), Texts(), dtype)
     if dtype == object or isinstance(dtype, pd.StringDtype):
         return texts_of(column)
+    raise Refused("WrongKind", f"{dtype} has no kind of the store; {remedy_of(column)}", column.name)
+
+
+def remedy_of(column: Any) -> str:
+    """Of a dtype that has no kind."""
     hundredths = f"decimals={{{column.name!r}: 2}} takes those of two decimals for hundredths"
-    remedies = {"f": hundredths, "b": ".astype('int8') makes numbers"}
-    remedy = remedies.get(getattr(dtype, "kind", ""), ".astype(str) makes texts")
-    raise Refused("WrongKind", f"{dtype} has no kind of the store; {remedy}", column.name)
+    remedies = {"f": f".astype('Int64') of whole numbers, or {hundredths}", "b": ".astype('int8') makes numbers"}
+    return remedies.get(getattr(column.dtype, "kind", ""), ".astype(str) makes texts")
+
+
+def number_kind(dtype: Any) -> str:
+    """`int` or `float` of a dtype of numbers, else nothing."""
+    if pd.api.types.is_integer_dtype(dtype):
+        return "int"
+    return "float" if pd.api.types.is_float_dtype(dtype) else ""
+
+
+def no_value(name: Any) -> str:
+    """What is told of a missing cell: in place of it nothing can be put that would match nothing."""
+    return f"no value, and rows without one match nothing; .dropna(subset=[{name!r}]) leaves them out"
 
 
 def of_categories(column: Any) -> Values:
     missing = column.isna().to_numpy()
-    refuse(missing, column, "BadNumber", "no value, and the store has none; .dropna(subset=..) leaves such rows out")
+    refuse(missing, column, "BadNumber", no_value(column.name))
     codes = column.cat.codes.to_numpy().astype(np.int64)
     # Categories that no row has don't matter, whatever they are.
     used, codes = np.unique(codes, return_inverse=True)
@@ -143,7 +159,7 @@ def of_categories(column: Any) -> Values:
 
 def ints_of(column: Any) -> Ints:
     missing = column.isna().to_numpy()
-    refuse(missing, column, "BadNumber", "no number, and the store has none; .dropna(subset=..) leaves such rows out")
+    refuse(missing, column, "BadNumber", no_value(column.name))
     is_signed = getattr(column.dtype, "numpy_dtype", column.dtype).kind == "i"
     numbers: Cells = column.to_numpy(dtype="i8" if is_signed else "u8")
     if not is_signed:
@@ -156,8 +172,7 @@ def texts_of(column: Any) -> Values:
     cells = np.asarray(column, object)
     if pd.api.types.infer_dtype(cells, skipna=False) not in ("string", "empty"):
         wrong = np.fromiter((not isinstance(cell, str) for cell in cells), bool, len(cells))
-        remedy = ".fillna('') for missing ones, .astype('int64') for numbers, decimals= for Decimals"
-        refuse(wrong, column, "WrongKind", f"{cells[int(wrong.argmax())]!r} is no text; {remedy}")
+        refuse(wrong, column, "WrongKind", no_text(cells[int(wrong.argmax())], column.name))
     whole = "".join(cells)
     if not forms.is_utf8(whole):
         # Before pandas.factorize, which takes halves of surrogate pairs for other texts.
@@ -170,6 +185,15 @@ def texts_of(column: Any) -> Values:
         is_long = np.fromiter((not forms.is_short(text) for text in found), bool, len(found))
         refuse(is_long[codes], column, "TooLong", "a text of more than 4,096 bytes: a shorter one, or several columns")
     return Values(column.name, "text", codes, Texts(list(found)), column.dtype)
+
+
+def no_text(cell: Any, name: Any) -> str:
+    """What is told of a cell that is none."""
+    if cell is None or cell is pd.NA or cell is pd.NaT or isinstance(cell, float) and cell != cell:
+        return no_value(name)
+    hundredths = f"decimals={{{name!r}: 2}} takes Decimals"
+    remedies = {int: ".astype('int64') makes numbers of all", decimal.Decimal: hundredths}
+    return f"{cell!r} is no text; {remedies.get(type(cell), '.astype(str) makes texts of all')}"
 
 
 def codes_by_dict(cells: Cells) -> Tuple[Ints, List[str]]:
@@ -185,12 +209,14 @@ def scaled(column: Any, digits: int) -> Ints:
         return scaled_decimals(column, digits)
     dtype = getattr(column.dtype, "numpy_dtype", column.dtype)
     if getattr(dtype, "kind", "") != "f":
-        raise Refused("WrongKind", f"{dtype}: decimals are of floats and of Decimals; leave them out", column.name)
+        told = f"{dtype}: decimals= is of floats and of Decimals; without it whole numbers are taken as they are"
+        raise Refused("WrongKind", told, column.name)
     cells = column.to_numpy(dtype=dtype, na_value=np.nan)
     bits = np.finfo(dtype).nmant + 1
     with np.errstate(invalid="ignore", over="ignore"):
         whole = np.round(cells.astype("f8") * 10.0**digits)
-        remedy = "Decimals are exact, .dropna(subset=..) leaves missing ones out"
+        refuse(np.isnan(cells), column, "BadNumber", no_value(column.name))
+        remedy = "Decimals are exact"
         refuse(~(np.abs(whole) < 2.0**bits), column, "BadNumber", f"not of {bits} bits in such units; {remedy}")
         told = f"not exactly a number of {digits} decimals; .round({digits}) makes it one"
         refuse((whole / 10.0**digits).astype(dtype) != cells, column, "BadNumber", told)

@@ -8,6 +8,7 @@ from pathlib import Path
 HERE = Path(__file__).resolve().parent
 # All others need pandas.
 WITHOUT_PANDAS = ["test_without_pandas"]
+RANDOM = "test_random_|test_split|test_hostile"
 
 
 def suite():
@@ -19,8 +20,12 @@ def suite():
 
 
 def main():
-    # A warning that comes of a line of ours is a fault.
+    # A warning that comes of a line of ours is a fault. A doubt is one too, but where frames are random.
     warnings.filterwarnings("error", module=r"ruzgalt\.")
+    if importlib.util.find_spec("pandas"):
+        import ruzgalt
+        warnings.filterwarnings("error", category=ruzgalt.Doubt)
+        warnings.filterwarnings("ignore", category=ruzgalt.Doubt, module=RANDOM)
     result = unittest.TextTestRunner(sys.stdout, verbosity=0).run(suite())
     for test, reason in result.skipped:
         print(f"left out: {test}: {reason}")

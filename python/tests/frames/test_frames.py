@@ -42,7 +42,7 @@ class Frames(unittest.TestCase):
         self.assertEqual(len(ruzgalt.anti(pay(), none, on="person")), 4)
         self.assertEqual(len(ruzgalt.agg(none, "count")), 0)
         self.assertEqual(ruzgalt.dip(none).attrs, {"count": 0, "instant": None})
-        self.assertEqual(str(ruzgalt.join(none, none).dtypes["from"]), "datetime64[ns]")
+        self.assertEqual(str(ruzgalt.join(none, none, on=[]).dtypes["from"]), "datetime64[ns]")
 
     def test_one_row(self):
         one = pay(1)

@@ -1,0 +1,129 @@
+"""What may not be meant in frames: each is told as a warning, ruzgalt.Doubt, and the answer is that of what is given.
+
+Texts and ends are looked at by the classes that look at files which are loaded. Of texts those that differ are, of many
+rows some, with all of a key; so of a million rows it takes less than a tenth of a second.
+"""
+from __future__ import annotations
+
+from typing import Any, Iterable, List, Mapping, Sequence, Set, Tuple
+
+import numpy as np
+
+from ruzgalt.doubts import Ends
+from ruzgalt.frames import points
+from ruzgalt.frames.arrays import Ints
+from ruzgalt.frames.errors import doubt
+from ruzgalt.frames.named import names_of, same
+from ruzgalt.frames.sides import Period, Side
+from ruzgalt.frames.values import Values
+from ruzgalt.looks import LookAlikes, fold
+
+# So many texts of a column are looked at, and so many rows.
+MOST_TEXTS, MOST_ROWS = 20_000, 4_000
+REMEDY = "but for spaces, capitals, or zeros in front they are equal: .str.strip(), .str.lower(), .str.lstrip('0')"
+
+
+def of_decimals(decimals: Mapping[Any, int], *frames: Any) -> None:
+    """Tells of decimals of no column."""
+    there = list(dict.fromkeys(name for frame in frames for name in names_of(frame)))
+    for name in decimals:
+        if same(name) not in there:
+            doubt(f"decimals= has {name!r}, which is no column; there are {there}")
+
+
+def of_no_columns(frames: Sequence[Any], periods: Sequence[Period]) -> None:
+    """Tells of frames that aren't compared, and have one column in common."""
+    left, right = ([name for name in names_of(frame) if name not in own] for frame, own in zip(frames, periods))
+    both = [name for name in left if name in right]
+    if len(both) == 1:
+        doubt(f"both frames have {both[0]!r}, which isn't compared: on={both[0]!r} does it, on=[] says that none is")
+
+
+def of_keys(left: Sequence[Values], right: Sequence[Values]) -> None:
+    """Tells of texts of both sides that meet no equal one, and one that looks like them."""
+    for one, other in zip(left, right):
+        if one.kind == other.kind == "text":
+            found = strangers(one.texts.cells, other.texts.cells)
+            if found:
+                more = f", and so of {len(found) - 1} more" if len(found) > 1 else ""
+                doubt(f"{one.name!r} has {found[0][0]!r} and {found[0][1]!r}, which don't meet{more}; {REMEDY}")
+
+
+def strangers(left: Sequence[str], right: Sequence[str]) -> List[Tuple[str, str]]:
+    """Pairs of a left and a right text that look alike, of which one is on its side alone."""
+    lefts, rights = set(left), set(right)
+    found = alike(left, rights, right) if lefts - rights else []
+    return found or ([(one, other) for other, one in alike(right, lefts, left)] if rights - lefts else [])
+
+
+def alike(texts: Sequence[str], there: Set[str], others: Sequence[str]) -> List[Tuple[str, str]]:
+    """The texts that aren't there among the others, each with one of these that looks like it."""
+    alone = [text for text in texts[:MOST_TEXTS] if text not in there]
+    folds = {fold(text): text for text in others[:MOST_TEXTS]} if alone else {}
+    return [(text, folds[told]) for text, told in zip(alone, map(fold, alone)) if told in folds]
+
+
+def of_groups(columns: Iterable[Values]) -> None:
+    """Tells of groups of texts that look alike."""
+    for column in columns:
+        seen = LookAlikes()
+        for text in column.texts.cells[:MOST_TEXTS]:
+            other = seen.other(text)
+            if other is not None:
+                doubt(f"{column.name!r} has {other!r} and {text!r}, which are two groups; {REMEDY}")
+                break
+
+
+class RowEnds(Ends):
+    """Ends of a frame's rows, which are told by their labels, with remedies of a call."""
+
+    def example_of(self, ends: Any) -> str:
+        starts = dict(zip(self.starts, self.lines[0]))
+        label, end = next(pair for pair in zip(self.lines[0], ends) if pair[1] in starts)
+        return f"row {starts[end]!r} after row {label!r}"
+
+    def remedy(self) -> str:
+        if self.is_last_day:
+            return "last_day=True takes it for the last day of a row; without it, the day before is the last"
+        return "a row doesn't hold on that day any more; last_day=True takes it for the last one"
+
+
+def of_ends(side: Side, key: Sequence[Values], name: Any, is_last_day: bool) -> None:
+    """Tells of ends that look like last days where they aren't taken for such, or the other way round."""
+    rows = some_rows(key, len(side))
+    start, end = side.start[rows], side.end[rows]
+    if (start % points.DAY).any() or (end % points.DAY).any():
+        return
+    keys = keys_of(key, rows)
+    if overlap(keys, start, np.where(end == points.NO_END, end, end - is_last_day * points.DAY)):
+        keys = np.arange(len(rows))
+    ends = RowEnds(str(name), ", ".join(str(column.name) for column in key), is_last_day)
+    labels = list(side.labels[rows])
+    ends.add(labels, keys.tolist(), points.texts_of(start), points.texts_of(end))
+    for told in ends.told():
+        doubt(told)
+
+
+def some_rows(key: Sequence[Values], count: int) -> Ints:
+    """All rows, or of many so many; where the first column of a key has many values, all rows of some of these."""
+    if count <= MOST_ROWS:
+        return np.arange(count)
+    parts = 2 * count // MOST_ROWS
+    codes = key[0].codes if key else np.arange(count)
+    return np.flatnonzero(codes % parts == codes[0] % parts)[:MOST_ROWS]
+
+
+def keys_of(key: Sequence[Values], rows: Ints) -> Ints:
+    """A number for each row, equal for equal values; without a key for none."""
+    if not key:
+        return np.arange(len(rows))
+    table = np.stack([column.codes[rows] for column in key], axis=1)
+    keys: Ints = np.unique(table, axis=0, return_inverse=True)[1].ravel()
+    return keys
+
+
+def overlap(keys: Ints, start: Ints, end: Ints) -> bool:
+    """Whether some rows of one key share a point; where they do, one that starts on another's end doesn't follow it."""
+    order = np.lexsort((end, start, keys))
+    is_same = keys[order][1:] == keys[order][:-1]
+    return bool((is_same & (start[order][1:] < end[order][:-1])).any())
