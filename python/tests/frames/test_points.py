@@ -29,6 +29,8 @@ EDGES = {
     "date": objects(FIRST.date(), datetime.date(2024, 2, 29), LAST.date()),
     "datetime": objects(FIRST, datetime.datetime(2024, 2, 29, 12), LAST),
 }
+OPEN, LAST_DAYS = {"open_end": True}, {"last_day": True}
+BOTH = {**OPEN, **LAST_DAYS}
 SECONDS = np.array([points.FIRST, -86_401, -86_400, -1, 0, 86_399, 951_782_400, points.NO_END, points.LAST], np.int64)
 
 
@@ -88,6 +90,32 @@ class Points(unittest.TestCase):
         got = ruzgalt.agg(frame, "count", last_day=True)
         self.assertEqual(got["to"].tolist(), days(["2024-01-30", "2024-01-31", "2024-02-29"]).tolist())
         self.assertEqual(got["count"].tolist(), [1, 2, 1])
+
+    def test_the_last_days_of_time(self):
+        """Each end of a last day or not, of open ends or not, beside what comes back of it; None is refused."""
+        last, before = LAST.date(), LAST.date() - datetime.timedelta(days=1)
+        cases = [
+            ({}, last, last), ({}, before, before), (LAST_DAYS, last, None), (LAST_DAYS, before, before),
+            (OPEN, last, "missing"), (OPEN, before, before), (OPEN, None, "missing"),
+            (BOTH, last, "missing"), (BOTH, before, None), (BOTH, None, "missing"),
+        ]
+        for words, end, wanted in cases:
+            frame = pd.DataFrame({"from": objects(datetime.date(2024, 1, 1)), "to": objects(end)})
+            with self.subTest((words, end)):
+                if wanted is None:
+                    self.assertRaises(ruzgalt.Refused, lambda: ruzgalt.agg(frame, "count", **words))
+                    continue
+                [told] = ruzgalt.agg(frame, "count", **words)["to"]
+                self.assertEqual("missing" if told is None else told, wanted)
+
+    def test_an_end_that_is_no_midnight_has_no_last_day(self):
+        form = points.Form(has_last_days=True)
+        ends = np.array([86_400, 2 * 86_400 + 43_200], np.int64)
+        with self.assertRaises(ruzgalt.Refused) as caught:
+            form.restored_ends(ends, "S")
+        self.assertEqual(caught.exception.name, "BadPoint")
+        self.assertIn("1970-01-03T12:00:00", caught.exception.reason)
+        self.assertEqual(list(map(str, form.restored_ends(ends[:1], "D"))), ["1970-01-01"])
 
 
 class Values(unittest.TestCase):

@@ -99,6 +99,21 @@ class Program(unittest.TestCase):
         self.command("echo ok,1; echo ok,2")
         self.says("too early")
 
+    def test_another_program_is_told(self):
+        joined = "ok,1; echo ok,2; echo ok,3; echo ok,4; echo"
+        cases = [
+            ("exec cat", "answered table,l,"), ("echo ok,1; echo ok,2; printf '\\377\\n'", "can't be read"),
+            ("echo error", "answered error to"), (f"echo {joined} row,1; echo end,1", "too few fields"),
+            (f"echo {joined} row,2024-01-01,2024-02-01,1,0; echo end,1", "isn't one of the script"),
+            (f"echo {joined} row,2024-01-01,,1,1; echo end,1", "can't be read"),
+        ]
+        for text, wanted in cases:
+            with self.subTest(text):
+                self.command(text)
+                with self.assertRaises(ruzgalt.Stopped) as caught:
+                    ruzgalt.dip(FRAME) if "377" in text else ruzgalt.join(FRAME, FRAME, on="k")
+                self.assertIn(wanted, str(caught.exception))
+
     def test_a_program_that_is_not_there_is_told(self):
         with mock.patch.dict(os.environ, DIPQ="/nowhere/dipq"):
             self.says("/nowhere/dipq: no such program")

@@ -150,6 +150,26 @@ class Spread(unittest.TestCase):
         self.assertEqual(sorted(got["k"]), [0.1, 0.29])
         self.assertEqual(len(ruzgalt.join(one, one, on="k", decimals={"k": 2})), 2)
 
+    def test_labels_of_several_levels_are_tuples(self):
+        labels = pd.MultiIndex.from_product([["a", "b"], range(50)])
+        one = day_of(column(NUMBERS, "int64"))
+        other, spread = one.set_index(labels), dd.from_pandas(one, npartitions=3)
+        got = ruzgalt.join(spread, other, on="k", labels=True).compute(scheduler="sync")
+        self.assertEqual(sorted(got["right_label"]), labels.tolist())
+        nothing = dd.from_pandas(one.iloc[:1].assign(k=99), npartitions=1)
+        self.assertEqual(sorted(ruzgalt.anti(other, nothing, on="k").compute(scheduler="sync").index), labels.tolist())
+
+    def test_frames_that_allow_no_label_twice(self):
+        one = day_of(column(NUMBERS, "int64")).set_flags(allows_duplicate_labels=False)
+        for left in (one, dd.from_pandas(one, npartitions=3)):
+            right = dd.from_pandas(pd.concat([one.set_flags(allows_duplicate_labels=True)] * 2), npartitions=2)
+            self.assertEqual(len(ruzgalt.join(left, right, on="k").compute(scheduler="sync")), 200)
+
+    def test_no_groups_are_all_rows(self):
+        one = day_of(column(NUMBERS, "int64"))
+        got = ruzgalt.agg(dd.from_pandas(one, npartitions=3), "count", by=[]).compute(scheduler="sync")
+        pd.testing.assert_frame_equal(got, ruzgalt.agg(one, "count", by=[]))
+
     def test_what_cannot_be_split_is_refused(self):
         frame = dd.from_pandas(day_of(column(NUMBERS, "int64")), npartitions=3)
         asks = [lambda: ruzgalt.dip(frame), lambda: ruzgalt.join(frame, frame), lambda: ruzgalt.anti(frame, frame)]

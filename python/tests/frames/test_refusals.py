@@ -54,6 +54,7 @@ POINTS = [
     ("the year 10000", {"to": pd.PeriodIndex([days(2025), days(10000)])}, {}, "BadPoint", "to", "y"),
     ("start at end", {"to": DAYS(["2024-02-01", "2024-01-02"])}, {}, "BadPeriod", "to", "y"),
     ("a last day with a time", {"to": DAYS(["2024-02-01", "2024-02-01T08:00:00"])}, LAST_DAYS, "BadPoint", "to", "y"),
+    ("a start with a time", {"from": DAYS(["2024-01-01", "2024-01-02T08:00:00"])}, LAST_DAYS, "BadPoint", "from", "y"),
     ("a last day before the start", {"to": DAYS(["2024-02-01", "2024-01-01"])}, LAST_DAYS, "BadPeriod", "to", "y"),
     ("9999-12-31 as a last day", {"to": objects(NOON.date(), LAST)}, LAST_DAYS, "BadPoint", "to", "y"),
     ("9999-12-30 as a last day", {"to": objects(LAST.replace(day=30), None)}, OPEN_LAST_DAYS, "BadPoint", "to", "x"),
@@ -106,6 +107,9 @@ CALLS = [
     ("avg", lambda: ruzgalt.agg(OK, "avg", "k"), "BadCommand", None, None),
     ("a sum of nothing", lambda: ruzgalt.agg(OK, "sum"), "BadCommand", None, None),
     ("a count by count", lambda: ruzgalt.agg(frame(count=[1, 2]), "count", by="count"), "TwiceNamed", "count", None),
+    ("a period of three", lambda: ruzgalt.join(OK, OK, on="k", period=("from", "to", "k")), "BadCommand", None, None),
+    ("two kinds, the other way round", lambda: ruzgalt.anti(frame(k=[1, 2]), OK, on="k"), "WrongKind", "k", None),
+    ("a time beside last days", lambda: ruzgalt.join(OK, TIMES, on="k", last_day=True), "BadPoint", "to", "x"),
     ("points as weeks", lambda: ruzgalt.agg(OK, "count", points_as="W"), "BadCommand", None, None),
     ("seconds as days", lambda: ruzgalt.agg(TIMES, "count", points_as="D"), "BadPoint", None, None),
     ("9999-12-31 as ns", lambda: ruzgalt.agg(ENDLESS, "count", points_as="ns"), "BadPoint", None, None),
@@ -138,6 +142,35 @@ class Refusals(unittest.TestCase):
     def test_calls(self):
         for case in CALLS:
             self.refuses(*case)
+
+    def test_a_refusal_says_what_is_there_and_what_to_do(self):
+        floats = frame(k=[1.0, 2.0])
+        cases = [
+            (lambda: ruzgalt.join(OK, OK, on="z"), "there are ['from', 'to', 'k']"),
+            (lambda: ruzgalt.agg(OK, "sum", "k"), "sum is of numbers, and these are texts"),
+            (lambda: ruzgalt.join(frame(k=[1, 2]), OK, on="k"), ".astype('int64') makes numbers of texts as '001'"),
+            (lambda: ruzgalt.join(floats, frame(k=[1, 2]), on="k"), "it is float64, and 'k' of the right frame int64"),
+            (lambda: ruzgalt.anti(frame(k=[1, 2]), floats, on="k", decimals={"k": 2}), "it is int64, and 'k' of the"),
+        ]
+        for asked, wanted in cases:
+            with self.subTest(wanted), self.assertRaises(ruzgalt.Refused) as caught:
+                asked()
+            self.assertIn(wanted, caught.exception.reason)
+
+    def test_the_remedies_for_a_float_beside_an_integer_are_taken(self):
+        one, other = frame(k=[1.0, 2.0]), frame(k=[1, 2])
+        whole, floats = {"k": "Int64"}, {"k": "float64"}
+        self.assertEqual(len(ruzgalt.join(one.astype(whole), other.astype(whole), on="k")), 2)
+        got = ruzgalt.join(one.astype(floats), other.astype(floats), on="k", decimals={"k": 2})
+        self.assertEqual(got["k"].tolist(), [1.0, 2.0])
+
+    def test_missing_values_are_to_be_left_out_since_an_empty_text_meets_one(self):
+        for cells in (["a", None], ["a", np.nan], pd.array(["a", pd.NA], "string"), pd.array([1, pd.NA], "Int64"),
+                      pd.Categorical(["a", None])):
+            with self.subTest(cells), self.assertRaises(ruzgalt.Refused) as caught:
+                ruzgalt.join(frame(k=cells), OK, on="k")
+            self.assertIn("rows without one match nothing; .dropna(subset=['k'])", caught.exception.reason)
+            self.assertNotIn("fillna", caught.exception.reason)
 
     def test_an_option_of_another_call_is_a_type_error(self):
         self.assertRaises(TypeError, lambda: ruzgalt.anti(OK, OK, labels=True))

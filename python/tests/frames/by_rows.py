@@ -1,0 +1,112 @@
+"""Answers of small frames by rows and days, in plain Python; nothing here is of the package, nor of numpy or pandas.
+
+A frame is a list of columns, each a name and its cells. Points are numbers of days, OPEN for no end. An answer is a
+list of names and a list of rows, or None where some column has no name of its own.
+"""
+OPEN = 40
+FUNCTIONS = {"count": len, "sum": sum, "min": min, "max": max}
+
+
+def is_same(one, other):
+    return one is other or one == other
+
+
+def named(columns):
+    """The names of an answer's columns (name, suffix, cells): what several have gets its suffix."""
+    names = [name for name, _, _ in columns]
+    told = [f"{name}{suffix}" if suffix and times(names, name) > 1 else name for name, suffix, _ in columns]
+    return told if all(times(told, name) == 1 for name in told) else None
+
+
+def times(names, name):
+    return sum(is_same(one, name) for one in names)
+
+
+def place(frame, name):
+    return next(place for place, (one, _) in enumerate(frame) if is_same(one, name))
+
+
+def cells(frame, name):
+    return frame[place(frame, name)][1]
+
+
+def periods(frame, period):
+    return list(zip(*(cells(frame, name) for name in period)))
+
+
+def keys(frame, names):
+    return list(zip(*(cells(frame, name) for name in names))) if names else [()] * len(frame[0][1])
+
+
+def answer(columns):
+    names = named(columns)
+    return None if names is None else (names, [list(row) for row in zip(*(told for _, _, told in columns))])
+
+
+def join(frames, told):
+    """told has periods and on, of each frame, whether its names are shared, whether labels are asked, and suffixes."""
+    left, right = (
+        list(zip(periods(frame, period), keys(frame, on))) for frame, period, on in zip(frames, told.periods, told.on)
+    )
+    found = sorted(
+        (max(one[0], two[0]), min(one[1], two[1]), row, other)
+        for row, (one, key) in enumerate(left) for other, (two, other_key) in enumerate(right)
+        if key == other_key and max(one[0], two[0]) < min(one[1], two[1])
+    )
+    columns = [(name, None, [row[side] for row in found]) for side, name in enumerate(told.periods[0])]
+    if told.labels:
+        columns += [("left_label", None, [row[2] for row in found]), ("right_label", None, [row[3] for row in found])]
+    for side, frame in enumerate(frames):
+        away = [*told.periods[side], *(told.on[1] if side and told.is_shared else [])]
+        columns += [
+            (name, told.suffixes[side], [values[row[2 + side]] for row in found])
+            for name, values in frame if not times(away, name)
+        ]
+    return answer(columns)
+
+
+def runs(days):
+    """Start, end and value of each longest run of days of one value, where there is one."""
+    found = []
+    for day, value in enumerate(days):
+        if value is not None and found and found[-1][1:] == (day, value):
+            found[-1] = (found[-1][0], day + 1, value)
+        elif value is not None:
+            found.append((day, day + 1, value))
+    return found
+
+
+def anti(frames, told):
+    left, right = frames
+    rights = list(zip(periods(right, told.periods[1]), keys(right, told.on[1])))
+    ends = [place(left, name) for name in told.periods[0]]
+    rows = []
+    for row, ((start, end), key) in enumerate(zip(periods(left, told.periods[0]), keys(left, told.on[0]))):
+        taken = [period for period, other in rights if other == key]
+        held = [start <= day < end and not any(one <= day < two for one, two in taken) for day in range(OPEN)]
+        for one, two, _ in runs([value or None for value in held]):
+            made = [values[row] for _, values in left]
+            made[ends[0]], made[ends[1]] = one, two
+            rows.append(made)
+    return [name for name, _ in left], rows
+
+
+def order(group):
+    return [cell.encode() if isinstance(cell, str) else cell for cell in group]
+
+
+def agg(frame, function, column, told):
+    groups, amounts = keys(frame, told.on[0]), cells(frame, column) if function != "count" else frame[0][1]
+    held, rows = list(zip(periods(frame, told.periods[0]), amounts, groups)), []
+    for group in sorted(set(groups), key=order):
+        days = [
+            [amount for (start, end), amount, own in held if own == group and start <= day < end] for day in range(OPEN)
+        ]
+        rows += [[*group, *run] for run in runs([FUNCTIONS[function](day) if day else None for day in days])]
+    names = [*told.on[0], *told.periods[0], function if function == "count" else f"{function}_{column}"]
+    return (names, rows) if all(times(names, name) == 1 for name in names) else None
+
+
+def most(frame, period):
+    """As many rows as hold on some day, at most."""
+    return max((sum(start <= day < end for start, end in periods(frame, period)) for day in range(OPEN)), default=0)

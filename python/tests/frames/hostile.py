@@ -1,0 +1,227 @@
+"""What hypothesis draws: frames whose columns have the names of answers, or hardly any, and options of wrong types."""
+import datetime
+from dataclasses import dataclass, field
+from typing import Any
+
+import numpy as np
+import pandas as pd
+from hypothesis import strategies as st
+
+import by_rows
+
+TEXTS = [
+    "from", "to", "row_id", "id", "left_id", "right_id", "part", "count", "cents", "sum_cents", "sys_from", "sys_to",
+    "valid_from", "valid_to", "left_label", "right_label", "to_right", "id_left", "id_right", "Id", "ID ", " id", "",
+    "größe", "gro\u0308ße", "x" * 33,
+]
+ODD = [7, -1, 1.5, float("nan"), None, ("id", "a"), ("id",), datetime.date(2024, 1, 1), pd.NaT]
+NAMES = st.sampled_from(TEXTS) | st.sampled_from([*TEXTS, *ODD])
+KEYS = [st.sampled_from([1, 2]), st.sampled_from(["", "a", "A", " a", "é", "e\u0301", 'a"b', "a,b", "001", "1", "a\0"])]
+OTHERS = st.sampled_from([None, (1, 2), "x", "", 7, 1.5, datetime.date(2024, 1, 1)])
+FIRST = datetime.date(2024, 1, 1)
+DAYS = {"ns": pd.Timestamp, "date": lambda told: told, "D": lambda told: pd.Period(told, "D")}
+FRAME = pd.DataFrame({"from": [pd.Timestamp("2024-01-01")], "to": [pd.Timestamp("2024-01-02")], "id": [1]})
+NO_FRAMES = [None, [1], {"from": [1]}, FRAME["id"], "pay.csv", 5, FRAME.to_numpy(), FRAME.index]
+NO_FLAGS = ["no", "", 1, 0, None, (True, False), np.int64(1), [], np.array([True])]
+NO_NAMES = [True, {"id": 1}, {"id"}, pd.Index(["id"]), FRAME["id"], (name for name in ["id"]), [["id"]], [True], FRAME]
+NO_PAIRS = ["ab", ("from",), ("from", "to", "id"), ("from", "from"), 5, ("from", ["to"]), {"from": "to"}, FRAME.columns]
+WRONG = {
+    "period": [*NO_PAIRS, None], "right_period": NO_PAIRS, "open_end": NO_FLAGS, "last_day": NO_FLAGS,
+    "labels": NO_FLAGS, "on": NO_NAMES, "by": NO_NAMES, "left_on": [*NO_NAMES, ["id", "id", "id"]],
+    "suffixes": ["", "_l", (), ("_l",), ("_l", "_r", "_s"), (1, 2), None, {"_l": "_r"}, (b"_l", "_r")],
+    "workers": [0, -1, 65, True, 1.0, "4", None, [4]], "parts": [0, -1, 2.0, "2", True],
+    "decimals": [2, "id", None, [("id", 2)], {"id": 2.0}, {"id": True}, {"id": -1}, {"id": 19}, {"id": None}],
+    "points_as": ["W", "", 1, ["S"], True], "onn": ["id"],
+}
+OF_ALL = ["period", "open_end", "last_day", "workers", "onn"]
+OF_PAIRS = ["right_period", "on", "left_on", "parts", "decimals", "points_as"]
+OF_CALL = {
+    "join": [*OF_PAIRS, "labels", "suffixes"], "anti": OF_PAIRS, "agg": ["by", "parts", "decimals", "points_as"],
+    "dip": [],
+}
+NO_FUNCTIONS = [
+    ("summ", "id"), (None, None), (["sum"], "id"), ("Count", None), ("sum", None), ("count", "id"), ("sum", ["id"]),
+]
+AMOUNTS = [st.integers(-3, 3), st.sampled_from([0.25, -1.5, 2.75])]
+SUFFIXES = st.sampled_from([("_left", "_right"), ("", "_2"), (None, "_r"), ("_l", None), (None, None), ("", "")])
+
+
+@dataclass
+class Case:
+    """Frames as by_rows has them and as pandas, and what is asked.
+
+    is_right: a call that isn't is to be refused.
+    """
+
+    kind: str
+    is_last_day: bool
+    periods: Any
+    on: Any
+    is_shared: bool
+    labels: bool
+    suffixes: Any
+    columns: Any
+    frames: Any = ()
+    asked: Any = ("count", None)
+    options: Any = field(default_factory=dict)
+    is_right: bool = True
+
+    @property
+    def is_plain(self):
+        """Whether it may not be refused, but for names of the answer that clash."""
+        names = [[name for name, _ in frame] for frame in self.columns]
+        return self.is_right and all(
+            len(set(own)) == len(own) and all(isinstance(name, str) for name in own) for own in names
+        )
+
+    def point(self, day):
+        """The number of a day, as the frames have it."""
+        if day == by_rows.OPEN:
+            return None if self.kind == "date" else pd.NaT
+        return DAYS[self.kind](FIRST + datetime.timedelta(days=day))
+
+    def end(self, day):
+        return self.point(day - (self.is_last_day and day != by_rows.OPEN))
+
+    def frame(self, columns, period):
+        """A frame of pandas, with the columns of a period in the case's kind."""
+        places = [by_rows.place(columns, name) for name in period]
+        series = {place: pd.Series(cells, dtype=dtype_of(cells)) for place, (_, cells) in enumerate(columns)}
+        for place, point in zip(places, (self.point, self.end)):
+            series[place] = self.points([point(day) for day in columns[place][1]])
+        made, names = pd.DataFrame(series), [name for name, _ in columns]
+        has_levels = all(isinstance(name, tuple) and len(name) == 2 for name in names)
+        made.columns = pd.Index(names, dtype=None if has_levels else object, tupleize_cols=has_levels)
+        return made
+
+    def points(self, told):
+        if self.kind == "D":
+            return pd.Series(pd.PeriodIndex(told, freq="D"))
+        return pd.Series(told, dtype="M8[ns]" if self.kind == "ns" else object)
+
+
+def dtype_of(cells):
+    kinds = set(map(type, cells))
+    return "int64" if kinds == {int} else "float64" if kinds == {float} else object
+
+
+def rarely(draw):
+    return draw(st.integers(0, 11)) == 11
+
+
+@st.composite
+def times(draw, is_open):
+    """Starts and ends of rows; rarely an end isn't behind its start."""
+    least, made = int(not rarely(draw)), []
+    for _ in range(draw(st.integers(1, 5))):
+        start = draw(st.integers(0, 12))
+        is_last = is_open and draw(st.booleans())
+        made.append((start, by_rows.OPEN if is_last else start + draw(st.integers(least, 6))))
+    return made
+
+
+def some_names(count, apart=()):
+    """So many different names, that aren't those."""
+    others = NAMES.filter(lambda name: not by_rows.times(apart, name))
+    return st.lists(others, min_size=count, max_size=count, unique_by=repr)
+
+
+@st.composite
+def columns_of(draw, period, keys, is_open):
+    """keys: pairs of a name and the strategy of its cells. Rarely a name is there twice."""
+    rows, others = draw(times(is_open)), draw(st.lists(NAMES, max_size=3))
+    told = [(name, [row[place] for row in rows]) for place, name in enumerate(period)]
+    told += [(name, [draw(cells) for _ in rows]) for name, cells in keys]
+    there, may_repeat = [name for name, _ in told], rarely(draw)
+    for name in others:
+        if not by_rows.times(period if may_repeat else there, name):
+            there.append(name)
+            told.append((name, [draw(OTHERS) for _ in rows]))
+    return draw(st.permutations(told))
+
+
+@st.composite
+def cases(draw, call):
+    is_open, is_shared, kind = draw(st.booleans()), draw(st.booleans()), draw(st.sampled_from(sorted(DAYS)))
+    cells = draw(st.lists(st.sampled_from(KEYS), max_size=2))
+    periods = [draw(st.just(["from", "to"]) | some_names(2))] * 2
+    on = [draw(some_names(len(cells), periods[0]))] * 2
+    if not is_shared:
+        periods = [periods[0], draw(some_names(2))]
+        on = [on[0], draw(some_names(len(cells), periods[1]))]
+    keys = [list(zip(own, cells)) for own in on]
+    amount = draw(some_names(1, [*periods[0], *on[0]]))[0]
+    keys[0] += [(amount, draw(st.sampled_from(AMOUNTS)))] if call == "agg" else []
+    columns = [draw(columns_of(period, own, is_open)) for period, own in zip(periods, keys)]
+    if rarely(draw):
+        periods, on, amount = leveled(periods), leveled(on), level(amount)
+        columns = [[(level(name), told) for name, told in frame] for frame in columns]
+    case = Case(kind, draw(st.booleans()), periods, on, is_shared, draw(st.booleans()), draw(SUFFIXES), columns)
+    case.frames = [case.frame(*told) for told in zip(columns, periods)]
+    given = [by_rows.periods(*told) for told in zip(columns, periods)][:1 if call in ("agg", "dip") else 2]
+    case.is_right = all(start < end for frame in given for start, end in frame)
+    case.options = draw(options(call, case, is_open))
+    if call == "agg":
+        draw_asked(draw, case, amount)
+    if rarely(draw):
+        make_wrong(draw, call, case)
+    return case
+
+
+def level(name):
+    return str(name), "x"
+
+
+def leveled(names):
+    return [[level(name) for name in own] for own in names]
+
+
+@st.composite
+def options(draw, call, case, is_open):
+    """Options of right types, in each form that they may have."""
+    flag, several = draw(st.sampled_from([bool, np.bool_])), draw(st.sampled_from([list, tuple]))
+    told = {"open_end": flag(is_open), "last_day": flag(case.is_last_day), "period": several(case.periods[0])}
+    if call in ("join", "anti"):
+        told["right_period"] = several(case.periods[1])
+        told.update(compared(draw, case, several))
+    if call == "join":
+        told.update(labels=flag(case.labels), suffixes=several(case.suffixes))
+    if call == "agg":
+        told["by"] = one_or_all(draw, case.on[0], several)
+    if draw(st.booleans()):
+        told["workers"] = draw(st.sampled_from([1, np.int64(2)]))
+    return told
+
+
+def one_or_all(draw, names, several):
+    """One name by itself, where it can be told so."""
+    is_alone = len(names) == 1 and isinstance(names[0], (str, int, float))
+    return names[0] if is_alone and draw(st.booleans()) else several(names)
+
+
+def compared(draw, case, several):
+    left, right = (one_or_all(draw, names, several) for names in case.on)
+    return {"on": left} if case.is_shared else {"left_on": left, "right_on": right}
+
+
+def draw_asked(draw, case, amount):
+    """A function and its column; rarely none that is."""
+    function = draw(st.sampled_from(["count", "sum", "min", "max"]))
+    case.asked = (function, None if function == "count" else amount)
+    case.is_right &= function == "count" or amount is not None
+    cells = by_rows.cells(case.columns[0], amount)
+    if function != "count" and dtype_of(cells) == "float64":
+        case.options["decimals"] = {amount: draw(st.sampled_from([2, 3, np.int8(2)]))}
+    if rarely(draw):
+        case.asked, case.is_right = draw(st.sampled_from(NO_FUNCTIONS)), False
+
+
+def make_wrong(draw, call, case):
+    """One option, or a frame, of a wrong type."""
+    case.is_right = False
+    if draw(st.booleans()):
+        name = draw(st.sampled_from([*OF_ALL, *OF_CALL[call]]))
+        case.options[name] = draw(st.sampled_from(WRONG[name]))
+    else:
+        place = draw(st.integers(0, 0 if call in ("agg", "dip") else 1))
+        case.frames[place] = draw(st.sampled_from(NO_FRAMES))

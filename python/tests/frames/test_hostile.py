@@ -1,0 +1,93 @@
+"""Calls with names that answers have themselves, or hardly any, and options of wrong types.
+
+Each either answers exactly the table that by_rows.py computes, or raises Refused or TypeError. hypothesis draws the
+frames, and makes small what fails; FRAMES_HOSTILE is how many for each test.
+"""
+import importlib.util
+import os
+import unittest
+
+import by_rows
+import ruzgalt
+
+if not importlib.util.find_spec("hypothesis"):
+    raise unittest.SkipTest("hypothesis isn't here: apt-get install python3-hypothesis")
+from hypothesis import HealthCheck, given, settings  # noqa: E402
+
+from hostile import cases  # noqa: E402
+
+EXAMPLES = int(os.environ.get("FRAMES_HOSTILE", "50"))
+MANY = settings(
+    max_examples=EXAMPLES, deadline=None, database=None, derandomize=EXAMPLES < 1000,
+    suppress_health_check=list(HealthCheck),
+)
+
+
+def shown(cell):
+    """A cell as a text; a number of numpy as Python's."""
+    cell = cell.item() if hasattr(cell, "item") else cell
+    return "missing" if cell is None or cell != cell else repr(cell)
+
+
+class Hostile(unittest.TestCase):
+    def answered(self, case, asked, wanted):
+        """The answer, and what by_rows has; None where the call is refused, and may be."""
+        try:
+            got = asked()
+        except (ruzgalt.Refused, TypeError) as error:
+            self.assertTrue(not case.is_plain or wanted() is None, error)
+            return None
+        self.assertTrue(case.is_right, f"{case.options} is taken")
+        told = wanted()
+        self.assertIsNotNone(told, "names clash, and it is answered")
+        return got, told
+
+    def is_as_by_rows(self, case, asked, wanted):
+        found = self.answered(case, asked, wanted)
+        if found is None:
+            return
+        got, (names, rows) = found
+        self.assertEqual(list(map(repr, got.columns)), list(map(repr, names)))
+        start, end = (by_rows.place([(name, None) for name in names], name) for name in case.periods[0])
+        for row in rows:
+            row[start], row[end] = case.point(row[start]), case.end(row[end])
+        told = [[shown(got.iloc[row, place]) for place in range(len(names))] for row in range(len(got))]
+        self.assertEqual(told, [list(map(shown, row)) for row in rows])
+
+    @MANY
+    @given(cases("join"))
+    def test_joins(self, case):
+        asked = lambda: ruzgalt.join(*case.frames, **case.options)  # noqa: E731
+        self.is_as_by_rows(case, asked, lambda: by_rows.join(case.columns, case))
+
+    @MANY
+    @given(cases("anti"))
+    def test_anti_joins(self, case):
+        asked = lambda: ruzgalt.anti(*case.frames, **case.options)  # noqa: E731
+        self.is_as_by_rows(case, asked, lambda: by_rows.anti(case.columns, case))
+
+    @MANY
+    @given(cases("agg"))
+    def test_aggregates(self, case):
+        asked = lambda: ruzgalt.agg(case.frames[0], *case.asked, **case.options)  # noqa: E731
+        self.is_as_by_rows(case, asked, lambda: by_rows.agg(case.columns[0], *case.asked, case))
+
+    @MANY
+    @given(cases("dip"))
+    def test_divisions(self, case):
+        told = lambda: by_rows.most(case.columns[0], case.periods[0])  # noqa: E731
+        found = self.answered(case, lambda: ruzgalt.dip(case.frames[0], **case.options), told)
+        if found is None:
+            return
+        parts, count = found
+        self.assertEqual((parts.attrs["count"], parts.max() + 1), (count, count))
+        rows = list(zip(by_rows.periods(case.columns[0], case.periods[0]), parts))
+        overlaps = [
+            (one, other) for place, (one, part) in enumerate(rows) for other, own in rows[:place]
+            if part == own and max(one[0], other[0]) < min(one[1], other[1])
+        ]
+        self.assertEqual(overlaps, [])
+
+
+if __name__ == "__main__":
+    unittest.main()

@@ -1,0 +1,134 @@
+"""What may be told to a call: each option is taken in its types, and in others refused by its name."""
+import unittest
+from pathlib import Path
+
+import numpy as np
+import pandas as pd
+
+import ruzgalt
+
+DAYS = pd.to_datetime
+FRAME = pd.DataFrame({"from": DAYS(["2024-01-01"]), "to": DAYS(["2024-02-01"]), "k": ["a"], "x": [1]})
+NO_FLAGS = ("no", "", 1, 0, None, (True, False), [], np.int64(1))
+NO_NAMES = (pd.Index(["k"]), {"k": 1}, {"k"}, FRAME["k"], FRAME[["k"]], (one for one in "k"), True, [["k"]])
+NO_PAIRS = ("ab", ("from",), ("from", "to", "k"), ["from", "from"], pd.Index(["from", "to"]), 5)
+WRONG = {
+    "on": NO_NAMES, "left_on": NO_NAMES, "right_on": NO_NAMES, "by": NO_NAMES, "period": (*NO_PAIRS, None),
+    "right_period": NO_PAIRS, "open_end": NO_FLAGS, "last_day": NO_FLAGS, "labels": NO_FLAGS,
+    "suffixes": (("_l",), "", (), "_l", ("_l", "_r", "_s"), (1, 2), None, {"_l": "_r"}),
+    "workers": (0, -1, 65, 1.0, "4", True, None), "parts": (0, -1, 2.0, True),
+    "decimals": (2, "k", None, [("k", 2)], {"k": 2.0}, {"k": -1}, {"k": 19}, {"k": True}),
+    "points_as": ("W", "", 5, ["S"]),
+}
+OF_AGG = ("by", "period", "open_end", "last_day", "workers", "parts", "decimals", "points_as")
+OF_DIP = ("period", "open_end", "last_day", "workers")
+NO_FRAMES = (FRAME["k"], [1], {"from": [1]}, "pay.csv", Path("pay.csv"), None, FRAME.to_numpy())
+
+
+class Types(unittest.TestCase):
+    def refuses(self, what, asked, start=""):
+        with self.subTest(what), self.assertRaises(ruzgalt.Refused) as caught:
+            asked()
+        self.assertEqual(caught.exception.name, "BadCommand")
+        self.assertTrue(caught.exception.reason.startswith(start), caught.exception.reason)
+        self.assertNotIn("\n", caught.exception.reason)
+
+    def test_wrong_types_are_refused_by_the_option_s_name(self):
+        for name, values in WRONG.items():
+            for value in values:
+                words, start = {name: value}, f"{name}["[:-1]
+                if name in OF_AGG:
+                    self.refuses((name, value), lambda: ruzgalt.agg(FRAME, "count", **words), start)
+                if name in OF_DIP:
+                    self.refuses((name, value), lambda: ruzgalt.dip(FRAME, **words), start)
+                if name != "by":
+                    self.refuses((name, value), lambda: ruzgalt.join(FRAME, FRAME, **words), start)
+                if name not in ("by", "labels", "suffixes"):
+                    self.refuses((name, value), lambda: ruzgalt.anti(FRAME, FRAME, **words), start)
+
+    def test_what_is_no_frame_is_refused(self):
+        for one in NO_FRAMES:
+            self.refuses(one, lambda: ruzgalt.join(one, FRAME, on="k"), "left=")
+            self.refuses(one, lambda: ruzgalt.anti(FRAME, one, on="k"), "right=")
+            self.refuses(one, lambda: ruzgalt.agg(one, "count"), "frame=")
+            self.refuses(one, lambda: ruzgalt.dip(one), "frame=")
+
+    def test_functions_and_columns_of_an_aggregate(self):
+        self.refuses("misspelt", lambda: ruzgalt.agg(FRAME, "summ", "x"), "function='summ': one of count, sum, min,")
+        self.refuses("none", lambda: ruzgalt.agg(FRAME, None), "function=None: one of count")
+        self.refuses("a list", lambda: ruzgalt.agg(FRAME, ["sum"], "x"), "function=['sum']")
+        self.refuses("a sum of nothing", lambda: ruzgalt.agg(FRAME, "sum"), "sum is of a column")
+        self.refuses("a count of a column", lambda: ruzgalt.agg(FRAME, "count", "x"), "column='x': a count is of rows")
+        self.refuses("columns", lambda: ruzgalt.agg(FRAME, "sum", ["x"]), "column=['x']")
+
+    def test_each_right_type_is_taken(self):
+        words = {"on": ("k",), "period": ["from", "to"], "open_end": np.bool_(True), "labels": np.bool_(False)}
+        got = ruzgalt.join(FRAME, FRAME, suffixes=["_l", None], workers=np.int8(2), decimals={}, **words)
+        self.assertEqual(list(got.columns), ["from", "to", "k", "x_l", "x"])
+        self.assertEqual(ruzgalt.agg(FRAME, "count", by=[])["count"].tolist(), [1])
+
+    def test_a_name_is_no_list_of_letters(self):
+        one = FRAME.assign(ab=["u"], a=["v"], b=["w"])
+        other = one.assign(a=["other"], b=["other"])
+        self.assertEqual(len(ruzgalt.join(one, other, on="ab")), 1)
+        self.assertEqual(len(ruzgalt.join(one, other, on=["a", "b"])), 0)
+        self.assertEqual(len(ruzgalt.anti(one, other, left_on="ab", right_on="ab")), 0)
+
+
+class Suffixes(unittest.TestCase):
+    def names(self, **words):
+        return list(ruzgalt.join(FRAME, FRAME, on="k", **words).columns)
+
+    def test_they_are_as_of_pandas(self):
+        for pair in (("_left", "_right"), ("", "_r"), (None, "_r"), ("_l", None), ("_l", "")):
+            wanted = list(FRAME[["k", "x"]].merge(FRAME[["k", "x"]], on="k", suffixes=pair).columns)
+            self.assertEqual(self.names(suffixes=pair), ["from", "to", *wanted], pair)
+
+    def test_what_they_do_not_part_is_refused(self):
+        twice = FRAME.rename(columns={"k": "x_left"})
+        cases = [
+            (FRAME, FRAME, {"on": "k", "suffixes": (None, None)}, "x"),
+            (FRAME, FRAME, {"on": "k", "suffixes": ("", "")}, "x"),
+            (FRAME, FRAME, {"on": "k", "suffixes": ("_s", "_s")}, "x_s"), (twice, FRAME, {"on": []}, "x_left"),
+        ]
+        for left, right, words, column in cases:
+            with self.subTest(words), self.assertRaises(ruzgalt.Refused) as caught:
+                ruzgalt.join(left, right, **words)
+            self.assertEqual((caught.exception.name, caught.exception.column), ("TwiceNamed", column))
+
+    def test_words_of_the_answer_stay_and_columns_move(self):
+        left = FRAME.rename(columns={"x": "left_label"}).assign(right_label="mine")
+        got = ruzgalt.join(left, FRAME, on="k", labels=True)
+        names = ["from", "to", "left_label", "right_label", "k", "left_label_left", "right_label_left", "x"]
+        self.assertEqual(list(got.columns), names)
+        self.assertEqual(got.iloc[0].tolist()[2:], [0, 0, "a", 1, "mine", 1])
+        other = FRAME.rename(columns={"from": "start", "to": "end", "x": "from"})
+        got = ruzgalt.join(FRAME, other, on="k", right_period=("start", "end"))
+        self.assertEqual(list(got.columns), ["from", "to", "k", "x", "from_right"])
+
+    def test_names_that_are_no_texts_stay_what_they_are(self):
+        names = ["from", "to", None, 1]
+        one = FRAME.set_axis(pd.Index(names, dtype=object), axis=1)
+        got = ruzgalt.join(one, FRAME, left_on=[None], right_on="k", right_period=("from", "to"))
+        self.assertEqual(list(map(repr, got.columns)), list(map(repr, [*names, "k", "x"])))
+        levels = FRAME.set_axis(pd.MultiIndex.from_product([["a", "b"], ["x", "y"]]), axis=1)
+        words = {"on": [("b", "x")], "period": [("a", "x"), ("a", "y")]}
+        got = ruzgalt.join(levels, levels, **words)
+        self.assertEqual(list(got.columns)[2:], [("b", "x"), "('b', 'y')_left", "('b', 'y')_right"])
+        self.assertEqual(list(ruzgalt.agg(levels, "count", by=words["on"], period=words["period"]).columns)[3], "count")
+        self.assertEqual(len(ruzgalt.anti(levels, levels, **words)), 0)
+
+    def test_an_aggregate_has_no_suffixes(self):
+        frame = FRAME.assign(sum_x=1, count=1)
+        asks = [
+            lambda: ruzgalt.agg(frame, "sum", "x", by="sum_x"), lambda: ruzgalt.agg(frame, "count", by=["k", "count"]),
+            lambda: ruzgalt.agg(frame, "count", by=["k", "k"]),
+        ]
+        for asked in asks:
+            with self.assertRaises(ruzgalt.Refused) as caught:
+                asked()
+            self.assertEqual(caught.exception.name, "TwiceNamed")
+
+
+if __name__ == "__main__":
+    unittest.main()
