@@ -11,7 +11,7 @@ import numpy as np
 import pandas as pd
 from dask.dataframe.shuffle import rearrange_by_column
 
-from ruzgalt.frames import groups, pairs, points, split
+from ruzgalt.frames import doubts, groups, pairs, points, split
 from ruzgalt.frames.answer import Columns
 from ruzgalt.frames.arrays import NO_INTS, Ints
 from ruzgalt.frames.ask import Found
@@ -41,6 +41,7 @@ class Question:
 
 def agg(frame: Any, function: str, column: Any, options: Options) -> Any:
     """Partitions in the order of time. The frame is read at once, for the cuts."""
+    doubts.of_decimals(options.decimals, frame)
     asked = Question(function, column, options)
     meta = asked.agg(frame._meta)
     cuts, kind = cuts_of(frame, asked, options.parts or frame.npartitions)

@@ -11,7 +11,7 @@ import dask.dataframe as dd
 import numpy as np
 from dask.dataframe.shuffle import rearrange_by_column
 
-from ruzgalt.frames import groups, values
+from ruzgalt.frames import doubts, groups, values
 from ruzgalt.frames.errors import Refused
 from ruzgalt.frames.named import column_of
 from ruzgalt.frames.options import Names, Options, compared
@@ -28,6 +28,7 @@ def paired(asked: Pairs, left: Any, right: Any, on: Names, options: Options) -> 
     if not names[0]:
         raise Refused("BadCommand", "of frames of Dask without compared columns each row may meet each: on= parts them")
     left, right = map(as_spread, (left, right))
+    doubts.of_decimals(options.decimals, left, right)
     parts = options.parts or max(left.npartitions, right.npartitions)
     meta = asked(left._meta, right._meta, on, options)
     sent = [by_value(frame, own, options.decimals, parts) for frame, own in zip((left, right), names)]
@@ -44,6 +45,7 @@ def as_spread(frame: Any) -> Any:
 
 def agg(frame: Any, function: str, column: Any, options: Options) -> Any:
     """Of groups: those in a partition are in order, and partitions are in none."""
+    doubts.of_decimals(options.decimals, frame)
     meta = groups.agg_part(frame._meta, function, column, options)
     sent = by_value(frame, options.by or (), options.decimals, options.parts or frame.npartitions)
     return sent.map_partitions(groups.agg_part, function, column, options, meta=meta, transform_divisions=False)

@@ -1,16 +1,125 @@
-"""The blocks of docs/FRAMES.md: each of Python runs, in one program, and prints what the next block says."""
+"""docs/FRAMES.md: each block of Python runs and prints what the next block says, and each row of a table is tried."""
 import contextlib
+import datetime
+import decimal
 import importlib.util
 import io
 import re
 import unittest
+import warnings
 from pathlib import Path
 
+import numpy as np
+import pandas as pd
+
+import ruzgalt
+
 PAGE = Path(__file__).resolve().parents[3] / "docs" / "FRAMES.md"
-LONGEST = 1_200
+LONGEST = 1_600
+FIRST, LAST = datetime.date(2024, 1, 1), datetime.date(9999, 12, 31)
+# Whether an end is taken, comes back as missing, or is refused: by itself, with open_end, with last_day, with both.
+ENDS = {None: "refused, no end, refused, no end", LAST: "taken, no end, refused, no end",
+        LAST - datetime.timedelta(days=1): "taken, taken, taken, refused"}
+FORMS = [{}, {"open_end": True}, {"last_day": True}, {"open_end": True, "last_day": True}]
+
+
+def frame(**cells):
+    """Two rows of January 2024, one behind the other."""
+    days = pd.to_datetime(["2024-01-01", "2024-01-15", "2024-02-01"])
+    return pd.DataFrame({"from": days[:2], "to": days[1:], **cells})
+
+
+def becomes(end, words):
+    """What comes of an end."""
+    one = pd.DataFrame({"from": [FIRST], "to": pd.Series([end], dtype=object)})
+    try:
+        [told] = ruzgalt.agg(one, "count", **words)["to"]
+    except ruzgalt.Refused:
+        return "refused"
+    return "no end" if told is None else "taken" if told == end else told
+
+
+def compared(*columns, **words):
+    """Whether each column is compared with itself, and comes back as it was."""
+    for column in columns:
+        one = frame(k=column)
+        got = ruzgalt.join(one, one, on="k", **words)
+        pd.testing.assert_series_equal(got["k"], one["k"])
+
+
+def at(*columns):
+    """Whether starts and ends of these kinds come back."""
+    for column in columns:
+        one = pd.DataFrame({"from": column, "to": column.shift(-1)}).iloc[:1]
+        pd.testing.assert_frame_equal(ruzgalt.agg(one, "count")[["from", "to"]], one)
+
+
+def warns(asked):
+    with warnings.catch_warnings(record=True) as found:
+        warnings.simplefilter("always")
+        asked()
+    return [one.category for one in found] == [ruzgalt.Doubt]
 
 
 class Page(unittest.TestCase):
+    def rows(self, heading):
+        """The first cells of the rows of tables below a heading."""
+        text = PAGE.read_text(encoding="utf-8").split(f"\n## {heading}\n")[1].split("\n## ")[0]
+        tables = re.findall(r"^\|---.*\n((?:\|.*\n)+)", text, re.MULTILINE)
+        return [row.split(" | ")[0].strip("| ") for table in tables for row in table.splitlines()]
+
+    def tries(self, heading, examples):
+        """examples: by the first words of each row."""
+        rows = self.rows(heading)
+        self.assertEqual(len(rows), len(examples), rows)
+        for row, (start, example) in zip(rows, examples.items()):
+            with self.subTest(row):
+                self.assertTrue(row.startswith(start), row)
+                self.assertIsNot(example(), False)
+
+    def test_calls(self):
+        left, right = frame(k=["a", "b"]), frame(k=["b", "b"])
+        self.tries("The calls", {
+            "`join(left, right, on=..)`": lambda: ruzgalt.join(left, right, on="k")["k"].tolist() == ["b"],
+            "`anti(left, right, on=..)`": lambda: ruzgalt.anti(left, right, on="k").index.tolist() == [0],
+            '`agg(frame, "sum", COLUMN, by=..)`': lambda: [
+                ruzgalt.agg(frame(x=[3, 4]), name, *column).iloc[:, -1].tolist()
+                for name, column in (("count", ()), ("sum", "x"), ("min", "x"), ("max", "x"))
+            ] == [[1], [3, 4], [3, 4], [3, 4]],
+            "`dip(frame)`": lambda: (lambda parts: (
+                parts.tolist(), parts.attrs["count"], str(parts.attrs["instant"]),
+            ))(ruzgalt.dip(left)) == ([0, 0], 1, "2024-01-01 00:00:00"),
+        })
+
+    def test_kinds_and_points(self):
+        decimals = pd.Series([decimal.Decimal("1.25"), decimal.Decimal("-0.10")], dtype=object)
+        days = pd.Series([FIRST, FIRST.replace(day=2)], dtype=object)
+        noon = pd.Series([datetime.datetime(2024, 1, 1, 12), datetime.datetime(2024, 1, 2)], dtype=object)
+        self.tries("Kinds and points", {
+            "integers": lambda: compared(np.array([1, 2], "i1"), pd.array([1, 2], "Int64"), pd.Categorical([1, 2])),
+            "objects of `str`": lambda: compared(
+                ["a", "é" * 2048], pd.array(["a", ""], "string"), pd.Categorical(["b", "a"]),
+            ),
+            "floats, objects of Decimal": lambda: compared([1.25, -0.1], decimals, decimals={"k": 2}),
+            "datetime64": lambda: at(
+                pd.Series(pd.to_datetime(days)), pd.Series(pd.PeriodIndex(days, freq="D")),
+                pd.Series(pd.PeriodIndex(noon, freq="S")), days, noon,
+            ),
+            **{str(end or "missing"): lambda end=end, wanted=wanted: (
+                [becomes(end, words) for words in FORMS] == wanted.split(", ")
+            ) for end, wanted in ENDS.items()},
+        })
+
+    def test_doubts(self):
+        one, other = frame(k=["Hill ", "a"]), frame(k=["HILL", "a"])
+        months = frame(k=["a", "b"]).assign(to=pd.to_datetime(["2024-01-31", "2024-02-29"]))
+        self.tries("Doubts", {
+            "keys": lambda: warns(lambda: ruzgalt.join(one, other, on="k")),
+            "ends": lambda: warns(lambda: ruzgalt.join(months, other, on="k")),
+            "no `on=`": lambda: warns(lambda: ruzgalt.join(one, one)),
+            "`decimals=`": lambda: warns(lambda: ruzgalt.agg(one, "count", decimals={"eur": 2})),
+        })
+
     def test_blocks_print_what_the_page_says(self):
         blocks = re.findall(r"^```(python)?\n(.*?)^```$", PAGE.read_text(encoding="utf-8"), re.MULTILINE | re.DOTALL)
         names, told = {}, ""
