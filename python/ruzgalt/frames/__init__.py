@@ -15,6 +15,7 @@ A module stands on those above it:
     program, output         a run; its answers as columns
     ask, split              a question's run; rows past the limits in parts
     options, answer         what may be told to a call; the columns of an answer, and their names
+    doubts                  what may not be meant
     pairs, groups, division join and anti; agg; dip
     spread, slices          the same of Dask: by value; by time
     calls                   pandas or Dask

@@ -92,7 +92,7 @@ def of_ends(side: Side, key: Sequence[Values], name: Any, is_last_day: bool) -> 
     """Tells of ends that look like last days where they aren't taken for such, or the other way round."""
     rows = some_rows(key, len(side))
     start, end = side.start[rows], side.end[rows]
-    if (start % points.DAY).any() or (end % points.DAY).any():
+    if not len(rows) or (start % points.DAY).any() or (end % points.DAY).any():
         return
     keys = keys_of(key, rows)
     if overlap(keys, start, np.where(end == points.NO_END, end, end - is_last_day * points.DAY)):

@@ -13,7 +13,7 @@ from dask.dataframe.shuffle import rearrange_by_column
 
 from ruzgalt.frames import doubts, groups, values
 from ruzgalt.frames.errors import Refused
-from ruzgalt.frames.named import column_of
+from ruzgalt.frames.named import column_of, names_of
 from ruzgalt.frames.options import Names, Options, compared
 from ruzgalt.frames.pairs import with_labels_twice
 
@@ -53,15 +53,17 @@ def agg(frame: Any, function: str, column: Any, options: Options) -> Any:
 
 def by_value(frame: Any, names: Sequence[Any], decimals: Mapping[Any, int], parts: int) -> Any:
     """The rows, those of equal values in one partition."""
-    refuse_own_name(frame)
+    refuse_names(frame)
     meta = frame._meta.assign(**{PART: np.empty(0, np.int64)})
     tagged = frame.map_partitions(with_part, list(names), dict(decimals), parts, meta=meta)
     return rearrange_by_column(tagged, PART, npartitions=parts, shuffle="tasks").drop(columns=[PART])
 
 
-def refuse_own_name(frame: Any) -> None:
-    if PART in frame.columns:
-        raise Refused("BadName", "a column of Dask's own has this name: .rename(columns=..)", PART)
+def refuse_names(frame: Any) -> None:
+    """Dask has a column of its own, and finds none of the name NaN."""
+    for name in (PART, np.nan):
+        if name in names_of(frame):
+            raise Refused("BadName", "Dask takes no column of this name: .rename(columns=..)", name)
 
 
 def with_part(frame: Any, names: List[Any], decimals: Mapping[Any, int], parts: int) -> Any:

@@ -18,7 +18,7 @@ from hostile import cases  # noqa: E402
 
 EXAMPLES = int(os.environ.get("FRAMES_HOSTILE", "50"))
 MANY = settings(
-    max_examples=EXAMPLES, deadline=None, database=None, derandomize=EXAMPLES < 1000,
+    max_examples=EXAMPLES, deadline=None, database=None, derandomize=not os.environ.get("FRAMES_LONG"),
     suppress_health_check=list(HealthCheck),
 )
 

@@ -165,6 +165,15 @@ class Spread(unittest.TestCase):
             right = dd.from_pandas(pd.concat([one.set_flags(allows_duplicate_labels=True)] * 2), npartitions=2)
             self.assertEqual(len(ruzgalt.join(left, right, on="k").compute(scheduler="sync")), 200)
 
+    def test_names_that_dask_does_not_take_are_refused(self):
+        for name in ("_partitions", float("nan")):
+            frame = day_of(column(NUMBERS, "int64")).assign(x=1).rename(columns={"x": name})
+            spread = dd.from_pandas(frame, npartitions=2)
+            for asked in (lambda: ruzgalt.anti(spread, spread, on="k"), lambda: ruzgalt.agg(spread, "count", by="k")):
+                with self.assertRaises(ruzgalt.Refused) as caught:
+                    asked()
+                self.assertEqual(caught.exception.name, "BadName")
+
     def test_no_groups_are_all_rows(self):
         one = day_of(column(NUMBERS, "int64"))
         got = ruzgalt.agg(dd.from_pandas(one, npartitions=3), "count", by=[]).compute(scheduler="sync")

@@ -25,7 +25,7 @@ class WithoutPandas(unittest.TestCase):
         self.assertEqual(self.run_lines("from ruzgalt import answers, cli, records; print('yes')"), ("yes\n", ""))
 
     def test_frames_say_what_is_to_be_installed(self):
-        for name in ("join", "anti", "agg", "dip", "Store", "Refused", "Stopped"):
+        for name in ("join", "anti", "agg", "dip", "Store", "Refused", "Stopped", "Doubt"):
             printed, said = self.run_lines(f"import ruzgalt; print('imported'); ruzgalt.{name}")
             self.assertEqual(printed, "imported\n")
             self.assertIn("ImportError: ruzgalt." + name + " needs", said)
