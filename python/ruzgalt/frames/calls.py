@@ -13,8 +13,9 @@ def are_spread(**frames: Any) -> bool:
     """Whether one is a frame of Dask, which isn't imported for that. Raises Refused where one is no frame."""
     dask = sys.modules.get("dask.dataframe")
     spread = [name for name, frame in frames.items() if dask is not None and isinstance(frame, dask.DataFrame)]
-    for name in frames.keys() - spread:
-        checks.frame(name, frames[name])
+    for name, frame in frames.items():
+        if name not in spread:
+            checks.frame(name, frame)
     return bool(spread)
 
 

@@ -14,8 +14,8 @@ from ruzgalt.frames.errors import Refused
 
 Pair = Tuple[Any, Any]
 Suffixes = Tuple[Optional[str], Optional[str]]
-# What is shown as it was given, up to so many characters; of all else the name of its type.
-SHOWN, LONGEST = (str, bytes, int, float, list, tuple, dict, set, np.generic, type(None)), 60
+# What is shown as it was given, up to so many characters, in a list too; of all else its type.
+SHOWN, LONGEST = (str, bytes, int, float, np.generic, type(None)), 60
 MOST_DIGITS = 18
 
 
@@ -24,8 +24,14 @@ def wrong(option: str, given: Any, wanted: str) -> Refused:
 
 
 def shown(given: Any) -> str:
-    text = " ".join(repr(given).split()) if isinstance(given, SHOWN) else f"<{type(given).__name__}>"
+    text = " ".join(repr(given).split()) if is_plain(given) else f"<{type(given).__name__}>"
     return text if len(text) <= LONGEST else f"{text[:LONGEST]}.."
+
+
+def is_plain(given: Any) -> bool:
+    if isinstance(given, dict):
+        return all(map(is_plain, [*given, *given.values()]))
+    return all(map(is_plain, given)) if isinstance(given, (list, tuple, set)) else isinstance(given, SHOWN)
 
 
 def flag(option: str, given: Any) -> bool:

@@ -23,7 +23,8 @@ def place_of(frame: Any, name: Any) -> int:
     told, wanted = names_of(frame), same(name)
     places = {one: place for place, one in enumerate(told)}
     if wanted not in places:
-        raise Refused("NoColumn", f"no such column; there are {told}", name)
+        remedy = "; it is of the index, and .reset_index() makes it a column" if wanted in frame.index.names else ""
+        raise Refused("NoColumn", f"no such column; there are {told}{remedy}", name)
     if wanted in naming.twice(told):
         raise Refused("NoColumn", "several columns have this name; .rename(columns=..)", name)
     return places[wanted]

@@ -109,8 +109,8 @@ def refuse_float_beside_int(one: Any, other: Any) -> None:
     kinds = values.number_kind(one.dtype), values.number_kind(other.dtype)
     if set(kinds) == {"int", "float"}:
         told = f"it is {one.dtype}, and {other.name!r} of the right frame {other.dtype}"
-        remedy = ".astype('Int64') of both makes whole numbers, .astype('float64') of both with decimals= others"
-        raise Refused("WrongKind", f"{told}; {remedy}", one.name)
+        others = f".astype('float64') of both with decimals={{{one.name!r}: 2}} those of two decimals"
+        raise Refused("WrongKind", f"{told}; .astype('Int64') of both takes whole numbers, {others}", one.name)
 
 
 def refuse_two_kinds(one: Values, other: Values) -> None:

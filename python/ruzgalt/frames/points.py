@@ -184,7 +184,11 @@ def series_of(seconds: Ints, kind: str, index: Any = None, is_open: bool = False
         point = texts_of(seconds[seconds % DAY > 0][:1])[0]
         raise Refused("BadPoint", f"{point} is no day alone: points_as='S' asks for period[S]")
     if kind in UNITS:
-        return pd.Series(datetimes_of(seconds, missing, kind), index)
+        try:
+            return pd.Series(datetimes_of(seconds, missing, kind), index)
+        except pd.errors.OutOfBoundsDatetime as error:
+            # pandas 1.5 has no other unit than ns.
+            raise Refused("BadPoint", f"{error}: points_as='S' asks for period[S]") from None
     if kind in OFFSETS:
         ordinals = np.where(missing, NAT, seconds // LENGTHS[kind])
         return pd.Series(pd.arrays.PeriodArray(ordinals, dtype=pd.PeriodDtype(OFFSETS[kind])), index)

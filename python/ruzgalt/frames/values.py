@@ -192,7 +192,7 @@ def no_text(cell: Any, name: Any) -> str:
     if cell is None or cell is pd.NA or cell is pd.NaT or isinstance(cell, float) and cell != cell:
         return no_value(name)
     hundredths = f"decimals={{{name!r}: 2}} takes Decimals"
-    remedies = {int: ".astype('int64') makes numbers of all", decimal.Decimal: hundredths}
+    remedies = {int: ".astype('int64') makes numbers of all, .astype(str) texts", decimal.Decimal: hundredths}
     return f"{cell!r} is no text; {remedies.get(type(cell), '.astype(str) makes texts of all')}"
 
 
@@ -218,7 +218,7 @@ def scaled(column: Any, digits: int) -> Ints:
         refuse(np.isnan(cells), column, "BadNumber", no_value(column.name))
         remedy = "Decimals are exact"
         refuse(~(np.abs(whole) < 2.0**bits), column, "BadNumber", f"not of {bits} bits in such units; {remedy}")
-        told = f"not exactly a number of {digits} decimals; .round({digits}) makes it one"
+        told = f"not exactly a number of {digits} decimals; decimals= takes more, .round({digits}) makes it one"
         refuse((whole / 10.0**digits).astype(dtype) != cells, column, "BadNumber", told)
     numbers: Ints = whole.astype(np.int64)
     return numbers

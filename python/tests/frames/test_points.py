@@ -83,6 +83,13 @@ class Points(unittest.TestCase):
         got = ruzgalt.agg(frame, "count", points_as="S")
         self.assertEqual(list(map(str, got["to"])), ["9999-12-31 00:00:00"])
         self.assertEqual(ruzgalt.agg(frame, "count")["to"].tolist(), [datetime.date(9999, 12, 31)])
+        for unit in ("us", "ms", "s"):
+            with self.subTest(unit):
+                try:
+                    self.assertEqual(str(ruzgalt.agg(frame, "count", points_as=unit)["to"][0]), "9999-12-31 00:00:00")
+                except ruzgalt.Refused as refused:
+                    # Of pandas 1.5, which has ns alone.
+                    self.assertEqual((refused.name, pd.Series(np.zeros(1, "M8[s]")).dtype), ("BadPoint", "M8[ns]"))
 
     def test_last_days_come_back(self):
         days = pd.to_datetime

@@ -157,6 +157,11 @@ class Refusals(unittest.TestCase):
                 asked()
             self.assertIn(wanted, caught.exception.reason)
 
+    def test_a_level_of_the_index_is_no_column(self):
+        with self.assertRaises(ruzgalt.Refused) as caught:
+            ruzgalt.agg(OK.set_index("k"), "count", by="k")
+        self.assertIn(".reset_index() makes it a column", caught.exception.reason)
+
     def test_the_remedies_for_a_float_beside_an_integer_are_taken(self):
         one, other = frame(k=[1.0, 2.0]), frame(k=[1, 2])
         whole, floats = {"k": "Int64"}, {"k": "float64"}
