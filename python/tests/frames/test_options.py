@@ -111,6 +111,9 @@ class Suffixes(unittest.TestCase):
         one = FRAME.set_axis(pd.Index(names, dtype=object), axis=1)
         got = ruzgalt.join(one, FRAME, left_on=[None], right_on="k", right_period=("from", "to"))
         self.assertEqual(list(map(repr, got.columns)), list(map(repr, [*names, "k", "x"])))
+        # Of 0, 1 and None alone pandas makes floats.
+        numbers = FRAME.drop(columns="x").set_axis(pd.Index([0, 1, None], dtype=object), axis=1)
+        self.assertEqual(list(ruzgalt.join(numbers, numbers, on=[None], period=(0, 1)).columns), [0, 1, None])
         levels = FRAME.set_axis(pd.MultiIndex.from_product([["a", "b"], ["x", "y"]]), axis=1)
         words = {"on": [("b", "x")], "period": [("a", "x"), ("a", "y")]}
         got = ruzgalt.join(levels, levels, **words)
