@@ -1,5 +1,5 @@
 //! Records that workers make, each those of a range of places.
-ghost use Rattle.std.specs.Prelude.{◌≡◌, ◌++◌, List, IfOk, OnOk};
+ghost use Rattle.std.specs.Prelude.{◌≡◌, ◌++◌, List, length, IfOk, OnOk};
 ghost use Rattle.list_core.specs.Chunks.{all_in};
 ghost use Rattle.share_core.specs.Pieces.{piece};
 ghost use Rattle.command_core.specs.Records.{Record};
@@ -66,6 +66,7 @@ impl AnswerWriter {
         count: usize,
         list: &L,
     ) -> Result<(), NoMemory>
+        requires { count ≡ length (L.records list.now) }
         ensures { OnOk result (Adds self.old self.new (L.records list.now)) }
     {
         let shares = Shares::of(crew.alloc, count, crew.workers, &|place: usize| place)?;

@@ -1,5 +1,5 @@
 //! What queries read of a snapshot.
-ghost use Rattle.std.specs.Prelude.{◌≡◌, ◌+◌, ◌<◌, ◌≤◌, ◌^◌, All, IfErr, IfOk, IsTrue, Ok, length, nat_le, nat_lt};
+ghost use Rattle.std.specs.Prelude.{◌≡◌, ◌+◌, ◌<◌, ◌≤◌, ◌^◌, All, IfErr, IfOk, IsTrue, Ok, length, nat_le, nat_lt, if◌then◌else◌};
 ghost use Rattle.book_core.specs.Versions.{AreBetween, AreFromTo};
 ghost use Rattle.command_core.specs.Fields.{both_ok};
 ghost use Rattle.command_core.specs.Lines.{lines_in};
@@ -92,7 +92,7 @@ const ROWS_FOR_WORKERS: usize = 16_384;
 
 /// Who answers a query that reads so many rows: the crew, or one worker where the rows are few.
 fn crew_for<'a, T>(crew: &Crew<'a, T, OpenGate>, rows: usize) -> Crew<'a, T, OpenGate>
-    ensures { result.workers ≤ crew.now.workers }
+    ensures { result.workers ≡ (if nat_lt rows 16_384 then 1 else crew.now.workers) }
 {
     let workers = if rows < ROWS_FOR_WORKERS {
         1
