@@ -154,6 +154,10 @@ class Twins:
     def told(self) -> Iterator[str]:
         pair = first_pair(self.rows, self.lines)
         if pair:
-            count = len(self.rows) - len(set(self.rows)) - 1
-            more = f"; {count} more rows are so" if count else ""
-            yield f"line {pair[0]} makes the same row as line {pair[1]}, and both are loaded{more}"
+            yield told_of_twins(f"line {pair[0]}", f"line {pair[1]}", len(self.rows) - len(set(self.rows)))
+
+
+def told_of_twins(one: str, other: str, count: int) -> str:
+    """That one row is the same as another, where so many rows are the same as one before them."""
+    more = f"; {count - 1} more rows are so" if count > 1 else ""
+    return f"{one} makes the same row as {other}, and both are loaded{more}"

@@ -100,7 +100,7 @@ class Marks:
         """All that is marked, by the answers' order; what changes touched is known now."""
         for answer in self.found:
             if not answer.refusal and answer.command.word in PORTIONS:
-                self.add(answer, of_count(answer, store.closed.get(answer.commits, 0)))
+                self.add(answer, of_count(answer.command.record.fields, store.closed.get(answer.commits, 0)))
         return sorted(self.marks, key=lambda mark: mark.answer.number)
 
 
@@ -117,11 +117,12 @@ def of_portion(answer: Answer, store: Store) -> Optional[str]:
     return f"{end} isn't in it: a portion ends before its TO, so one that has this day ends on the next"
 
 
-def of_count(answer: Answer, count: int) -> Optional[str]:
+def of_count(fields: Sequence[str], count: int) -> Optional[str]:
     """What an update or a delete touched, where that was nothing, or all that there was."""
-    has_where = bool(where_places(answer.command.record.fields))
-    if has_where and not count:
-        return "no row of that time has what its `where` tells, so nothing was changed"
+    has_where = bool(where_places(fields))
+    if not count:
+        has_what = "of that time has what its `where` tells" if has_where else "holds in that time"
+        return f"no row {has_what}, so nothing was changed"
     if not has_where and count > 1:
         return f"without a `where` it acts on all rows of that time: {count} were changed"
     return None

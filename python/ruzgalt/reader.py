@@ -56,6 +56,9 @@ class Source:
         byte = stride * self.STRIDE - 1
         for _ in range(line - 1 - (self.counts[stride - 1] if stride else 0)):
             byte = self.data.find(b"\n", byte + 1)
+            if byte < 0:
+                # The last line has no end.
+                return len(self.data)
         return byte + 1
 
     def bytes_between(self, first: int, last: int) -> bytes:
