@@ -45,7 +45,7 @@ Python 3.9 and its library are all that is needed. A module stands on those abov
 from importlib import import_module
 from typing import Any
 
-FRAMES = ("frames", "join", "anti", "agg", "dip", "Store", "Refused", "Stopped", "Doubt")
+FRAMES = ("frames", "join", "anti", "agg", "dip", "Store", "Changed", "Refused", "Stopped", "Doubt")
 
 
 def __getattr__(name: str) -> Any:

@@ -22,7 +22,8 @@ A module stands on those above it:
     tables, store           a table of a store; the store
 """
 from ruzgalt.frames.calls import agg, anti, dip, join
+from ruzgalt.frames.changes import Changed
 from ruzgalt.frames.errors import Doubt, Refused, Stopped
 from ruzgalt.frames.store import Store
 
-__all__ = ["join", "anti", "agg", "dip", "Store", "Refused", "Stopped", "Doubt"]
+__all__ = ["join", "anti", "agg", "dip", "Store", "Changed", "Refused", "Stopped", "Doubt"]

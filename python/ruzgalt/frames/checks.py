@@ -40,9 +40,12 @@ def flag(option: str, given: Any) -> bool:
     return bool(given)
 
 
+def is_whole(given: Any) -> bool:
+    return isinstance(given, (int, np.integer)) and not isinstance(given, bool)
+
+
 def whole(option: str, given: Any, least: int, most: Optional[int] = None) -> int:
-    is_whole = isinstance(given, (int, np.integer)) and not isinstance(given, bool)
-    if not is_whole or given < least or (most is not None and given > most):
+    if not is_whole(given) or given < least or (most is not None and given > most):
         bounds = f"of {least} to {most}" if most is not None else f"of at least {least}"
         raise wrong(option, given, f"a whole number {bounds} is wanted")
     return int(given)

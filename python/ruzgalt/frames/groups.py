@@ -63,9 +63,14 @@ def side_of(frame: Any, function: str, column: Any, options: Options) -> Side:
     """The rows with the columns of `by`, and the one that comes together. Raises Refused."""
     names = [*(options.by or ()), *([column] if column is not None else [])]
     side = sides.side_of(frame, names, options.period, options.form, options.decimals)
-    if column is not None and side.columns[-1].kind != "int":
-        raise Refused("WrongKind", f"{function} is of numbers, and these are texts; by= takes texts", column)
+    refuse_texts(function, side.columns[-1:] if column is not None else [])
     return side
+
+
+def refuse_texts(function: str, amounts: Sequence[Values]) -> None:
+    for one in amounts:
+        if one.kind != "int":
+            raise Refused("WrongKind", f"{function} is of numbers, and these are texts; by= takes texts", one.name)
 
 
 def name_of(function: str, column: Any) -> str:

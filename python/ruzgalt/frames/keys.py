@@ -1,41 +1,120 @@
-"""Why a load was refused for a key: which of its rows shares a point with which other."""
+"""Why a load or an update was refused for a key: which two rows share a point."""
 from __future__ import annotations
 
-from typing import Any, List, Optional, Sequence, Tuple
+from dataclasses import dataclass
+from typing import Any, Dict, Iterator, List, Optional, Sequence, Tuple
 
-from ruzgalt.frames import points
-from ruzgalt.frames.arrays import Cells, of_objects
+import numpy as np
+
+from ruzgalt import fields
+from ruzgalt.frames import instants, points
+from ruzgalt.frames.arrays import Cells, Ints, Marks, of_objects
 from ruzgalt.frames.errors import Refused
+from ruzgalt.frames.script import Command
 from ruzgalt.frames.sides import Side
 from ruzgalt.frames.tables import Table
 from ruzgalt.frames.values import Values
 
-# The values of the key, start, end, and where the row is from: its place in the load, or its id in the store.
+# The values of the key, start, end, and where the row is from.
 Row = Tuple[Tuple[Any, ...], int, int, Any]
 
 
-def overlap(table: Table, side: Side, there: Sequence[Cells]) -> Optional[Refused]:
-    """Of a load, and the columns of the rows that were there: id, start, end, values. None where no rows overlap."""
-    places = [place for place, name in enumerate(table.columns) if name in table.key]
-    keys = [cells_of(side.columns[place]) for place in places]
-    rows = rows_of([there[place + 3] for place in places], there[1:3], [f"id {one}" for one in there[0]])
-    rows += rows_of(keys, [side.start, side.end], list(range(len(side))))
-    rows.sort(key=lambda row: row[:3])
+@dataclass(frozen=True)
+class Loaded:
+    """That a row came with a frame, under this label."""
+
+    label: Any
+
+
+def overlap(table: Table, command: Command, there: Sequence[Cells]) -> Optional[Refused]:
+    """Of a load or an update, and the columns of the rows that were there: id, start, end, values.
+
+    None where no two rows overlap.
+    """
+    rows = sorted(rows_behind(table, command, there), key=lambda row: row[:3])
     found = next(((one, other) for one, other in zip(rows, rows[1:]) if one[0] == other[0] and one[2] > other[1]), None)
-    return refusal(table, side, *found) if found else None
+    return refusal(table, command, *found) if found else None
+
+
+def rows_behind(table: Table, command: Command, there: Sequence[Cells]) -> List[Row]:
+    """The rows that the change would leave."""
+    ids, start, end, *columns = there
+    keys = [column for name, column in zip(table.columns, columns) if name in table.key]
+    names = [f"the store's row of id {one}" for one in ids]
+    if command.word == "load":
+        return [*rows_of(keys, start, end, names), *loaded(table, command.side)]
+    portion, is_hit = hits(table, command, there)
+    kept = rows_of([key[~is_hit] for key in keys], start[~is_hit], end[~is_hit], of_objects(names)[~is_hit].tolist())
+    return [*kept, *updated(table, command, portion, [cells[is_hit] for cells in there])]
+
+
+def rows_of(keys: List[Cells], start: Ints, end: Ints, origins: Sequence[Any]) -> List[Row]:
+    return list(zip(zip(*(key.tolist() for key in keys)), start.tolist(), end.tolist(), origins))
+
+
+def loaded(table: Table, side: Optional[Side]) -> List[Row]:
+    if side is None:
+        return []
+    keys = [cells_of(column) for column in side.columns if column.name in table.key]
+    return rows_of(keys, side.start, side.end, [Loaded(label) for label in side.labels])
 
 
 def cells_of(column: Values) -> Cells:
     return column.codes if column.kind == "int" else of_objects(column.texts.cells)[column.codes]
 
 
-def rows_of(keys: List[Cells], times: Sequence[Cells], origins: List[Any]) -> List[Row]:
-    return list(zip(zip(*keys), times[0].tolist(), times[1].tolist(), origins))
+def hits(table: Table, command: Command, there: Sequence[Cells]) -> Tuple[Ints, Marks]:
+    """The portion of an update, and which of the rows it acts on."""
+    portion = np.array([instants.second_of(text) for text in command.fields[2:4]], np.int64)
+    is_hit: Marks = (there[1] < portion[1]) & (portion[0] < there[2])
+    for name, value in pairs(table, command, fields.where_places(command.fields)).items():
+        is_hit &= there[3 + list(table.columns).index(name)] == value
+    return portion, is_hit
 
 
-def refusal(table: Table, side: Side, one: Row, other: Row) -> Refused:
-    at_fault, beside = (other, one) if isinstance(other[3], int) else (one, other)
-    label = side.labels[at_fault[3]]
-    named = f"the row {side.labels[beside[3]]!r}" if isinstance(beside[3], int) else f"the store's row of {beside[3]}"
-    told = f"equal in the key ({', '.join(table.key)}) to {named}, and both hold at {points.text_of(other[1])}"
+def pairs(table: Table, command: Command, places: range) -> Dict[str, Any]:
+    """The columns that stand at these places of a change, and the values behind them, as an answer has them."""
+    told = {command.fields[place]: command.fields[place + 1] for place in places}
+    return {name: int(text) if table.columns[name].kind == "int" else text for name, text in told.items()}
+
+
+def updated(table: Table, command: Command, portion: Ints, hit: Sequence[Cells]) -> Iterator[Row]:
+    """What comes in place of the rows on which an update acts."""
+    ids, start, end, *columns = hit
+    to = pairs(table, command, fields.set_places(command.fields))
+    keys = [(name, column) for name, column in zip(table.columns, columns) if name in table.key]
+    old = [column for _, column in keys]
+    new = [of_objects([to[name]] * len(ids)) if name in to else column for name, column in keys]
+    names = [f"the store's row of id {one}" for one in ids]
+    inside = [f"{name}, as it would be updated," for name in names]
+    parts = [
+        (old, start, np.minimum(end, portion[0]), names),
+        (new, np.maximum(start, portion[0]), np.minimum(end, portion[1]), inside),
+        (old, np.maximum(start, portion[1]), end, names),
+    ]
+    return (row for part in parts for row in rows_of(*part) if row[1] < row[2])
+
+
+def refusal(table: Table, command: Command, one: Row, other: Row) -> Refused:
+    at_fault, beside = (other, one) if isinstance(other[3], Loaded) else (one, other)
+    label = at_fault[3].label if isinstance(at_fault[3], Loaded) else command.label
+    names = [name for name in table.columns if name in table.key]
+    key = ", ".join(f"{name} {shown(table.columns[name], value)}" for name, value in zip(names, one[0]))
+    told = f"{key}: {named(table, at_fault)} and {named(table, beside)} both hold at {points.text_of(other[1])}"
     return Refused("KeyOverlap", f"{told}: end one before the other starts, or update() it", label=label)
+
+
+def shown(column: Values, value: Any) -> str:
+    """A value of the key as its frame has it, a long one in part."""
+    cells = np.array([value], np.int64) if column.kind == "int" else of_objects([value])
+    told = column.restored(cells)[0]
+    text = repr(told) if isinstance(told, str) else str(told)
+    return text if len(text) < 100 else text[:98] + ".."
+
+
+def named(table: Table, row: Row) -> str:
+    """A row with its period, an end as its frame has it."""
+    _, start, end, origin = row
+    last = end - points.DAY if table.form.has_last_days and end != points.NO_END else end
+    name = f"row {origin.label!r}" if isinstance(origin, Loaded) else origin
+    return f"{name} from {points.text_of(start)} to {points.text_of(last)}"

@@ -22,7 +22,8 @@ ALLOWED = {
     "anti": (*OF_ALL, *OF_PAIRS),
     "agg": (*OF_ALL, "by", "decimals", "points_as", "parts"),
     "dip": OF_ALL,
-    "table": ("period", "open_end", "last_day", "decimals", "points_as"),
+    "table": ("period", "open_end", "last_day", "decimals"),
+    "question": ("left_on", "right_on", "by", "suffixes", "points_as"),
 }
 
 
@@ -102,11 +103,6 @@ def options_of(call: str, told: Mapping[str, Any]) -> Options:
             raise TypeError(f"{call} has no option {name}, but {', '.join(ALLOWED[call])}")
     given = {name: value for name, value in told.items() if value is not None or name not in OPTIONAL}
     return Options(**{name: CHECKS[name](name, value) for name, value in given.items()})
-
-
-def names_of(names: Names) -> List[Any]:
-    """A name, or names, as a list."""
-    return list(checks.names("names", names) or ())
 
 
 def compared(on: Names, options: Options) -> Tuple[List[Any], List[Any]]:

@@ -174,6 +174,13 @@ def joint_kind(*kinds: str) -> str:
     return "datetime" if told == {"date", "datetime"} else "S"
 
 
+def has_all(kind: str, seconds: Ints) -> bool:
+    """Whether a column of the kind can have each of these points."""
+    if kind in ("", "D", "date"):
+        return not (seconds % DAY).any()
+    return kind != "ns" or bool(((seconds >= NS_RANGE[0]) & (seconds <= NS_RANGE[1])).all())
+
+
 def series_of(seconds: Ints, kind: str, index: Any = None, is_open: bool = False) -> Any:
     """The points as a Series. Raises Refused (BadPoint) where the kind hasn't one of them.
 

@@ -1,15 +1,14 @@
 """A table of a store: what the columns of its frames are there, and how fields become cells again."""
 from __future__ import annotations
 
-import datetime
 from dataclasses import dataclass, replace
-from typing import Any, Dict, Iterator, List, Mapping, Sequence
+from typing import Any, Iterator, List, Mapping, Sequence, Tuple
 
 import numpy as np
 import pandas as pd
 
 from ruzgalt import forms
-from ruzgalt.frames import points, sides, values
+from ruzgalt.frames import instants, points, sides, values
 from ruzgalt.frames.arrays import Cells, Ints
 from ruzgalt.frames.ask import REMEDIES
 from ruzgalt.frames.errors import Refused
@@ -21,13 +20,18 @@ from ruzgalt.frames.values import Texts, Values
 
 @dataclass(frozen=True)
 class Table:
-    """A table's name, its columns without their cells, its key; the period's columns in a frame, and their kind."""
+    """A table's name, its columns without their cells, its key, how its frames are, and the kind of their points.
+
+    first, last: no row starts before the one second or ends behind the other.
+    """
 
     name: str
     columns: Mapping[str, Values]
     key: Sequence[str]
     options: Options
-    kind: str
+    kind: str = ""
+    first: int = points.LAST
+    last: int = points.FIRST
 
     @property
     def period(self) -> Period:
@@ -42,8 +46,19 @@ class Table:
         """The kinds of its values, as Output reads them."""
         return "".join("i" if one.kind == "int" else "t" for one in self.columns.values())
 
-    def side_of(self, frame: Any, names: Sequence[str]) -> Side:
-        """A frame's rows with these of the table's columns. Raises Refused."""
+    def column(self, name: Any) -> Values:
+        if name not in self.columns:
+            told = ", ".join(self.columns) or "none"
+            raise Refused("NoColumn", f"{self.name} has no such column; it has {told}", name)
+        return self.columns[name]
+
+    # What comes in.
+
+    def side_of(self, frame: Any, names: Sequence[Any]) -> Side:
+        """A frame's rows with these of the table's columns, which are all that it has. Raises Refused."""
+        for name in frame.columns:
+            if name not in self.period:
+                self.column(name)
         side = sides.side_of(frame, names, self.period, self.form, self.options.decimals)
         for one in side.columns:
             self.refuse_kind(one)
@@ -55,79 +70,94 @@ class Table:
             remedy = ".astype('int64') makes numbers" if wanted == "int" else ".astype(str) makes texts"
             raise Refused("WrongKind", f"{told.kind}, and the column of {self.name} is {wanted}; {remedy}", told.name)
 
-    def column(self, name: Any) -> Values:
-        if name not in self.columns:
-            raise Refused("NoColumn", f"{self.name} has no such column, but {', '.join(self.columns)}", name)
-        return self.columns[name]
+    def portion(self, start: Any, end: Any) -> Ints:
+        """The seconds of a change's start and of the first point behind it. Raises Refused (BadPoint, BadPeriod)."""
+        portion = instants.portion(start, end, self.form)
+        if portion[0] >= portion[1]:
+            last = "the last day" if self.form.has_last_days else "the first point behind it"
+            told = f"it starts at {start} and ends at {end}: a portion starts before its end, which is {last}"
+            raise Refused("BadPeriod", told)
+        return portion
 
-    def widened(self, seconds: Ints) -> Table:
-        """The table, whose points have times from now on, where one of these has."""
-        has_time = self.kind in ("", "D", "date") and bool((seconds % points.DAY).any())
-        return replace(self, kind="S" if self.kind == "D" else "datetime") if has_time else self
-
-    def pairs(self, told: Mapping[str, Any]) -> List[str]:
-        """Columns with values, as the fields of an update."""
+    def pairs(self, word: str, told: Any) -> List[str]:
+        """The columns with values of set= or where=, as the fields of a change."""
+        if not isinstance(told, Mapping):
+            raise Refused("BadCommand", f"{word}={told!r} is no dict of columns with values, as {{'person': 'Ada'}}")
+        if not told:
+            remedy = "leave it out for all rows" if word == "where" else "it names what is to be changed"
+            raise Refused("BadCommand", f"{word}={{}} has no column: {remedy}")
         return [text for name, value in told.items() for text in (name, self.field_of(name, value))]
 
-    def field_of(self, name: str, value: Any) -> str:
+    def field_of(self, name: Any, value: Any) -> str:
         """A value of an update or a condition, looked at as one of a frame. Raises Refused."""
         column = self.column(name)
+        if column.digits is None:
+            self.refuse_value(column, value)
         try:
-            told = values.values_of(pd.Series([value], dtype=dtype_of(value, column), name=name), column.digits)
-        except (Refused, OverflowError) as error:
-            raise Refused(getattr(error, "name", "BadNumber"), getattr(error, "reason", str(error)), name) from None
-        self.refuse_kind(told)
+            told = values.values_of(pd.Series([value], dtype=dtype_of(column), name=name), column.digits)
+        except Refused as error:
+            raise Refused(error.name, error.reason, name) from None
+        except (OverflowError, TypeError, ValueError) as error:
+            raise Refused("BadNumber", str(error), name) from None
         return values.fields_of(told)[0] if told.kind == "int" else told.texts.cells[0]
 
-    def cells(self, cells: Iterator[Cells]) -> Dict[str, Any]:
+    def refuse_value(self, column: Values, value: Any) -> None:
+        is_int = isinstance(value, (int, np.integer)) and not isinstance(value, (bool, np.bool_))
+        if column.kind == "int" and not is_int:
+            remedy = f"decimals={{{column.name!r}: 2}}, where the table is made, takes others"
+            raise Refused("WrongKind", f"{value!r}: the column of {self.name} has whole numbers; {remedy}", column.name)
+        if column.kind == "text" and not isinstance(value, str):
+            told = f"{value!r}: the column of {self.name} has texts; str(..) makes one"
+            raise Refused("WrongKind", told, column.name)
+
+    # What the table's points become.
+
+    def with_rows(self, side: Side) -> Table:
+        """The table with more rows."""
+        first, last = int(side.start.min(initial=self.first)), int(side.end.max(initial=self.last))
+        return replace(self, kind=points.joint_kind(self.kind, side.kind), first=first, last=last)
+
+    def widened(self, portion: Ints) -> Table:
+        """The table with rows cut at these seconds: its points are of a kind that has those that can lie in a row."""
+        inside = portion[(self.first < portion) & (portion < self.last)]
+        if points.has_all(self.kind, inside):
+            return self
+        return replace(self, kind="datetime" if self.kind in ("", "date") else "S")
+
+    # What comes out.
+
+    def cells(self, cells: Iterator[Cells]) -> List[Tuple[str, Any]]:
         """The next columns of an answer as the table's columns."""
-        return {name: one.restored(next(cells)) for name, one in self.columns.items()}
+        return [(name, one.restored(next(cells))) for name, one in self.columns.items()]
 
-    def period_cells(self, cells: Iterator[Cells]) -> Dict[Any, Any]:
-        """The next two columns of an answer as the period."""
+    def period_cells(self, cells: Iterator[Cells], kind: str) -> List[Tuple[Any, Any]]:
+        """The next two columns of an answer as the period, of points of that kind."""
         start, end = next(cells), next(cells)
-        return dict(zip(self.period, (points.series_of(start, self.kind), self.form.restored_ends(end, self.kind))))
+        return list(zip(self.period, (points.series_of(start, kind), self.form.restored_ends(end, kind))))
 
 
-def dtype_of(value: Any, column: Values) -> Any:
-    """The dtype in which pandas is to take a value: Python's integers as int64, texts and all else as they are."""
+def dtype_of(column: Values) -> Any:
+    """The dtype in which pandas is to take a value: Python's integers as int64, texts as they are."""
     if column.digits is not None:
         return None if column.dtype == object else column.dtype
-    is_int = isinstance(value, (int, np.integer)) and not isinstance(value, (bool, np.bool_))
-    return "int64" if is_int and column.kind == "int" else object
+    return "int64" if column.kind == "int" else object
+
+
+def coded(column: Values, cells: Cells) -> Values:
+    """The column with the cells of an answer."""
+    if column.kind == "int":
+        return replace(column, codes=cells)
+    codes, found = values.codes_by_dict(cells)
+    return replace(column, codes=codes, texts=Texts(found))
 
 
 def table_of(name: str, side: Side, key: Sequence[str], options: Options) -> Table:
-    """Of its first rows. Raises Refused where a name is none of the store."""
+    """Of its first rows, which it hasn't yet. Raises Refused where a name is none of the store."""
     for one in side.columns:
         if not (isinstance(one.name, str) and forms.is_name(one.name)):
             raise Refused("BadName", f"no name of a column of a store: {REMEDIES['BadName']}", one.name)
     columns = {one.name: replace(one, codes=one.codes[:0], texts=Texts()) for one in side.columns}
     for column in key:
         if column not in columns:
-            raise Refused("NoColumn", f"key= is of columns of the table: {', '.join(columns)}", column)
-    return Table(name, columns, list(key), options, side.kind)
-
-
-def text_of(point: Any) -> str:
-    """A point of a question or of a portion: a text as the store reads it, or a cell of points; None is 9999-12-31."""
-    if isinstance(point, str):
-        return point
-    return points.texts_of(seconds_of(point))[0]
-
-
-def seconds_of(point: Any) -> Ints:
-    """The point as an array of one. Raises Refused (BadPoint)."""
-    if isinstance(point, str):
-        read = forms.read_point(point)
-        if read is None:
-            raise Refused("BadPoint", f"{point!r}: {REMEDIES['BadPoint']}")
-        return np.array([round((read - points.EPOCH).total_seconds())], np.int64)
-    if point is None:
-        return np.array([points.NO_END], np.int64)
-    # Objects for dates, datetimes and Timestamps; pandas finds the dtype of a Period itself.
-    dtype = object if isinstance(point, datetime.date) else None
-    try:
-        return points.seconds_of(pd.Series([point], dtype=dtype), True)[0]
-    except Refused as error:
-        raise Refused(error.name, error.reason) from None
+            raise Refused("NoColumn", f"key= is of columns of the table: {', '.join(columns) or 'it has none'}", column)
+    return Table(name, columns, list(key), options)

@@ -1,0 +1,107 @@
+"""The changes of a store: the commands of each, and what it did."""
+from __future__ import annotations
+
+from dataclasses import dataclass, field, replace
+from typing import Any, List, Optional, Sequence
+
+import numpy as np
+
+from ruzgalt.frames import checks, points, script, values
+from ruzgalt.frames.arrays import NO_INTS, Ints
+from ruzgalt.frames.ask import REMEDIES
+from ruzgalt.frames.errors import Refused
+from ruzgalt.frames.options import Names, Options
+from ruzgalt.frames.script import Command
+from ruzgalt.frames.sides import Side, side_of
+from ruzgalt.frames.tables import Table, table_of
+from ruzgalt.frames.values import Values
+
+
+@dataclass(frozen=True, repr=False)
+class Changed:
+    """What a change did: its commit, the newest of several, and how many versions of rows they added and closed."""
+
+    commit: int
+    added: int
+    closed: int
+
+    def __repr__(self) -> str:
+        return f"commit {self.commit}: {self.added} added, {self.closed} closed"
+
+
+@dataclass(frozen=True)
+class Change:
+    """A call that changes a table: its commands, each of which is a commit.
+
+    made     the table, where it is made by this
+    portion  the seconds at which updates or a delete may cut rows
+    """
+
+    name: str
+    commands: Sequence[Command]
+    made: Optional[Table] = None
+    portion: Ints = field(default_factory=lambda: NO_INTS)
+
+    @property
+    def side(self) -> Optional[Side]:
+        """The rows of a load."""
+        return next((one.side for one in self.commands if one.side is not None), None)
+
+    def done(self, table: Optional[Table], closed: int) -> Table:
+        """The table behind it."""
+        found = self.made or table
+        if found is None:
+            raise Refused("NoTable", f"{self.name!r} is no table that is there")
+        found = found.with_rows(self.side) if self.side is not None else found
+        return found.widened(self.portion) if closed else found
+
+
+def making(name: Any, frame: Any, key: Names, options: Options) -> Change:
+    """A table of a frame's columns, and its rows."""
+    if not isinstance(name, str):
+        raise Refused("BadName", f"{name!r} is no name of a table: {REMEDIES['BadName']}")
+    names = [column for column in frame.columns if column not in options.period]
+    side = side_of(frame, names, options.period, options.form, options.decimals)
+    made = replace(table_of(name, side, checks.names("key", key) or (), options), kind=side.kind)
+    commands = [script.make(name, names, side.columns, made.key), *([script.load(name, side)] if len(side) else [])]
+    return Change(name, commands, made)
+
+
+def loading(table: Table, frame: Any) -> Change:
+    side = table.side_of(checks.frame("frame", frame), list(table.columns))
+    return Change(table.name, [script.load(table.name, side)])
+
+
+def changing(word: str, table: Table, portion: Ints, fields: Sequence[str]) -> Change:
+    """An update, or a delete."""
+    told = script.command(word, table.name, *points.texts_of(portion), *fields)
+    return Change(table.name, [told], portion=portion)
+
+
+def updating(table: Table, frame: Any, where: Names) -> Change:
+    """An update for each row of a frame, of the rows that are equal in the columns `where`."""
+    equal = checks.names("where", where) or table.key
+    if not equal:
+        raise Refused("BadCommand", f"{table.name} has no key: where= names the columns that tell which rows are meant")
+    set_to = [column for column in checks.frame("frame", frame).columns if column not in (*table.period, *equal)]
+    side = table.side_of(frame, [*set_to, *equal])
+    if not set_to:
+        raise Refused("BadCommand", "the frame has no column but those of the period and of where=, so none to set")
+    rows = zip(*([(column.name, text) for text in column_texts(column)] for column in side.columns))
+    pairs = [[text for pair in row for text in pair] for row in rows]
+    times = zip(points.texts_of(side.start), points.texts_of(side.end))
+    cut = 2 * len(set_to)
+    fields = [["update", table.name, *time, "set", *row[:cut], "where", *row[cut:]] for time, row in zip(times, pairs)]
+    commands = [Command(one, [script.record(one)], label=label) for one, label in zip(fields, frame.index)]
+    return Change(table.name, commands, portion=np.concatenate([side.start, side.end]))
+
+
+def column_texts(column: Values) -> List[str]:
+    """The fields as they are before they are quoted."""
+    if column.kind == "int":
+        return values.fields_of(column)
+    return [column.texts.cells[code] for code in column.codes.tolist()]
+
+
+def condition(table: Table, where: Any) -> List[str]:
+    return [] if where is None else ["where", *table.pairs("where", where)]

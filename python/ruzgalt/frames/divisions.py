@@ -1,0 +1,70 @@
+"""The division of a table of a store, and somebody's division, checked."""
+from __future__ import annotations
+
+from dataclasses import dataclass
+from typing import Any, List, Tuple
+
+import numpy as np
+import pandas as pd
+
+from ruzgalt.frames import checks, division, groups, instants, script, values
+from ruzgalt.frames.arrays import NO_INTS, Ints
+from ruzgalt.frames.errors import Refused, refuse
+from ruzgalt.frames.named import column_of
+from ruzgalt.frames.questions import Asked
+
+COLUMNS = ("part", "row_id")
+
+
+@dataclass(frozen=True)
+class Verdict:
+    """Of a check: whether the parts are a division, with as few as can be; else the reason and its numbers, as the
+    language tells them. It is true or false as a condition."""
+
+    is_yes: bool
+    reason: str = ""
+    numbers: Tuple[int, ...] = ()
+
+    def __bool__(self) -> bool:
+        return self.is_yes
+
+
+def dip(asked: Asked, name: str) -> Any:
+    asked.book.known(name)
+    output = asked.book.answer(script.command("dip", name, *asked.suffix))
+    told = output.record()
+    lists = [division.ids_of(output) for _ in range(int(told[2]))]
+    parts = np.repeat(np.arange(len(lists)), [len(one) for one in lists])
+    made = pd.DataFrame(dict(zip(COLUMNS, (parts, np.concatenate([NO_INTS, *lists])))))
+    made.attrs = division.attributes(told)
+    return made
+
+
+def check(asked: Asked, name: str, parts: Any, count: Any, instant: Any) -> Verdict:
+    asked.book.known(name)
+    lists = lists_of(parts)
+    told = parts.attrs.get("count") if count is None else count
+    point = parts.attrs.get("instant") if instant is None else instant
+    if told is None:
+        raise Refused("BadCommand", "count= and instant= tell how many parts there are, when as many rows hold")
+    fields = ["check", name, str(checks.whole("count", told, 0)), "-" if point is None else instants.text_of(point)]
+    records = [["part", *map(str, ids.tolist())] for ids in lists]
+    answer = asked.book.answer(script.block([*fields, *asked.suffix], records)).record()
+    return Verdict(answer[0] == "yes", "".join(answer[1:2]), tuple(map(int, answer[2:])))
+
+
+def lists_of(parts: Any) -> List[Ints]:
+    """The ids of each part, by parts. Raises Refused where it is no frame of parts and ids."""
+    if not isinstance(parts, pd.DataFrame):
+        told = "a frame of part and row_id is wanted, as Store.dip has it; ruzgalt.dip tells labels, and no ids"
+        raise checks.wrong("parts", parts, told)
+    part, row_id = (column_of(parts, name) for name in COLUMNS)
+    if not len(parts):
+        return []
+    if not pd.api.types.is_integer_dtype(row_id.dtype):
+        raise Refused("WrongKind", f"{row_id.dtype}: ids are whole numbers, as Store.dip has them", "row_id")
+    ids = values.ints_of(row_id)
+    refuse(ids < 0, row_id, "BadNumber", "ids are numbers from 1 on")
+    ranks = groups.ranks(values.values_of(part))
+    order = np.argsort(ranks, kind="stable")
+    return np.split(ids[order], np.flatnonzero(np.diff(ranks[order])) + 1)

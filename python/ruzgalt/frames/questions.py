@@ -1,0 +1,146 @@
+"""The questions of a store: each is asked of a book, and its answer becomes a frame."""
+from __future__ import annotations
+
+from dataclasses import dataclass, replace
+from typing import Any, Iterator, List, Optional, Sequence
+
+import numpy as np
+import pandas as pd
+
+from ruzgalt.frames import answer, checks, groups, instants, pairs, script, split
+from ruzgalt.frames.answer import Columns
+from ruzgalt.frames.arrays import Cells
+from ruzgalt.frames.book import Book
+from ruzgalt.frames.errors import Refused
+from ruzgalt.frames.options import Options, compared
+from ruzgalt.frames.sides import Side
+from ruzgalt.frames.tables import Table, coded
+from ruzgalt.frames.values import Values
+
+LOG = ("commit", "caller", "kind", "table", "added", "closed")
+
+
+@dataclass(frozen=True)
+class Asked:
+    """A question: of which book, at which commit, and with which options, beside those that its tables have."""
+
+    book: Book
+    as_of: Optional[int] = None
+    options: Options = Options()
+
+    @property
+    def suffix(self) -> List[str]:
+        return [] if self.as_of is None else ["asof", commit("as_of", self.as_of, self.book)]
+
+    def block(self, words: Sequence[str], kinds: str) -> Iterator[Cells]:
+        return iter(self.book.answer(script.command(*words, *self.suffix)).block(kinds))
+
+
+def commit(option: str, number: Any, book: Book, is_to_be_there: bool = True) -> str:
+    """The number of a commit, as a field. Raises Refused (BadNumber, Future)."""
+    newest = len(book.commands)
+    if not checks.is_whole(number) or number < 0:
+        told = f"{option}={checks.shown(number)}: commits are whole numbers, here 0 to {newest}, and no days"
+        raise Refused("BadNumber", f"{told}; log() lists them")
+    if is_to_be_there and number > newest:
+        raise Refused("Future", f"{option}={number}: the commits are 0 to {newest}; log() lists them")
+    return str(int(number))
+
+
+def rows(asked: Asked, name: str) -> Any:
+    return listed(asked, name, ["rows", name])
+
+
+def at(asked: Asked, name: str, point: Any) -> Any:
+    return listed(asked, name, ["at", name, instants.text_of(point)])
+
+
+def anti(asked: Asked, left: str, right: str, on: Any) -> Any:
+    tables = [asked.book.known(name) for name in (left, right)]
+    return listed(asked, left, ["anti", left, right, *on_of(tables, on, asked.options)], tables[1].kind)
+
+
+def listed(asked: Asked, name: str, words: Sequence[str], *kinds: str) -> Any:
+    """Rows of a table; kinds are those of the points of others that are asked."""
+    table = asked.book.known(name)
+    cells = asked.block(words, "ipp" + table.readers)
+    columns = Columns([("row_id", next(cells)), *table.period_cells(cells, asked.options.kind_of(table.kind, *kinds))])
+    columns.add(table.cells(cells))
+    return columns.of_table()
+
+
+def versions(asked: Asked, word: str, name: str, first: Any, last: Any) -> Any:
+    """Of `between` and `fromto`, of which the second leaves out the last commit."""
+    table = asked.book.known(name)
+    numbers = [commit(option, one, asked.book, False) for option, one in (("first", first), ("last", last))]
+    if first > last or (word == "fromto" and first == last):
+        raise Refused("BadPeriod", f"{first} to {last}: the first commit comes before the last")
+    cells = asked.block([word, name, *numbers], "ippcc" + table.readers)
+    columns = Columns([("row_id", next(cells)), *table.period_cells(cells, asked.options.kind_of(table.kind))])
+    made, closed = next(cells), next(cells)
+    columns.add([("sys_from", made), ("sys_to", pd.arrays.IntegerArray(closed, closed < 0)), *table.cells(cells)])
+    return columns.of_table()
+
+
+def join(asked: Asked, left: str, right: str, on: Any) -> Any:
+    one, other = asked.book.known(left), asked.book.known(right)
+    words = ["join", left, right, *on_of([one, other], on, asked.options)]
+    cells = asked.block(words, "ppii" + one.readers + other.readers)
+    own = one.period_cells(cells, asked.options.kind_of(one.kind, other.kind))
+    own += [("left_id", next(cells)), ("right_id", next(cells))]
+    sides = [one.cells(cells), other.cells(cells)]
+    shared = compared(on, asked.options)[1] if on is not None else []
+    sides[1] = [column for column in sides[1] if column[0] not in shared]
+    return answer.beside(own, sides, asked.options.suffixes)
+
+
+def on_of(tables: Sequence[Table], on: Any, options: Options) -> List[str]:
+    """The compared columns, as the fields of a question."""
+    names = compared(on, options)
+    if any(isinstance(name, tuple) for name in names[0]):
+        raise checks.wrong("on", on, "names of columns that both tables have; left_on= and right_on= are for others")
+    columns = [[table.column(name) for name in own] for table, own in zip(tables, names)]
+    pairs.refuse_unlike(*columns)
+    told = [column.name for pair in zip(*columns) for column in pair]
+    return ["on", *told] if told else []
+
+
+def agg(asked: Asked, name: str, function: str, column: Any) -> Any:
+    groups.refuse_call(function, column)
+    table = asked.book.known(name)
+    by = [table.column(one) for one in asked.options.by or ()]
+    amounts = [table.column(column)] if column is not None else []
+    groups.refuse_texts(function, amounts)
+    found = (by_several if len(by) > 1 else by_one)(asked, table, function, [*by, *amounts])
+    *told, start, end, value = found
+    columns = Columns([(one.name, one.restored(cells)) for one, cells in zip(by, told)])
+    columns.add(table.period_cells(iter((start, end)), asked.options.kind_of(table.kind)))
+    columns.add([(groups.name_of(function, column), groups.restored(value, function, amounts))])
+    return columns.frame()
+
+
+def by_one(asked: Asked, table: Table, function: str, columns: Sequence[Values]) -> Sequence[Cells]:
+    """The group's column where there is one, start, end and value, as the language has them."""
+    count = len(columns) - (function != "count")
+    group = columns[:count]
+    names = [*(one.name for one in columns[count:]), *(text for one in group for text in ("by", one.name))]
+    kinds = "".join("i" if one.kind == "int" else "t" for one in group) + "ppi"
+    return list(asked.block(["agg", table.name, function, *names], kinds))
+
+
+def by_several(asked: Asked, table: Table, function: str, columns: Sequence[Values]) -> Sequence[Cells]:
+    """The groups' columns, start, end and value: of the table's rows, as frames have them."""
+    cells = asked.block(["rows", table.name], "-pp" + table.readers)
+    start, end, *told = cells
+    found = dict(zip(table.columns, told))
+    sides = [coded(one, found[one.name]) for one in columns]
+    count = len(columns) - (function != "count")
+    side = Side(start, end, sides, places=np.arange(len(start)))
+    codes, firsts = groups.group_codes(side, count)
+    numbered = replace(side, columns=[codes, *sides[count:]])
+    start, end, group, value = split.agg(numbered, function, asked.book.workers)
+    return [*(found[one.name][firsts[group]] for one in columns[:count]), start, end, value]
+
+
+def log(asked: Asked) -> Any:
+    return pd.DataFrame(dict(zip(LOG, asked.block(["log"], "iittii"))))

@@ -1,0 +1,66 @@
+"""What may not be meant in a change that was accepted: rows that are there twice, and changes of no row or of all."""
+from __future__ import annotations
+
+from typing import Iterator, List, Sequence
+
+import numpy as np
+import pandas as pd
+
+from ruzgalt import doubts, fields, marks
+from ruzgalt.frames import values
+from ruzgalt.frames.arrays import Hashes, Ints
+from ruzgalt.frames.changes import Change
+from ruzgalt.frames.script import Command
+from ruzgalt.frames.sides import Side
+from ruzgalt.frames.values import Values
+
+
+def told_of(change: Change, before: Sequence[Command], added: Ints, closed: Ints) -> Iterator[str]:
+    """Of a change, the commands before it, and how many versions each of these and of its own added and closed."""
+    of_table = [place for place, one in enumerate(before) if one.fields[1] == change.name]
+    if change.side is not None:
+        yield from of_load(change, [before[place] for place in of_table])
+    touched = closed[len(before):].tolist()
+    if change.commands[-1].label is not None:
+        yield from of_rows(change, touched)
+    elif change.commands[-1].word in marks.PORTIONS:
+        yield from of_portion(change, touched[-1], int((added[of_table] - closed[of_table]).sum()))
+
+
+def of_load(change: Change, before: Sequence[Command]) -> Iterator[str]:
+    side = change.side
+    if side is None or not len(side):
+        return
+    rows = hashes_of(side)
+    is_twin = pd.Series(rows).duplicated().to_numpy()
+    if is_twin.any():
+        place = int(is_twin.argmax())
+        one, other = (f"row {side.labels[at]!r}" for at in (place, int((rows == rows[place]).argmax())))
+        yield f"load of {change.name}: {doubts.told_of_twins(one, other, int(is_twin.sum()))}"
+    loaded = [hashes_of(one.side) for one in before if one.side is not None and len(one.side)]
+    if loaded and np.isin(rows, np.concatenate(loaded)).all():
+        yield f"load of {change.name}: all its rows were loaded before, so each is there twice unless changed since"
+
+
+def hashes_of(side: Side) -> Hashes:
+    """A number for each row, the same for rows of one period and equal values."""
+    times = [Values(None, "int", one) for one in (side.start, side.end)]
+    found: Hashes = values.hashes([*times, *side.columns])
+    return found
+
+
+def of_portion(change: Change, count: int, there: int) -> Iterator[str]:
+    command = change.commands[-1]
+    told = marks.of_count(command.fields, count)
+    if told is None and count == there > 1 and fields.where_places(command.fields):
+        told = f"its `where` leaves no row out: all {count} of the table were changed"
+    if told:
+        yield f"{command.word} of {change.name}: {told}"
+
+
+def of_rows(change: Change, touched: List[int]) -> Iterator[str]:
+    """Of the updates of update_rows."""
+    idle = [one for one, count in zip(change.commands, touched) if not count]
+    if idle:
+        more = f"; {len(idle) - 1} more rows are so" if len(idle) > 1 else ""
+        yield f"update of {change.name}: row {idle[0].label!r}: {marks.of_count(idle[0].fields, 0)}{more}"
