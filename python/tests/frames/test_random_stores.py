@@ -8,7 +8,6 @@ import os
 import unittest
 from random import Random
 
-import numpy as np
 import pandas as pd
 
 import plainly
