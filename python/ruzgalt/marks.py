@@ -107,14 +107,17 @@ class Marks:
 def of_portion(answer: Answer, store: Store) -> Optional[str]:
     """Tells a portion's end that looks like a last day, where it cuts a row."""
     end = answer.command.record.fields[3]
-    is_second = "T23:59" in end and not end.startswith("9999")
-    if not is_second and not (end < NO_END and is_month_end(end)):
-        return None
-    if not any(end < version.row.end for version in store.change(answer).closed):
-        return None
-    if is_second:
+    told = of_end(end)
+    return told if told and any(end < version.row.end for version in store.change(answer).closed) else None
+
+
+def of_end(end: str) -> Optional[str]:
+    """Tells a portion's end that looks like a last day, or a last second."""
+    if "T23:59" in end and not end.startswith("9999"):
         return f"{end} isn't in it: a day ends at the next one's midnight"
-    return f"{end} isn't in it: a portion ends before its TO, so one that has this day ends on the next"
+    if end < NO_END and is_month_end(end):
+        return f"{end} isn't in it: a portion ends before its TO, so one that has this day ends on the next"
+    return None
 
 
 def of_count(fields: Sequence[str], count: int) -> Optional[str]:

@@ -77,7 +77,8 @@ def accepted(book: Book, asked: Sequence[Change]) -> Tuple[Book, List[Changed], 
     for change in asked:
         first, last = len(book.commands), len(book.commands) + len(change.commands)
         did = Changed(last, int(added[first:last].sum()), int(closed[first:last].sum()))
-        told += unmeant.told_of(change, book.commands, added[:last], closed[:last])
+        behind = book.behind(change, did.closed)
+        told += unmeant.told_of(change, behind.tables[change.name], book.commands, (added[:last], closed[:last]))
         changed.append(did)
-        book = book.behind(change, did.closed)
+        book = behind
     return book, changed, told

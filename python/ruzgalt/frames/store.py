@@ -193,10 +193,11 @@ class Store:
             return None
 
     def accept(self, asked: Sequence[Change]) -> List[Changed]:
-        """Tries changes in one run, and keeps them all or raises Refused."""
-        self.book, changed, doubts = accepted(self.book, asked)
+        """Tries changes in one run, and keeps them all or raises Refused, or Doubt where warnings are errors."""
+        book, changed, doubts = accepted(self.book, asked)
         for told in doubts:
             doubt(told)
+        self.book = book
         return changed
 
     # Questions. as_of is the number of a commit, 0 to the newest; log() lists them. Rows are by row_id, where no other

@@ -1,7 +1,7 @@
 """What may not be meant in a change that was accepted: rows that are there twice, and changes of no row or of all."""
 from __future__ import annotations
 
-from typing import Iterator, List, Sequence
+from typing import Iterator, List, Sequence, Tuple
 
 import numpy as np
 import pandas as pd
@@ -12,25 +12,26 @@ from ruzgalt.frames.arrays import Hashes, Ints
 from ruzgalt.frames.changes import Change
 from ruzgalt.frames.script import Command
 from ruzgalt.frames.sides import Side
+from ruzgalt.frames.tables import Table
 from ruzgalt.frames.values import Values
 
 
-def told_of(change: Change, before: Sequence[Command], added: Ints, closed: Ints) -> Iterator[str]:
-    """Of a change, the commands before it, and how many versions each of these and of its own added and closed."""
+def told_of(change: Change, table: Table, before: Sequence[Command], counts: Tuple[Ints, Ints]) -> Iterator[str]:
+    """Of a change of a table, and the commands before it; counts are how many versions these and its own commands
+    added and closed."""
     of_table = [place for place, one in enumerate(before) if one.fields[1] == change.name]
+    touched = counts[1][len(before):].tolist()
     if change.side is not None:
-        yield from of_load(change, [before[place] for place in of_table])
-    touched = closed[len(before):].tolist()
-    if change.commands[-1].label is not None:
+        yield from of_load(change, change.side, [before[place] for place in of_table])
+    elif change.commands[-1].label is not None:
         yield from of_rows(change, touched)
     elif change.commands[-1].word in marks.PORTIONS:
-        yield from of_portion(change, touched[-1], int((added[of_table] - closed[of_table]).sum()))
+        added, closed = (count[of_table] for count in counts)
+        yield from of_portion(change, touched[-1], int((added - closed).sum()))
+        yield from of_end(change, table, touched[-1])
 
 
-def of_load(change: Change, before: Sequence[Command]) -> Iterator[str]:
-    side = change.side
-    if side is None or not len(side):
-        return
+def of_load(change: Change, side: Side, before: Sequence[Command]) -> Iterator[str]:
     rows = hashes_of(side)
     is_twin = pd.Series(rows).duplicated().to_numpy()
     if is_twin.any():
@@ -55,6 +56,14 @@ def of_portion(change: Change, count: int, there: int) -> Iterator[str]:
     if told is None and count == there > 1 and fields.where_places(command.fields):
         told = f"its `where` leaves no row out: all {count} of the table were changed"
     if told:
+        yield f"{command.word} of {change.name}: {told}"
+
+
+def of_end(change: Change, table: Table, count: int) -> Iterator[str]:
+    """Of a portion whose end may cut a row, and looks like a last day."""
+    command, end = change.commands[-1], int(change.portion[-1])
+    told = None if table.form.has_last_days else marks.of_end(command.fields[3])
+    if told and count and end < table.last:
         yield f"{command.word} of {change.name}: {told}"
 
 

@@ -161,14 +161,14 @@ class Points(Case):
         self.refuses(lambda: made.delete("t", "2024-01-10", "2024-01-09"), "BadPeriod", "last day")
 
     def test_times_are_refused_where_ends_are_last_days(self):
-        made = store(frame(), last_day=True)
+        made, _ = quietly(lambda: store(frame(), last_day=True))
         for start, end in (("2024-01-10T08:00:00", "2024-01-10T12:00:00"), ("2024-01-10T08:00:00", "2024-01-11"),
                            ("2024-01-10", pd.Timestamp("2024-01-10T12:00"))):
             self.refuses(lambda: made.update("t", start, end, {"k": "c"}), "BadPoint", "time")
             self.refuses(lambda: made.delete("t", start, end), "BadPoint", "time")
 
     def test_an_answer_without_last_days_is_refused(self):
-        made = store(frame(), last_day=True)
+        made, _ = quietly(lambda: store(frame(), last_day=True))
         hours = DAYS(["2024-01-10T08:00:00", "2024-01-10T12:00:00"])
         made.table("u", frame(**{"from": hours, "to": hours + pd.Timedelta(hours=1)}))
         self.refuses(lambda: made.join("t", "u", on="k"), "BadPoint", "last day")
@@ -247,6 +247,11 @@ class Changes(Case):
             ("all deleted", lambda made: made.delete("t", "2024-01-10", None), "all rows of that time: 2"),
             ("all by where", lambda made: made.update("t", "2024-01-10", None, {"k": "z"}, {"n": 1}), "all 2"),
             ("a row of none", lambda made: made.update_rows("t", frame(k=["a", "B"], n=[3, 4]), "k"), "row 'y'"),
+            ("a month's last day", lambda made: made.update("t", "2024-01-10", "2024-01-31", {"k": "z"}, {"k": "a"}),
+             "2024-01-31 isn't in it"),
+            ("last days of a load", lambda made: made.load("t", frame(to=DAYS(["2024-01-31", "2024-02-29"]), n=1)),
+             "last_day=True"),
+            ("decimals of no column", lambda made: made.table("u", frame(), decimals={"n": 2}), "'n'"),
             ("loaded again", lambda made: made.load("t", frame(n=1)), "loaded before"),
             ("twice within", lambda made: made.load("t", pd.concat([frame(k="q", n=7).iloc[:1]] * 3)), "1 more rows"),
         ]
