@@ -6,6 +6,7 @@ from typing import Any, List, Optional, Sequence
 
 import numpy as np
 
+from ruzgalt import forms
 from ruzgalt.frames import checks, doubts, points, script, values
 from ruzgalt.frames.arrays import NO_INTS, Ints
 from ruzgalt.frames.ask import REMEDIES
@@ -47,6 +48,11 @@ class Change:
         """The rows of a load."""
         return next((one.side for one in self.commands if one.side is not None), None)
 
+    @property
+    def is_empty(self) -> bool:
+        """Whether it is a load, or an update by rows, of no row."""
+        return self.made is None and (self.side is not None and not len(self.side) or not self.commands)
+
     def done(self, table: Optional[Table], closed: int) -> Table:
         """The table behind it."""
         found = self.made or table
@@ -58,8 +64,8 @@ class Change:
 
 def making(name: Any, frame: Any, key: Names, options: Options) -> Change:
     """A table of a frame's columns, and its rows."""
-    if not isinstance(name, str):
-        raise Refused("BadName", f"{name!r} is no name of a table: {REMEDIES['BadName']}")
+    if not isinstance(name, str) or not forms.is_name(name):
+        raise Refused("BadName", f"{checks.shown(name)} is no name of a table: {REMEDIES['BadName']}")
     names = [column for column in frame.columns if column not in options.period]
     side = side_of(frame, names, options.period, options.form, options.decimals)
     doubts.of_decimals(options.decimals, frame)
@@ -86,6 +92,8 @@ def updating(table: Table, frame: Any, where: Names) -> Change:
     equal = checks.names("where", where) or table.key
     if not equal:
         raise Refused("BadCommand", f"{table.name} has no key: where= names the columns that tell which rows are meant")
+    for name in equal:
+        table.column(name)
     set_to = [column for column in checks.frame("frame", frame).columns if column not in (*table.period, *equal)]
     side = table.side_of(frame, [*set_to, *equal])
     if not set_to:

@@ -2,13 +2,14 @@
 from __future__ import annotations
 
 from dataclasses import dataclass, replace
+from decimal import Decimal
 from typing import Any, Iterator, List, Mapping, Sequence, Tuple
 
 import numpy as np
 import pandas as pd
 
 from ruzgalt import forms
-from ruzgalt.frames import instants, points, sides, values
+from ruzgalt.frames import checks, instants, points, sides, values
 from ruzgalt.frames.arrays import Cells, Ints
 from ruzgalt.frames.ask import REMEDIES
 from ruzgalt.frames.errors import Refused
@@ -91,24 +92,14 @@ class Table:
     def field_of(self, name: Any, value: Any) -> str:
         """A value of an update or a condition, looked at as one of a frame. Raises Refused."""
         column = self.column(name)
-        if column.digits is None:
-            self.refuse_value(column, value)
+        refuse_value(column, value)
         try:
-            told = values.values_of(pd.Series([value], dtype=dtype_of(column), name=name), column.digits)
+            told = values.values_of(series_of(column, value), column.digits)
         except Refused as error:
             raise Refused(error.name, error.reason, name) from None
-        except (OverflowError, TypeError, ValueError) as error:
-            raise Refused("BadNumber", str(error), name) from None
+        except OverflowError as error:
+            raise Refused("BadNumber", f"{value!r}: {error}", name) from None
         return values.fields_of(told)[0] if told.kind == "int" else told.texts.cells[0]
-
-    def refuse_value(self, column: Values, value: Any) -> None:
-        is_int = isinstance(value, (int, np.integer)) and not isinstance(value, (bool, np.bool_))
-        if column.kind == "int" and not is_int:
-            remedy = f"decimals={{{column.name!r}: 2}}, where the table is made, takes others"
-            raise Refused("WrongKind", f"{value!r}: the column of {self.name} has whole numbers; {remedy}", column.name)
-        if column.kind == "text" and not isinstance(value, str):
-            told = f"{value!r}: the column of {self.name} has texts; str(..) makes one"
-            raise Refused("WrongKind", told, column.name)
 
     # What the table's points become.
 
@@ -136,11 +127,29 @@ class Table:
         return list(zip(self.period, (points.series_of(start, kind), self.form.restored_ends(end, kind))))
 
 
-def dtype_of(column: Values) -> Any:
-    """The dtype in which pandas is to take a value: Python's integers as int64, texts as they are."""
+def refuse_value(column: Values, value: Any) -> None:
+    """Raises Refused where the value is of another type than those of the column."""
+    wanted, remedy = "texts", "str(..) makes one"
+    is_right = isinstance(value, str)
     if column.digits is not None:
-        return None if column.dtype == object else column.dtype
-    return "int64" if column.kind == "int" else object
+        wanted, remedy = f"numbers of {column.digits} decimals", "decimal.Decimal(..) makes one of a text"
+        is_right = checks.is_whole(value) or isinstance(value, (float, np.floating, Decimal))
+    elif column.kind == "int":
+        wanted, remedy = "whole numbers", f"decimals={{{column.name!r}: 2}}, where the table is made, takes others"
+        is_right = checks.is_whole(value)
+    if not is_right:
+        raise Refused("WrongKind", f"{checks.shown(value)}: the column has {wanted}; {remedy}", column.name)
+
+
+def series_of(column: Values, value: Any) -> Any:
+    """A Series of the value as one of the column's frames."""
+    if column.digits is None:
+        return pd.Series([value], dtype="int64" if column.kind == "int" else object, name=column.name)
+    if column.dtype == object:
+        return pd.Series([Decimal(int(value)) if checks.is_whole(value) else value], dtype=object, name=column.name)
+    if isinstance(value, Decimal) and values.whole_of(value, column.digits) is None:
+        raise Refused("BadNumber", f"{value} is no number of {column.digits} decimals; quantize() makes it one")
+    return pd.Series([float(value)], dtype=column.dtype, name=column.name)
 
 
 def coded(column: Values, cells: Cells) -> Values:

@@ -21,7 +21,9 @@ def told_of(change: Change, table: Table, before: Sequence[Command], counts: Tup
     added and closed."""
     of_table = [place for place, one in enumerate(before) if one.fields[1] == change.name]
     touched = counts[1][len(before):].tolist()
-    if change.side is not None:
+    if change.is_empty:
+        yield f"{change.name}: the frame has no rows, so nothing was changed"
+    elif change.side is not None:
         yield from of_load(change, change.side, [before[place] for place in of_table])
     elif change.commands[-1].label is not None:
         yield from of_rows(change, touched)

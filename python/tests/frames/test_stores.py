@@ -1,6 +1,7 @@
 """Stores: the names of answers' columns, points, what changes tell, batches, threads, copies, scripts, wrong calls."""
 import copy
 import datetime
+import decimal
 import pickle
 import tempfile
 import threading
@@ -253,6 +254,8 @@ class Changes(Case):
              "last_day=True"),
             ("decimals of no column", lambda made: made.table("u", frame(), decimals={"n": 2}), "'n'"),
             ("loaded again", lambda made: made.load("t", frame(n=1)), "loaded before"),
+            ("a load of no rows", lambda made: made.load("t", frame(n=1).iloc[:0]), "no rows"),
+            ("updates of no rows", lambda made: made.update_rows("t", frame(n=1).iloc[:0], "k"), "no rows"),
             ("twice within", lambda made: made.load("t", pd.concat([frame(k="q", n=7).iloc[:1]] * 3)), "1 more rows"),
         ]
         for what, change, told in cases:
@@ -290,12 +293,17 @@ class Changes(Case):
     def test_values_of_another_kind_say_what_the_column_has(self):
         made = store(frame(v=[1, 2], price=[1.5, 2.5]), decimals={"price": 2})
         update = made.update
-        for value in (1.5, "a", None, float("nan"), True, pd.NA, [1]):
+        for value in (1.5, "1", None, float("nan"), True, pd.NA, [1], 2.0):
             self.refuses(lambda: update("t", "2024-01-10", None, {"v": value}), "WrongKind", "whole numbers", "'v'")
         self.refuses(lambda: update("t", "2024-01-10", None, {"k": 1}), "WrongKind", "texts", "'k'")
-        for value in (1.555, "a", None, float("nan"), [1], 10**30):
-            refused = self.refuses(lambda: update("t", "2024-01-10", None, {"price": value}), "BadNumber")
-            self.assertEqual(refused.column, "price")
+        for value in ("1.5", None, True, [1], pd.NA):
+            self.refuses(lambda: update("t", "2024-01-10", None, {"price": value}), "WrongKind", "2 decimals")
+        tiny = decimal.Decimal("1.5000000000000000000000001")
+        for value in (1.555, float("nan"), float("inf"), 10**30, 10**400, tiny, decimal.Decimal("NaN")):
+            self.refuses(lambda: update("t", "2024-01-10", None, {"price": value}), "BadNumber", "'price'")
+        for value in (3.25, decimal.Decimal("3.25"), np.float64(3.25)):
+            made.update("t", "2024-01-10", "2024-01-11", {"price": value}, {"k": "a"})
+            self.assertEqual(made.at("t", "2024-01-10")["price"].tolist()[-1], 3.25)
 
     def test_frames_have_the_columns_of_the_table(self):
         made = store(frame(n=[1, 2]), key=["k"])
