@@ -129,9 +129,9 @@ def texts_of_points(draw, form, told):
 
 
 @st.composite
-def spoiled(draw, form, frame):
+def spoiled(draw, form, frame, hows=("more", "fewer", "twice", "missing", "float", "levels", "other")):
     """A frame that is none of the table's."""
-    how = draw(st.sampled_from(["more", "fewer", "twice", "missing", "float", "levels", "other"]))
+    how = draw(st.sampled_from(hows))
     name = draw(st.sampled_from(form.names))
     if how == "more":
         return frame.assign(other=1)

@@ -246,6 +246,7 @@ class Stores(stateful.RuleBasedStateMachine):
         bad = data.draw(st.sampled_from(hostile.BAD_NAMES))
         rows = data.draw(hostile.rows_of(form))
         spoiled = data.draw(hostile.spoiled(form, form.frame(rows)))
+        others = data.draw(hostile.spoiled(form, form.frame(rows), ["more", "twice", "levels", "other"]))
         wrong = {
             "set": lambda: store.update(name, "2024-01-01", None, no_dict),
             "where": lambda: store.delete(name, "2024-01-01", None, no_dict),
@@ -257,7 +258,7 @@ class Stores(stateful.RuleBasedStateMachine):
             "name": lambda: store.table(bad, hostile.A_FRAME),
             "key": lambda: store.table("v", hostile.A_FRAME, key="T" if bad is None else bad),
             "parts": lambda: store.check(name, spoiled, 1, "2024-01-01"),
-            "columns": lambda: store.update_rows(name, spoiled, form.names[:1]),
+            "columns": lambda: store.update_rows(name, others, form.names[:1]),
         }
         self.refuses(wrong[data.draw(st.sampled_from(sorted(wrong)))])
 

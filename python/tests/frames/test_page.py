@@ -15,7 +15,7 @@ import pandas as pd
 import ruzgalt
 
 PAGE = Path(__file__).resolve().parents[3] / "docs" / "FRAMES.md"
-LONGEST = 1_600
+LONGEST = 1_650
 FIRST, LAST = datetime.date(2024, 1, 1), datetime.date(9999, 12, 31)
 # Whether an end is taken, comes back as missing, or is refused: by itself, with open_end, with last_day, with both.
 ENDS = {None: "refused, no end, refused, no end", LAST: "taken, no end, refused, no end",
@@ -112,12 +112,18 @@ class Page(unittest.TestCase):
 
     def test_doubts(self):
         one, other = frame(k=["Hill ", "a"]), frame(k=["HILL", "a"])
+        store = ruzgalt.Store()
+        store.table("t", other)
         months = frame(k=["a", "b"]).assign(to=pd.to_datetime(["2024-01-31", "2024-02-29"]))
         self.tries("Doubts", {
             "keys": lambda: warns(lambda: ruzgalt.join(one, other, on="k")),
             "ends": lambda: warns(lambda: ruzgalt.join(months, other, on="k")),
             "no `on=`": lambda: warns(lambda: ruzgalt.join(one, one)),
             "`decimals=`": lambda: warns(lambda: ruzgalt.agg(one, "count", decimals={"eur": 2})),
+            "a store's load": lambda: warns(lambda: store.load("t", other)),
+            "a store's change": lambda: warns(lambda: store.update("t", FIRST, None, {"k": "b"}, {"k": "hill"})),
+            "a portion's end": lambda: warns(lambda: store.delete("t", FIRST, "2024-01-31", {"k": "a"})),
+            "refused changes": lambda: warns(lambda: ruzgalt.Store.from_script(b"load,t\nend\n")),
         })
 
     def test_blocks_print_what_the_page_says(self):
