@@ -7,7 +7,7 @@ from typing import Any, Iterator, List, Optional, Sequence
 import numpy as np
 import pandas as pd
 
-from ruzgalt.frames import answer, checks, groups, instants, pairs, script, split
+from ruzgalt.frames import answer, checks, doubts, groups, instants, pairs, script, split, unmeant
 from ruzgalt.frames.answer import Columns
 from ruzgalt.frames.arrays import Cells
 from ruzgalt.frames.book import Book
@@ -57,7 +57,9 @@ def at(asked: Asked, name: str, point: Any) -> Any:
 
 def anti(asked: Asked, left: str, right: str, on: Any) -> Any:
     tables = [asked.book.known(name) for name in (left, right)]
-    return listed(asked, left, ["anti", left, right, *on_of(tables, on, asked.options)], tables[1].kind)
+    answered = listed(asked, left, ["anti", left, right, *on_of(tables, on, asked.options)], tables[1].kind)
+    tell_of_pairs(asked, tables, on)
+    return answered
 
 
 def listed(asked: Asked, name: str, words: Sequence[str], *kinds: str) -> Any:
@@ -91,6 +93,7 @@ def join(asked: Asked, left: str, right: str, on: Any) -> Any:
     sides = [one.cells(cells), other.cells(cells)]
     shared = compared(on, asked.options)[1] if on is not None else []
     sides[1] = [column for column in sides[1] if column[0] not in shared]
+    tell_of_pairs(asked, [one, other], on)
     return answer.beside(own, sides, asked.options.suffixes)
 
 
@@ -105,6 +108,28 @@ def on_of(tables: Sequence[Table], on: Any, options: Options) -> List[str]:
     return ["on", *told] if told else []
 
 
+def tell_of_pairs(asked: Asked, tables: Sequence[Table], on: Any) -> None:
+    """Warns of what frames are warned of: texts that look alike and don't meet, and a column that isn't compared.
+
+    Whether there are such texts is looked up in the commands, so that rows are asked for only where some may be.
+    """
+    if on is None and asked.options.left_on is None:
+        frames = [pd.DataFrame(columns=list(table.columns)) for table in tables]
+        doubts.of_no_columns(frames, [table.period for table in tables])
+    pairs_of = list(zip(*compared(on, asked.options)))
+    told = [[unmeant.texts_of(asked.book.commands, table.name, name) for table, name in zip(tables, pair)]
+            for pair in pairs_of]
+    doubtful = [pair for pair, texts in zip(pairs_of, told) if doubts.strangers(*texts)]
+    if doubtful:
+        doubts.of_keys(*(filled(asked, table, names) for table, names in zip(tables, zip(*doubtful))))
+
+
+def filled(asked: Asked, table: Table, names: Sequence[str]) -> List[Values]:
+    """Columns of a table with their cells."""
+    cells = dict(zip(table.columns, asked.block(["rows", table.name], "---" + table.readers)))
+    return [coded(table.columns[name], cells[name]) for name in names]
+
+
 def agg(asked: Asked, name: str, function: str, column: Any) -> Any:
     groups.refuse_call(function, column)
     table = asked.book.known(name)
@@ -113,6 +138,7 @@ def agg(asked: Asked, name: str, function: str, column: Any) -> Any:
     groups.refuse_texts(function, amounts)
     found = (by_several if len(by) > 1 else by_one)(asked, table, function, [*by, *amounts])
     *told, start, end, value = found
+    doubts.of_groups(coded(one, pd.unique(cells)) for one, cells in zip(by, told))
     columns = Columns([(one.name, one.restored(cells)) for one, cells in zip(by, told)])
     columns.add(table.period_cells(iter((start, end)), asked.options.kind_of(table.kind)))
     columns.add([(groups.name_of(function, column), groups.restored(value, function, amounts))])

@@ -142,14 +142,32 @@ class Store:
               **options: Any) -> Optional[Changed]:
         """Makes a table of a frame's columns, but for the period's two, and loads its rows.
 
-        key: columns of which no two rows that are equal in all hold at one point. Options: open_end, last_day and
-        decimals, as frames.options.Options has them; they are those of each frame of this table.
+        Parameters
+        ----------
+        name : str
+            1 to 32 of a to z, 0 to 9 and _, the first a letter; so are the names of columns.
+        period : pair of names
+            The columns with a row's start and its end, the first point behind it.
+        key : name or list of names
+            Columns of which no two rows that are equal in all hold at one point.
+        open_end, last_day, decimals
+            As frames.options.Options has them, of each frame of this table.
+
+        Returns
+        -------
+        Changed
+            As of the load, which is a commit behind that of the table.
         """
         of_table = options_of("table", {"period": period, **options})
         return self.change(changes.making(name, checks.frame("frame", frame), key, of_table))
 
     def load(self, name: str, frame: Any) -> Optional[Changed]:
-        """Adds the rows of a frame that has the table's columns and no others, in any order."""
+        """Adds the rows of a frame that has the table's columns and no others, in any order.
+
+        Returns
+        -------
+        Changed
+        """
         with self.lock:
             return self.change(changes.loading(self.known(name), frame))
 
@@ -157,7 +175,16 @@ class Store:
                where: Optional[Mapping[str, Any]] = None) -> Optional[Changed]:
         """Gives rows other values from `start` on and before `end`: all rows, or those that have all values of `where`.
 
-        None as the end is no end: 9999-12-31. In a table of last days `end` is the last day.
+        Parameters
+        ----------
+        start, end : str, date, datetime, Timestamp or Period
+            In a table of last days `end` is the last day. None as the end is no end: 9999-12-31.
+        set, where : dict
+            Columns with values.
+
+        Returns
+        -------
+        Changed
         """
         with self.lock:
             table = self.known(name)
@@ -165,15 +192,32 @@ class Store:
             return self.change(changes.changing("update", table, table.portion(start, end), fields))
 
     def delete(self, name: str, start: Any, end: Any, where: Optional[Mapping[str, Any]] = None) -> Optional[Changed]:
-        """Takes a portion of time, told as that of an update, out of all rows, or of those of `where`."""
+        """Takes a portion of time out of all rows, or of those of `where`; these are given as to an update.
+
+        Returns
+        -------
+        Changed
+        """
         with self.lock:
             table = self.known(name)
             fields = changes.condition(table, where)
             return self.change(changes.changing("delete", table, table.portion(start, end), fields))
 
     def update_rows(self, name: str, frame: Any, where: Names = None) -> Optional[Changed]:
-        """An update for each row of a frame, in their order: of the rows that are equal in the columns `where`, which
-        are else the table's key, for the row's period, to the row's other values. All are done, or none."""
+        """An update for each row of a frame, in their order, each of which is a commit. All are done, or none.
+
+        Parameters
+        ----------
+        frame : DataFrame
+            Portions of time, with the values to find rows by and those that they get. Columns may be left out.
+        where : name or list of names
+            The columns in which rows are to be equal; without them the table's key.
+
+        Returns
+        -------
+        Changed
+            Of all together, and the commit of the last.
+        """
         with self.lock:
             return self.change(changes.updating(self.known(name), frame, where))
 
@@ -204,11 +248,19 @@ class Store:
     # order is told. A column whose name the answer has for itself has `_` behind it. points_as is as of frames.
 
     def rows(self, name: str, as_of: Optional[int] = None, *, points_as: Optional[str] = None) -> Any:
-        """All rows: row_id, the period, the table's columns."""
+        """All rows: row_id, the period, the table's columns.
+
+        Parameters
+        ----------
+        as_of : int, optional
+            The number of a commit, of which the rows are, where not of the newest.
+        points_as : str, optional
+            ns, us, ms, s, D, S, date or datetime: the points, where not of the table's kind.
+        """
         return questions.rows(self.asked(as_of, points_as=points_as), name)
 
     def at(self, name: str, point: Any, as_of: Optional[int] = None, *, points_as: Optional[str] = None) -> Any:
-        """The rows that hold at a point, as rows() lists them."""
+        """The rows that hold at a point, as rows() lists them. A day is its midnight."""
         return questions.at(self.asked(as_of, points_as=points_as), name, point)
 
     def between(self, name: str, first: int, last: int, *, points_as: Optional[str] = None) -> Any:
@@ -223,7 +275,17 @@ class Store:
     def join(self, left: str, right: str, on: Names = None, *, left_on: Names = None, right_on: Names = None,
              suffixes: Suffixes = ("_left", "_right"), points_as: Optional[str] = None,
              as_of: Optional[int] = None) -> Any:
-        """As ruzgalt.join, of two tables' rows, with left_id and right_id behind the period; by start, end and ids."""
+        """As ruzgalt.join, of two tables' rows, with left_id and right_id behind the period; by start, end and ids.
+
+        Parameters
+        ----------
+        on : name or list of names
+            Columns of both tables that are to be equal. Without any each row may meet each.
+        left_on, right_on : name or list of names
+            The same, where the tables have different names for them.
+        suffixes : pair of str or None
+            What is put behind names that are taken, of the left table and of the right one.
+        """
         told = self.asked(as_of, left_on=left_on, right_on=right_on, suffixes=suffixes, points_as=points_as)
         return questions.join(told, left, right, on)
 
@@ -235,7 +297,15 @@ class Store:
 
     def agg(self, name: str, function: str, column: Optional[str] = None, by: Names = None,
             as_of: Optional[int] = None, *, points_as: Optional[str] = None) -> Any:
-        """As ruzgalt.agg, of the table's rows."""
+        """As ruzgalt.agg, of the table's rows.
+
+        Parameters
+        ----------
+        function : str
+            count, or of a column's numbers sum, min or max.
+        by : name or list of names
+            Columns whose equal values are a group.
+        """
         return questions.agg(self.asked(as_of, by=by, points_as=points_as), name, function, column)
 
     def dip(self, name: str, as_of: Optional[int] = None) -> Any:
@@ -246,7 +316,17 @@ class Store:
               as_of: Optional[int] = None) -> Verdict:
         """Whether a frame of part and row_id divides the rows, no two that overlap in one part, in as few as can be.
 
-        count and instant, where they are None, are those of the frame's attrs, as of dip().
+        Parameters
+        ----------
+        parts : DataFrame
+            part, numbers or texts, and row_id.
+        count, instant : optional
+            How many parts there are, and a point at which as many rows hold; else those of parts.attrs, as of dip().
+
+        Returns
+        -------
+        Verdict
+            True or false as a condition; else with the reason and its numbers.
         """
         return divisions.check(self.asked(as_of), name, parts, count, instant)
 

@@ -1,7 +1,7 @@
 """What may not be meant in a change that was accepted: rows that are there twice, and changes of no row or of all."""
 from __future__ import annotations
 
-from typing import Iterator, List, Sequence, Tuple
+from typing import Dict, Iterator, List, Sequence, Tuple
 
 import numpy as np
 import pandas as pd
@@ -14,6 +14,18 @@ from ruzgalt.frames.script import Command
 from ruzgalt.frames.sides import Side
 from ruzgalt.frames.tables import Table
 from ruzgalt.frames.values import Values
+
+
+def texts_of(commands: Sequence[Command], table: str, name: str) -> List[str]:
+    """The texts that a column of a table has, or had before a change."""
+    found: Dict[str, None] = {}
+    for one in commands:
+        if one.fields[1] == table and one.side is not None:
+            found.update(dict.fromkeys(text for own in one.side.columns if own.name == name for text in own.texts.cells))
+        elif one.fields[1] == table and one.word == "update":
+            places = fields.set_places(one.fields)
+            found.update((one.fields[place + 1], None) for place in places if one.fields[place] == name)
+    return list(found)
 
 
 def told_of(change: Change, table: Table, before: Sequence[Command], counts: Tuple[Ints, Ints]) -> Iterator[str]:

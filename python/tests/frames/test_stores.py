@@ -183,7 +183,7 @@ class Points(Case):
         self.assertEqual(str(made.rows("t")["from"].dtype), "datetime64[ns]")
         made.update("t", "2300-01-01", None, {"k": "c"}, {"k": "a"})
         for got in (made.rows("t"), made.at("t", "2350-01-01"), made.agg("t", "count"), made.join("t", "t", on="k"),
-                    made.between("t", 0, 3), made.anti("t", "t")):
+                    made.between("t", 0, 3), made.anti("t", "t", on=[])):
             self.assertEqual(str(got["from"].dtype), "period[S]")
         self.assertEqual(str(made.rows("t", points_as="D")["to"].dtype), "period[D]")
         self.assertEqual(made.at("t", "2350-01-01", points_as="date")["from"].tolist(), [datetime.date(2300, 1, 1)])
@@ -369,6 +369,31 @@ class Changes(Case):
                 call()
             self.assertIn(word, str(caught.exception))
         self.assertEqual(list(made.tables), ["t"])
+
+
+class Questions(Case):
+    """What frames are warned of."""
+
+    def test_texts_that_look_alike_are_doubted_while_they_are_there(self):
+        made = store(frame(k=["Hill", "a"]), "l")
+        made.table("r", frame(k=["HILL ", "a"]))
+        for ask in (lambda: made.join("l", "r", on="k"), lambda: made.anti("l", "r", left_on=["k"], right_on=["k"])):
+            self.assertIn("'HILL '", quietly(ask)[1][0])
+        made.update("r", "0001-01-01", None, {"k": "Hill"}, {"k": "HILL "})
+        self.assertEqual(quietly(lambda: made.join("l", "r", on="k"))[1], [])
+        self.assertIn("'HILL '", quietly(lambda: made.join("l", "r", on="k", as_of=4))[1][0])
+        made.update("l", "0001-01-01", None, {"k": "hill"}, {"k": "Hill"})
+        self.assertIn("'hill'", quietly(lambda: made.join("l", "r", on="k"))[1][0])
+
+    def test_groups_that_look_alike_are_doubted(self):
+        made = store(frame(k=["Hill", "hill"], n=[1, 2]))
+        for by in ("k", ["n", "k"]):
+            self.assertIn("two groups", quietly(lambda: made.agg("t", "count", by=by))[1][0])
+
+    def test_a_column_of_both_that_is_not_compared_is_doubted(self):
+        made = store(frame())
+        self.assertIn("'k'", quietly(lambda: made.join("t", "t"))[1][0])
+        self.assertEqual(quietly(lambda: made.join("t", "t", on=[]))[1], [])
 
 
 class Batches(Case):
