@@ -21,7 +21,8 @@ def texts_of(commands: Sequence[Command], table: str, name: str) -> List[str]:
     found: Dict[str, None] = {}
     for one in commands:
         if one.fields[1] == table and one.side is not None:
-            found.update(dict.fromkeys(text for own in one.side.columns if own.name == name for text in own.texts.cells))
+            columns = [column for column in one.side.columns if column.name == name]
+            found.update(dict.fromkeys(text for column in columns for text in column.texts.cells))
         elif one.fields[1] == table and one.word == "update":
             places = fields.set_places(one.fields)
             found.update((one.fields[place + 1], None) for place in places if one.fields[place] == name)
