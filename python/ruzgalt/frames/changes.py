@@ -65,7 +65,8 @@ class Change:
 def making(name: Any, frame: Any, key: Names, options: Options) -> Change:
     """A table of a frame's columns, and its rows."""
     if not isinstance(name, str) or not forms.is_name(name):
-        raise Refused("BadName", f"{checks.shown(name)} is no name of a table: {REMEDIES['BadName']}")
+        told = REMEDIES["BadName"].partition(";")[0]
+        raise Refused("BadName", f"{checks.shown(name)} is no name of a table: {told}")
     names = [column for column in frame.columns if column not in options.period]
     side = side_of(frame, names, options.period, options.form, options.decimals)
     doubts.of_decimals(options.decimals, frame)

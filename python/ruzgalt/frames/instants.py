@@ -26,11 +26,19 @@ def column_of(point: Any) -> Any:
         raise Refused("WrongKind", f"{point!r} is no point: {REMEDIES['BadPoint']}")
     if pd.isna(point):
         raise Refused("BadPoint", f"{point!r} is no point: {REMEDIES['BadPoint']}")
+    if isinstance(point, np.datetime64):
+        point = datetime_of(point)
     # Objects for dates, datetimes and Timestamps; pandas finds the dtype of a Period itself.
-    try:
-        return pd.Series([point], dtype=object if isinstance(point, datetime.date) else None)
-    except ValueError as error:
-        raise Refused("BadPoint", f"{point!r}: {error}") from None
+    return pd.Series([point], dtype=object if isinstance(point, datetime.date) else None)
+
+
+def datetime_of(point: Any) -> datetime.datetime:
+    """The datetime that a datetime64 is, which pandas takes to nanoseconds, so not all years."""
+    told = point.astype("M8[s]")
+    found = told.item()
+    if told != point or not isinstance(found, datetime.datetime):
+        raise Refused("BadPoint", f"{point!r} has a fraction of a second, or is outside of the years 0001 to 9999")
+    return found
 
 
 def second_of(point: Any) -> int:

@@ -12,11 +12,13 @@ NAMES = ["row_id", "id", "left_id", "right_id", "part", "count", "cents", "sum_c
 BAD_NAMES = ["Id", " id", "", "größe", "x" * 33, "by", "set", 7, None, ("a", "b"), 1.5]
 TEXTS = ["", "a", "A", " a", "a,b", 'a"b', "row", "where", "é", "e\u0301", "a\0b", "a\nb"]
 PERIODS = [("from", "to"), ("valid_from", "to"), ("row_id", "sys_from"), ("von", 1)]
-FIRST = datetime.datetime(2024, 1, 1)
-OPEN = 40
+# The day 0 of a store; behind the day 10 of the second datetime64[ns] has no point.
+FIRSTS = [datetime.datetime(2024, 1, 1), datetime.datetime(2262, 4, 1)]
+FIRST = FIRSTS[0]
+OPEN, MOST = 40, 10
 KINDS = ("ns", "D", "S", "date")
 SUFFIXES = [("_left", "_right"), ("", "_2"), (None, "_r"), ("_l", None), (None, None)]
-A_FRAME = pd.DataFrame({"from": [pd.Timestamp(FIRST)], "to": [pd.Timestamp("2024-01-02")], "a": [1]})
+A_FRAME = pd.DataFrame({"from": [pd.Timestamp("2024-01-01")], "to": [pd.Timestamp("2024-01-02")], "a": [1]})
 NO_FRAMES = [None, [1], {"a": [1]}, A_FRAME["a"], "pay.csv", b"x", 5, A_FRAME.to_numpy()]
 NO_COMMITS = ["2024-01-01", -1, 2.0, True, 10**6, [1], pd.NaT, {}]
 NO_POINTS = [None, pd.NaT, "", "2024-13-01", "2024-01-01 08:00", 5, [1], {}, pd.Timestamp("2024-01-01", tz="UTC")]
@@ -24,6 +26,11 @@ NO_NAMES = [True, {"a"}, {"a": 1}, pd.Index(["a"]), [["a"]], [("a", "b")], "no_s
 NO_DICTS = [{}, [], "a == 1", 5, {"no_such": 1}, {7: 1}, [("a", 1)]]
 NO_KINDS = ["W", "", 1, ["S"], True]
 NO_SUFFIXES = ["", "_l", (), ("_l",), ("_l", "_r", "_s"), (1, 2), {"_l": "_r"}]
+
+
+def begin(first):
+    global FIRST
+    FIRST = first
 
 
 def moment(day):
@@ -104,9 +111,9 @@ def rows_of(draw, form, least=0, names=None):
     return [row(draw, form, names) for _ in range(draw(st.integers(least, 4)))]
 
 
-def row(draw, form, names=None):
-    start = draw(st.integers(0, 12))
-    ends = st.integers(start + 1, 14) | st.just(OPEN) if form.is_open else st.integers(start + 1, 14)
+def row(draw, form, names=None, most=MOST):
+    start = draw(st.integers(0, most - 2))
+    ends = st.integers(start + 1, most) | st.just(OPEN) if form.is_open else st.integers(start + 1, most)
     return start, draw(ends), values_of(draw, form, form.names if names is None else names)
 
 
@@ -124,8 +131,9 @@ def texts_of_points(draw, form, told):
     """A point in one of its forms: a text, a cell of the table's points, or another date."""
     if told == OPEN:
         return None
-    return draw(st.sampled_from([moment(told).date().isoformat(), point(form.points, told), moment(told),
-                                 np.datetime64(moment(told), "s")]))
+    kind = form.points if told <= MOST else "S"
+    return draw(st.sampled_from([moment(told).date().isoformat(), point(kind, told), moment(told),
+                                 np.datetime64(moment(told), "s"), np.datetime64(moment(told), "D")]))
 
 
 @st.composite

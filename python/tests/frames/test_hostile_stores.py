@@ -45,6 +45,10 @@ class Stores(stateful.RuleBasedStateMachine):
         super().__init__()
         self.store, self.plain, self.forms = ruzgalt.Store(workers=1), plain_store.PlainStore(), {}
 
+    @stateful.initialize(first=st.sampled_from(hostile.FIRSTS))
+    def begins(self, first):
+        hostile.begin(first)
+
     # Changes.
 
     def same(self, done, wanted):
@@ -75,7 +79,7 @@ class Stores(stateful.RuleBasedStateMachine):
     @rule(data=DATA, word=st.sampled_from(["update", "delete"]))
     def changes(self, data, word):
         name, form = self.some_table(data)
-        start, end, _ = hostile.row(data.draw, form)
+        start, end, _ = hostile.row(data.draw, form, most=14)
         where = hostile.values_of(data.draw, form, hostile.some(data.draw, form.names))
         to = hostile.values_of(data.draw, form, hostile.some(data.draw, form.names, 1)) if word == "update" else None
         told = data.draw(hostile.texts_of_points(form, start)), data.draw(hostile.texts_of_points(

@@ -16,7 +16,8 @@ import ruzgalt
 
 STORES = int(os.environ.get("FRAMES_STORES", "15"))
 SEED = int(os.environ.get("FRAMES_SEED", "1"))
-DECIMALS = {"price": 2, "exact": 3}
+# Names of columns, many of which answers have themselves.
+NAMES = ["person", "euros", "row_id", "sys_from", "sys_to", "part", "valid_from", "valid_to", "id", "commit", "row_id_"]
 EXACT = [decimal.Decimal(text) for text in ("0.1", "-2.500", "7")]
 CHANGES = ("table", "load", "update", "delete")
 
@@ -30,8 +31,10 @@ class Case:
         self.is_last_day = self.kind in ("ns", "D", "date") and random.random() < 0.2
         self.is_open = random.random() < 0.5
         self.texts = random.sample(random_frames.TEXTS, 4)
+        self.person, self.euros, self.price, self.exact = self.values = random.sample(NAMES, 4)
+        self.decimals = {self.price: 2, self.exact: 3}
         self.dtypes = random.choice(["object", "string"]), random.choice(["int64", "int16", "Int64"])
-        self.key = ["person"] if random.random() < 0.5 else []
+        self.key = [self.person] if random.random() < 0.5 else []
         self.store, self.plain = ruzgalt.Store(), plainly.Store()
         self.first = self.frame(random.choice([0, 1, 5]))
         if not self.make():
@@ -44,25 +47,24 @@ class Case:
         start, end = random_frames.points(random, self.kind, count, self.is_open, self.is_last_day)
         made = pd.DataFrame({
             "from": start, "to": end,
-            "person": pd.Series([random.choice(self.texts) for _ in range(count)], dtype=self.dtypes[0]),
-            "euros": pd.Series([random.randint(-2, 2) for _ in range(count)], dtype=self.dtypes[1]),
-            "price": pd.Series([random.choice([0.1, 12.34, -7.0, 0.29]) for _ in range(count)], dtype="float64"),
-            "exact": pd.Series([random.choice(EXACT) for _ in range(count)], dtype=object),
+            self.person: pd.Series([random.choice(self.texts) for _ in range(count)], dtype=self.dtypes[0]),
+            self.euros: pd.Series([random.randint(-2, 2) for _ in range(count)], dtype=self.dtypes[1]),
+            self.price: pd.Series([random.choice([0.1, 12.34, -7.0, 0.29]) for _ in range(count)], dtype="float64"),
+            self.exact: pd.Series([random.choice(EXACT) for _ in range(count)], dtype=object),
         })
         return made[random.sample(list(made.columns), 6)]
 
     def rows_of(self, frame):
         start, end = plainly.periods(frame, random_frames.PERIOD, self.is_last_day)
-        names = ("person", "euros", "price", "exact")
-        values = zip(*(frame[name].tolist() for name in names))
-        return [(one, other, dict(zip(names, row))) for one, other, row in zip(start.tolist(), end.tolist(), values)]
+        rows = zip(*(frame[name].tolist() for name in self.values))
+        return list(zip(start.tolist(), end.tolist(), [dict(zip(self.values, row)) for row in rows]))
 
     def make(self):
         def plainly_made(plain):
             plain.make()
             if len(self.first):
                 plain.load(self.rows_of(self.first))
-        words = {"key": self.key, "open_end": self.is_open, "last_day": self.is_last_day, "decimals": DECIMALS}
+        words = {"key": self.key, "open_end": self.is_open, "last_day": self.is_last_day, "decimals": self.decimals}
         return self.both(lambda: self.store.table("t", self.first, **words), plainly_made)
 
     def both(self, change, plainly_changed):
@@ -105,8 +107,8 @@ class Case:
             return
         start, end = self.portion()
         where = None if random.random() < 0.3 else self.some_values() or None
-        to = {"euros": random.randint(-2, 2)} if random.random() < 0.7 else {
-            "person": random.choice(self.texts), "price": 0.29, "exact": decimal.Decimal("1.125")}
+        to = {self.euros: random.randint(-2, 2)} if random.random() < 0.7 else {
+            self.person: random.choice(self.texts), self.price: 0.29, self.exact: decimal.Decimal("1.125")}
         times = plainly.number(start), plainly.number(end, int(self.is_last_day))
         told = [one if one is None or random.random() < 0.5 else one.isoformat() for one in (start, end)]
         if random.random() < 0.7:
@@ -117,15 +119,16 @@ class Case:
 
     def some_values(self):
         random = self.random
-        told = {"person": random.choice(self.texts), "euros": random.randint(-2, 2)}
-        told["price"] = random.choice([0.1, 12.34])
+        told = {self.person: random.choice(self.texts), self.euros: random.randint(-2, 2)}
+        told[self.price] = random.choice([0.1, 12.34])
         return {name: value for name, value in told.items() if random.random() < 0.4}
 
-    def listed(self, frame, more=()):
-        days = int(self.is_last_day)
-        times = [plainly.numbers(frame["from"]).tolist(), plainly.numbers(frame["to"], days).tolist()]
-        commits = [[None if pd.isna(one) else int(one) for one in frame[name]] for name in more]
-        return list(zip(frame["row_id"].tolist(), *times, *commits, *(frame[name].tolist() for name in self.names)))
+    def listed(self, frame, has_commits=False):
+        """The rows of an answer, whose columns are known by their places."""
+        ids, start, end, *others = (frame.iloc[:, place] for place in range(len(frame.columns)))
+        times = [plainly.numbers(start).tolist(), plainly.numbers(end, int(self.is_last_day)).tolist()]
+        commits = [[None if pd.isna(one) else int(one) for one in column] for column in others[:2 * has_commits]]
+        return list(zip(ids.tolist(), *times, *commits, *(one.tolist() for one in others[2 * has_commits:])))
 
     def wanted(self, versions, has_commits=False):
         commits = (lambda one: (one["made"], one["closed"])) if has_commits else (lambda one: ())
@@ -140,8 +143,8 @@ class RandomStores(unittest.TestCase):
         store, plain, random = case.store, case.plain, case.random
         rows = store.rows("t")
         self.assertEqual(case.listed(rows), case.wanted(plain.shown(plain.commit)))
-        for name in case.names:
-            self.assertEqual(rows[name].dtype, case.first[name].dtype)
+        self.assertEqual(list(rows)[:3], ["row_id", *random_frames.PERIOD])
+        self.assertEqual(rows.dtypes.tolist()[3:], case.first[case.names].dtypes.tolist())
         old, point = random.randint(0, plain.commit), case.moment()
         self.assertEqual(case.listed(store.rows("t", as_of=old)), case.wanted(plain.shown(old)))
         second = plainly.number(point)
@@ -151,26 +154,27 @@ class RandomStores(unittest.TestCase):
         last = random.randint(first, plain.commit)
         made = [one for one in plain.versions if one["made"] <= last]
         seen = [one for one in made if one["closed"] is None or one["closed"] > first]
-        told = case.listed(store.between("t", first, last), more=("sys_from", "sys_to"))
+        told = case.listed(store.between("t", first, last), has_commits=True)
         self.assertEqual(told, case.wanted(seen, has_commits=True))
         self.assertEqual(list(store.log().itertuples(index=False, name=None)), plain.log)
         return rows
 
     def asks(self, case, rows):
         """The questions that frames have too, of the store and of its rows as a frame."""
-        store, frame, ids = case.store, rows.drop(columns="row_id"), rows["row_id"].tolist()
+        store, ids = case.store, rows["row_id"].tolist()
+        frame = rows.iloc[:, 1:].set_axis([*random_frames.PERIOD, *case.names], axis=1)
         words = {"open_end": case.is_open, "last_day": case.is_last_day}
-        pairs = store.join("t", "t", on=["person", "euros"])
-        told = ruzgalt.join(frame, frame, on=["person", "euros"], labels=True, **words)
+        pairs = store.join("t", "t", on=[case.person, case.euros])
+        told = ruzgalt.join(frame, frame, on=[case.person, case.euros], labels=True, **words)
         for name, label in (("left_id", "left_label"), ("right_id", "right_label")):
             told[label] = [ids[place] for place in told[label]]
             told = told.rename(columns={label: name})
         pd.testing.assert_frame_equal(pairs, told, check_dtype=len(pairs) > 0)
-        wanted = ruzgalt.agg(frame, "sum", "price", by="person", decimals=DECIMALS, **words)
-        pd.testing.assert_frame_equal(store.agg("t", "sum", "price", by="person"), wanted)
-        wanted = ruzgalt.agg(frame, "count", by=["person", "euros"], **words)
-        pd.testing.assert_frame_equal(store.agg("t", "count", by=["person", "euros"]), wanted)
-        self.assertEqual(len(store.anti("t", "t", on="person")), 0)
+        wanted = ruzgalt.agg(frame, "sum", case.price, by=case.person, decimals=case.decimals, **words)
+        pd.testing.assert_frame_equal(store.agg("t", "sum", case.price, by=case.person), wanted)
+        wanted = ruzgalt.agg(frame, "count", by=[case.person, case.euros], **words)
+        pd.testing.assert_frame_equal(store.agg("t", "count", by=[case.person, case.euros]), wanted)
+        self.assertEqual(len(store.anti("t", "t", on=case.person)), 0)
 
     def divides(self, case, rows):
         division = case.store.dip("t")

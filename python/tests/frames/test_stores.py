@@ -208,6 +208,13 @@ class Points(Case):
             wanted = ruzgalt.anti(left, right, on="k").reset_index(drop=True)
             pd.testing.assert_frame_equal(made.anti("l", "r", on="k").drop(columns="row_id"), wanted)
 
+    def test_a_point_of_numpy_is_of_any_year(self):
+        made = store(frame(to=pd.Series([pd.NaT] * 2, ["x", "y"])), open_end=True)
+        for point in (np.datetime64("3024-01-01"), np.datetime64("2024-01-15T08:00", "m"), np.datetime64("2024-06")):
+            self.assertEqual(len(made.at("t", point)), 2)
+        for point in (np.datetime64("2024-01-15T00:00:00.5"), np.datetime64("30000-01-01"), np.datetime64("-1-01-01")):
+            self.refuses(lambda: made.at("t", point), "BadPoint")
+
     def test_between_is_of_commits(self):
         made = store(frame())
         for first, last in (("2024-01-01", "2024-02-01"), (DAYS("2024-01-01"), 2), (0, True), (0.0, 2), (-1, 2)):
