@@ -100,7 +100,7 @@ class Marks:
         """All that is marked, by the answers' order; what changes touched is known now."""
         for answer in self.found:
             if not answer.refusal and answer.command.word in PORTIONS:
-                self.add(answer, of_count(answer.command.record.fields, store.closed.get(answer.commits, 0)))
+                self.add(answer, of_count(answer, store.closed.get(answer.commits, 0)))
         return sorted(self.marks, key=lambda mark: mark.answer.number)
 
 
@@ -120,7 +120,11 @@ def of_end(end: str) -> Optional[str]:
     return None
 
 
-def of_count(fields: Sequence[str], count: int) -> Optional[str]:
+def of_count(answer: Answer, count: int) -> Optional[str]:
+    return of_touched(answer.command.record.fields, count)
+
+
+def of_touched(fields: Sequence[str], count: int) -> Optional[str]:
     """What an update or a delete touched, where that was nothing, or all that there was."""
     has_where = bool(where_places(fields))
     if not count:

@@ -73,7 +73,12 @@ class Lists(unittest.TestCase):
 
     def test_the_same_load_twice_is_marked(self) -> None:
         script = PAY + PAY.partition("\n")[2]
-        self.marks("its rows are those of the load at line 2", script, "ok,1\nok,2\nok,3\n")
+        for end in ("\n", ""):
+            self.marks("its rows are those of the load at line 2", script[:-1] + end, "ok,1\nok,2\nok,3\n")
+
+    def test_a_change_of_a_time_without_rows_is_marked(self) -> None:
+        script = PAY + "delete,pay,2030-01-01,2031-01-02\n"
+        self.marks("no row holds in that time, so nothing was changed", script, "ok,1\nok,2\nok,3\n")
 
     def test_a_day_asked_of_a_table_with_hours_is_marked(self) -> None:
         script = PAY + "load,pay\nrow,2024-07-01T08:00:00,2024-07-01T12:00:00,A,1\nend\nat,pay,2024-07-01\n"

@@ -67,7 +67,7 @@ def hashes_of(side: Side) -> Hashes:
 
 def of_portion(change: Change, count: int, there: int) -> Iterator[str]:
     command = change.commands[-1]
-    told = marks.of_count(command.fields, count)
+    told = marks.of_touched(command.fields, count)
     if told is None and count == there > 1 and fields.where_places(command.fields):
         told = f"its `where` leaves no row out: all {count} of the table were changed"
     if told:
@@ -87,4 +87,4 @@ def of_rows(change: Change, touched: List[int]) -> Iterator[str]:
     idle = [one for one, count in zip(change.commands, touched) if not count]
     if idle:
         more = f"; {len(idle) - 1} more rows are so" if len(idle) > 1 else ""
-        yield f"update of {change.name}: row {idle[0].label!r}: {marks.of_count(idle[0].fields, 0)}{more}"
+        yield f"update of {change.name}: row {idle[0].label!r}: {marks.of_touched(idle[0].fields, 0)}{more}"

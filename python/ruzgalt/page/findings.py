@@ -58,7 +58,7 @@ def refused_and_doubtful(found: Sequence[Answer]) -> Tuple[List[Finding], List[F
             more = overlaps.explained(store, answer) if is_explained else []
             one = finding(answer, answer.refusal.name, refusals.reason(answer), more)
             refused.append(one._replace(place=answer.refusal.record.place))
-    others = [mark for mark in seen.end(store) if mark.told != marks.of_count(mark.answer.command.record.fields, 0)]
+    others = [mark for mark in seen.end(store) if mark.told != marks.of_count(mark.answer, 0)]
     return refused, [finding(mark.answer, "", mark.told) for mark in others]
 
 
