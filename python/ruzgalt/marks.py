@@ -64,7 +64,7 @@ class Marks:
 
     def look_at_load(self, answer: Answer) -> None:
         table, block = answer.command.record.fields[1], answer.command.block
-        data = block.bytes() if isinstance(block, Block) else b""
+        data = block.bytes().rstrip(b"\r\n") if isinstance(block, Block) else b""
         line = self.loads.setdefault((table, hash(data)), answer.line)
         if line != answer.line and len(block) > 1:
             self.add(answer, f"its rows are those of the load at line {line}, so each is there twice")

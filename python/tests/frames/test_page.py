@@ -15,7 +15,7 @@ import pandas as pd
 import ruzgalt
 
 PAGE = Path(__file__).resolve().parents[3] / "docs" / "FRAMES.md"
-LONGEST = 1_650
+LONGEST = 1_700
 FIRST, LAST = datetime.date(2024, 1, 1), datetime.date(9999, 12, 31)
 # Whether an end is taken, comes back as missing, or is refused: by itself, with open_end, with last_day, with both.
 ENDS = {None: "refused, no end, refused, no end", LAST: "taken, no end, refused, no end",
