@@ -58,7 +58,7 @@ class Change:
         found = self.made or table
         if found is None:
             raise Refused("NoTable", f"{self.name!r} is no table that is there")
-        found = found.with_rows(self.side) if self.side is not None else found
+        found = found.with_rows(self.side) if self.side is not None and len(self.side) else found
         return found.widened(self.portion) if closed else found
 
 
@@ -67,7 +67,7 @@ def making(name: Any, frame: Any, key: Names, options: Options) -> Change:
     if not isinstance(name, str) or not forms.is_name(name):
         told = REMEDIES["BadName"].partition(";")[0]
         raise Refused("BadName", f"{checks.shown(name)} is no name of a table: {told}")
-    names = [column for column in frame.columns if column not in options.period]
+    names = [column for column in frame.columns if column not in set(options.period)]
     side = side_of(frame, names, options.period, options.form, options.decimals)
     doubts.of_decimals(options.decimals, frame)
     made = replace(table_of(name, side, checks.names("key", key) or (), options), kind=side.kind)
@@ -95,7 +95,7 @@ def updating(table: Table, frame: Any, where: Names) -> Change:
         raise Refused("BadCommand", f"{table.name} has no key: where= names the columns that tell which rows are meant")
     for name in equal:
         table.column(name)
-    set_to = [column for column in checks.frame("frame", frame).columns if column not in (*table.period, *equal)]
+    set_to = [column for column in checks.frame("frame", frame).columns if column not in {*table.period, *equal}]
     side = table.side_of(frame, [*set_to, *equal])
     if not set_to:
         raise Refused("BadCommand", "the frame has no column but those of the period and of where=, so none to set")

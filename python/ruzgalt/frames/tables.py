@@ -58,7 +58,7 @@ class Table:
     def side_of(self, frame: Any, names: Sequence[Any]) -> Side:
         """A frame's rows with these of the table's columns, which are all that it has. Raises Refused."""
         for name in frame.columns:
-            if name not in self.period:
+            if name not in set(self.period):
                 self.column(name)
         side = sides.side_of(frame, names, self.period, self.form, self.options.decimals)
         for one in side.columns:

@@ -196,6 +196,11 @@ class Points(Case):
         quietly(lambda: made.delete("t", "2024-02-01", "9999-12-31T23:59:59"))
         self.assertEqual(str(made.rows("t")["to"].dtype), "datetime64[ns]")
 
+    def test_a_load_of_no_rows_widens_no_kind(self):
+        made = store(frame())
+        quietly(lambda: made.load("t", frame(**{"from": frame()["from"].dt.to_period("D")}).iloc[:0]))
+        self.assertEqual(str(made.rows("t")["from"].dtype), "datetime64[ns]")
+
     def test_anti_joins_come_in_the_kind_of_both(self):
         days = frame(**{name: frame()[name].dt.to_period("D") for name in ("from", "to")})
         hours = DAYS(["2024-01-10T08:00:00", "2024-01-10T12:00:00"])
