@@ -247,7 +247,7 @@ class Stores(stateful.RuleBasedStateMachine):
         store, (name, form) = self.store, self.some_table(data)
         to = hostile.values_of(data.draw, form, form.names[:1])
         no_dict, point = data.draw(st.sampled_from(hostile.NO_DICTS)), data.draw(st.sampled_from(hostile.NO_POINTS))
-        bad = data.draw(st.sampled_from(hostile.BAD_NAMES))
+        bad, no_frame = (data.draw(st.sampled_from(given)) for given in (hostile.BAD_NAMES, hostile.NO_FRAMES))
         rows = data.draw(hostile.rows_of(form))
         spoiled = data.draw(hostile.spoiled(form, form.frame(rows)))
         others = data.draw(hostile.spoiled(form, form.frame(rows), ["more", "twice", "levels", "other"]))
@@ -261,7 +261,7 @@ class Stores(stateful.RuleBasedStateMachine):
             "column": lambda: store.table("v", hostile.A_FRAME.set_axis(["from", "to", bad], axis=1)),
             "name": lambda: store.table(bad, hostile.A_FRAME),
             "key": lambda: store.table("v", hostile.A_FRAME, key="T" if bad is None else bad),
-            "parts": lambda: store.check(name, spoiled, 1, "2024-01-01"),
+            "parts": lambda: store.check(name, no_frame, 1, "2024-01-01"),
             "columns": lambda: store.update_rows(name, others, form.names[:1]),
         }
         self.refuses(wrong[data.draw(st.sampled_from(sorted(wrong)))])
