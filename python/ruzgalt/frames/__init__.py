@@ -2,6 +2,7 @@
 
     join, anti, agg, dip    frames in, a frame out
     Store                   tables with a past: changes, commits, questions
+    Changed                 what a change of a store did
     Refused                 what all of them raise of a value or a call: name, reason, column, label
     Stopped                 the program ended without all answers
     Doubt                   the warning of what may not be meant
@@ -19,7 +20,11 @@ A module stands on those above it:
     pairs, groups, division join and anti; agg; dip
     spread, slices          the same of Dask: by value; by time
     calls                   pandas or Dask
-    tables, store           a table of a store; the store
+    instants, tables        single points; a table of a store
+    keys, changes, unmeant  why a key refuses; what a change is; what may not be meant by it
+    book                    what a store holds at one moment
+    questions, divisions    what is asked of it
+    opening, store          a script as a store; the store
 """
 from ruzgalt.frames.calls import agg, anti, dip, join
 from ruzgalt.frames.changes import Changed

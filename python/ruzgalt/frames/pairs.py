@@ -99,16 +99,9 @@ def sides_of(left: Any, right: Any, on: Names, options: Options) -> List[Side]:
         refuse_float_beside_int(*pair)
     frames = zip((left, right), names, (options.period, options.other_period))
     both = [sides.side_of(frame, own, period, options.form, options.decimals) for frame, own, period in frames]
-    refuse_unlike(both[0].columns, both[1].columns)
+    for one, other in zip(both[0].columns, both[1].columns):
+        refuse_two_kinds(one, other)
     return both
-
-
-def refuse_unlike(left: Sequence[Values], right: Sequence[Values]) -> None:
-    """Raises Refused where compared columns are of two kinds, or their numbers of two units."""
-    for one, other in zip(left, right):
-        if (one.kind, one.digits) != (other.kind, other.digits):
-            told = f"it is {one.kind}, and {other.name!r} of the right frame {other.kind}, or of other decimals"
-            raise Refused("WrongKind", f"{told}; .astype(..) makes them alike", one.name)
 
 
 def refuse_float_beside_int(one: Any, other: Any) -> None:

@@ -103,7 +103,8 @@ def on_of(tables: Sequence[Table], on: Any, options: Options) -> List[str]:
     if any(isinstance(name, tuple) for name in names[0]):
         raise checks.wrong("on", on, "names of columns that both tables have; left_on= and right_on= are for others")
     columns = [[table.column(name) for name in own] for table, own in zip(tables, names)]
-    pairs.refuse_unlike(*columns)
+    for pair in zip(*columns):
+        pairs.refuse_two_kinds(*pair)
     told = [column.name for pair in zip(*columns) for column in pair]
     return ["on", *told] if told else []
 

@@ -144,6 +144,7 @@ class RandomStores(unittest.TestCase):
         rows = store.rows("t")
         self.assertEqual(case.listed(rows), case.wanted(plain.shown(plain.commit)))
         self.assertEqual(list(rows)[:3], ["row_id", *random_frames.PERIOD])
+        self.assertEqual(len(set(rows)), len(rows.columns))
         self.assertEqual(rows.dtypes.tolist()[3:], case.first[case.names].dtypes.tolist())
         old, point = random.randint(0, plain.commit), case.moment()
         self.assertEqual(case.listed(store.rows("t", as_of=old)), case.wanted(plain.shown(old)))

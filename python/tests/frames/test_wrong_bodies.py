@@ -8,7 +8,8 @@ import pandas as pd
 
 import test_random_frames
 import test_random_stores
-from ruzgalt.frames import output, points, split, values
+from ruzgalt import naming
+from ruzgalt.frames import instants, output, points, split, values
 
 # So many seeds are tried until a wrong body is noticed.
 SEEDS = 400
@@ -47,6 +48,11 @@ def next_days(form, column):
     return points.seconds_of(column, form.is_open)
 
 
+def unmoved(start, end, form):
+    ends = points.NO_END if end is None else instants.second_of(end)
+    return np.array([instants.second_of(start), ends], np.int64)
+
+
 def classes(sides):
     return [np.arange(len(side)) for side in sides]
 
@@ -63,6 +69,8 @@ WRONG = [
     ("last days as the days behind", points.Form, "ends_of", next_days, FRAMES),
     ("each row in a class of its own", split, "classes_of", classes, FRAMES),
     ("quotes that stay", output, "READERS", {**output.READERS, "t": quoted}, STORES),
+    ("names of tables that stay", naming, "apart", list, STORES),
+    ("ends of changes as they are given", instants, "portion", unmoved, STORES),
     ("open versions as closed ones", output, "READERS", {**output.READERS, "c": closed}, STORES),
 ]
 
