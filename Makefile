@@ -38,17 +38,18 @@ check:
 install: all
 	install -D -m 755 crates/dipq/out/dipq "$(folder)/dipq"
 	from_command=$$(realpath -m --relative-to="$(BINDIR)" "$(LIBEXECDIR)/dipq/dipq"); \
-	  { sed '/^# The first word/,$$d' tools/with-allocator; \
-	    echo 'exec "$$(dirname "$$(realpath "$$0")")/'"$$from_command"'" "$$@"'; } | install -D -m 755 /dev/stdin "$(command)"
+	  tools/command-of "$$from_command" | install -D -m 755 /dev/stdin "$(command)"
 	for name in dipq $(commands); do tools/man-page "$$name" | install -D -m 644 /dev/stdin "$(pages)/$$name.1"; done
 	rm -rf "$(data)/python"
 	find python/ruzgalt -name __pycache__ -prune -o -type f -exec install -D -m 644 "{}" "$(data)/{}" ";"
+	PYTHONPATH=python python3 -B -c 'import ruzgalt; print(ruzgalt.__version__)' | install -m 644 /dev/stdin "$(data)/python/ruzgalt/VERSION"
 	ln -sfn "$$(realpath -m --relative-to="$(DATADIR)/dipq" "$(BINDIR)/dipq")" "$(data)/dipq"
 	for tool in $(tools); do \
 	  install -D -m 755 "tools/$${tool%:*}" "$(data)/tools/$${tool%:*}"; \
 	  target=$$(realpath -m --relative-to="$(BINDIR)" "$(DATADIR)/dipq/tools/$${tool%:*}"); \
 	  ln -sfn "$$target" "$(DESTDIR)$(BINDIR)/$${tool#*:}"; \
 	done
+	[ -n "$(DESTDIR)" ] || echo 'Python finds the package by: export PYTHONPATH="$(DATADIR)/dipq/python"'
 
 uninstall:
 	rm -f "$(command)" "$(folder)/dipq" "$(data)/dipq" $(patsubst %,"$(data)/tools/%",$(files))

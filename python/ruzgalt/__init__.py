@@ -31,6 +31,7 @@ Python 3.9 and its library are all that is needed. A module stands on those abov
     svg, picture_cli    how a picture is drawn as SVG; the words of `picture`
     progress, streams   a line that tells how far a tool is; standard input and output that are closed
     which, program      which program answers, for frames too; how tools ask it
+    version, installed  which version this is; the commands that a wheel installs
     page                all answers as one page for a browser
     sheets              a CSV file with a header: its bytes, its records by pieces
     dates, decimals     points and numbers in the forms of other programs
@@ -49,7 +50,9 @@ FRAMES = ("frames", "join", "anti", "agg", "dip", "Store", "Changed", "Refused",
 
 
 def __getattr__(name: str) -> Any:
-    """The calls of frames. They need pandas, which isn't imported before one is asked for."""
+    """The version, and the calls of frames. These need pandas, which isn't imported before one is asked for."""
+    if name == "__version__":
+        return import_module("ruzgalt.version").version()
     if name not in FRAMES:
         raise AttributeError(f"module 'ruzgalt' has no attribute {name!r}")
     try:

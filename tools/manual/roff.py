@@ -2,6 +2,8 @@
 import re
 from typing import Iterable, Iterator, List, Sequence
 
+from ruzgalt.version import version
+
 # What stands for itself in roff's input is another character, or none.
 EXACT = {"\\": r"\e", "'": r"\(aq", "`": r"\(ga", "^": r"\(ha", "~": r"\(ti", '"': r"\(dq", "-": r"\-"}
 # Code, with one or two backquotes on each side; stressed words; a link.
@@ -100,4 +102,5 @@ def section(name: str, lines: Iterable[str]) -> List[str]:
 
 def opening(name: str) -> List[str]:
     """The head of a page. No word is parted, nor is space put between words."""
-    return [r'.\" Made by tools/man-page.', f'.TH {name.upper()} 1 "" "Ruzgalt" "User Commands"', ".nh", ".ad l"]
+    head = f'.TH {name.upper()} 1 "" "Ruzgalt {version()}" "User Commands"'
+    return [r'.\" Made by tools/man-page.', head, ".nh", ".ad l"]

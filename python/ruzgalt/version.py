@@ -1,0 +1,39 @@
+"""Which version this is: one for all that is made of a commit, the commit's time in UTC, as 20241231.235959."""
+import os
+import subprocess
+from datetime import datetime, timezone
+from pathlib import Path
+
+# What is built or installed has its version in this file; a repository has none.
+WRITTEN = Path(__file__).with_name("VERSION")
+TOP = Path(__file__).resolve().parents[2]
+UNKNOWN = "0+unknown"
+
+
+def version() -> str:
+    """The version that is written beside the package, or that of the repository in which it stands."""
+    return WRITTEN.read_text().strip() if WRITTEN.is_file() else of_repository()
+
+
+def of_repository() -> str:
+    """The time of SOURCE_DATE_EPOCH, or of the last commit; with +changed, where files were changed since."""
+    told = os.environ.get("SOURCE_DATE_EPOCH")
+    if told:
+        return of_time(int(told))
+    if not (TOP / ".git").exists():
+        return UNKNOWN
+    try:
+        return of_time(int(git("log", "-1", "--format=%ct"))) + ("+changed" if git("status", "--porcelain") else "")
+    except (OSError, subprocess.CalledProcessError):
+        return UNKNOWN
+
+
+def of_time(seconds: int) -> str:
+    """Without zeros before the time of day, which pip drops too."""
+    moment = datetime.fromtimestamp(seconds, timezone.utc)
+    return f"{moment:%Y%m%d}.{int(f'{moment:%H%M%S}')}"
+
+
+def git(*words: str) -> str:
+    ran = subprocess.run(["git", "-C", str(TOP), *words], stdout=subprocess.PIPE, stderr=subprocess.DEVNULL, check=True)
+    return ran.stdout.decode()
