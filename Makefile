@@ -1,11 +1,12 @@
 # Builds dipq, checks the repository, and puts the program, the tools, their manual pages and the Python package where a
-# shell, `man` and Python find them; or makes a Debian package of them.
+# shell, `man` and Python find them; or makes a Debian package of them, or a wheel.
 #
 #     make                                 proves and builds the program, where that isn't done
 #     make check                           the gate
 #     make install PREFIX="$HOME/.local"   without PREFIX, in /usr/local
 #     make uninstall PREFIX="$HOME/.local"
 #     make package                         out/dipq_VERSION_ARCHITECTURE.deb
+#     make wheel                           out/ruzgalt-VERSION-py3-none-PLATFORM.whl
 #
 # DESTDIR is put before each of these places. The program is found from where its command stands, so all that is
 # installed may be moved together.
@@ -27,7 +28,7 @@ commands = $(foreach tool,$(tools),$(lastword $(subst :, ,$(tool))))
 
 SHELL = bash
 .SHELLFLAGS = -eu -o pipefail -c
-.PHONY: all check install uninstall package
+.PHONY: all check install uninstall package wheel
 
 all:
 	./dipq </dev/null
@@ -61,3 +62,6 @@ uninstall:
 
 package: all
 	tools/make-package
+
+wheel: all
+	tools/make-wheel

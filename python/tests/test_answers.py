@@ -261,15 +261,18 @@ class Hints(unittest.TestCase):
         _, printed, _ = answers("refusals $S --answers $A", script, "ok,1\nok,2\nerror,6,BadCommand\n")
         self.assertIn("behind `by` stands one column", printed)
 
-    def test_the_program_is_named_or_beside_the_package_or_on_the_path(self) -> None:
+    def test_the_program_is_named_or_in_the_package_or_beside_it_or_on_the_path(self) -> None:
         with tempfile.TemporaryDirectory() as name:
             folder = Path(name)
-            for place in (folder, folder / "bin"):
+            for place in (folder, folder / "bin", folder / "within"):
                 place.mkdir(exist_ok=True)
                 (place / "dipq").write_text("#!/bin/sh\n")
                 (place / "dipq").chmod(0o700)
-            with mock.patch.dict(os.environ, {"PATH": f"{folder}/bin"}), mock.patch.object(which, "TOP", folder):
+            places = mock.patch.multiple(which, TOP=folder, WITHIN=folder / "within" / "dipq")
+            with mock.patch.dict(os.environ, {"PATH": f"{folder}/bin"}), places:
                 os.environ.pop("DIPQ", None)
+                self.assertEqual(which.program(), f"{folder}/within/dipq")
+                (folder / "within" / "dipq").unlink()
                 self.assertEqual(which.program(), f"{folder}/dipq")
                 (folder / "dipq").unlink()
                 self.assertEqual(which.program(), f"{folder}/bin/dipq")
