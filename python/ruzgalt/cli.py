@@ -361,4 +361,5 @@ def main(words: Sequence[str]) -> int:
 
 def fail(told: str) -> int:
     warn(told)
+    streams.drop_unwritable()
     return 1

@@ -19,6 +19,14 @@ def prepare(name: str) -> None:
         sys.exit(f"{name}: standard output is closed")
 
 
+def drop_unwritable() -> None:
+    """Lets what can't be written go, since Python would try it again at the end, and say so beside what is said."""
+    try:
+        sys.stdout.flush()
+    except OSError:
+        os.dup2(os.open(os.devnull, os.O_WRONLY), sys.stdout.fileno())
+
+
 def given() -> bytes:
     """What standard input has."""
     if sys.stdin is None:
