@@ -9,7 +9,6 @@ import dask
 import dask.dataframe as dd
 import numpy as np
 import pandas as pd
-from dask.dataframe.shuffle import rearrange_by_column
 
 from ruzgalt.frames import doubts, groups, pairs, points, split
 from ruzgalt.frames.answer import Columns
@@ -17,7 +16,7 @@ from ruzgalt.frames.arrays import NO_INTS, Ints
 from ruzgalt.frames.ask import Found
 from ruzgalt.frames.options import Options
 from ruzgalt.frames.sides import Side
-from ruzgalt.frames.spread import PART
+from ruzgalt.frames.spread import PART, by_part
 from ruzgalt.frames.values import Values
 
 # Starts of a partition that are looked at for where to cut.
@@ -48,7 +47,7 @@ def agg(frame: Any, function: str, column: Any, options: Options) -> Any:
     names = ["start", "end", *(["amount"] if column is not None else []), PART]
     slim = pd.DataFrame({name: NO_INTS for name in names})
     sliced = frame.map_partitions(slices, asked, cuts, meta=slim)
-    spread = rearrange_by_column(sliced, PART, npartitions=len(cuts) + 1, shuffle="tasks")
+    spread = by_part(sliced, len(cuts) + 1)
     found = [dask.delayed(answered)(part, asked) for part in spread.to_delayed()]
     plan = dask.delayed(plan_of)([dask.delayed(edges_of)(one) for one in found])
     empty = replace(asked.side_of(frame._meta), kind=kind)

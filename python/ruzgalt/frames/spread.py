@@ -1,15 +1,17 @@
 """join, anti and agg of frames of Dask: rows go to partitions by their values, and each is answered as one of pandas.
 
 Which partition a value goes to is told by values.hashes, and not by Dask's own hash: by that, -1 of an int32 and -1 of
-an int64 go to different ones, and never meet.
+an int64 go to different ones, and never meet. A row goes there as set_index brings it to the place that its partition's
+number has among divisions that are given.
 """
 from __future__ import annotations
 
+import inspect
 from typing import Any, Callable, List, Mapping, Sequence
 
 import dask.dataframe as dd
 import numpy as np
-from dask.dataframe.shuffle import rearrange_by_column
+import pandas as pd
 
 from ruzgalt.frames import doubts, groups, values
 from ruzgalt.frames.errors import Refused
@@ -17,7 +19,11 @@ from ruzgalt.frames.named import column_of, names_of
 from ruzgalt.frames.options import Names, Options, compared
 from ruzgalt.frames.pairs import with_labels_twice
 
-PART = "_partitions"
+# Columns of ours while rows are sent, and one that Dask itself adds meanwhile.
+PART, LABEL, OF_DASK = "_ruzgalt_part", "_ruzgalt_label", "_partitions"
+# How rows are sent, the way that takes all dtypes and is in all versions; the word for it was another before 2024.
+WORDS = inspect.signature(dd.DataFrame.shuffle).parameters
+HOW = {"shuffle_method" if "shuffle_method" in WORDS else "shuffle": "tasks"}
 # Asked of frames of pandas: left, right, on, options.
 Pairs = Callable[[Any, Any, Names, Options], Any]
 
@@ -53,19 +59,39 @@ def agg(frame: Any, function: str, column: Any, options: Options) -> Any:
 
 def by_value(frame: Any, names: Sequence[Any], decimals: Mapping[Any, int], parts: int) -> Any:
     """The rows, those of equal values in one partition."""
-    refuse_names(frame)
-    meta = frame._meta.assign(**{PART: np.empty(0, np.int64)})
-    tagged = frame.map_partitions(with_part, list(names), dict(decimals), parts, meta=meta)
-    return rearrange_by_column(tagged, PART, npartitions=parts, shuffle="tasks").drop(columns=[PART])
+    refuse_own_names(frame)
+    labels, meta = label_column(frame._meta), frame._meta
+    tagged = frame.map_partitions(
+        with_part, list(names), dict(decimals), parts, meta=meta.assign(**{LABEL: labels, PART: np.empty(0, np.int64)}),
+    )
+    # The divisions were those of the partitions' numbers.
+    return by_part(tagged, parts).map_partitions(with_labels, meta.index.name, meta=meta).clear_divisions()
 
 
-def refuse_names(frame: Any) -> None:
-    """Dask has a column of its own, and finds none of the name NaN."""
-    for name in (PART, np.nan):
-        if name in names_of(frame):
-            raise Refused("BadName", "Dask takes no column of this name: .rename(columns=..)", name)
+def by_part(tagged: Any, parts: int) -> Any:
+    """The rows, each in the partition that its number in PART names, which is their label then."""
+    return tagged.set_index(PART, divisions=[*range(parts), parts - 1], **HOW)
+
+
+def refuse_own_names(frame: Any) -> None:
+    for name in (PART, LABEL, OF_DASK):
+        if name in frame.columns:
+            raise Refused("BadName", "where rows are sent this is a column's name: .rename(columns=..)", name)
 
 
 def with_part(frame: Any, names: List[Any], decimals: Mapping[Any, int], parts: int) -> Any:
     hashed = values.hashes([values.values_of(column_of(frame, name), decimals.get(name)) for name in names])
-    return with_labels_twice(frame).assign(**{PART: (hashed % np.uint64(parts)).astype(np.int64)})
+    part = (hashed % np.uint64(parts)).astype(np.int64)
+    return with_labels_twice(frame).assign(**{LABEL: label_column(frame), PART: part})
+
+
+def label_column(frame: Any) -> Any:
+    """The labels as a column, in their dtype."""
+    return pd.Series(frame.index, frame.index, dtype=frame.index.dtype)
+
+
+def with_labels(frame: Any, name: Any) -> Any:
+    """The frame with the labels that stand in a column."""
+    labels, made = frame[LABEL], frame.drop(columns=[LABEL])
+    made.index = pd.Index(labels.array, labels.dtype, name=name, tupleize_cols=False)
+    return made

@@ -9,6 +9,8 @@ TEXTS = [
     " x ", "007", "1", "row", "end", "\ufeffz", "x" * 100, "nan", "é" * 2048,
 ]
 POINTS = ("ns", "D", "S", "date", "datetime")
+# Of which the letters changed: a second is S up to pandas 2.1, and s since.
+LENGTHS = {"D": pd.offsets.Day(), "S": pd.offsets.Second()}
 FIRST_YEARS = {"ns": [1700, 1969, 2024, 2261]}
 PERIOD = ("from", "to")
 
@@ -29,8 +31,8 @@ def column(kind, moments):
     """Datetimes and None as a column of that kind."""
     if kind == "ns":
         return pd.Series(pd.to_datetime(pd.Series(moments, dtype=object)) if moments else [], dtype="M8[ns]")
-    if kind in ("D", "S"):
-        return pd.Series(pd.PeriodIndex([period(kind, one) for one in moments], freq=kind))
+    if kind in LENGTHS:
+        return pd.Series(pd.PeriodIndex([period(kind, one) for one in moments], freq=LENGTHS[kind]))
     return pd.Series([one if one is None or kind == "datetime" else one.date() for one in moments], dtype=object)
 
 
@@ -38,7 +40,7 @@ def period(kind, one):
     if one is None:
         return pd.NaT
     day = {"year": one.year, "month": one.month, "day": one.day}
-    return pd.Period(**day, hour=one.hour, minute=one.minute, second=one.second, freq=kind)
+    return pd.Period(**day, hour=one.hour, minute=one.minute, second=one.second, freq=LENGTHS[kind])
 
 
 def few_texts(random):

@@ -7,14 +7,10 @@ import numpy as np
 import pandas as pd
 
 import ruzgalt
+from random_frames import period
 from ruzgalt.frames import points, values
 
 FIRST, LAST = datetime.datetime(1, 1, 1), datetime.datetime(9999, 12, 31, 23, 59, 59)
-
-
-def period(one, freq):
-    day = {"year": one.year, "month": one.month, "day": one.day}
-    return pd.Period(**day, hour=one.hour, minute=one.minute, second=one.second, freq=freq)
 
 
 def objects(*cells):
@@ -24,8 +20,8 @@ def objects(*cells):
 # A column for each kind, the edges of what it holds in it.
 EDGES = {
     "ns": pd.Series(pd.to_datetime(["1677-09-21T00:12:44", "1969-12-31T23:59:59", "2262-04-11T23:47:16"])),
-    "D": pd.Series(pd.PeriodIndex([period(FIRST, "D"), period(LAST, "D")])),
-    "S": pd.Series(pd.PeriodIndex([period(FIRST, "S"), period(LAST, "S")])),
+    "D": pd.Series(pd.PeriodIndex([period("D", FIRST), period("D", LAST)])),
+    "S": pd.Series(pd.PeriodIndex([period("S", FIRST), period("S", LAST)])),
     "date": objects(FIRST.date(), datetime.date(2024, 2, 29), LAST.date()),
     "datetime": objects(FIRST, datetime.datetime(2024, 2, 29, 12), LAST),
 }

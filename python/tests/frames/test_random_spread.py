@@ -200,6 +200,35 @@ class Spread(unittest.TestCase):
                 asked().compute(scheduler="sync")
             self.assertEqual((caught.exception.name, caught.exception.label), ("BadPeriod", 70))
 
+    def test_labels_are_those_that_dask_gives_the_frame(self):
+        moments = pd.date_range("2024-01-01", periods=100, tz="Asia/Tokyo", name="when")
+        pairs = pd.Index([(one, "x") for one in NUMBERS], tupleize_cols=False)
+        for labels in (
+            pd.RangeIndex(100, name="n"), pd.Index(NUMBERS, dtype=object), moments, moments.astype(object), pairs,
+            pd.CategoricalIndex(TEXTS), pd.Index(["twice"] * 100),
+        ):
+            with self.subTest(labels=labels[:2]):
+                cells = day_of(column(NUMBERS, "int64")).set_axis(labels)
+                frame = dd.from_pandas(cells, npartitions=3, sort=False)
+                got = ruzgalt.anti(frame, cells.iloc[:0], on="k", parts=4).compute(scheduler="sync").sort_values("k")
+                pd.testing.assert_frame_equal(got, frame.compute(scheduler="sync"), check_freq=False)
+
+    def test_no_answer_says_where_labels_lie(self):
+        frame = dd.from_pandas(day_of(column(NUMBERS, "int64")), npartitions=3)
+        self.assertTrue(frame.known_divisions)
+        for asked in (ruzgalt.join, ruzgalt.anti):
+            self.assertFalse(asked(frame, frame, on="k").known_divisions)
+        self.assertFalse(ruzgalt.agg(frame, "count", by="k").known_divisions)
+        self.assertFalse(ruzgalt.agg(frame, "count").known_divisions)
+
+    def test_names_of_columns_that_are_added_are_refused(self):
+        for name in ("_partitions", "_ruzgalt_part", "_ruzgalt_label"):
+            frame = dd.from_pandas(day_of(column(NUMBERS, "int64")).assign(**{name: 0}), npartitions=3)
+            for asked in (lambda: ruzgalt.join(frame, frame, on="k"), lambda: ruzgalt.agg(frame, "count", by="k")):
+                with self.assertRaises(ruzgalt.Refused) as caught:
+                    asked()
+                self.assertEqual((caught.exception.name, caught.exception.column), ("BadName", name))
+
     def test_rows_over_many_slices_are_closed_up(self):
         starts = pd.date_range("2024-01-01", periods=40)
         first, last = pd.Timestamp("2023-01-01"), pd.Timestamp("2025-01-01")

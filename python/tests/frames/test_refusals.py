@@ -11,9 +11,13 @@ import pandas as pd
 import ruzgalt
 from ruzgalt.frames import split
 
-DAYS = pd.to_datetime
 UTC = datetime.timezone.utc
 Decimal = decimal.Decimal
+
+
+def DAYS(texts):
+    """Points in several forms, of which pandas 2 takes one at a time."""
+    return pd.DatetimeIndex(np.array(texts, "M8[ns]"))
 
 
 def frame(**cells):
