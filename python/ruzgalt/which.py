@@ -1,8 +1,11 @@
 """Which program answers, of tools and of frames alike."""
 import os
 import shutil
+import subprocess
+import time
+from functools import lru_cache
 from pathlib import Path
-from typing import Optional
+from typing import List, Optional
 
 # The folder that has python/: a clone, or what `make install` made.
 TOP = Path(__file__).resolve().parents[2]
@@ -18,3 +21,31 @@ def program() -> str:
 def own() -> Optional[str]:
     """The program that came with the package: within it, or beside the folder python/."""
     return next((str(place) for place in (WITHIN, TOP / "dipq") if place.is_file()), None)
+
+
+def is_of_clone(command: str) -> bool:
+    """Whether it is a clone's ./dipq, which looks at all sources before each run, and builds where they changed."""
+    return command == str(TOP / "dipq") and (TOP / "crates").is_dir()
+
+
+def is_built() -> bool:
+    """Whether the clone's program is built from the sources that are there.
+
+    They are looked at once a second at most, since that takes ten times as long as a short answer.
+    """
+    return is_built_at(TOP, int(time.monotonic()))
+
+
+@lru_cache(maxsize=1)
+def is_built_at(top: Path, second: int) -> bool:
+    try:
+        look = subprocess.run([top / "tools" / "is-built"], stdout=subprocess.DEVNULL, stderr=subprocess.DEVNULL)
+    except OSError:
+        return False
+    return look.returncode == 0
+
+
+def words_of(command: str) -> List[str]:
+    """What runs the program. A clone's is built, as is_built told."""
+    built = [TOP / "tools" / "with-allocator", TOP / "crates" / "dipq" / "out" / "dipq"]
+    return [str(word) for word in built] if is_of_clone(command) else [command]

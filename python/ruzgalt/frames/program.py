@@ -22,9 +22,9 @@ SLICE = 1 << 26
 
 def refuse_unbuilt(command: str) -> None:
     """A clone's ./dipq would build the program first, in silence and for many minutes."""
-    top = which.TOP
-    if command == str(top / "dipq") and (top / "crates").is_dir() and not (top / "crates/dipq/out/dipq").exists():
-        raise Stopped(f"{command}: the program isn't built yet; `{command} </dev/null` does it, in many minutes")
+    if which.is_of_clone(command) and not which.is_built():
+        why = "the program isn't built yet, or from other sources than those that are here"
+        raise Stopped(f"{command}: {why}; `{command} </dev/null` does it, in many minutes")
 
 
 def ending_with_us(words: List[str]) -> List[str]:
@@ -84,7 +84,7 @@ def run(given: int, told: int, workers: int) -> None:
     refuse_unbuilt(command)
     if shutil.which(command) is None:
         raise Stopped(f"{command}: no such program; `make install` makes one, and the variable DIPQ names another")
-    words = ending_with_us([command, "--workers", str(workers)])
+    words = ending_with_us([*which.words_of(command), "--workers", str(workers)])
     try:
         ran = subprocess.run(words, stdin=given, stdout=told, stderr=subprocess.PIPE)
     except OSError as error:

@@ -18,6 +18,7 @@ from processes import children, is_running, wait_for
 from ruzgalt import which
 from ruzgalt.frames import program
 
+TOP = Path(__file__).resolve().parents[3]
 FRAME = pd.DataFrame({"from": pd.to_datetime(["2024-01-01"]), "to": pd.to_datetime(["2024-02-01"]), "k": [1]})
 # Asks from a thread of its own, while others come and go.
 CALLER = """
@@ -38,12 +39,15 @@ class Program(unittest.TestCase):
 
     def command(self, text):
         """A program of this text, which DIPQ names in the test."""
-        path = self.folder / "dipq"
-        path.write_text(f"#!/bin/sh\n{text}\n")
-        path.chmod(0o755)
+        path = self.script(self.folder / "dipq", text)
         patch = mock.patch.dict(os.environ, DIPQ=str(path))
         patch.start()
         self.addCleanup(patch.stop)
+        return path
+
+    def script(self, path, text):
+        path.write_text(f"#!/bin/sh\n{text}\n")
+        path.chmod(0o755)
         return path
 
     def says(self, wanted):
@@ -125,6 +129,24 @@ class Program(unittest.TestCase):
             del os.environ["DIPQ"]
             self.assertEqual(which.program(), str(path))
             self.says("isn't built yet")
+
+    def test_a_clone_runs_what_is_built_of_its_sources(self):
+        real, out = which.program(), self.folder / "crates" / "dipq" / "out"
+        self.command("exit 3")
+        out.mkdir(parents=True)
+        (self.folder / "tools").mkdir()
+        (self.folder / "tools" / "with-allocator").symlink_to(TOP / "tools" / "with-allocator")
+        self.script(self.folder / "tools" / "is-built", f"test ! -e {self.folder}/changed")
+        self.script(out / "dipq", f'echo $GLIBC_TUNABLES >{self.folder}/settings\nexec {real} "$@"')
+        with mock.patch.dict(os.environ), mock.patch.object(which, "TOP", self.folder):
+            del os.environ["DIPQ"]
+            self.assertEqual(len(ruzgalt.join(FRAME, FRAME, on="k")), 1)
+            self.assertIn("glibc.malloc", (self.folder / "settings").read_text())
+            (self.folder / "settings").unlink()
+            (self.folder / "changed").touch()
+            time.sleep(1)
+            self.says("or from other sources")
+            self.assertFalse((self.folder / "settings").exists())
 
     def test_without_setpriv_the_program_runs_as_it_is(self):
         with mock.patch.object(program.shutil, "which", lambda name: None if name == "setpriv" else name):
