@@ -59,7 +59,7 @@ def agg(frame: Any, function: str, column: Any, options: Options) -> Any:
 
 def by_value(frame: Any, names: Sequence[Any], decimals: Mapping[Any, int], parts: int) -> Any:
     """The rows, those of equal values in one partition."""
-    refuse_own_names(frame)
+    refuse_names(frame)
     labels, meta = label_column(frame._meta), frame._meta
     tagged = frame.map_partitions(
         with_part, list(names), dict(decimals), parts, meta=meta.assign(**{LABEL: labels, PART: np.empty(0, np.int64)}),
@@ -73,10 +73,11 @@ def by_part(tagged: Any, parts: int) -> Any:
     return tagged.set_index(PART, divisions=[*range(parts), parts - 1], **HOW)
 
 
-def refuse_own_names(frame: Any) -> None:
-    for name in (PART, LABEL, OF_DASK):
-        if name in frame.columns:
-            raise Refused("BadName", "where rows are sent this is a column's name: .rename(columns=..)", name)
+def refuse_names(frame: Any) -> None:
+    """Dask finds no column of the name NaN, and others are added while rows are sent."""
+    for name in (PART, LABEL, OF_DASK, np.nan):
+        if name in names_of(frame):
+            raise Refused("BadName", "Dask takes no column of this name: .rename(columns=..)", name)
 
 
 def with_part(frame: Any, names: List[Any], decimals: Mapping[Any, int], parts: int) -> Any:

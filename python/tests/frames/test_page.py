@@ -15,6 +15,49 @@ import pandas as pd
 import ruzgalt
 
 PAGE = Path(__file__).resolve().parents[3] / "docs" / "FRAMES.md"
+FIRST, LAST = datetime.date(2024, 1, 1), datetime.date(9999, 12, 31)
+# Whether an end is taken, comes back as missing, or is refused: by itself, with open_end, with last_day, with both.
+ENDS = {None: "refused, no end, refused, no end", LAST: "taken, no end, refused, no end",
+        LAST - datetime.timedelta(days=1): "taken, taken, taken, refused"}
+FORMS = [{}, {"open_end": True}, {"last_day": True}, {"open_end": True, "last_day": True}]
+
+
+def frame(**cells):
+    """Two rows of January 2024, one behind the other."""
+    days = pd.to_datetime(["2024-01-01", "2024-01-15", "2024-02-01"])
+    return pd.DataFrame({"from": days[:2], "to": days[1:], **cells})
+
+
+def becomes(end, words):
+    """What comes of an end."""
+    one = pd.DataFrame({"from": [FIRST], "to": pd.Series([end], dtype=object)})
+    try:
+        [told] = ruzgalt.agg(one, "count", **words)["to"]
+    except ruzgalt.Refused:
+        return "refused"
+    return "no end" if told is None else "taken" if told == end else told
+
+
+def compared(*columns, **words):
+    """Whether each column is compared with itself, and comes back as it was."""
+    for column in columns:
+        one = frame(k=column)
+        got = ruzgalt.join(one, one, on="k", **words)
+        pd.testing.assert_series_equal(got["k"], one["k"])
+
+
+def at(*columns):
+    """Whether starts and ends of these kinds come back."""
+    for column in columns:
+        one = pd.DataFrame({"from": column, "to": column.shift(-1)}).iloc[:1]
+        pd.testing.assert_frame_equal(ruzgalt.agg(one, "count")[["from", "to"]], one)
+
+
+def warns(asked):
+    with warnings.catch_warnings(record=True) as found:
+        warnings.simplefilter("always")
+        asked()
+    return [one.category for one in found] == [ruzgalt.Doubt]
 
 
 class Page(unittest.TestCase):
@@ -59,7 +102,7 @@ class Page(unittest.TestCase):
             "floats, objects of Decimal": lambda: compared([1.25, -0.1], decimals, decimals={"k": 2}),
             "datetime64": lambda: at(
                 pd.Series(pd.to_datetime(days)), pd.Series(pd.PeriodIndex(days, freq="D")),
-                pd.Series(pd.PeriodIndex(noon, freq="S")), days, noon,
+                pd.Series(pd.PeriodIndex(noon, freq=pd.offsets.Second())), days, noon,
             ),
             **{str(end or "missing"): lambda end=end, wanted=wanted: (
                 [becomes(end, words) for words in FORMS] == wanted.split(", ")
