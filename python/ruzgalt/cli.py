@@ -5,7 +5,7 @@ import sys
 import textwrap
 from argparse import ArgumentParser, Namespace
 from pathlib import Path
-from typing import Callable, Dict, Iterable, NamedTuple, Optional, Sequence
+from typing import Callable, Dict, NamedTuple, Optional, Sequence
 
 from ruzgalt import (
     answers, called, changes, commands, export, fitting, front, history, marks, overlaps, picks, picture_cli, program,
@@ -17,7 +17,7 @@ from ruzgalt.given import bytes_of, chosen, last, read, warn
 from ruzgalt.page import contents, document, sources
 from ruzgalt.reader import Source
 from ruzgalt.store import Store
-from ruzgalt.words import pair
+from ruzgalt.words import Words, pair
 
 NAME = called.ANSWERS
 # So many doubts are told of a script.
@@ -35,13 +35,8 @@ environment; or --answers names a file of its answers. A repository's ./dipq is 
 
 
 def show(text: str) -> None:
-    show_pieces([records.encode(text)])
-
-
-def show_pieces(pieces: Iterable[bytes]) -> None:
-    for piece in pieces:
-        sys.stdout.buffer.write(piece)
-    sys.stdout.flush()
+    """Prints records of CSV."""
+    streams.show_records([records.encode(text)])
 
 
 def do_list(options: Namespace) -> int:
@@ -72,11 +67,11 @@ def do_csv(options: Namespace) -> None:
     if options.folder:
         export.to_folder(chosen(found, options.pick), Path(options.folder), options.replace)
     else:
-        show_pieces(export.to_csv(last(found, options.pick, 1)[0].table))
+        streams.show_records(export.to_csv(last(found, options.pick, 1)[0].table))
 
 
 def do_json(options: Namespace) -> None:
-    show(export.to_json(chosen(read(options), options.pick)))
+    streams.show_text(export.to_json(chosen(read(options), options.pick)))
 
 
 def do_sqlite(options: Namespace) -> None:
@@ -111,17 +106,17 @@ def asked(database: sqlite3.Connection, query: str, made: Sequence[picks.Pick]) 
 
 def do_changed(options: Namespace) -> None:
     before, after = last(read(options), options.pick, 2)
-    show_pieces(export.to_csv(changes.between(before, after)))
+    streams.show_records(export.to_csv(changes.between(before, after)))
 
 
 def do_overlaps(options: Namespace) -> None:
     [answer] = last(read(options), options.of, 1)
-    show_pieces(export.to_csv(overlaps.in_answer(answer, options.column)))
+    streams.show_records(export.to_csv(overlaps.in_answer(answer, options.column)))
 
 
 def do_gaps(options: Namespace) -> None:
     [answer] = last(read(options), options.of, 1)
-    show_pieces(export.to_csv(overlaps.gaps_in_answer(answer, options.column)))
+    streams.show_records(export.to_csv(overlaps.gaps_in_answer(answer, options.column)))
 
 
 def do_history(options: Namespace) -> None:
@@ -137,7 +132,7 @@ def do_history(options: Namespace) -> None:
     if options.where and not table.records:
         warn(f"no row of {options.table} ever had what --where tells")
     table = history.retroactive(table) if options.retroactive else table
-    show_pieces(export.to_csv(table if options.commit is None else history.of_commit(table, options.commit)))
+    streams.show_records(export.to_csv(table if options.commit is None else history.of_commit(table, options.commit)))
 
 
 def do_front(options: Namespace) -> int:
@@ -153,20 +148,20 @@ def do_front(options: Namespace) -> int:
         found.append(answer)
         places.append(reading.place.number)
     lines.extend(front.told_of(kept, output, found, places))
-    show("".join(line + "\n" for line in lines))
+    streams.show_lines(lines)
     return 1 if lines else 0
 
 
 def do_picture(options: Namespace) -> None:
     found = read(options)
     [answer] = last(found, [options.pick] if options.pick else [], 1)
-    show(picture_cli.drawn(found.answers, answer, options))
+    streams.show_text(picture_cli.drawn(found.answers, answer, options))
 
 
 def do_page(options: Namespace) -> int:
     """Prints the page. The status is that of a list."""
     told = sources.ask(options)
-    show_pieces(document.pieces(contents.of(told, options.diary)))
+    streams.write(document.pieces(contents.of(told, options.diary)))
     return 1 if any(answer.refusal for answer in told.answers) and not options.go_on else 0
 
 
@@ -177,9 +172,9 @@ def do_refusals(options: Namespace) -> int:
     for answer, store in marks.walk(found):
         found_marks.look(answer, store)
         if answer.refusal:
-            show(refusals.told(answer) + "\n")
+            streams.show_lines([refusals.told(answer)])
             if answer.refusal.name == "KeyOverlap":
-                show("".join(f"  {line}\n" for line in overlaps.explained(store, answer)))
+                streams.show_lines(f"  {line}" for line in overlaps.explained(store, answer))
     warn_of_marks(found_marks.end(store))
     return 1 if any(answer.refusal for answer in found) else 0
 
@@ -193,7 +188,7 @@ def do_faulty(options: Namespace) -> int:
     """Tells the faulty rows, and that something else was refused. The status is 1 where there is either."""
     script = bytes_of(options.script)
     lines = program.faulty(options.program, script)
-    show("".join(line + "\n" for line in lines))
+    streams.show_lines(lines)
     others = program.refused_otherwise(options.program, script)
     if others:
         more = f"{len(others)} refused for no row's fault; `{NAME} refusals` explains"
@@ -309,7 +304,7 @@ TOOLS: Dict[str, Tool] = {
 
 def parser_of(name: str, tool: Tool) -> ArgumentParser:
     about = f"{tool.about[0].upper()}{tool.about[1:]}. {tool.more}".strip()
-    parser = ArgumentParser(prog=f"{NAME} {name}", description=about)
+    parser = Words(prog=f"{NAME} {name}", description=about)
     parser.add_argument("script", metavar="SCRIPT", help="a file, or - for standard input")
     tool.words(parser)
     parser.add_argument(
@@ -342,7 +337,7 @@ def main(words: Sequence[str]) -> int:
     if not words or words[0] in ("-h", "--help"):
         (sys.stdout if words else sys.stderr).write(usage())
         return 0 if words else 2
-    command = ArgumentParser(prog=NAME, usage=f"{NAME} COMMAND SCRIPT ..", add_help=False)
+    command = Words(prog=NAME, usage=f"{NAME} COMMAND SCRIPT ..", add_help=False)
     command.add_argument("command", choices=TOOLS, metavar="COMMAND")
     tool = TOOLS[command.parse_args(words[:1]).command]
     options = parser_of(words[0], tool).parse_intermixed_args(words[1:])

@@ -1,5 +1,4 @@
 """The script and its answers that a tool is given, and which of the answers are picked."""
-import sys
 from argparse import Namespace
 from pathlib import Path
 from typing import Dict, List, NamedTuple, Optional, Sequence
@@ -92,4 +91,4 @@ def last(found: Found, words: Sequence[str], count: int) -> List[Answer]:
 
 
 def warn(told: str) -> None:
-    sys.stderr.write(f"{called.ANSWERS_SAY}: {told}\n".encode("utf-8", "replace").decode())
+    streams.report(f"{called.ANSWERS_SAY}: {told}")

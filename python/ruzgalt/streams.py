@@ -1,8 +1,10 @@
-"""Standard input, output and error as a shell may leave them: closed, or read by a program that ends early."""
+"""Standard input, output and error as a shell may leave them: closed, read by a program that ends early, or a terminal."""
 import os
 import signal
 import sys
+from typing import Iterable
 
+from ruzgalt import records, screen
 from ruzgalt.errors import Misfit
 
 
@@ -32,3 +34,30 @@ def given() -> bytes:
     if sys.stdin is None:
         raise Misfit("standard input is closed")
     return sys.stdin.buffer.read()
+
+
+def show_records(pieces: Iterable[bytes]) -> None:
+    """Prints records of CSV by pieces: their bytes, or what a terminal is shown of them."""
+    write(screen.visible_records(pieces) if sys.stdout.isatty() else pieces)
+
+
+def show_lines(lines: Iterable[str]) -> None:
+    """Prints texts, each on a line: as they are, or what a terminal is shown of them."""
+    shown = map(screen.visible, lines) if sys.stdout.isatty() else lines
+    write(records.encode(f"{line}\n") for line in shown)
+
+
+def show_text(text: str) -> None:
+    """Prints a text of lines."""
+    show_lines(text[:-1].split("\n"))
+
+
+def write(pieces: Iterable[bytes]) -> None:
+    sys.stdout.buffer.writelines(pieces)
+    sys.stdout.flush()
+
+
+def report(line: str) -> None:
+    """Prints a line on standard error. What is no UTF-8 there is shown by a question mark."""
+    shown = screen.visible(line) if sys.stderr.isatty() else line
+    sys.stderr.write(f"{shown}\n".encode("utf-8", "replace").decode())

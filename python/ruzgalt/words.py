@@ -1,6 +1,16 @@
 """Words of command lines that several tools take, as what they tell."""
-from argparse import ArgumentTypeError
-from typing import Tuple
+import sys
+from argparse import ArgumentParser, ArgumentTypeError
+from typing import NoReturn, Tuple
+
+from ruzgalt import screen
+
+
+class Words(ArgumentParser):
+    """The words of a tool. What is wrong with them is told without what would act on a terminal."""
+
+    def error(self, message: str) -> NoReturn:
+        super().error(screen.visible(message) if sys.stderr.isatty() else message)
 
 
 def pair(word: str) -> Tuple[str, str]:

@@ -1,9 +1,14 @@
 """The tools as a shell runs them: with closed streams, a full device, and ended by Ctrl-C."""
+import os
+import pty
 import signal
 import subprocess
 import sys
+import tempfile
 import time
+import tty
 import unittest
+from pathlib import Path
 from typing import List, Tuple
 
 from tests.support import TOP
@@ -39,6 +44,70 @@ class ClosedStreams(unittest.TestCase):
         script = "examples/pay.csv"
         status, _, said = run(f"{ANSWERS} list {script} --answers {script}.stdout >/dev/full")
         self.assertEqual((status, said), (1, "answers: No space left on device\n"))
+
+
+# What acts on a terminal, can't be seen, or turns what stands behind it: alone, in an argument, and in lines of their own.
+ACTING = 'A\x1b[2J\x07\r\x9b1m\u202e\u3164\n3,2024-01-01,B\udcff'
+CODES = r"A\x1b[2J\x07\r\x9b1m\u202e\u3164\n3,2024-01-01,B\xff"
+ROW = f'2024-01-01,2024-02-01,"{ACTING}"'
+HOSTILE = (
+    f'table,t,a,text,key,a\nload,t\nrow,{ROW}\nend\nrows,t\nload,t\nrow,{ROW}\nend\n"{ACTING}",t\n'
+    f'delete,t,2024-03-01,2024-03-02,where,a,"{ACTING}"\n'
+)
+ANSWERED = f"ok,1\nok,2\nrow,1,{ROW}\nend,1\nerror,6,KeyOverlap\nerror,9,BadCommand\nok,3\n"
+
+
+class Terminals(unittest.TestCase):
+    """What stands on a terminal is a table's own, and no character of a script acts on it."""
+
+    def setUp(self) -> None:
+        folder = tempfile.TemporaryDirectory()
+        self.addCleanup(folder.cleanup)
+        self.folder = Path(folder.name)
+        for name, text in (("s", HOSTILE), ("a", ANSWERED)):
+            Path(self.folder, name).write_bytes(text.encode("utf-8", "surrogateescape"))
+
+    def words(self, tool: str, more: str) -> str:
+        return f"{ANSWERS} {tool} {self.folder}/s {more} --answers {self.folder}/a"
+
+    def test_no_tool_writes_what_acts_on_it(self) -> None:
+        for tool, more in [
+            ("list", ""), ("refusals", ""), ("csv", "--go-on"), ("csv", ""), ("json", "--go-on"),
+            ("sqlite", ":memory: 3=t --go-on --query 'select substr(a, 1, 1) || char(27) as c from t'"),
+            ("picture", "--go-on"), ("picture", "--svg --go-on"), ("history", "t --go-on"), ("only", "t 1 --go-on"),
+            ("changed", "3 3 --go-on"), ("overlaps", "a --of 3 --go-on"), ("csv", "$'\\e[2J'"),
+            ("csv", "--go-on --ask $'rows,\\e[2J'"), ("history", "t --where $'\\e[2J'"), ("csv", "--go-on $'\\e'=1"),
+        ]:
+            with self.subTest(f"{tool} {more}"):
+                for line in on_terminal(self.words(tool, more)).split(b"\n"):
+                    self.assertTrue(line.decode().isprintable(), line)
+
+    def test_what_is_there_is_shown_by_codes(self) -> None:
+        wanted = f'row_id,valid_from,valid_to,a\n1,2024-01-01,2024-02-01,"{CODES}"\n'
+        self.assertEqual(on_terminal(self.words("csv", "--go-on")).decode(), wanted)
+
+    def test_in_a_pipe_bytes_stay_as_they_are(self) -> None:
+        ran = subprocess.run(["bash", "-c", self.words("csv", "--go-on")], cwd=TOP, capture_output=True)
+        wanted = f"row_id,valid_from,valid_to,a\n1,{ROW}\n"
+        self.assertEqual(ran.stdout, wanted.encode("utf-8", "surrogateescape"))
+
+
+def on_terminal(command: str) -> bytes:
+    """What a command of a shell writes to a terminal, by its standard output and error."""
+    ours, theirs = pty.openpty()
+    # So that line ends stay as they are written.
+    tty.setraw(theirs)
+    with subprocess.Popen(["bash", "-c", command], cwd=TOP, stdin=subprocess.DEVNULL, stdout=theirs, stderr=theirs):
+        os.close(theirs)
+        read = b""
+        with open(ours, "rb", buffering=0) as terminal:
+            try:
+                for piece in iter(lambda: terminal.read(1 << 16), b""):
+                    read += piece
+            except OSError:
+                # Nobody writes to it any more.
+                pass
+    return read
 
 
 class CtrlC(unittest.TestCase):

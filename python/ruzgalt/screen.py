@@ -1,0 +1,31 @@
+"""What a terminal is shown of a text: each character that would act on it, or can't be seen, by its code.
+
+A control character of a script moves the cursor, colours what stands behind it or turns its direction, so that another
+table is read than is there. In a file or a pipe all bytes stay as they are.
+"""
+from typing import Iterable, Iterator
+
+from ruzgalt.records import code_of
+
+# Letters and a sign that have no ink, though Python counts them as printable.
+BLANKS = "\u115f\u1160\u2800\u3164\uffa0"
+
+
+def is_seen(character: str) -> bool:
+    return character.isprintable() and character not in BLANKS
+
+
+def visible(text: str, keeps: str = "") -> str:
+    """The text with codes in place of what can't be seen, but for characters that it is to keep."""
+    return "".join(one if is_seen(one) or one in keeps else code_of(one) for one in text)
+
+
+def visible_records(pieces: Iterable[bytes]) -> Iterator[bytes]:
+    """Pieces of CSV, each record in one line: a line end within quotes is shown by its code too."""
+    is_within = False
+    for piece in pieces:
+        shown = []
+        for place, part in enumerate(piece.decode("utf-8", "surrogateescape").split('"')):
+            is_within = is_within != (place > 0)
+            shown.append(visible(part, "" if is_within else "\n"))
+        yield '"'.join(shown).encode()
