@@ -1,7 +1,7 @@
 """The columns of a CSV file that is loaded: what each value becomes, what is wrong with it, what may not be meant."""
 import re
 from argparse import Namespace
-from typing import Callable, Dict, Optional, Sequence
+from typing import Callable, Dict, Optional, Sequence, Set
 
 from ruzgalt import dates
 from ruzgalt.dates import NO_END
@@ -67,13 +67,13 @@ class Column(Dict[str, Optional[str]]):
 
 
 class Start(Column):
-    def __init__(self, name: str, form: Optional[str]) -> None:
+    def __init__(self, name: str, options: Namespace) -> None:
         super().__init__(name, self.point)
-        self.form = form
+        self.form, self.is_cut = form_of(options), options.whole_seconds
 
     def point(self, value: str) -> str:
-        made = dates.point(value.strip(SPACES), self.form)
-        if dates.is_far_off(made):
+        made = dates.point(point_text(value, self.is_cut), self.form)
+        if dates.is_far_off(made) or dates.is_far_ahead(made):
             self.doubts[value] = Doubt("far off", f"{made[:4]} is far off; is the year right?")
         return made
 
@@ -81,13 +81,15 @@ class Start(Column):
 class End(Column):
     def __init__(self, name: str, options: Namespace) -> None:
         super().__init__(name, self.point)
-        self.form, self.is_open, self.is_last_day = form_of(options), options.open, options.last_day
+        self.form, self.is_cut = form_of(options), options.whole_seconds
+        self.is_open, self.is_last_day = options.open, options.last_day
         self.no_ends = {*options.no_end, *([""] if options.open else [])}
+        self.met: Set[str] = set()
 
     def point(self, value: str) -> str:
-        # No point has a space at its ends, so none is lost.
-        text = value.strip(SPACES)
+        text = point_text(value, self.is_cut)
         if text in self.no_ends:
+            self.met.add(text)
             return NO_END
         if text.lower() in dates.MISSING:
             raise Misfit(self.remedy(text))
@@ -109,6 +111,7 @@ class End(Column):
         if text == NO_END:
             if not self.is_open:
                 raise Misfit(f"no day is behind it; with --open it is {NO_END}, for no end that is known")
+            self.met.add("")
             return NO_END
         if len(text) != 10:
             raise Misfit("a last day has no time")
@@ -152,6 +155,12 @@ class Text(Column):
         elif self.is_key and not made:
             self.doubts[text] = Doubt("empty", "it is empty, so all such rows are of one")
         return made
+
+
+def point_text(value: str, is_cut: bool) -> str:
+    """What is read for a point. None has a space at its ends, so none is lost; a part of a second only by a word."""
+    text = value.strip(SPACES)
+    return dates.whole_seconds(text) if is_cut else text
 
 
 def form_of(options: Namespace) -> Optional[str]:

@@ -6,15 +6,16 @@ from argparse import ArgumentParser, ArgumentTypeError, Namespace
 from pathlib import Path
 from typing import List, Optional, Sequence, Tuple
 
-from ruzgalt import called, claims, commands, dates, records, streams
+from ruzgalt import called, claims, dates, decimals, records, streams
 from ruzgalt.errors import Misfit
 from ruzgalt.forms import is_name, read_point
+from ruzgalt.loaded_table import fit, schema_of
 from ruzgalt.loading import Load
-from ruzgalt.reader import Source
 from ruzgalt.records import visible
-from ruzgalt.sheets import Sheet
-from ruzgalt.tables import Schema, is_schema
-from ruzgalt.words import decimals
+from ruzgalt.sheets import Sheet, composed
+from ruzgalt.tables import Schema
+from ruzgalt.words import Words
+from ruzgalt.words import decimals as digits_of
 
 ABOUT = """Turns a CSV file with a header into a load. FROM, TO and the COLUMNs are names of the file's header, in the
 order of a row's fields; other columns of the file are left out. The file is UTF-8; its fields are parted by commas,
@@ -33,8 +34,14 @@ def part(word: str) -> Tuple[int, int]:
     return int(number), int(parts)
 
 
+def unit(word: str) -> str:
+    if not decimals.UNIT.fullmatch(word):
+        raise ArgumentTypeError(f"{word}: no unit, as € or EUR, which has no digit, mark or space")
+    return word
+
+
 def words() -> ArgumentParser:
-    parser = ArgumentParser(prog=called.LOAD, description=ABOUT)
+    parser = Words(prog=called.LOAD, description=ABOUT)
     parser.add_argument("table", metavar="TABLE", help="the table of the store")
     parser.add_argument("start", metavar="FROM", help="the file's column with the start of a row")
     parser.add_argument("end", metavar="TO", help="that with its end")
@@ -72,10 +79,15 @@ def words_of_values(parser: ArgumentParser) -> None:
         f"{dates.EXCEL} is Excel's number of a day",
     )
     parser.add_argument(
-        "--decimals", type=decimals, action="append", default=[], metavar="COLUMN=DIGITS",
+        "--decimals", type=digits_of, action="append", default=[], metavar="COLUMN=DIGITS",
         help="numbers with so many decimals at most, which become whole: with euros=2, 4800.5 is 480050 cents",
     )
     parser.add_argument("--decimal-mark", choices=(".", ","), help="tells how 7,500 is read, which could be both")
+    parser.add_argument(
+        "--unit", type=unit, action="append", default=[], metavar="UNIT",
+        help="numbers with decimals may have this before or behind them, as € or EUR",
+    )
+    parser.add_argument("--whole-seconds", action="store_true", help="parts of a second are left out of points")
     parser.add_argument("--last-day", action="store_true", help="TO is the last day of a row, and not the next one")
     parser.add_argument("--open", action="store_true", help=f"an empty TO is {dates.NO_END}")
     parser.add_argument(
@@ -103,46 +115,24 @@ def refuse_words(options: Namespace) -> None:
         raise Misfit("--print-table: --table tells no table")
 
 
-def schema_of(options: Namespace) -> Optional[Schema]:
-    """The table that is told by its record, or by a script that has it."""
-    if options.record is None:
-        return None
-    is_file = not options.record.startswith("table,")
-    data = Path(options.record).read_bytes() if is_file else options.record.encode("utf-8", "surrogateescape")
-    tables = [one.record.fields for one in commands.commands(Source(data)) if one.word == "table"]
-    found = next((fields for fields in tables if fields[1:2] == [options.table]), None)
-    if found is None:
-        raise Misfit(f"--table: no `table` record of {options.table}")
-    if not is_schema(found):
-        raise Misfit(f"--table: {records.to_record(found)}: no table,T,COLUMN,KIND..[,key,COLUMN..]")
-    return Schema.read(found)
-
-
-def fit(options: Namespace, schema: Schema, header: List[str]) -> None:
-    """Refuses columns that aren't the table's, as far as names tell, and fills them in where none is told."""
-    by_name = {name.strip().lower(): name for name in header}
-    if not options.column:
-        options.column = [by_name.get(name, name) for name in schema.names]
-    if len(options.column) != len(schema.names):
-        wanted = f"{schema.name} has {len(schema.names)}: {', '.join(schema.names)}"
-        raise Misfit(f"{len(options.column)} columns are told, and {wanted}")
-    for place, name in enumerate(options.column):
-        plain = name.strip().lower()
-        if plain in schema.names and schema.names[place] != plain:
-            raise Misfit(f"{name} is told as column {place + 1}, which is {schema.names[place]} in the table")
-
-
 def given(options: Namespace) -> bytes:
     return Path(options.file).read_bytes() if options.file else streams.given()
 
 
-def load_of(options: Namespace) -> Tuple[Load, Optional[Schema]]:
+def load_of(options: Namespace) -> Tuple[Load, Optional[Schema], List[str]]:
+    """The load, the table where it is given, and what is noted of how the file fits it."""
     sheet = Sheet(given(options), options.line_breaks)
-    schema = schema_of(options)
+    schema = fitted = schema_of(options)
+    notes: List[str] = []
     if schema:
-        fit(options, schema, sheet.header)
+        fitted, left_out = fit(options, schema, sheet.header)
+        names = ", ".join(left_out)
+        notes = [f"the file has no column {names}, so updates leave it as it is"] if left_out else []
     refuse_words(options)
-    return Load(sheet, options, schema), schema
+    load = Load(sheet, options, fitted)
+    if options.part and options.update:
+        load.part_by(schema)
+    return load, schema, notes
 
 
 def claimed(options: Namespace) -> bytes:
@@ -158,14 +148,22 @@ def claimed(options: Namespace) -> bytes:
     return records.encode(claims.check_of(sheet, options.table, options.start, options.end, options.check))
 
 
+def compose(options: Namespace) -> None:
+    """Gives the names one form of Unicode, as a header has it: an accented letter may be two characters elsewhere."""
+    options.start, options.end = composed(options.start), composed(options.end)
+    options.column, options.update = list(map(composed, options.column)), list(map(composed, options.update))
+    options.decimals = [(composed(name), digits) for name, digits in options.decimals]
+
+
 def made(options: Namespace) -> Tuple[List[bytes], List[str], List[str], int]:
     """What is printed; what is at fault, or what is noted; and how many faults there are."""
+    compose(options)
     if not is_name(options.table):
         form = "small letters, digits and _, at most 32, a letter first"
         raise Misfit(f"{visible(options.table)}: no name of a table: {form}")
     if options.check is not None:
         return [claimed(options)], [], [], 0
-    load, schema = load_of(options)
+    load, schema, notes = load_of(options)
     head = records.encode(records.to_text([schema.fields])) if schema and options.print_table else b""
     opening = b"" if options.update else records.encode(records.to_text([["load", options.table]]))
     end = b"" if options.update else b"end\n"
@@ -174,22 +172,21 @@ def made(options: Namespace) -> Tuple[List[bytes], List[str], List[str], int]:
     except Misfit as error:
         load.add_fault(str(error))
         pieces = []
-    notes = [] if load.count_of_faults else list(load.noted())
+    notes = [] if load.count_of_faults else [*notes, *load.noted()]
     return [head, opening, *pieces, end], load.faults, notes, load.count_of_faults
 
 
 def tell(told: List[str], count: int) -> None:
-    text = "".join(f"{called.LOAD_SAYS}: {one}\n" for one in told)
-    more = f"{called.LOAD_SAYS}: and {count - len(told)} more\n" if count > len(told) else ""
-    sys.stderr.write((text + more).encode("utf-8", "replace").decode())
+    more = [f"and {count - len(told)} more"] if count > len(told) else []
+    for one in [*told, *more]:
+        streams.report(f"{called.LOAD_SAYS}: {one}")
 
 
 def show(pieces: Sequence[bytes]) -> None:
     try:
-        sys.stdout.buffer.writelines(pieces)
-        sys.stdout.flush()
+        streams.show_records(pieces)
     except OSError as error:
-        sys.stderr.write(f"{called.LOAD_SAYS}: {error.strerror}\n")
+        streams.report(f"{called.LOAD_SAYS}: {error.strerror}")
         # What is left in the buffer isn't to be tried again at the end.
         os._exit(1)
 

@@ -6,9 +6,9 @@ from typing import Iterator, List, Optional, Sequence, Tuple, cast
 from zlib import crc32
 
 from ruzgalt import called, records
-from ruzgalt.columns import Column, End, Start, Text, form_of, mark_of
-from ruzgalt.dates import other_months
-from ruzgalt.decimals import Marks, Scale, both_readings
+from ruzgalt.columns import Column, End, Start, Text, form_of, mark_of, point_text
+from ruzgalt.dates import as_good_swapped
+from ruzgalt.decimals import Marks, Scale, readings
 from ruzgalt.doubts import Ends, Notes, Twins
 from ruzgalt.errors import Misfit
 from ruzgalt.forms import is_name, read_point
@@ -31,11 +31,11 @@ class Load:
         refuse_header(sheet.header, self.names)
         self.places = [sheet.header.index(name) for name in self.names]
         self.marks = Marks(mark_of(options), bool(options.decimal_mark))
-        self.keys = self.key_places()
-        self.columns = [Start(options.start, form_of(options)), End(options.end, options), *self.value_columns()]
+        self.keys = self.parted_by = self.key_places()
+        self.columns = [Start(options.start, options), End(options.end, options), *self.value_columns()]
         self.stored = self.names_in_store()
         self.faults: List[str] = []
-        self.count_of_faults = self.rows = self.bytes = 0
+        self.count_of_faults = self.rows = self.printed = self.bytes = 0
         self.either_line: Optional[int] = None
         self.notes, self.twins = Notes(), Twins()
         key = ", ".join(options.column[place] for place in self.keys) or "table"
@@ -54,7 +54,7 @@ class Load:
         for place, name in enumerate(self.options.column):
             kind = self.schema.columns[place].kind if self.schema else None
             if name in digits:
-                yield Column(name, Scale(name, digits[name], self.marks))
+                yield Column(name, Scale(name, digits[name], self.marks, self.options.unit))
             else:
                 yield Text(name, self.options, kind, place in self.keys)
 
@@ -83,6 +83,7 @@ class Load:
         self.twins.add(piece.lines, texts)
         if self.options.part:
             texts = list(compress(texts, map(self.is_of_part, zip(*columns))))
+        self.printed += len(texts)
         made = records.encode("\n".join([*texts, ""]))
         self.bytes += len(made)
         return made
@@ -106,7 +107,16 @@ class Load:
     def is_of_part(self, row: Sequence[str]) -> bool:
         """Whether the row is of the part that is wanted, by a checksum of its key: equal keys are of one part."""
         part, parts = cast(Tuple[int, int], self.options.part)
-        return crc32("\0".join(row[2 + place] for place in self.keys).encode()) % parts == part - 1
+        return crc32("\0".join(row[2 + place] for place in self.parted_by).encode()) % parts == part - 1
+
+    def part_by(self, schema: Optional[Schema]) -> None:
+        """Parts updates by the key by which a load is parted. Refuses updates that may be of rows of several parts."""
+        given = [schema.names[place] for place in schema.key] or schema.names[:1] if schema else self.stored[:1]
+        found = [self.stored.index(name) for name in given if name in self.stored]
+        if len(found) < len(given) or not set(found) <= set(self.keys):
+            wanted = f"{', '.join(given)}, as a load's are, so that is to be an --update column too"
+            raise Misfit(f"--part: rows are parted by {wanted}{'' if schema else '; --table tells the key'}")
+        self.parted_by = found
 
     def look_at(
         self, lines: Sequence[int], values: List[Sequence[str]], found: List[Sequence[Optional[str]]],
@@ -122,7 +132,7 @@ class Load:
         for column, texts in zip(self.columns, values):
             self.notes.count(column.name, column.doubts, lines, texts)
         if self.marks.either and self.either_line is None:
-            name, text = self.marks.either
+            name, text, _ = self.marks.either
             self.either_line = lines[values[self.names.index(name)].index(text)]
         if not faulty:
             # None is at fault, so each is a text.
@@ -147,10 +157,9 @@ class Load:
 
     def refuse_either(self) -> None:
         if self.marks.either and not self.marks.is_settled:
-            name, text = self.marks.either
-            told = ", ".join(f"--decimal-mark '{mark}' makes it {read}" for mark, read in both_readings(text).items())
+            name, text, bare = self.marks.either
             why = "its mark may part thousands or decimals, and no other number of the file tells"
-            self.add_fault(f"line {self.either_line}: {name} is '{visible(text)}': {why}: {told}")
+            self.add_fault(f"line {self.either_line}: {name} is '{visible(text)}': {why}: {readings(bare, '.,')}")
 
     def add_fault(self, told: str) -> None:
         self.count_of_faults += 1
@@ -185,6 +194,7 @@ class Load:
             yield "no row stands behind the header, so the load has none"
         yield from [*self.notes.told(), *self.ends.told(), *self.twins.told(), *self.told_of_scales()]
         yield from self.told_of_swapped()
+        yield from self.told_of_words()
         if self.options.update:
             yield from self.ends.told_of_starts()
         if self.rows > MOST_ROWS * 9 // 10 or self.bytes > MOST_BYTES * 9 // 10:
@@ -192,12 +202,26 @@ class Load:
             told = f"{self.rows:,} rows in {self.bytes:,} bytes leave little room for corrections"
             yield f"{told}: {limits}; --part 1/2 and --part 2/2 make two scripts of the file"
 
+    def told_of_words(self) -> Iterator[str]:
+        """What comes of words that may not be what was meant: an end that no row has, and a part alone."""
+        end = cast(End, self.columns[1])
+        for text in sorted(end.no_ends - end.met) if self.rows else []:
+            word, what = (f"--no-end '{visible(text)}'", f"'{visible(text)}'") if text else ("--open", "empty")
+            yield f"{word}: no row's {self.options.end} is {what}"
+        if self.options.part:
+            part, parts = self.options.part
+            told = f"part {part} of {parts} has {self.printed:,} of the file's {self.rows:,} rows"
+            yield f"{told}; only all {parts} parts together have each"
+
     def told_of_swapped(self) -> Iterator[str]:
-        found = other_months([text.strip() for column in self.columns[:2] for text in column], self.options.dates or "")
+        texts = [point_text(text, False) for column in self.columns[:2] for text in column]
+        found = as_good_swapped(texts, form_of(self.options) or "")
         if found:
-            other, wanted, months = found
-            told = f"--dates {other} reads all dates too, which are then of {wanted} months, and not of {months}"
-            yield f"{self.options.start} and {self.options.end}: {told}: which is meant?"
+            months = f"of {found.wanted} months, and not of {found.found}"
+            both = f"of {found.found} months either way" if found.wanted == found.found else months
+            example = f"'{found.text}', of {found.dates}, is {found.read}, and would be {found.otherwise}"
+            told = f"--dates {found.other} reads all dates too, which are then {both}: which is meant? ({example})"
+            yield f"{self.options.start} and {self.options.end}: {told}"
 
     def told_of_scales(self) -> Iterator[str]:
         for column in self.columns:

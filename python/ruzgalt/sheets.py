@@ -5,6 +5,7 @@ Raises Misfit, with the line, where it is none.
 import csv
 import io
 import re
+import unicodedata
 from itertools import islice
 from typing import Iterator, List, NamedTuple, Optional, Sequence
 
@@ -20,6 +21,11 @@ class Piece(NamedTuple):
 
     lines: Sequence[int]
     records: List[List[str]]
+
+
+def composed(name: str) -> str:
+    """The name of a column, with one character for a letter and its accent: two programs write it otherwise."""
+    return unicodedata.normalize("NFC", name)
 
 
 def refuse_strange(data: bytes) -> None:
@@ -60,7 +66,7 @@ class Sheet:
         self.has_breaks, self.line = has_breaks, 1
         if told:
             self.next_record()
-        self.header = self.next_record()
+        self.header = list(map(composed, self.next_record()))
 
     def next_record(self) -> List[str]:
         """The next record that isn't empty; behind the last an empty one."""

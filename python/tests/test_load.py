@@ -1,8 +1,12 @@
 """What tools/csv-to-load makes of a file, what it refuses, and what it notes."""
 import csv
 import io
+import re
+import shlex
 import tempfile
+import unicodedata
 import unittest
+from datetime import date
 from decimal import Decimal
 from pathlib import Path
 from typing import List, Sequence, Tuple, Union
@@ -106,6 +110,59 @@ class Separators(Case):
         text = HEADER + 'A,"7,500",2024-01-01,2024-03-05\n'
         printed, _ = load(text, *WORDS, "--decimals", "Pay=3", "--decimal-mark", ",")
         self.assertIn(",A,7500\n", printed)
+
+    def test_three_digits_behind_a_mark_are_refused_where_fewer_may_be(self) -> None:
+        for number, words, part in [
+            ("0.500", "", "is '0.500': three digits stand behind its mark, as behind one of thousands, and it has 2 "),
+            ("0.500", "", "decimals at most: --decimal-mark '.' makes it 0.500"),
+            ("4.900", "", "--decimal-mark '.' makes it 4.900, --decimal-mark ',' makes it 4900"),
+            ("-4.900", "", "--decimal-mark ',' makes it -4900"), ("1234.500", "", "three digits stand behind"),
+            ('"1,234.500"', "", "three digits stand behind"), ('"0,500"', "--german", "mark ',' makes it 0.500"),
+            ("4.905", "", "Pay is '4.905': more than 2 decimals: --decimal-mark ',' makes it 4905"),
+        ]:
+            for other in ("7", "12,50" if words else "12.50"):
+                with self.subTest(number, other=other):
+                    text = rows(f'B,"{other}",2024-01-01,2024-03-05', f"A,{number},2024-01-01,2024-03-05")
+                    self.refused(part, text, *WORDS, "--decimals", "Pay=2", *words.split())
+
+    def test_a_word_for_the_mark_takes_three_digits_behind_it(self) -> None:
+        text = rows("A,0.500,2024-01-01,2024-03-05", "B,4.900,2024-01-01,2024-03-05", "C,12.5000,2024-01-01,2024-03-05")
+        printed, told = load(text, *WORDS, "--decimals", "Pay=2", "--decimal-mark", ".")
+        self.assertEqual([line.rpartition(",")[2] for line in printed.split()[1:-1]], ["50", "490", "1250"])
+        self.assertEqual(told, [])
+
+    def test_apostrophes_part_thousands(self) -> None:
+        text = rows("A,1'234.50,2024-01-01,2024-03-05", "B,-1’234’567.5,2024-01-01,2024-03-05")
+        printed, told = load(text, *WORDS, "--decimals", "Pay=2")
+        self.assertEqual([line.rpartition(",")[2] for line in printed.split()[1:-1]], ["123450", "-123456750"])
+        self.assertEqual(told, [])
+        for number in ("1'23.50", "12'34'567", "1'234,567.50", "0'500"):
+            with self.subTest(number):
+                self.refused("no number as", rows(f'A,"{number}",2024-01-01,2024-03-05'), *WORDS, "--decimals", "Pay=2")
+
+    def test_a_unit_is_taken_off_by_the_word_that_the_refusal_has(self) -> None:
+        for number, made in [
+            ("500 €", 50000), ("€500", 50000), ("EUR 500.5", 50050), ("-$5", -500), ("$-5", -500), ("-5 Fr.", -500),
+            ("CHF 1'234.50", 123450), ("5 %", 500), ("$ 1 234", 123400),
+        ]:
+            with self.subTest(number):
+                text, words = rows(f"A,{number},2024-01-01,2024-03-05"), [*WORDS, "--decimals", "Pay=2"]
+                _, [told] = load(text, *words)
+                found = re.search("with (--unit .*) it is one", told)
+                self.assertIsNotNone(found, told)
+                more = shlex.split(found[1]) if found else []
+                self.loaded(f"load,pay\nrow,2024-01-01,2024-03-05,A,{made}\nend\n", text, *words, *more)
+
+    def test_another_unit_is_told_as_that(self) -> None:
+        text = rows("A,5 €,2024-01-01,2024-03-05", "B,5 $,2024-01-01,2024-03-05")
+        told = "line 3: Pay is '5 $': no number as 1,234.50; with --unit '$' it is one, of the same unit as those of €"
+        self.refused(told, text, *WORDS, "--decimals", "Pay=2", "--unit", "€")
+
+    def test_numbers_below_zero_have_a_minus_before_them(self) -> None:
+        for number in ("(500.00)", "500.00-", "−500"):
+            with self.subTest(number):
+                text = rows(f"A,{number},2024-01-01,2024-03-05")
+                self.refused("a number below zero has a minus before it, as -5", text, *WORDS, "--decimals", "Pay=2")
 
     def test_cents_that_are_told_as_thousandths_are_noted(self) -> None:
         text = rows("A,7.25,2024-01-01,2024-03-05")
@@ -237,11 +294,11 @@ class Tables(Case):
 class Dates(Case):
     def test_each_form_is_read(self) -> None:
         for form, text in [
-            ("31/12/2024", "5/3/2024"), ("12/31/2024", "3/5/2024"), ("20241231", "20240305"), ("45657", "45356"),
-            ("2024-12-31 00:00:00", "2024-03-05 00:00:00"), ("31.12.2024", "5.3.2024"),
+            ("31/12/2024", "25/3/2024"), ("12/31/2024", "3/25/2024"), ("20241231", "20240325"), ("45657", "45376"),
+            ("2024-12-31 00:00:00", "2024-03-25 00:00:00"), ("31.12.2024", "25.3.2024"), ("12.31.2024", "3.25.2024"),
         ]:
             with self.subTest(form):
-                wanted = "load,pay\nrow,2024-01-01,2024-03-05,A,1\nend\n"
+                wanted = "load,pay\nrow,2024-01-01,2024-03-25,A,1\nend\n"
                 self.loaded(wanted, rows(f"A,1,2024-01-01,{text}"), *WORDS, "--dates", form)
 
     def test_another_form_is_refused_with_its_word(self) -> None:
@@ -276,6 +333,62 @@ class Dates(Case):
         _, found = load(rows(*lines, "B,1,01/13/2024,02/01/2024"), *WORDS, "--dates", "12/31/2024")
         self.assertEqual(found, [])
 
+    def test_days_that_are_as_good_as_months_are_told(self) -> None:
+        days = [f"{n % 12 + 1:02}/{n * 5 % 12 + 1:02}" for n in range(80)]
+        lines = [f"A{n},1,{days[n]}/2024,{days[n + 40]}/2025" for n in range(40)]
+        for form, other in [("31/12/2024", "12/31/2024"), ("12/31/2024", "31/12/2024")]:
+            told = f"Start and End: --dates {other} reads all dates too, which are then of 12 months either way"
+            self.told(told, rows(*lines), *WORDS, "--dates", form)
+        text = rows("A,1,04/03/2024 08:00,06/05/2024 08:00")
+        told = "('04/03/2024 08:00', of 2, is 2024-03-04T08:00:00, and would be 2024-04-03T08:00:00)"
+        self.told(told, text, *WORDS, "--dates", "31/12/2024")
+
+    def test_first_days_of_months_are_loaded_without_a_word(self) -> None:
+        text = rows("A,1,01/02/2024,01/03/2024", "B,1,01/07/2024,01/11/2024")
+        wanted = "load,pay\nrow,2024-02-01,2024-03-01,A,1\nrow,2024-07-01,2024-11-01,B,1\nend\n"
+        self.loaded(wanted, text, *WORDS, "--dates", "31/12/2024")
+
+    def test_times_by_twice_twelve_hours_are_read(self) -> None:
+        for text, made in [
+            ("12/31/2023 06:30 AM", "2023-12-31T06:30:00"), ("12/31/2023 12:00 am", "2023-12-31"),
+            ("12/31/2023 12:05:09 p.m.", "2023-12-31T12:05:09"), ("12/31/2023 11:59PM", "2023-12-31T23:59:00"),
+        ]:
+            with self.subTest(text):
+                wanted = f"load,pay\nrow,{made},2024-03-25,A,1\nend\n"
+                self.loaded(wanted, rows(f"A,1,{text},03/25/2024"), *WORDS, "--dates", "12/31/2024")
+        for text in ("12/31/2023 13:30 AM", "12/31/2023 00:30 PM", "12/31/2023 AM"):
+            with self.subTest(text):
+                self.refused("no date as", rows(f"A,1,{text},03/25/2024"), *WORDS, "--dates", "12/31/2024")
+
+    def test_the_words_of_a_refusal_make_a_point_of_it(self) -> None:
+        """Each refusal has words that can be pasted, and with them the row is loaded."""
+        for text, made in [
+            ("03/14/2023 06:30 AM", "2023-03-14T06:30:00"), ("14/3/2023", "2023-03-14"), ("03.14.2023", "2023-03-14"),
+            ("14.03.2023 6:30", "2023-03-14T06:30:00"), ("2023-03-14T08:00:00.250", "2023-03-14T08:00:00"),
+            ("2023-03-14 08:00:00.250", "2023-03-14T08:00:00"), ("03/14/2023 6:30:15.5 PM", "2023-03-14T18:30:15"),
+            ("14.03.2023 6:30:15,25", "2023-03-14T06:30:15"), ("2023-03-14 08:00", "2023-03-14T08:00:00"),
+        ]:
+            with self.subTest(text):
+                given = rows(f'A,1,"{text}",2024-03-05')
+                _, [told] = load(given, *WORDS)
+                self.assertRegex(told, "; with .*it is one$")
+                words = [re.sub(",.*", "", one) for one in re.split(" or | and ", told.partition("; with ")[2])]
+                more = shlex.split(" ".join(one.removesuffix(" it is one") for one in words))
+                printed, _ = load(given, *WORDS, *more)
+                self.assertEqual(printed, f"load,pay\nrow,{made},2024-03-05,A,1\nend\n")
+
+    def test_a_start_far_ahead_is_told(self) -> None:
+        year = date.today().year
+        self.told(f"{year + 11} is far off; is the year right?", rows(f"A,1,{year + 11}-02-03,9999-12-31"))
+        _, told = load(rows(f"A,1,{year + 9}-02-03,9999-12-31"), *WORDS)
+        self.assertEqual(told, [])
+
+    def test_a_word_for_no_end_that_no_row_has_is_told(self) -> None:
+        text = rows("A,1,2024-01-01,2024-03-05")
+        self.told("--no-end 'none': no row's End is 'none'", text, *WORDS, "--no-end", "none")
+        self.told("--open: no row's End is empty", text, *WORDS, "--open")
+        self.told("--no-end 'none': no row's", rows("A,1,2024-01-01,"), *WORDS, "--no-end", "none", "--open")
+
     def test_days_that_excel_counts_otherwise_are_refused(self) -> None:
         self.refused("Start is '00060': no date as", rows("A,1,00060,45000"), *WORDS, "--dates", "45657")
 
@@ -294,6 +407,33 @@ class Updates(Case):
         text = "person,euros,Start,End\nA,1,2024-01-01,2024-03-05\nA,2,2024-01-01,2024-04-05\n"
         told = "line 3 updates the same person from the same point on as line 2, and the later one stands"
         self.told(told, text, "pay", "Start", "End", "person", "euros", "--update", "person")
+
+    def test_some_of_a_table_s_columns_are_set(self) -> None:
+        record = ["--table", "table,pay,pid,int,name,text,grade,text,euros,int,key,pid"]
+        text, words = "PID,Euros,Start,End\n7,500,2024-01-01,2024-03-05\n", ["pay", "Start", "End", *record]
+        wanted = "update,pay,2024-01-01,2024-03-05,set,euros,500,where,pid,7\n"
+        self.loaded(wanted, text, *words, "PID", "Euros", "--update", "PID")
+        self.loaded(wanted, text, *words, "Euros", "PID", "--update", "pid")
+        printed, told = load(text, *words, "--update", "pid")
+        self.assertEqual(printed, wanted)
+        self.assertEqual(told, ["the file has no column name, grade, so updates leave it as it is"])
+        part = "Start: where not all columns are set, the file has the table's names, and pay has pid, name, grade, eur"
+        self.refused(part, text, *words, "PID", "Start", "--update", "PID")
+        self.refused("Euros is '5x': no number", text.replace("500", "5x"), *words, "--update", "pid")
+        self.refused("--update pid: none of the columns Euros", text, *words, "Euros", "--update", "pid")
+
+    def test_updates_are_parted_as_the_load_is(self) -> None:
+        record = "table,pay,dept,text,person,text,euros,int,key,person"
+        lines = [f"{name},D{place % 2},{place},2024-01-01,2024-03-05" for place, name in enumerate("ABCDEFGH")]
+        text = "person,dept,euros,Start,End\n" + "".join(f"{line}\n" for line in lines)
+        words = ["pay", "Start", "End", "--table", record, "--part", "1/2"]
+        of_load = re.findall("D[01],([A-H])", load(text, *words)[0])
+        for columns in (["person"], ["dept", "person"]):
+            more = [word for name in columns for word in ("--update", name)]
+            self.assertEqual(re.findall("person,([A-H])", load(text, *words, *more)[0]), of_load)
+        self.refused("--part: rows are parted by person", text, *words, "--update", "dept")
+        without = ["pay", "Start", "End", "dept", "person", "--part", "1/2", "--update", "person"]
+        self.refused("rows are parted by dept, as a load's are", text, *without)
 
     def test_names_that_are_none_of_a_table_are_refused(self) -> None:
         self.refused("Name is no name of a table's", rows("A,1,2024-01-01,2024-03-05"), *WORDS, "--update", "Name")
@@ -335,6 +475,30 @@ class Files(Case):
         printed = [load(rows(*lines), *WORDS, "--part", f"{part}/3")[0].splitlines()[1:-1] for part in (1, 2, 3)]
         whole = load(rows(*lines), *WORDS)[0].splitlines()[1:-1]
         self.assertEqual(sorted(sum(printed, [])), sorted(whole))
+
+    def test_a_part_is_told_with_how_many_there_are(self) -> None:
+        lines = [f"{name},1,2024-01-01,2024-03-05" for name in "ABCDEFG"]
+        counts = []
+        for part in (1, 2, 3):
+            _, [told] = load(rows(*lines), *WORDS, "--part", f"{part}/3")
+            form = f"part {part} of 3 has (.) of the file's 7 rows; only all 3 parts together have each"
+            found = re.fullmatch(form, told)
+            counts.append(int(found[1]) if found else 0)
+        self.assertEqual(sum(counts), 7)
+
+    def test_names_meet_by_whichever_form_of_unicode(self) -> None:
+        composed, apart = (unicodedata.normalize(form, "Größe,Café,Start,End") for form in ("NFC", "NFD"))
+        for header, words in [(composed, apart), (apart, composed)]:
+            name, pay, start, end = words.split(",")
+            text, scale = f"{header}\nA,1.5,2024-01-01,2024-03-05\n", ["--decimals", f"{pay}=1"]
+            self.loaded("load,pay\nrow,2024-01-01,2024-03-05,A,15\nend\n", text, "pay", start, end, name, pay, *scale)
+            self.loaded("check,pay,1,-\npart,7\nend\n", f"{header}\nA,7,,\n", "pay", name, pay, "--check", "-")
+        self.refused("two columns of the header have the name", f"Größe,{apart}\n", *["pay", "Start", "End", "Größe"])
+
+    def test_a_name_that_two_columns_have_but_for_capitals_is_refused(self) -> None:
+        text = "Name,NAME,Start,End\nA,B,2024-01-01,2024-03-05\n"
+        told = "name is in the header as 'Name' and 'NAME': the COLUMNs tell which is meant"
+        self.refused(told, text, "pay", "Start", "End", "--table", "table,pay,name,text")
 
     def test_nine_tenths_of_a_limit_are_told(self) -> None:
         lines = [f"{letter},1,2024-01-01,2024-03-05" for letter in "ABCDEFGHIJ"]
