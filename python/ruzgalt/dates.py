@@ -46,14 +46,18 @@ def read_as(form: str, text: str) -> Optional[datetime]:
         if form == EXCEL:
             if int(parts["days"]) < EXCEL_FIRST:
                 return None
-            # The day's part is rounded to a second, as Excel shows it.
-            seconds = round(float(f"0.{parts['part'] or 0}") * 86_400)
-            return EXCEL_BEGINNING + timedelta(days=int(parts["days"]), seconds=seconds)
+            return EXCEL_BEGINNING + timedelta(days=int(parts["days"]), seconds=seconds_of_part(parts["part"] or "0"))
         names = ("year", "month", "day", "minute", "second")
         year, month, day, minute, second = (int(parts.get(name) or 0) for name in names)
         return datetime(year, month, day, hour_of(parts), minute, second)
     except (ValueError, OverflowError):
         return None
+
+
+def seconds_of_part(part: str) -> int:
+    """The seconds of a day's part, which is its decimals, rounded to a whole one as Excel shows them."""
+    scale: int = 10 ** len(part)
+    return (2 * 86_400 * int(part) + scale) // (2 * scale)
 
 
 def hour_of(parts: Dict[str, str]) -> int:
