@@ -73,12 +73,12 @@ class Marks:
         self.mark, self.is_given, self.is_settled = mark, is_given, is_given
         self.either: Optional["Either"] = None
 
-    def look_at(self, name: str, text: str, bare: str) -> None:
+    def look_at(self, name: str, text: str, bare: str, is_faulty: bool) -> None:
         if self.is_settled or not ("." in bare or "," in bare):
             return
         if not EITHER.fullmatch(bare):
             self.is_settled = True
-        elif self.either is None:
+        elif self.either is None and not is_faulty:
             self.either = Either(name, text, bare)
 
 
@@ -124,8 +124,10 @@ class Scale:
         number = number_in(bare, self.marks.mark)
         if number is None:
             raise Misfit(f"no number as {self.example()}{self.remedy(text, bare)}")
-        self.refuse_decimals(number, bare)
-        self.marks.look_at(self.name, text, bare)
+        fault = self.fault_of_decimals(number, bare)
+        self.marks.look_at(self.name, text, bare, bool(fault))
+        if fault:
+            raise Misfit(fault)
         self.longest = max(self.longest, len(number.decimals))
         whole = int(number.whole.lstrip("0") + number.decimals[:self.digits].ljust(self.digits, "0") or "0")
         made = f"{number.sign if whole else ''}{whole}"
@@ -138,17 +140,18 @@ class Scale:
         stripped = text.strip(SPACES)
         return next((bare for bare in (without(unit, stripped) for unit in self.units) if bare != stripped), stripped)
 
-    def refuse_decimals(self, number: Number, bare: str) -> None:
-        """Refuses more decimals than there may be, but for zeros; and three where fewer may be.
+    def fault_of_decimals(self, number: Number, bare: str) -> str:
+        """What is wrong with more decimals than there may be, but for zeros; and with three where fewer may be.
 
         Behind a mark of thousands there are three digits, so these may be thousands of another country, whatever the
         other numbers of the file are: a table is often put together from several.
         """
         if len(number.decimals.rstrip("0")) > self.digits:
-            raise Misfit(f"more than {self.digits} decimals{self.readings(bare, OTHER[self.marks.mark])}")
+            return f"more than {self.digits} decimals{self.readings(bare, OTHER[self.marks.mark])}"
         if len(number.decimals) == 3 and self.digits < 3 and not self.marks.is_given:
             why = f"three digits stand behind its mark, as behind one of thousands, and it has {self.digits} decimals"
-            raise Misfit(f"{why} at most{self.readings(bare, '.,')}")
+            return f"{why} at most{self.readings(bare, '.,')}"
+        return ""
 
     def readings(self, bare: str, marks: str) -> str:
         """What the number is, by the mark that is taken for that of decimals."""
