@@ -20,6 +20,9 @@ FORMS: Dict[str, Pattern[str]] = {
         "31/12/2024": f"{DAY}/{MONTH}/{YEAR}{TIME}",
         "12/31/2024": f"{MONTH}/{DAY}/{YEAR}{TIME}",
         "12.31.2024": rf"{MONTH}\.{DAY}\.{YEAR}{TIME}",
+        "31-12-2024": f"{DAY}-{MONTH}-{YEAR}{TIME}",
+        "12-31-2024": f"{MONTH}-{DAY}-{YEAR}{TIME}",
+        "2024/12/31": f"{YEAR}/{MONTH}/{DAY}{TIME}",
         "20241231": r"(?P<year>\d{4})(?P<month>\d\d)(?P<day>\d\d)",
         EXCEL: r"(?P<days>\d{5})(?:[.,](?P<part>\d+))?",
         WITH_TIME: rf"(?P<year>\d{{4}})-(?P<month>\d\d)-(?P<day>\d\d){TIME}",
@@ -27,7 +30,10 @@ FORMS: Dict[str, Pattern[str]] = {
 }
 # The same with day and month the other way round. Who writes points between them has the day first, so that form needs
 # no doubt.
-SWAPPED = {"31/12/2024": "12/31/2024", "12/31/2024": "31/12/2024", "12.31.2024": GERMAN}
+SWAPPED = {
+    "31/12/2024": "12/31/2024", "12/31/2024": "31/12/2024", "31-12-2024": "12-31-2024", "12-31-2024": "31-12-2024",
+    "12.31.2024": GERMAN,
+}
 FRACTION = re.compile(r"(\d:\d\d:\d\d)[.,]\d+", re.ASCII)
 # A row that starts in so many years or later is told of.
 YEARS_AHEAD = 10
@@ -98,6 +104,8 @@ def remedy_for(text: str, form: Optional[str]) -> str:
         return "; points have no zone: one and the same holds for the whole table"
     if re.fullmatch(r"\d{1,2}[./-]\d{1,2}[./-]\d\d", text):
         return "; a year has four digits"
+    if "24:00" in text:
+        return "; a day ends at the next one's midnight"
     return ""
 
 

@@ -30,6 +30,8 @@ UNIT = re.compile(rf"[^\d.,+\-\u2212()\[\]\s{SPACES}{APOSTROPHES}\"]+\.?")
 WITH_UNIT = re.compile(
     rf"-?(?P<before>{UNIT.pattern})[{SPACES}]?-?\d.*|-?\d.*?[{SPACES}]?(?P<behind>{UNIT.pattern})", re.DOTALL,
 )
+# What stands there for thousands and millions, or for a side of an account, is no unit that could be left off.
+NO_UNITS = ("k", "t", "m", "b", "bn", "mn", "mio", "mrd", "tsd", "keur", "teur", "k€", "t€", "m€", "cr", "dr", "s", "h")
 
 
 class Number(NamedTuple):
@@ -168,7 +170,13 @@ class Scale:
             return f"; with {word} it is one"
         if re.fullmatch(r"\([^()]*\d[^()]*\)|[^-]*\d *[-\u2212]|[\u2212\u2013][^-]*\d.*", bare):
             return "; a number below zero has a minus before it, as -5"
+        if re.fullmatch(r"[^eE]*\d[eE][+-]?\d+", bare):
+            return "; its digits are rounded off: save the column as a number without an exponent"
+        if bare.startswith("+"):
+            return "; without + it may be one"
         unit = unit_of(text)
+        if unit and unit.casefold().strip(".") in NO_UNITS:
+            return f"; is {unit} a multiple, or a sign? the number is to be written without it"
         if unit and any(number_in(without(unit, bare), mark) for mark in ".,"):
             told = f"; with --unit {shlex.quote(unit)} it is one"
             return f"{told}, of the same unit as those of {', '.join(self.units)}" if self.units else told

@@ -131,6 +131,62 @@ class Ends:
             yield f"{self.name} is {days[0]}: {self.remedy()} ({of_all})"
 
 
+class Repeats:
+    """Tells rows of equal values that hold at one time, which a key would forbid.
+
+    Only of rows whose values are those of another one more is looked at than a number.
+    """
+
+    def __init__(self) -> None:
+        self.lines: List[Sequence[int]] = []
+        self.values = array("q")
+        self.starts: List[Sequence[str]] = []
+        self.ends: List[Sequence[str]] = []
+
+    def add(self, lines: Sequence[int], columns: Sequence[Sequence[str]]) -> None:
+        """Adds rows by their columns, of which the first two are starts and ends."""
+        starts, ends, *values = columns
+        self.lines.append(lines)
+        self.starts.append(starts)
+        self.ends.append(ends)
+        self.values.extend(map(hash, zip(*values)))
+
+    def told(self) -> Iterator[str]:
+        """Where more than half of such rows overlap they are meant so, as of bookings that are counted."""
+        rows = self.repeated()
+        if not rows:
+            return
+        pairs = [pair for pair in map(overlapping, rows, rows[1:]) if pair]
+        if pairs and 2 * len(pairs) <= len(self.values):
+            line, other = pairs[0]
+            more = f"; {len(pairs) - 1} more rows do so" if len(pairs) > 1 else ""
+            told = f"line {line} has the values of line {other}, and both hold at one time"
+            yield f"{told}: is one of them too many?{more}"
+
+    def repeated(self) -> List["Repeat"]:
+        """The rows whose values are those of another row, by values and start."""
+        if len(set(self.values)) == len(self.values):
+            return []
+        counts = Counter(self.values)
+        rows = zip(self.values, chain(*self.starts), chain(*self.ends), chain(*self.lines))
+        return sorted(Repeat(*row) for row in rows if counts[row[0]] > 1)
+
+
+class Repeat(NamedTuple):
+    """A row with the number of its values, its period and its line."""
+
+    values: int
+    start: str
+    end: str
+    line: int
+
+
+def overlapping(row: Repeat, behind: Repeat) -> Optional[Tuple[int, int]]:
+    """The lines of two rows of one value that overlap, and aren't equal, by start."""
+    is_both = row.values == behind.values and behind.start < row.end and row[1:3] != behind[1:3]
+    return (max(row.line, behind.line), min(row.line, behind.line)) if is_both else None
+
+
 def first_pair(numbers: "array[int]", lines: Sequence[Sequence[int]]) -> Optional[Tuple[int, int]]:
     """The lines of the first row that has another one's number, and of that one."""
     if len(set(numbers)) == len(numbers):

@@ -9,7 +9,7 @@ from ruzgalt import called, records
 from ruzgalt.columns import Column, End, Start, Text, form_of, mark_of, point_text
 from ruzgalt.dates import as_good_swapped
 from ruzgalt.decimals import Marks, Scale, readings
-from ruzgalt.doubts import Ends, Notes, Twins
+from ruzgalt.doubts import Ends, Notes, Repeats, Twins
 from ruzgalt.errors import Misfit
 from ruzgalt.forms import is_name, read_point
 from ruzgalt.progress import Progress
@@ -37,7 +37,9 @@ class Load:
         self.faults: List[str] = []
         self.count_of_faults = self.rows = self.printed = self.bytes = 0
         self.either_line: Optional[int] = None
-        self.notes, self.twins = Notes(), Twins()
+        self.notes, self.twins, self.repeats = Notes(), Twins(), Repeats()
+        self.left_out: Optional[str] = None
+        self.nameless = [place for place, name in enumerate(sheet.header) if not name.strip()]
         key = ", ".join(options.column[place] for place in self.keys) or "table"
         self.ends = Ends(options.end, key, options.last_day)
 
@@ -75,18 +77,28 @@ class Load:
         values = [fields[place] for place in self.places]
         found = [column.made(one) for column, one in zip(self.columns, values)]
         self.look_at(piece.lines, values, found)
+        self.look_at_nameless(piece.lines, fields)
         self.rows += len(piece.records)
         if self.count_of_faults:
             return b""
         columns = cast(List[Sequence[str]], found)
         texts = self.records_of(columns)
         self.twins.add(piece.lines, texts)
+        self.repeats.add(piece.lines, columns)
         if self.options.part:
             texts = list(compress(texts, map(self.is_of_part, zip(*columns))))
         self.printed += len(texts)
         made = records.encode("\n".join([*texts, ""]))
         self.bytes += len(made)
         return made
+
+    def look_at_nameless(self, lines: Sequence[int], fields: List[Sequence[str]]) -> None:
+        """Notes the first value in a column without a name: it may be behind a mark of thousands, without quotes."""
+        for place in self.nameless:
+            found = next((row for row, text in enumerate(fields[place]) if text.strip()), None)
+            if found is not None and self.left_out is None:
+                text = visible(fields[place][found])
+                self.left_out = f"line {lines[found]}: '{text}' is left out: its column, {place + 1}, has no name"
 
     def whole(self, piece: Piece) -> Piece:
         """The records with as many fields as the header has, of this part of the file."""
@@ -193,6 +205,10 @@ class Load:
         if not self.rows:
             yield "no row stands behind the header, so the load has none"
         yield from [*self.notes.told(), *self.ends.told(), *self.twins.told(), *self.told_of_scales()]
+        if self.left_out:
+            yield self.left_out
+        if not self.options.update and self.options.column and not (self.schema and self.schema.key):
+            yield from self.repeats.told()
         yield from self.told_of_swapped()
         yield from self.told_of_words()
         if self.options.update:
@@ -237,7 +253,9 @@ def refuse_header(header: List[str], names: List[str]) -> None:
     unknown = [name for name in names if name not in header]
     if unknown:
         shown = ", ".join(f"'{visible(name)}'" for name in header)
-        raise Misfit(f"not in the header: {', '.join(map(visible, unknown))}; it has {shown}")
+        mark = next((mark for mark in "|:^~ " if mark in header[0]), "") if len(header) == 1 < len(names) else ""
+        remedy = f"; `(echo 'sep={mark}'; cat FILE)` says that '{mark}' parts its fields" if mark else ""
+        raise Misfit(f"not in the header: {', '.join(map(visible, unknown))}; it has {shown}{remedy}")
     if any(read_point(name) for name in names[:2]):
         raise Misfit(f"the first line is to have names, and has a date: {visible(','.join(header))}")
     twice = [name for name in names if header.count(name) > 1]

@@ -14,14 +14,16 @@ PLAIN = re.compile("[!-<>-~][!-~]*(?: [!-~]+)*")
 # Several texts, a line each, that begin or end with a letter, and so are no numbers, or whole numbers; without quotes.
 LINES = re.compile(r"(?:(?:[^\W\d_][ !#-~\w]*|[0-9][ !#-~\w]*(?<=[^\W\d_])|0|[1-9][0-9]*)\n)+")
 ENTITY = re.compile(r"&(?:#\d+|#x[0-9A-Fa-f]+|[A-Za-z]+\d*);")
-# What other programs write for no value, and in rows that sum up others.
-WORDS = {
-    **dict.fromkeys(("null", "none", "nan", "nat", "n/a"), "other programs write it for no value; it is a text"),
-    **dict.fromkeys(
-        ("total", "subtotal", "grand total", "sum", "summe", "gesamt", "zwischensumme", "gesamtsumme"),
-        "a row with a sum of others is loaded as they are",
-    ),
-}
+# What other programs write for no value.
+WORDS = dict.fromkeys(("null", "none", "nan", "nat", "n/a"), "other programs write it for no value; it is a text")
+# The rows that sum up others are named so, some with a year or a colon.
+TOTAL = re.compile(
+    r"(?:(?:grand |sub-?)?totals?|sums?|(?:gesamt|zwischen)?summen?|(?:ins)?gesamt)[ :.]*(?:\d{4})?[ :.]*",
+    re.IGNORECASE,
+)
+TOTALS = re.compile(f"^{TOTAL.pattern}$", re.IGNORECASE | re.MULTILINE)
+# Quotes of other kinds than those of CSV, and those where a space stands before them.
+QUOTES = ("''", '""', "\u2018\u2019", "\u201c\u201d", "\u201e\u201c", "\u201e\u201d", "\u00ab\u00bb", "\u00bb\u00ab")
 # Characters that look like those of ASCII: quotes, dashes, and letters of Cyrillic and Greek.
 LIKE_ASCII = str.maketrans(
     "\u2018\u2019\u201a\u201b\u02bc\u201c\u201d\u201e\u2010\u2011\u2012\u2013\u2014\u2212"
@@ -51,6 +53,10 @@ def doubt_of(value: str, mark: str) -> Optional[str]:
     is_plain, last = PLAIN.fullmatch(value), value[-1:]
     if value.lower() in WORDS:
         return WORDS[value.lower()]
+    if TOTAL.fullmatch(value):
+        return "a row with a sum of others is loaded as they are"
+    if len(value) > 1 and value[0] + last in QUOTES:
+        return "quotes of this kind are a part of the text"
     if last.isdigit() and ROUNDED.fullmatch(value):
         return "digits are rounded off; save the column as text, or as a number without an exponent"
     if value.startswith("="):
@@ -116,6 +122,8 @@ class LookAlikes:
         """Whether of plain texts none looks like another one, or like one before."""
         lines = "\n".join(values)
         folds = (lines.translate(LIKE_ASCII) if LOOKING.search(lines) else lines).casefold().split("\n")
+        if TOTALS.search(lines):
+            return False
         return WORDS.keys().isdisjoint(folds) and all(map(eq, map(self.by_fold.setdefault, folds, values), values))
 
     def other(self, value: str) -> Optional[str]:

@@ -34,6 +34,9 @@ def refuse_strange(data: bytes) -> None:
         raise Misfit("this is a workbook of a spreadsheet, and no CSV: save the sheet there as CSV UTF-8")
     if data.startswith(b"\x1f\x8b"):
         raise Misfit("this is a packed file: `gunzip -c FILE` unpacks it")
+    if data.count(0) * 3 > len(data) and not data.startswith((b"\xff\xfe", b"\xfe\xff")):
+        form = "UTF-16LE" if data[1:2] == b"\0" else "UTF-16BE"
+        raise Misfit(f"a third of its bytes are zero: `iconv -f {form} -t UTF-8` makes UTF-8 of it")
     if b"\0" in data and not data.startswith((b"\xff\xfe", b"\xfe\xff")):
         line = data.count(b"\n", 0, data.index(b"\0")) + 1
         raise Misfit(f"line {line}: a zero byte, of {data.count(0)} in the file: `tr -d '\\000'` leaves them out")

@@ -157,10 +157,11 @@ def day_of(text: str, form: str) -> Optional[Tuple[int, int, int]]:
     if form == "20241231":
         is_day = len(text) == 8 and all(one in DIGITS for one in text)
         return (int(text[:4]), int(text[4:6]), int(text[6:])) if is_day else None
-    found = fields_of(text, form[2], [short, short, year])
-    if not found:
-        return None
-    return (found[2], found[1], found[0]) if form.startswith("31") else (found[2], found[0], found[1])
+    order = form.replace(".", "/").replace("-", "/").split("/")
+    mark = next(one for one in form if one not in DIGITS)
+    found = fields_of(text, mark, [year if one == "2024" else short for one in order])
+    numbers = dict(zip(order, found)) if found else {}
+    return (numbers["2024"], numbers["12"], numbers["31"]) if numbers else None
 
 
 def time_of(text: str, is_cut: bool, is_own: bool) -> Optional[int]:
@@ -237,6 +238,7 @@ def wanted_row(start: str, end: str, form: Optional[str], words: Dict[str, str])
 # The forms, as the clock writes a day of them.
 FORMS = {
     "31.12.2024": "%d.%m.%Y", "31/12/2024": "%d/%m/%Y", "12/31/2024": "%m/%d/%Y", "12.31.2024": "%m.%d.%Y",
+    "31-12-2024": "%d-%m-%Y", "12-31-2024": "%m-%d-%Y", "2024/12/31": "%Y/%m/%d",
     "20241231": "%Y%m%d", "2024-12-31 00:00:00": "%Y-%m-%d", "45657": "",
 }
 TIMES = [
@@ -287,10 +289,10 @@ class Points(unittest.TestCase):
         self.assertTrue(found or told)
 
     @DRAWN
-    @given(st.lists(POINTS, min_size=2, max_size=6), st.sampled_from(["31/12/2024", "12/31/2024"]))
+    @given(st.lists(POINTS, min_size=2, max_size=6), st.sampled_from(["31/12/2024", "12/31/2024", "31-12-2024"]))
     def test_dates_that_are_as_good_the_other_way_round_are_told(self, points: List[datetime], form: str) -> None:
         """Silent are dates of which one has no other reading, or whose months are twice as many as by that."""
-        pattern = "%d/%m/%Y" if form.startswith("31") else "%m/%d/%Y"
+        pattern = FORMS[form]
         lines = [f"A{place},{point.strftime(pattern)},9999-12-31\n" for place, point in enumerate(points)]
         _, told = load("".join(["Pay,Start,End\n", *lines]), "pay", "Start", "End", "Pay", "--dates", form)
         days, months = [point.day for point in points], [point.month for point in points]

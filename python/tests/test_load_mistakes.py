@@ -1,0 +1,116 @@
+"""Mistakes that a new user makes with tools/csv-to-load: none is loaded with a wrong number, or without a word."""
+import sys
+import unittest
+from typing import List, Tuple, Union
+from unittest import mock
+
+from ruzgalt import load_cli
+from tests.support import Stream
+from tests.test_load import HEADER, WORDS, Case, load, rows
+
+CENTS = [*WORDS, "--decimals", "Pay=2"]
+PERIOD = "2024-01-01,2024-03-05"
+
+
+class Refused(Case):
+    def test_files_of_another_form_are_refused_with_what_makes_them_right(self) -> None:
+        one = f"A,1,{PERIOD}\n"
+        files: List[Tuple[Union[str, bytes], str]] = [
+            ((HEADER + one).replace(",", "|"), "it has 'Name|Pay|Start|End'; `(echo 'sep=|'; cat FILE)` says that '|'"),
+            ((HEADER + one).encode("utf-16-le"), "a third of its bytes are zero: `iconv -f UTF-16LE -t UTF-8` makes"),
+            ((HEADER + one).encode("utf-16-be"), "`iconv -f UTF-16BE -t UTF-8` makes UTF-8 of it"),
+            ((HEADER + one).encode("utf-16"), "`iconv -f UTF-16 -t UTF-8` makes it of a file from Windows"),
+            (f"{HEADER}Müller,1,{PERIOD}\n".encode("cp1252"), "`iconv -f WINDOWS-1252 -t UTF-8` makes it"),
+            ("\ufeff\ufeff" + HEADER + one, "not in the header: Name; it has '\\ufeffName'"),
+            (f"Payroll 2024\n{HEADER}{one}", "it has 'Payroll 2024'"), (f"# export\n{HEADER}{one}", "'# export'"),
+            (f"{HEADER}A,4,50,{PERIOD}\n", "line 2: 5 fields, and not the 4 of the header"),
+            (f"{HEADER}# half\n{one}", "line 2: 1 fields"), (f'{HEADER}"A,1,{PERIOD}\n{one}', "unexpected end"),
+            (HEADER.replace(",", ";") + one, "line 2: 1 fields"), (f'{HEADER}"A\\"B",1,{PERIOD}\n', "expected after"),
+        ]
+        for text, part in files:
+            with self.subTest(part):
+                self.refused(part, text)
+
+    def test_a_form_that_is_refused_is_read_by_what_the_refusal_has(self) -> None:
+        wanted = f"load,pay\nrow,{PERIOD},A,1\nend\n"
+        self.loaded(wanted, "sep=|\n" + (HEADER + f"A,1,{PERIOD}\n").replace(",", "|"))
+
+    def test_numbers_of_other_forms_are_refused(self) -> None:
+        for number, part in [
+            ("5 k", "is k a multiple, or a sign?"), ("5 Mio.", "is Mio. a multiple"), ("5 CR", "is CR a multiple"),
+            ("1.2E3", "its digits are rounded off"), ("+5", "without + it may be one"), ("1/2", "no number"),
+            ("٥", "no number"), ("５", "no number"), ("", "no number"), ("-", "no number"), ("--5", "no number"),
+            ("4800.5000000001", "more than 2 decimals"), ("TRUE", "no number"), ("5O", "no number"),
+        ]:
+            with self.subTest(number):
+                self.refused(part, rows(f"A,{number},{PERIOD}"), *CENTS)
+
+    def test_points_of_other_forms_are_refused(self) -> None:
+        for end, part in [
+            ("2024/03/05", "with --dates 2024/12/31 it is one"), ("25-03-2024", "with --dates 31-12-2024 it is one"),
+            ("05-03-2024", "with --dates 31-12-2024 or --dates 12-31-2024 it is one"), ("5 Mar 2024", "no date as"),
+            ("2024-03-05T24:00:00", "a day ends at the next one's midnight"), ("2024-03", "no date as"),
+            ("2024-W09", "no date as"), ("1709600000", "no date as"), ("5/3/24", "a year has four digits"),
+            ("\uff12024-03-05", "no date as"), ("2024-02-30", "no date as"), ("24-03-05", "a year has four digits"),
+        ]:
+            with self.subTest(end):
+                self.refused(part, rows(f"A,1,2024-01-01,{end}"))
+
+
+class Reported(Case):
+    def test_rows_with_sums_of_others_are_told(self) -> None:
+        names = ("Total", "TOTAL:", "Total 2024", "Grand total", "Insgesamt", "Summe: ", "Zwischensumme", "Subtotals")
+        for name in names:
+            for count in (1, 100):
+                with self.subTest(name, count=count):
+                    others = [f"N{number},1,{PERIOD}" for number in range(count)]
+                    self.told("a row with a sum of others", rows(*others, f"{name},{count},{PERIOD}"))
+        for name in ("Totalenergies", "Summer", "Total Body Fitness"):
+            self.loaded(f"load,pay\nrow,{PERIOD},{name},1\nend\n", rows(f"{name},1,{PERIOD}"))
+
+    def test_quotes_that_are_none_of_csv_are_told(self) -> None:
+        for name in ("'A'", "„A“", "“A”", "«A»"):
+            self.told("quotes of this kind are a part of the text", rows(f"{name},1,{PERIOD}"))
+
+    def test_a_value_in_a_column_without_a_name_is_told(self) -> None:
+        text = f"Name,Pay,,Start,End\nA,4,,{PERIOD}\nB,4,500,{PERIOD}\n"
+        self.told("line 3: '500' is left out: its column, 3, has no name", text)
+
+    def test_rows_of_one_value_that_overlap_are_told(self) -> None:
+        pairs = [f"A,1,{PERIOD}", f"B,1,{PERIOD}", "A,1,2024-02-01,2024-04-02", f"C,1,{PERIOD}"]
+        told = "line 4 has the values of line 2, and both hold at one time: is one of them too many?"
+        self.told(told, rows(*pairs))
+        key = ["--table", "table,pay,name,text,pay,int,key,name"]
+        for words in (key, ["--update", "Name", *key]):
+            self.assertFalse([one for one in load(rows(*pairs), *WORDS, *words)[1] if "too many" in one])
+        touching = [f"A,1,{PERIOD}", "A,1,2024-03-05,2024-04-02"]
+        counted = [f"A,1,2024-01-01,2024-03-{day}" for day in range(10, 20)]
+        for lines in (touching, counted):
+            self.assertEqual(load(rows(*lines), *WORDS)[1], [])
+
+
+class Terminal(Stream):
+    def isatty(self) -> bool:
+        return True
+
+
+class Terminals(unittest.TestCase):
+    def test_no_control_character_of_a_file_reaches_a_terminal(self) -> None:
+        bell = "\x1b[2J\x07\u202e"
+        files = [
+            f"{HEADER}A{bell},x,2024-01-01,{bell}\n", f"Na{bell}me,Pay,Start,End\n", f"{HEADER}{bell},1,{PERIOD}\n",
+            f"sep={bell[0]}\nName\x1bPay\n\"A\"B\x1b1\n", f"\x1cName,Pay,Start,End\nA,x,{PERIOD}\n",
+        ]
+        table = [*WORDS[:3], "--table", "table,pay,name,text,pay,int"]
+        for text in files:
+            for words in (WORDS, table, [*WORDS, "--table", "table,pay,\x1b"]):
+                with self.subTest(text, words=words):
+                    given, printed, said = Stream(text.encode()), Terminal(), Terminal()
+                    with mock.patch.multiple(sys, stdin=given, stdout=printed, stderr=said):
+                        load_cli.main(words)
+                    shown = (printed.bytes.getvalue() + said.bytes.getvalue()).decode()
+                    self.assertTrue(all(one.isprintable() for one in shown.replace("\n", "")), repr(shown))
+
+
+if __name__ == "__main__":
+    unittest.main()
