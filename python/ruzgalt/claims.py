@@ -1,14 +1,18 @@
 """Somebody's division, told as CSV with a header, as a `check` of the script."""
-from typing import Dict, List
+from typing import Dict, Iterable, Iterator, List, Tuple
 
 from ruzgalt.errors import Misfit
 from ruzgalt.forms import is_count
+from ruzgalt.looks import LookAlikes
 from ruzgalt.records import to_text, visible
 from ruzgalt.sheets import Sheet
 
 
-def check_of(sheet: Sheet, table: str, part: str, row_id: str, instant: str) -> str:
-    """The `check` of the parts, by their first rows: a row for each row of the table, with its part and its id."""
+def check_of(sheet: Sheet, table: str, part: str, row_id: str, instant: str) -> Tuple[str, List[str]]:
+    """The `check` of the parts, by their first rows: a row for each row of the table, with its part and its id.
+
+    Behind it stands what is noted of the parts' names.
+    """
     unknown = [name for name in (part, row_id) if name not in sheet.header]
     if unknown:
         raise Misfit(f"not in the header: {visible(unknown[0])}; it has {', '.join(map(visible, sheet.header))}")
@@ -20,4 +24,13 @@ def check_of(sheet: Sheet, table: str, part: str, row_id: str, instant: str) -> 
                 raise Misfit(f"line {line}: {visible(','.join(record))}: no row with a part and an id")
             parts.setdefault(record[places[0]].strip(), []).append(record[places[1]].strip())
     opening = ["check", table, str(len(parts)), instant]
-    return to_text([opening, *(["part", *ids] for ids in parts.values()), ["end"]])
+    return to_text([opening, *(["part", *ids] for ids in parts.values()), ["end"]]), list(alike(part, parts))
+
+
+def alike(column: str, parts: Iterable[str]) -> Iterator[str]:
+    looks = LookAlikes()
+    for name in parts:
+        other = looks.other(name)
+        if other is not None:
+            told = f"is another part than '{visible(other)}', though they look alike"
+            yield f"{visible(column)} is '{visible(name)}', and {told}"

@@ -36,7 +36,7 @@ def part(word: str) -> Tuple[int, int]:
 
 def unit(word: str) -> str:
     if not decimals.UNIT.fullmatch(word):
-        raise ArgumentTypeError(f"{word}: no unit, as € or EUR, which has no digit, mark or space")
+        raise ArgumentTypeError(f"{word}: no unit, as EUR, which has no digit, mark or space")
     return word
 
 
@@ -85,7 +85,7 @@ def words_of_values(parser: ArgumentParser) -> None:
     parser.add_argument("--decimal-mark", choices=(".", ","), help="tells how 7,500 is read, which could be both")
     parser.add_argument(
         "--unit", type=unit, action="append", default=[], metavar="UNIT",
-        help="numbers with decimals may have this before or behind them, as € or EUR",
+        help="numbers with decimals may have this before or behind them, as EUR or a sign of a currency",
     )
     parser.add_argument("--whole-seconds", action="store_true", help="parts of a second are left out of points")
     parser.add_argument("--last-day", action="store_true", help="TO is the last day of a row, and not the next one")
@@ -135,8 +135,8 @@ def load_of(options: Namespace) -> Tuple[Load, Optional[Schema], List[str]]:
     return load, schema, notes
 
 
-def claimed(options: Namespace) -> bytes:
-    """The check of a division that the file tells."""
+def claimed(options: Namespace) -> Tuple[bytes, List[str]]:
+    """The check of a division that the file tells, and what is noted of it."""
     if options.column:
         raise Misfit(f"--check: a division has a part and an id alone, and not {options.column[0]}")
     if options.check != "-" and read_point(options.check) is None:
@@ -145,7 +145,8 @@ def claimed(options: Namespace) -> bytes:
     if unused:
         raise Misfit(f"--check takes no --{unused[0].replace('record', 'table')}: it makes no load")
     sheet = Sheet(given(options), options.line_breaks)
-    return records.encode(claims.check_of(sheet, options.table, options.start, options.end, options.check))
+    check, notes = claims.check_of(sheet, options.table, options.start, options.end, options.check)
+    return records.encode(check), notes
 
 
 def compose(options: Namespace) -> None:
@@ -162,7 +163,8 @@ def made(options: Namespace) -> Tuple[List[bytes], List[str], List[str], int]:
         form = "small letters, digits and _, at most 32, a letter first"
         raise Misfit(f"{visible(options.table)}: no name of a table: {form}")
     if options.check is not None:
-        return [claimed(options)], [], [], 0
+        check, notes = claimed(options)
+        return [check], [], notes, 0
     load, schema, notes = load_of(options)
     head = records.encode(records.to_text([schema.fields])) if schema and options.print_table else b""
     opening = b"" if options.update else records.encode(records.to_text([["load", options.table]]))

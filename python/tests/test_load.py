@@ -445,6 +445,10 @@ class Claims(Case):
         wanted = "check,posts,2,2024-01-05\npart,1,3\npart,2\nend\n"
         self.loaded(wanted, text, "posts", "Post", "Contract", "--check", "2024-01-05")
 
+    def test_parts_that_look_alike_are_told(self) -> None:
+        told = "Post is '01', and is another part than '1', though they look alike"
+        self.told(told, "Post,Contract\n1,1\n01,2\n2,3\n", "posts", "Post", "Contract", "--check", "2024-01-05")
+
     def test_words_of_a_load_are_refused(self) -> None:
         words = ["posts", "P", "I", "--check"]
         self.refused("--check x: no point", "P,I\nA,1\n", *words, "x")
