@@ -315,8 +315,8 @@ def parser_of(name: str, tool: Tool) -> ArgumentParser:
         parser.add_argument("--answers", metavar="FILE", help="the answers, or - for standard input; no program is run")
         parser.add_argument(
             "--ask", action="append", default=[], metavar="[NAME=]COMMAND",
-            help="puts a command behind the script; where no PICK is told, the answers to these are taken; as "
-            "NAME=COMMAND it gets that name",
+            help="puts a command behind the script; its answer is taken beside those that are picked; as NAME=COMMAND "
+            "it gets that name",
         )
         parser.add_argument("--go-on", action="store_true", help="goes on where commands were refused")
     return parser

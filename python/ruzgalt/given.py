@@ -58,14 +58,14 @@ def bytes_of(name: str) -> bytes:
 
 
 def chosen(found: Found, words: Sequence[str]) -> List[picks.Pick]:
-    """The answers that were picked, or else all that were asked, or else all of the script."""
+    """The answers that were picked and all that were asked, or where there is neither, all of the script."""
     told = picked(found, words)
     look_at(found, [pick.answer for pick in told])
     return told
 
 
 def picked(found: Found, words: Sequence[str]) -> List[picks.Pick]:
-    return picks.pick(found.answers if words or not found.asked else found.asked, words, found.names)
+    return picks.pick(found.answers, words, found.asked, found.names)
 
 
 def look_at(found: Found, told: Sequence[Answer]) -> None:
@@ -79,7 +79,7 @@ def look_at(found: Found, told: Sequence[Answer]) -> None:
 
 
 def last(found: Found, words: Sequence[str], count: int) -> List[Answer]:
-    """So many answers: those that were picked, or else the last that are more than an `ok`."""
+    """So many answers: those that were picked or asked, or else the last that are more than an `ok`."""
     told = picked(found, words)
     if len(told) < count and not words:
         raise Misfit(f"{count} wanted, and {len(told)} of the answers more than an `ok`: ask by --ask, as --ask rows,T")

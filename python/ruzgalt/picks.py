@@ -1,7 +1,7 @@
 """Chooses answers by their number, by their line, or from the last one back, and gives them names."""
 import re
 from dataclasses import dataclass
-from typing import Dict, List, Optional, Sequence
+from typing import Dict, List, Sequence
 
 from ruzgalt import called
 from ruzgalt.answers import Answer
@@ -23,25 +23,30 @@ class Pick:
     answer: Answer
 
 
-def pick(answers: Sequence[Answer], words: Sequence[str], names: Optional[Dict[int, str]] = None) -> List[Pick]:
-    """The answers that the words tell, or all that are tables where there are no words.
+def pick(
+    answers: Sequence[Answer], words: Sequence[str], asked: Sequence[Answer], names: Dict[int, str],
+) -> List[Pick]:
+    """The answers that the words tell, and those that are asked besides; where there is neither, all that are tables.
 
     Names are those that answers of these numbers have already.
     """
-    names = names or {}
-    if not words:
-        found = [Pick(names.get(answer.number, name_of(answer)), answer) for answer in answers if is_asked(answer)]
-        refuse_twins(found)
-        return found
-    picks = []
-    for word in words:
-        which, _, name = word.partition("=")
-        answer = find(answers, which)
-        if answer.refusal:
-            raise Misfit(f"{which}: {answer.place}: {answer.command.text} was refused: {answer.refusal.name}")
-        picks.append(Pick(name or names.get(answer.number, name_of(answer)), answer))
+    picks = [picked(answers, word, names) for word in words]
+    taken = {one.answer.number for one in picks}
+    others = [one for one in (asked if words or asked else answers) if one.number not in taken and is_asked(one)]
+    picks.extend(Pick(names.get(one.number, name_of(one)), one) for one in others)
     refuse_twins(picks)
     return picks
+
+
+def picked(answers: Sequence[Answer], word: str, names: Dict[int, str]) -> Pick:
+    """The answer that a word tells, under the name that stands behind it."""
+    which, mark, name = word.partition("=")
+    answer = find(answers, which)
+    if answer.refusal:
+        raise Misfit(f"{which}: {answer.place}: {short(answer.command.text)} was refused: {answer.refusal.name}")
+    if mark and not name:
+        raise Misfit(f"{word}: no name behind the =")
+    return Pick(name or names.get(answer.number, name_of(answer)), answer)
 
 
 def refuse_twins(picks: Sequence[Pick]) -> None:

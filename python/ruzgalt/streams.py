@@ -1,4 +1,4 @@
-"""Standard input, output and error as a shell may leave them: closed, read by a program that ends early, or a terminal."""
+"""Standard input, output and error as a shell may leave them: closed, a terminal, or read by what ends early."""
 import os
 import signal
 import sys

@@ -99,7 +99,7 @@ class Scripts(unittest.TestCase):
 
     def test_tables_are_the_same_in_sqlite_and_json(self) -> None:
         for script in SCRIPTS:
-            chosen = picks.pick(found_in(script), [])
+            chosen = picks.pick(found_in(script), [], [], {})
             database = sqlite3.connect(":memory:")
             export.to_sqlite(chosen, database)
             for pick, told in zip(chosen, json.loads(export.to_json(chosen))):

@@ -225,6 +225,22 @@ class Folders(ToolCase):
         self.check([*words, "--replace"], "", 1, "answers: --replace replaces files of a --folder, and none is told: ")
 
 
+class Asked(ToolCase):
+    def test_a_question_is_taken_beside_what_is_picked(self) -> None:
+        rows = "row,1,2024-01-01,2024-02-01,5\nend,1\n"
+        told = f"ok,1\nok,2\ndip,1,1,2024-01-01\npart,0,1\n{rows}"
+        with kept("table,t,a,int\nload,t\nrow,2024-01-01,2024-02-01,5\nend\ndip,t\n") as name, kept(told) as answers:
+            words = [name, "--answers", answers, "--ask"]
+            both = "table,rows\nplan,1\nt,1\n"
+            self.check(["tools/answers", "sqlite", name, ":memory:", "3=plan", *words[1:], "t=rows,t"], "", 0, both)
+            one = "table,rows\nx,1\n"
+            self.check(["tools/answers", "sqlite", name, ":memory:", "last=x", *words[1:], "t=rows,t"], "", 0, one)
+            self.check(["tools/answers", "csv", *words, "rows,t", "3"], "", 1, "2 answers, and not 1")
+            with tempfile.TemporaryDirectory() as folder:
+                self.check(["tools/answers", "csv", *words, "t=rows,t", "3=plan", "--folder", folder], "", 0, "")
+                self.assertEqual(sorted(file.name for file in Path(folder).iterdir()), ["plan.csv", "t.csv"])
+
+
 class Told(ToolCase):
     def test_what_is_made_of_answers_to_a_table_of_numbers(self) -> None:
         january, february = "row,2024-01-01,2024-02-01,{}\n", "row,2024-02-01,2024-03-01,{}\n"

@@ -46,7 +46,7 @@ class ClosedStreams(unittest.TestCase):
         self.assertEqual((status, said), (1, "answers: No space left on device\n"))
 
 
-# What acts on a terminal, can't be seen, or turns what stands behind it: alone, in an argument, and in lines of their own.
+# What acts on a terminal, can't be seen, or turns what stands behind it.
 ACTING = 'A\x1b[2J\x07\r\x9b1m\u202e\u3164\n3,2024-01-01,B\udcff'
 CODES = r"A\x1b[2J\x07\r\x9b1m\u202e\u3164\n3,2024-01-01,B\xff"
 ROW = f'2024-01-01,2024-02-01,"{ACTING}"'
