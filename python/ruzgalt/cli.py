@@ -121,14 +121,17 @@ def do_gaps(options: Namespace) -> None:
 
 def do_history(options: Namespace) -> None:
     if options.retroactive and not options.diary:
-        raise Misfit("--retroactive: --diary tells the days of commits, and none is told")
+        raise Misfit("--retroactive: --diary tells the days of commits, and none is given")
     found = read(options)
     if not found.is_own:
         fitting.refuse_unfit(found.answers, found.answers)
     newest = max((answer.commits for answer in found.answers), default=0)
     if options.commit is not None and not 1 <= options.commit <= newest:
         raise Misfit(f"--commit {options.commit}: no commit that is there: the newest is {newest}")
-    table = history.of_table(found.answers, options.table, options.where, options.diary)
+    days = history.days_in(found.answers, options.diary) if options.diary else None
+    table = history.of_table(found.answers, options.table, options.where, days)
+    for doubt in history.doubts_of(table, days, newest):
+        warn(f"--diary {options.diary}: {doubt}")
     if options.where and not table.records:
         warn(f"no row of {options.table} ever had what --where tells")
     table = history.retroactive(table) if options.retroactive else table

@@ -8,6 +8,9 @@ from ruzgalt.answers import Answer
 from ruzgalt.errors import Misfit
 
 
+EMPTY = "the script is empty: no command stands in it"
+
+
 class Found(NamedTuple):
     """What was read: all answers, those to the questions put behind the script, and whether the program was asked."""
 
@@ -39,6 +42,8 @@ def read(options: Namespace, shows_refusals: bool = False, script: Optional[byte
         if running:
             running.stop()
         raise
+    if all(command.record.is_asked for command in begun):
+        warn(EMPTY)
     output = running.output() if running else bytes_of(options.answers)
     found = answers.of_commands(begun, output, running is not None)
     refused = [answer for answer in found if answer.refusal and not shows_refusals]

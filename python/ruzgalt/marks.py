@@ -1,19 +1,25 @@
-"""What is accepted, and may not be meant: changes of no row or of all, portions without a day, joins of nothing."""
+"""What may not be meant: changes of no row or of all, portions without a day, joins of nothing, rows held twice."""
 import re
+from collections import Counter, defaultdict
 from typing import Dict, Iterator, List, NamedTuple, Optional, Sequence, Set, Tuple
 
-from ruzgalt.answers import Answer
+from ruzgalt import called, quoting
+from ruzgalt.answers import CHANGES, Answer
 from ruzgalt.dates import NO_END, is_month_end
 from ruzgalt.fields import where_places
 from ruzgalt.looks import fold
+from ruzgalt.overlaps import pairs
 from ruzgalt.reader import Block
 from ruzgalt.records import visible
 from ruzgalt.store import Store
+from ruzgalt.tables import Kind, Schema
 
 HOURS = re.compile(rb",\"?\d{4}-\d\d-\d\dT(?!00:00:00)\d\d:")
 LAST_SECOND = re.compile(rb"row,[^,\r\n]*,(?!9999)\d{4}-\d\d-\d\dT23:59:59")
 JOINS, PORTIONS = ("join", "anti"), ("update", "delete")
 Values = Set[Tuple[str, ...]]
+# Of so many rows at most it is looked whether some of a table without a key overlap.
+LOOKED_AT = 100_000
 
 
 class Mark(NamedTuple):
@@ -22,9 +28,20 @@ class Mark(NamedTuple):
 
 
 def needs_store(found: Sequence[Answer]) -> bool:
-    """Whether some answer is looked at beside the rows that were there."""
+    """Whether some answer is looked at beside the rows that were there, or these are to be looked at themselves."""
     words = {one.command.word for one in found if not one.refusal}
-    return bool(words & {*JOINS, *PORTIONS}) or any(one.refusal and one.refusal.name == "KeyOverlap" for one in found)
+    has_overlap = any(one.refusal and one.refusal.name == "KeyOverlap" for one in found)
+    return bool(words & {*JOINS, *PORTIONS}) or has_overlap or any(without_key(found))
+
+
+def without_key(found: Sequence[Answer]) -> Iterator[Schema]:
+    """The tables whose rows no key keeps apart, where so few are loaded that they are looked at."""
+    loads = [one.command for one in found if one.command.word == "load" and not one.refusal]
+    counts = Counter({name: 0 for name in (found[-1].tables if found else ())})
+    for load in loads:
+        counts[load.record.fields[1]] += len(load.rows)
+    tables = found[-1].tables.values() if found else ()
+    return (one for one in tables if one.columns and not one.key and 1 < counts[one.name] <= LOOKED_AT)
 
 
 def walk(found: Sequence[Answer]) -> Iterator[Tuple[Answer, Store]]:
@@ -47,6 +64,12 @@ class Marks:
 
     def look(self, answer: Answer, store: Store) -> None:
         word = answer.command.word
+        if answer.number == 1 and is_answer(answer.command.record.fields):
+            self.add(answer, "these are answers, and no script: what they answer is to be given")
+        # Why a block has no end its refusal tells.
+        if answer.command.is_ended:
+            for told in quoting.doubts_of(answer.command):
+                self.add(answer, told)
         if answer.refusal:
             self.add(answer, self.left_out(answer) if word == "load" else None)
         elif word == "load":
@@ -101,7 +124,14 @@ class Marks:
         for answer in self.found:
             if not answer.refusal and answer.command.word in PORTIONS:
                 self.add(answer, of_count(answer, store.closed.get(answer.commits, 0)))
+        for schema in without_key(self.found):
+            self.add(last_change_of(self.found, schema.name), of_overlap(schema, store))
         return sorted(self.marks, key=lambda mark: mark.answer.number)
+
+
+def is_answer(fields: Sequence[str]) -> bool:
+    """Whether a script's first record is one with which answers begin, and no command."""
+    return fields[0] == "error" or list(fields) in (["ok", "1"], ["end", "0"], ["together", "0"])
 
 
 def of_portion(answer: Answer, store: Store) -> Optional[str]:
@@ -133,6 +163,28 @@ def of_touched(fields: Sequence[str], count: int) -> Optional[str]:
     if not has_where and count > 1:
         return f"without a `where` it acts on all rows of that time: {count} were changed"
     return None
+
+
+def last_change_of(found: Sequence[Answer], name: str) -> Answer:
+    changes = [one for one in found if not one.refusal and one.command.word in CHANGES]
+    return [one for one in changes if one.command.record.fields[1] == name][-1]
+
+
+def of_overlap(schema: Schema, store: Store) -> Optional[str]:
+    """Offers the question for rows of one thing that hold at one time: of equal texts, whatever their numbers are."""
+    texts = [place for place, column in enumerate(schema.columns) if column.kind is Kind.TEXT]
+    places = texts or range(len(schema.columns))
+    rows: Dict[Tuple[str, ...], List[Tuple[str, str, int]]] = defaultdict(list)
+    for version in store.open[schema.name].by_id.values():
+        values = tuple(version.row.values[place] for place in places)
+        rows[values].append((version.row.start, version.row.end, version.row_id))
+    found = next((pair for spans in rows.values() for pair in pairs(spans)), None)
+    if found is None:
+        return None
+    names = " ".join(schema.names[place] for place in places)
+    both = f"rows {found.first} and {found.second}, equal in {names.replace(' ', ', ')}, hold at one time"
+    question = f"`{called.ANSWERS} overlaps SCRIPT {names} --ask rows,{schema.name}` lists such rows"
+    return f"{schema.name} has no key, and {both}; {question}"
 
 
 def of_join(answer: Answer, store: Store) -> Optional[str]:

@@ -1,6 +1,6 @@
 """What may not be meant in a query of SQL over answers, in which points are texts."""
 import re
-from typing import Iterator
+from typing import Iterable, Iterator, Optional
 
 from ruzgalt.errors import Misfit
 from ruzgalt.forms import printed, read_point
@@ -23,8 +23,30 @@ DOUBTS = [(re.compile(form, re.IGNORECASE), told) for form, told in (
     (rf"(?:{FROM}|{TO})\s*[<>=]+\s*\d|\d\s*[<>=]+\s*(?:{FROM}|{TO})",
      "a point is a text, and is compared with a number: a day stands in single quotes, as '2024-01-31'"),
     (r"\bdatetime\s*\(", "datetime(..) has a space before the time, where points have a T, or no time"),
+    (rf"(?:{FROM}|{TO})\s*=\s*'\d{{4}}(?:-\d\d)?'",
+     "a point has a day, so none is equal to a year or a month: valid_from >= '2024-01-01'"),
     (r"[<>=]\s*null\b", "nothing is equal to NULL: `is null` asks for it"),
 )]
+# What a call has in its brackets, with two more pairs of them inside at most.
+WITHIN = r"(?:[^()]|\((?:[^()]|\([^()]*\))*\))*"
+TEXT_OF = rf"\b(?:strftime|substr|substring|date|time|l?trim|rtrim|upper|lower|replace|printf|format)\s*\({WITHIN}\)"
+IS_NUMBER = r"(?:[<>=!]+|\bis\b|\bin\s*\(|\bbetween\b)\s*-?\d"
+NUMBER_BESIDE = re.compile(
+    rf"{TEXT_OF}\s*(?:not\s+)?{IS_NUMBER}|(?<![\w.])\d+\s*[<>=!]+\s*{TEXT_OF}", re.IGNORECASE,
+)
+# Brackets, and where an operand of a division ends.
+EDGE = re.compile(
+    r"[(),;<>=+-]|\b(?:select|from|where|and|or|not|then|else|when|on|by|having|as|limit|in)\b", re.IGNORECASE,
+)
+# What makes numbers with a point of a division, and what rounds one: a half of its divisor, which is added before.
+POINTED = re.compile(r"(?<!\w)(?:\d+\.|\.\d|\d+e\d)|\b(?:julianday|avg|total|round|real)\b", re.IGNORECASE)
+HALF, DIVISOR = re.compile(r"\+\s*(\d+)\s*\)*\s*$"), re.compile(r"\s*(\d+)")
+CUTS_OFF = (
+    "a division of whole numbers cuts off what is behind the point: (a + 50) / 100 rounds, and a / 100.0 keeps it"
+)
+TEXT_BESIDE_NUMBER = (
+    "strftime(..), substr(..) and their like give texts, which are equal to no number: as '2025' it is a text too"
+)
 LENGTH = re.compile(rf"julianday\s*\(\s*{TO}", re.IGNORECASE)
 
 
@@ -35,8 +57,43 @@ def doubts_of(query: str, has_open_ends: bool) -> Iterator[str]:
         raise Misfit(f"--query: {bare[0]} is a subtraction: a point stands in single quotes, as '{bare[0]}'")
     line = " ".join(query.split())
     yield from (told for form, told in DOUBTS if form.search(line))
+    plain = " ".join(QUOTED.sub(without_text, query).split())
+    if any(cuts_off(plain, found.start()) for found in re.finditer("/", plain)):
+        yield CUTS_OFF
+    if NUMBER_BESIDE.search(plain):
+        yield TEXT_BESIDE_NUMBER
     if has_open_ends and LENGTH.search(line) and "9999" not in line and "min(" not in line.lower():
         yield "a length up to 9999-12-31, where no end is known, is 8,000 years: cut it, as by min(valid_to, '..')"
     for text in DAY.findall(query):
         if read_point(text) is None or printed(text) != text:
             yield f"'{text}' is compared as a text: points are as '2024-01-31' or '2024-01-31T08:30:00' in the tables"
+
+
+def without_text(found: "re.Match[str]") -> str:
+    """Names stay as they are; texts are empty, and comments are left out."""
+    if found[0].startswith(("--", "/*")):
+        return " "
+    return "''" if found[0].startswith("'") else found[0].replace("/", "_")
+
+
+def cuts_off(query: str, place: int) -> bool:
+    """Whether a division there may be one of whole numbers, and rounds by no half of its divisor."""
+    left, right = query[:place], query[place + 1:].lstrip(" +-")
+    begun = first_edge(reversed(list(EDGE.finditer(left))), ")(")
+    ended = first_edge(EDGE.finditer(right), "()")
+    left, right = left[begun.end() if begun else 0:], right[:ended.start() if ended else None]
+    if POINTED.search(left) or POINTED.search(right):
+        return False
+    half, divisor = HALF.search(left), DIVISOR.match(right)
+    return not (half and divisor and int(half[1]) == int(divisor[1]) // 2)
+
+
+def first_edge(found: Iterable["re.Match[str]"], brackets: str) -> Optional["re.Match[str]"]:
+    """The first edge that stands in no brackets of its own, or a bracket that is closed and wasn't opened."""
+    depth = 0
+    for one in found:
+        depth += one[0] == brackets[0]
+        if depth == 0:
+            return one
+        depth -= one[0] == brackets[1]
+    return None

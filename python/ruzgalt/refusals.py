@@ -38,7 +38,7 @@ def wrong_width(answer: Answer) -> str:
     record = answer.refused.record
     wanted = ",".join(["row", "FROM", "TO", *answer.tables[answer.command.record.fields[1]].names])
     count = f"{len(record.fields)} fields, and not the {wanted.count(',') + 1} of {wanted}"
-    return f"{visible(record.text)} has {count}; a text with a comma stands in quotes"
+    return f"{visible(record.text)} has {count}; a text with a comma stands in double quotes, right between commas"
 
 
 def bad_command(answer: Answer) -> str:
@@ -84,6 +84,7 @@ def no_word(word: str) -> str:
 
 # Words of other languages, and what is done here.
 OTHER_WORDS = [
+    (("ok", "error", "version", "yes", "no"), "it is a word of answers, and a script is what they answer"),
     (("select", "with", "from"), f"SQL is asked of answers, by `{called.ANSWERS} sqlite`"),
     (("alter", "drop", "truncate", "rename"), "a table keeps its columns, and stays: a new one can have others"),
     (("create",), "`table` makes a table"),

@@ -98,6 +98,37 @@ class Lists(unittest.TestCase):
         script = PAY + "anti,pay,pay,on,person,person\n"
         self.marks("asked for by anti,pay,pay", script, "ok,1\nok,2\nend,0\n")
 
+    def test_quotes_that_may_not_be_meant_are_marked(self) -> None:
+        row = "load,pay\nrow,2024-01-01,2024-03-01,{},5\nrow,2024-01-01,2024-03-01,{},5\nend\n"
+        for first, second, part in [
+            ('"B\nrow,2024-01-01,2024-03-01,C"', "D", "line 7: B\\nrow,2024-01-01,2024-03-01,C goes on to lines"),
+            (' "B"', "D", 'line 7:  "B" has a blank before its quote, so blank and quotes belong to it'),
+            ("'B'", "'D'", "line 7: 'B' has single quotes, which belong to it: quotes of fields are double (1 more"),
+            ('"two\nlines"', "O'Neill", ""),
+        ]:
+            with self.subTest(first):
+                _, _, said = answers("list $S --answers $A", PAY + row.format(first, second), "ok,1\nok,2\nok,3\n")
+                self.assertEqual((part in said, said == ""), (True, part == ""), said)
+
+    def test_an_open_quote_of_a_command_is_marked(self) -> None:
+        script = PAY + 'update,pay,2024-01-01,2024-12-01,set,euros,7,where,person,"A\nrows,pay\n'
+        self.marks("goes on to lines that look like records", script, "ok,1\nok,2\nok,3\n")
+
+    def test_a_script_that_is_empty_or_has_answers_is_marked(self) -> None:
+        for tool in ("list", "page", "json"):
+            _, _, said = answers(f"{tool} $S --answers $A", "\n", "")
+            self.assertIn("the script is empty", said)
+        self.marks("these are answers, and no script", "ok,1\n", "error,1,BadCommand\n")
+
+    def test_rows_that_overlap_without_a_key_are_marked_with_the_question(self) -> None:
+        script = PAY.replace("2024-04-01", "2024-02-01")
+        part = "1 and 2, equal in person, hold at one time; `tools/answers overlaps SCRIPT person --ask rows,pay`"
+        self.marks(part, script, "ok,1\nok,2\n")
+        for other in (script.replace("euros,int", "euros,int,key,person"), script.replace("A,6", "B,6"), PAY):
+            told = "ok,1\nerror,2,KeyOverlap\n" if "key" in other else "ok,1\nok,2\n"
+            _, _, said = answers("list $S --answers $A", other, told)
+            self.assertEqual(said, "")
+
     def test_answers_from_a_file_are_compared_whole(self) -> None:
         status, _, said = answers("list $S --answers $A", PAY + "rows,pay\n", "ok,1\nok,2\nend,0\n")
         self.assertEqual(status, 1)
@@ -128,6 +159,17 @@ class Tables(unittest.TestCase):
         words = "history $S pay --answers $A --diary diary --retroactive --commit 3"
         self.prints(wanted, words, script, "".join(f"ok,{number}\n" for number in range(1, 6)))
 
+    def test_a_diary_of_commits_that_aren_t_there_is_told(self) -> None:
+        script = PAY + "table,diary,newest,int\nload,diary\nrow,2024-01-01,2024-02-01,1\n"
+        script += "row,2024-02-01,2024-03-01,9\nend\n"
+        told = "".join(f"ok,{number}\n" for number in range(1, 5))
+        _, _, said = answers("history $S pay --answers $A --diary diary", script, told)
+        self.assertEqual(said, "answers: --diary diary: it names commit 9, which isn't there: the newest is 4\n")
+        _, printed, _ = answers("page $S --answers $A --diary diary", script, told)
+        self.assertIn("it names commit 9, which isn't there", printed)
+        _, _, said = answers("history $S pay --answers $A --diary diary", script.replace(",9\n", ",1\n"), told)
+        self.assertIn("commits without a day, which --retroactive leaves out: 2", said)
+
     def test_history_of_what_isn_t_there_is_told(self) -> None:
         _, _, said = answers("history $S pay --answers $A --where person=a", PAY, "ok,1\nok,2\n")
         self.assertIn("no row of pay ever had what --where tells", said)
@@ -153,7 +195,7 @@ class Tables(unittest.TestCase):
                 _, _, said = answers(words, PAY.replace("2024-06-01", end), rows)
                 self.assertEqual(said[:len(told) or None], told)
 
-    def test_ends_that_are_included_or_subtracted_are_told(self) -> None:
+    def test_what_may_not_be_meant_in_a_query_is_told(self) -> None:
         for query, part in [
             ("select * from a where valid_from <= '2024-03-01' and valid_to >= '2024-03-01'", "which `>=` includes"),
             ("select * from a where valid_from <= '2024-03-01' and '2024-03-01' <= a.valid_to", "which `>=` includes"),
@@ -169,6 +211,19 @@ class Tables(unittest.TestCase):
             ("select * from a where valid_from <= '2024-06-01' and '2024-06-01' < valid_to", ""),
             ("select * from a where valid_to >= '9999' and valid_from < '2024-06'", ""),
             ("select valid_from from a where valid_to <= '2024-08-01'", ""),
+            ("select * from a where valid_from = '2024-01'", "a point has a day"),
+            ("select euros*103/100 from a", "a division of whole numbers cuts off"),
+            ("select sum(euros)/count(*) as mean from a", "a division of whole numbers cuts off"),
+            ("select round(euros/3, 2) from a", "a division of whole numbers cuts off"),
+            ("select euros / 2 - 1.5 from a", "a division of whole numbers cuts off"),
+            ("select (euros*103+50)/100, (euros * 1025 + 500) / 1000 from a", ""),
+            ("select euros/3.0, 1.0 * euros / 3, cast(euros as real) / 3, avg(euros)/3, '1/2' from a -- 1/2", ""),
+            ("select (julianday(valid_to) - julianday(valid_from)) / 7 from a", ""),
+            ("select * from a where strftime('%Y', valid_to)=2025", "give texts, which are equal to no number"),
+            ("select * from a where 2025 = strftime('%Y', valid_to)", "give texts, which are equal to no number"),
+            ("select * from a where substr(valid_to, 1, 4) in (2024)", "give texts, which are equal to no number"),
+            ("select * from a where cast(strftime('%Y', valid_to) as int) = 2025 or euros = 5", ""),
+            ("select * from a where strftime('%Y', valid_to) = '2025' and euros >= 2025", ""),
         ]:
             words = ["sqlite", "$S", ":memory:", "--answers", "$A", "last=a", "--query", query.replace(" ", "\t")]
             _, _, said = answers(" ".join(words), PAY + "rows,pay\n", "ok,1\nok,2\n" + ROWS)

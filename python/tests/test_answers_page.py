@@ -138,7 +138,8 @@ class Contents(ToolCase):
             with self.subTest(script.name):
                 words = [str(script), "--answers", f"{script}.stdout", "--go-on"]
                 status, page, said = run(["tools/answers", "page", *words])
-                self.assertEqual((status, said), (0, ""))
+                empty = "answers: the script is empty: no command stands in it\n"
+                self.assertEqual((status, said), (0, "" if script.read_bytes() else empty))
                 data = data_of(page)["data"]
                 told = len(data["commits"]) + len(data["questions"]) + len(data["refused"])
                 blocks = sum(map(is_opened, found_in(script)))

@@ -5,7 +5,7 @@ from typing import Any, Dict, Iterator, List, NamedTuple, Optional, Sequence, Tu
 
 from ruzgalt import called, history
 from ruzgalt.answers import CHANGES, Answer
-from ruzgalt.errors import Misfit
+from ruzgalt.given import EMPTY
 from ruzgalt.page import drawings, findings
 from ruzgalt.page.sources import CLOSED, MADE, VALUES, Marked, Sources, Tally, tally
 from ruzgalt.picks import BARE
@@ -49,14 +49,16 @@ def of(sources: Sources, diary: Optional[str]) -> Contents:
     parts = Parts(sources)
     asked = [answer for answer in sources.answers if not answer.refusal and answer.command.word not in BARE]
     kept = parts.first(asked, QUESTIONS, "questions")
-    commits = list(commits_of(sources, counts, days_of(sources, diary)))
+    days = days_of(sources, diary)
+    commits = list(commits_of(sources, counts, days))
     found = findings.of(sources, counts)
+    doubtful = [*doubts_of(sources, diary, days), *found.doubtful]
     data = {
         "script": as_object(sources.script), "command": sources.command,
         "files": [as_object(file) for file in sources.files],
         "isOwn": sources.is_own, "isDoneAgain": sources.is_done_again, "hasPrinted": sources.has_printed,
         "tool": called.ANSWERS, "answers": len(sources.answers),
-        "refused": as_objects(found.refused), "idle": as_objects(found.idle), "doubtful": as_objects(found.doubtful),
+        "refused": as_objects(found.refused), "idle": as_objects(found.idle), "doubtful": as_objects(doubtful),
         "diary": diary, "newest": len(commits), "commits": parts.first(commits, COMMITS, "commits"),
         "shown": SHOWN, "questions": list(parts.questions(kept)), "pairs": list(pairs_of(kept)),
         "tables": list(parts.tables()),
@@ -132,14 +134,22 @@ def as_objects(found: Sequence[findings.Finding]) -> List[Data]:
     return [one._asdict() for one in found]
 
 
-def days_of(sources: Sources, diary: Optional[str]) -> List[Tuple[str, int]]:
+def days_of(sources: Sources, diary: Optional[str]) -> history.Days:
     """The days of the diary, as its rows tell them at the script's end."""
     if diary is None:
         return []
-    if diary not in sources.tables:
-        raise Misfit(f"{diary}: no table that is there")
+    history.refuse_missing(sources.answers, diary)
     open_rows = (record for record in sources.versions[diary].texts() if not record[CLOSED])
     return history.days_of(sources.tables[diary], ([*row[1:MADE], *row[VALUES:]] for row in open_rows))
+
+
+def doubts_of(sources: Sources, diary: Optional[str], days: history.Days) -> Iterator[findings.Finding]:
+    """What may not be meant in the script and its diary as a whole."""
+    if not sources.answers:
+        yield findings.Finding("line 1", "", "", EMPTY, [])
+    newest = max((answer.commits for answer in sources.answers), default=0)
+    for told in history.strange_commits(days, newest):
+        yield findings.Finding(f"--diary {diary}", "", "", told, [])
 
 
 def commits_of(sources: Sources, counts: Tally, days: Sequence[Tuple[str, int]]) -> Iterator[List[str]]:
