@@ -2,6 +2,7 @@
 import json
 import math
 import re
+import subprocess
 import tempfile
 import unittest
 from argparse import Namespace
@@ -159,6 +160,26 @@ class Contents(ToolCase):
         self.assertRegex(data_of(page)["data"]["command"], f"^{wanted}$")
         told = data_of(example("pay"))["data"]["command"]
         self.assertEqual(told, "tools/answers page pay.csv --answers pay.csv.stdout")
+
+    def test_its_words_make_it_again_in_a_shell_whatever_its_files_are_called(self) -> None:
+        for name in ("a b", "-x", "$(touch made)", "it's; echo \\n", "`id`", "\x1b[2J\n\u202e\u3164\udcffz"):
+            with self.subTest(name), tempfile.TemporaryDirectory() as folder:
+                script = Path(folder, name)
+                script.write_bytes(b"table,t\n")
+                script.with_name(name + ".out").write_bytes(b"ok,1\n")
+                page = run(["tools/answers", "page", str(script), "--answers", f"{script}.out"])[1]
+                data = data_of(page)["data"]
+                self.assertTrue((data["command"] + data["scriptWord"]).isprintable())
+                command = f"sha256sum {data['scriptWord']}; {data['command'].replace('tools', str(TOP / 'tools'), 1)}"
+                ran = subprocess.run(["bash", "-c", command], cwd=folder, capture_output=True)
+                mark, _, again = ran.stdout.partition(b"\n")
+                self.assertEqual((mark.lstrip(b"\\")[:64].decode(), again.decode()), (data["script"]["sha256"], page))
+                self.assertEqual(len(list(Path(folder).iterdir())), 2)
+
+    def test_it_says_which_tool_made_it(self) -> None:
+        for is_installed in (False, True):
+            with mock.patch("ruzgalt.called.IS_INSTALLED", is_installed):
+                self.assertEqual(data_of(example("pay"))["data"]["isInstalled"], is_installed)
 
     def test_refusals_have_their_reasons_and_of_a_key_the_rows(self) -> None:
         data = data_of(example("payroll"))["data"]

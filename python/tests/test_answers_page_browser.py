@@ -9,8 +9,10 @@ import tempfile
 import unittest
 from pathlib import Path
 from typing import Any, Dict, List, Tuple
+from unittest import mock
 
 from ruzgalt import answers, store
+from ruzgalt.page import contents
 from tests.browser import MISSING, PROGRAM, Browser
 from tests.support import TOP, run
 from tests.test_answers_page import HOSTILE, TIME, data_of, example, hostile, page_of
@@ -80,6 +82,26 @@ class Texts(BrowserCase):
         self.assertEqual(self.value("document.title"), f"Answers to {name}")
         self.assertEqual(self.value("document.querySelector('h1').textContent"), f"Answers to {name}")
         self.assertEqual(self.value("document.querySelectorAll('img').length"), 0)
+
+    def test_commands_to_paste_are_quoted_and_what_has_no_ink_is_shown(self) -> None:
+        name = "a\u202e\u3164\u00a0;$(id).csv"
+        script = Path(self.folder.name, name)
+        script.write_text("table,t,a,text\nload,t\n" + f"row,{TIME},x\n" * 1001 + "end\nrows,t,asof,1\nrows,t\n")
+        rows = "".join(f"row,{number},{TIME},x\n" for number in range(1, 1002))
+        script.with_name(name + ".stdout").write_text(f"ok,1\nok,2\nend,0\n{rows}end,1001\n")
+        with mock.patch.object(contents, "ROOM", 50):
+            page = run(["tools/answers", "page", str(script), "--answers", f"{script}.stdout"])[1]
+        self.open(page)
+        seen = "a\\u202e\\u3164\\u00a0;$(id).csv"
+        for code in ("document.title", "document.querySelector('h1').textContent"):
+            self.assertEqual(self.value(code), f"Answers to {seen}")
+        word = "$'a\\xe2\\x80\\xae\\xe3\\x85\\xa4\\xc2\\xa0;$(id).csv'"
+        codes = self.value("[...document.querySelectorAll('main code')].map((one) => one.textContent)")
+        told = [one for one in codes if "$(id)" in one]
+        wanted = [f"tools/answers changed {word} 3 4", f"tools/answers csv {word} --ask at,t,DAY,asof,N"]
+        self.assertEqual(told[:2], wanted)
+        self.assertTrue(told[2].startswith(f"sha256sum {word}\ntools/answers page {word} --answers $'a"))
+        self.assertIn("made by tools/answers of a clone", self.value("document.querySelector('#about').textContent"))
 
     def test_each_example_is_shown_without_a_fault(self) -> None:
         for script in sorted(TOP.glob("examples/*.csv")):

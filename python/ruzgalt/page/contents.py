@@ -54,10 +54,10 @@ def of(sources: Sources, diary: Optional[str]) -> Contents:
     found = findings.of(sources, counts)
     doubtful = [*doubts_of(sources, diary, days), *found.doubtful]
     data = {
-        "script": as_object(sources.script), "command": sources.command,
+        "script": as_object(sources.script), "scriptWord": sources.word, "command": sources.command,
         "files": [as_object(file) for file in sources.files],
         "isOwn": sources.is_own, "isDoneAgain": sources.is_done_again, "hasPrinted": sources.has_printed,
-        "tool": called.ANSWERS, "answers": len(sources.answers),
+        "tool": called.ANSWERS, "isInstalled": called.IS_INSTALLED, "answers": len(sources.answers),
         "refused": as_objects(found.refused), "idle": as_objects(found.idle), "doubtful": as_objects(doubtful),
         "diary": diary, "newest": len(commits), "commits": parts.first(commits, COMMITS, "commits"),
         "shown": SHOWN, "questions": list(parts.questions(kept)), "pairs": list(pairs_of(kept)),

@@ -4,8 +4,9 @@
 
 const SVG = "http://www.w3.org/2000/svg";
 const collator = new Intl.Collator(undefined, { numeric: true });
-// What can't be seen, or turns the direction of what stands behind it, is shown by its code.
-const UNSEEN = /[\u0000-\u0008\u000b-\u001f\u007f-\u009f\u00ad\u200b\u200e\u200f\u2028-\u202e\u2060-\u2069\ufeff]/g;
+// What can't be seen, or turns the direction of what stands behind it, is shown by its code: controls and formats, blanks
+// other than a space, and letters and marks without ink.
+const UNSEEN = /(?![ \n\t])[\p{C}\p{Z}\p{Default_Ignorable_Code_Point}\u2800]/gu;
 // On paper a table has so many records at most, as page.css says.
 const ON_PAPER = 100;
 // A text of so many characters at most stays in one line, where there is room.
@@ -36,7 +37,12 @@ function filled(element, attributes, inner) {
 }
 
 function seen(text) {
-  return text.replace(UNSEEN, (one) => `\\u${one.charCodeAt(0).toString(16).padStart(4, "0")}`);
+  return text.replace(UNSEEN, codeOf);
+}
+
+function codeOf(character) {
+  const code = character.codePointAt(0).toString(16);
+  return code.length > 4 ? `\\U${code.padStart(8, "0")}` : `\\u${code.padStart(4, "0")}`;
 }
 
 function pressed(text, act) {

@@ -35,7 +35,7 @@ function againTold() {
 
 function showHead() {
   const { name } = data.script;
-  document.title = `Answers to ${name}`;
+  document.title = `Answers to ${seen(name)}`;
   document.getElementById("name").textContent = seen(name);
   const findings = [[data.refused, "refused"], [data.idle, "touched nothing"], [data.doubtful, "may not be meant"]];
   const short = findings.map(([found, what]) => `${grouped(found.length)} ${what}`).join(", ");
@@ -112,7 +112,7 @@ function sideOf(when, question, records) {
 function pairOf(then, now) {
   const article = make("article", {}, make("h3", {}, make("code", {}, now.command)));
   if (!then.hasAll || !now.hasAll) {
-    const command = make("code", {}, `${data.tool} changed ${data.script.name} ${then.number} ${now.number}`);
+    const command = make("code", {}, `${data.tool} changed ${data.scriptWord} ${then.number} ${now.number}`);
     article.append(make("p", {}, "Not all records are in this page. What changed is told by ", command, "."));
     return article;
   }
@@ -207,12 +207,14 @@ function showTables() {
 }
 
 function showAbout() {
-  const { name } = data.script;
+  const made = data.isInstalled
+    ? `It was made by ${data.tool} as it is installed; tools/answers of a clone of the repository names other commands.`
+    : `It was made by ${data.tool} of a clone of the repository; dipq-answers as it is installed names other commands.`;
   const left = data.leftOut.length ? data.leftOut : ["nothing"];
   section("about",
     make("p", {}, "This page is one file, and asks no network. The same script and the same program, or answers, give the same "
-      + "page, byte by byte. So whoever has them makes it once more, and compares:"),
-    make("p", {}, make("code", {}, `sha256sum ${name}\n${data.command} > again.html\ncmp again.html PAGE`)),
+      + `page, byte by byte, by the same tool. ${made} So whoever has them makes it once more, and compares:`),
+    make("p", {}, make("code", {}, `sha256sum ${data.scriptWord}\n${data.command} > again.html\ncmp again.html PAGE`)),
     make("p", {}, "A period begins with its first point and ends before its second; 9999-12-31 stands for an end that isn't "
       + "known. Records are sorted and filtered in the page alone. What is saved as CSV has all records of a table that are in "
       + "the page, in the order of the answer."),

@@ -1,13 +1,12 @@
 """Which script a page is of, who answered it, and each version of each of its tables."""
 import hashlib
-import shlex
 from argparse import Namespace
 from collections import Counter
 from pathlib import Path
 from typing import Counter as Counts
 from typing import Dict, List, NamedTuple, Optional, Sequence
 
-from ruzgalt import called, fitting
+from ruzgalt import called, fitting, shell
 from ruzgalt.again import texts_of
 from ruzgalt.answers import Answer
 from ruzgalt.given import Found, bytes_of, read
@@ -40,7 +39,8 @@ class Sources(NamedTuple):
     """What a page is made of. Answers are those to the script and to what was asked behind it by name."""
 
     script: Marked
-    # The words that make the page once more, beside the files.
+    # The script as a word of a shell, and the command that makes the page once more, beside the files.
+    word: str
     command: str
     answers: List[Answer]
     # What answered: the command and the program that it runs, or the file of the answers.
@@ -105,16 +105,23 @@ def ask(options: Namespace) -> Sources:
     printed = {one.command.front[1]: one.table for one in found.answers[len(own):] if not one.refusal}
     tables = own[-1].tables if own else {}
     made = {name: printed[name] if name in printed else done_again(store, tables[name]) for name in tables}
-    script_mark, command = marked(options.script, script), command_of(options, words)
-    return Sources(script_mark, command, own, files, found.is_own, is_done_again, made, bool(printed), found.names)
+    word, command = shell.quoted(word_of(options.script)), command_of(options, words)
+    mark = marked(options.script, script)
+    return Sources(mark, word, command, own, files, found.is_own, is_done_again, made, bool(printed), found.names)
 
 
 def command_of(options: Namespace, asked: Sequence[str]) -> str:
-    files = [options.script, *(["--answers", options.answers] if options.answers else [])]
-    words = [called.ANSWERS, "page", *(Path(word).name if word != "-" else word for word in files)]
+    words = [called.ANSWERS, "page", word_of(options.script)]
+    words.extend(["--answers", word_of(options.answers)] if options.answers else [])
     words.extend(["--diary", options.diary] if options.diary else [])
     words.extend(word for question in asked for word in ("--ask", question))
-    return shlex.join([*words, *(["--once"] if options.once else [])])
+    return shell.joined([*words, *(["--once"] if options.once else [])])
+
+
+def word_of(file: str) -> str:
+    """The file in the folder of a shell, for which no option is taken."""
+    name = Path(file).name if file != "-" else file
+    return f"./{name}" if name.startswith("-") and file != "-" else name
 
 
 def refuse_others(found: Found, store: Store) -> None:

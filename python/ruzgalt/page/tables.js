@@ -202,7 +202,7 @@ function tableOf(table) {
   const about = make("p", { class: "soft" }, `${columns}${key} ${counted(table.count, "version")} of rows.`);
   const article = make("article", {}, make("h3", {}, make("code", {}, table.name)), about);
   if (!table.isThere) {
-    const command = make("code", {}, `${data.tool} csv ${data.script.name} --ask at,${table.name},DAY,asof,N`);
+    const command = make("code", {}, `${data.tool} csv ${data.scriptWord} --ask at,${table.name},DAY,asof,N`);
     article.append(make("p", {}, "So many versions aren't in this page. What held is told by ", command, "."));
   } else if (table.count === 0) {
     article.append(make("p", {}, "No row was ever in it."));
