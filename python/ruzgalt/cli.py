@@ -4,12 +4,13 @@ import sqlite3
 import sys
 import textwrap
 from argparse import ArgumentParser, Namespace
+from functools import partial
 from pathlib import Path
-from typing import Callable, Dict, NamedTuple, Optional, Sequence
+from typing import Callable, Dict, Iterator, NamedTuple, Optional, Sequence
 
 from ruzgalt import (
     answers, called, changes, commands, export, fitting, front, history, marks, overlaps, picks, picture_cli, program,
-    queries, records, refusals, single, streams, which,
+    queries, records, refusals, single, spreadsheets, streams, which,
 )
 from ruzgalt.errors import Misfit
 from ruzgalt.forms import read_point
@@ -17,6 +18,7 @@ from ruzgalt.given import bytes_of, chosen, last, read, warn
 from ruzgalt.page import contents, document, sources
 from ruzgalt.reader import Source
 from ruzgalt.store import Store
+from ruzgalt.tables import Table
 from ruzgalt.words import Words, pair
 
 NAME = called.ANSWERS
@@ -62,12 +64,32 @@ def warn_of_marks(found: Sequence[marks.Mark]) -> None:
 
 def do_csv(options: Namespace) -> None:
     if options.replace and not options.folder:
-        raise Misfit("--replace replaces files of a --folder, and none is told: what is printed replaces no file")
+        raise Misfit("--replace replaces files of a --folder, and none is given: what is printed replaces no file")
+    if options.german and not options.for_spreadsheet:
+        raise Misfit("--german is of a spreadsheet, and stands beside --for-spreadsheet")
     found = read(options)
     if options.folder:
-        export.to_folder(chosen(found, options.pick), Path(options.folder), options.replace)
+        picked = chosen(found, options.pick)
+        export.to_folder(picked, Path(options.folder), options.replace, partial(printed, options))
+        warn_of_formulas(options, [pick.answer.table for pick in picked])
     else:
-        streams.show_records(export.to_csv(last(found, options.pick, 1)[0].table))
+        [answer] = last(found, options.pick, 1)
+        streams.show_records(printed(options, answer.table))
+        warn_of_formulas(options, [answer.table])
+
+
+def printed(options: Namespace, table: Table) -> Iterator[bytes]:
+    """The table as CSV, exactly or for a spreadsheet."""
+    return spreadsheets.to_csv(table, options.german) if options.for_spreadsheet else export.to_csv(table)
+
+
+def warn_of_formulas(options: Namespace, tables: Sequence[Table]) -> None:
+    """Reports once what a spreadsheet would run, where it isn't guarded."""
+    found = [] if options.for_spreadsheet else list(filter(None, map(spreadsheets.run_in, tables)))
+    if found:
+        count = sum(run.fields for run in found)
+        fields = f"{count} fields, the first" if count > 1 else "a field,"
+        warn(f"a spreadsheet would run {fields} {records.visible(found[0].first)}: --for-spreadsheet guards against it")
 
 
 def do_json(options: Namespace) -> None:
@@ -207,6 +229,11 @@ def words_of_csv(parser: ArgumentParser) -> None:
     with_picks(parser)
     parser.add_argument("--folder", metavar="FOLDER", help="a file NAME.csv for each answer there, and not one table")
     parser.add_argument("--replace", action="store_true", help="replaces files of these names in the folder")
+    parser.add_argument(
+        "--for-spreadsheet", action="store_true",
+        help="puts an apostrophe before texts that a spreadsheet would run as formulas, and a byte order mark in front",
+    )
+    parser.add_argument("--german", action="store_true", help="beside --for-spreadsheet: semicolons between fields")
 
 
 def words_of_sqlite(parser: ArgumentParser) -> None:

@@ -3,7 +3,7 @@ import json
 import sqlite3
 from itertools import islice
 from pathlib import Path
-from typing import Any, Dict, Iterator, List, Sequence
+from typing import Any, Callable, Dict, Iterator, List, Sequence
 
 from ruzgalt.answers import Answer, Listed
 from ruzgalt.errors import Misfit
@@ -15,7 +15,10 @@ from ruzgalt.records import Printer, encode, to_text
 from ruzgalt.tables import Kind, Table
 
 
-def to_csv(table: Table) -> Iterator[bytes]:
+Pieces = Iterator[bytes]
+
+
+def to_csv(table: Table) -> Pieces:
     """The table with a header, by pieces."""
     yield encode(to_text([table.names]))
     if isinstance(table.records, Listed) and table.records.has_lines:
@@ -28,8 +31,11 @@ def to_csv(table: Table) -> Iterator[bytes]:
         piece = list(islice(texts, PIECE))
 
 
-def to_folder(picks: Sequence[Pick], folder: Path, is_replacing: bool = False) -> None:
-    """A file NAME.csv for each answer. None is written where one of them is there and isn't to be replaced."""
+def to_folder(picks: Sequence[Pick], folder: Path, is_replacing: bool, printed: Callable[[Table], Pieces]) -> None:
+    """A file NAME.csv for each answer, with what is printed of it.
+
+    None is written where one of them is there and isn't to be replaced.
+    """
     files = [folder / f"{pick.name}.csv" for pick in picks]
     for pick, file in zip(picks, files):
         if "/" in pick.name or pick.name.startswith("."):
@@ -39,7 +45,7 @@ def to_folder(picks: Sequence[Pick], folder: Path, is_replacing: bool = False) -
     folder.mkdir(parents=True, exist_ok=True)
     for pick, file in zip(picks, files):
         with file.open("wb") as written:
-            written.writelines(to_csv(pick.answer.table))
+            written.writelines(printed(pick.answer.table))
 
 
 def to_sqlite(

@@ -14,7 +14,7 @@ from unittest import mock
 from ruzgalt import answers, store
 from ruzgalt.page import contents
 from tests.browser import MISSING, PROGRAM, Browser
-from tests.support import TOP, run
+from tests.support import TOP, kept, run
 from tests.test_answers_page import HOSTILE, TIME, data_of, example, hostile, page_of
 
 # A division, an audit and a payroll.
@@ -204,6 +204,27 @@ class Grids(BrowserCase):
                 with self.subTest(script, number=question["number"]):
                     words = [script, str(question["number"]), "--answers", f"{script}.stdout", "--go-on"]
                     self.assertEqual(text, run(["tools/answers", "csv", *words])[1])
+
+    def test_what_is_saved_for_a_spreadsheet_is_what_the_tool_prints_for_one(self) -> None:
+        texts = ["=1+1", "-5", "-5.5", "-5-1", "+49", "@x;y", "a;b", "\ty", "\uff1d1", "Jos\u00e9"]
+        loaded = "".join(f"row,{TIME},{text},-5\n" for text in texts)
+        rows = "".join(f"row,{number},{TIME},{text},-5\n" for number, text in enumerate(texts, 1))
+        choices: List[List[str]] = [[], ["--for-spreadsheet"], ["--for-spreadsheet", "--german"]]
+        script = f"table,t,a,text,b,int\nload,t\n{loaded}end\nrows,t\n"
+        with kept(script) as name, kept(f"ok,1\nok,2\n{rows}end,{len(texts)}\n") as told:
+            self.open(run(["tools/answers", "page", name, "--answers", told])[1])
+            for choice, words in enumerate(choices):
+                self.value(CATCH)
+                choose = "document.querySelector('header select')"
+                self.value(f"{choose}.selectedIndex = {choice}, {choose}.dispatchEvent(new Event('change'))")
+                tools = GRID.format("#questions", 0) + ".querySelector('.tools')"
+                self.value(f"{tools}.querySelector('button:last-child').click()")
+                _, printed, said = run(["tools/answers", "csv", name, "--answers", told, *words])
+                # A text that is read of a blob has no mark of its byte order any more.
+                self.assertEqual(self.value("saved[0]"), printed.lstrip("\ufeff"))
+                heard = self.value(f"{tools}.querySelector('output:nth-last-child(2)').textContent")
+                for one in (said, heard):
+                    self.assertEqual("would run 6 fields" in one, not choice)
 
     def test_odd_texts_are_saved_as_the_tool_prints_them(self) -> None:
         rows = [f'{TIME},"say ""a"", b"', f'{TIME},"two\nlines"', f"{TIME},", f"{TIME}, c "]

@@ -3,7 +3,7 @@ import tempfile
 import unittest
 from pathlib import Path
 
-from tests.support import EXAMPLE, TOP, ToolCase, kept
+from tests.support import EXAMPLE, TOP, ToolCase, kept, run
 
 
 class Reading(ToolCase):
@@ -222,7 +222,29 @@ class Folders(ToolCase):
                 f"answers: {folder}/august.csv is there, so no file ",
             )
             self.check([*words, "--folder", folder, "--replace"], "", 0, "")
-        self.check([*words, "--replace"], "", 1, "answers: --replace replaces files of a --folder, and none is told: ")
+        self.check([*words, "--replace"], "", 1, "answers: --replace replaces files of a --folder, and none is given: ")
+
+
+class Spreadsheets(ToolCase):
+    def test_what_would_be_run_is_reported_and_guarded_where_that_is_wanted(self) -> None:
+        texts = ["=1", "-5", "-x", "+1", "@a", "\ta", "\uff0b1", "a;=1"]
+        rows = "".join(f"2024-01-01,2024-02-01,{text},-5\n" for text in texts)
+        listed = "".join(f"{number},{row}\n" for number, row in enumerate(rows.splitlines(), 1))
+        loaded = "".join(f"row,{row}\n" for row in rows.splitlines())
+        script = f"table,t,a,text,b,int\nload,t\n{loaded}end\nrows,t\n"
+        told = "ok,1\nok,2\n" + "".join(f"row,{row}\n" for row in listed.splitlines()) + f"end,{len(texts)}\n"
+        exact = f"row_id,valid_from,valid_to,a,b\n{listed}"
+        guarded = "\ufeff" + exact.replace("\n", "\r\n")
+        for text in ("=1,", "-x", "+1", "@a", "\ta", "\uff0b1"):
+            guarded = guarded.replace(f",{text}", f",'{text}")
+        german = guarded.replace("a;=1", '"a;=1"').replace(",", ";")
+        said = "answers: a spreadsheet would run 6 fields, the first =1: --for-spreadsheet guards against it\n"
+        wanted = {"": (exact, said), "--for-spreadsheet": (guarded, ""), "--for-spreadsheet --german": (german, "")}
+        with kept(script) as name, kept(told) as answers:
+            for words, one in wanted.items():
+                with self.subTest(words):
+                    self.assertEqual(run(["tools/answers", "csv", name, "--answers", answers, *words.split()]), (0, *one))
+            self.check(["tools/answers", "csv", name, "--german"], "", 1, "answers: --german is of a spreadsheet")
 
 
 class Asked(ToolCase):

@@ -10,7 +10,7 @@ from ruzgalt.page.contents import Contents
 
 FOLDER = Path(__file__).parent
 # One script, in this order.
-SCRIPTS = ("grid.js", "square.js", "tables.js", "page.js")
+SCRIPTS = ("grid.js", "saving.js", "square.js", "tables.js", "page.js")
 # What a browser might take for the page's own language stands as codes in the data: JSON reads them as characters.
 CODES = {"<": "\\u003c", ">": "\\u003e", "&": "\\u0026"}
 MARK = re.compile(r"\{\{(policy|style|data|script)\}\}")

@@ -78,26 +78,6 @@ function orderOf(kind) {
   return { int: byNumber, point: byPoint }[kind] || collator.compare;
 }
 
-// --- CSV, as the program prints it ---
-
-function csvField(text, isAlone) {
-  return /[",\r\n]/.test(text) || (isAlone && text === "") ? `"${text.replaceAll('"', '""')}"` : text;
-}
-
-function csvOf(columns, records) {
-  const rows = [columns.map(([name]) => name), ...records];
-  return rows.map((row) => `${row.map((field) => csvField(field, row.length === 1)).join(",")}\n`).join("");
-}
-
-function save(name, text) {
-  const address = URL.createObjectURL(new Blob([text], { type: "text/csv" }));
-  const link = make("a", { href: address, download: name });
-  document.body.append(link);
-  link.click();
-  link.remove();
-  setTimeout(() => URL.revokeObjectURL(address), 60000);
-}
-
 // --- A table ---
 
 // Records under columns of a name and a kind. It is saved as `file`, where that is told. Of `count` records some may not be
@@ -125,9 +105,10 @@ class Grid {
       tools.append(search);
     }
     if (file) {
-      const csv = pressed("Save as CSV", () => save(file, csvOf(this.columns, this.records)));
+      const told = make("output", { class: "soft" });
+      const csv = pressed("Save as CSV", () => { told.textContent = saveAs(file, this.columns, this.records); });
       csv.setAttribute("aria-label", `Save as CSV: ${label}`);
-      tools.append(csv);
+      tools.append(told, csv);
     }
     return tools;
   }

@@ -44,6 +44,7 @@ function showHead() {
   for (const [what, told] of facts) {
     document.getElementById("facts").append(make("dt", {}, what), make("dd", {}, ...told));
   }
+  document.getElementById("facts").after(savingChoice());
 }
 
 function showFindings(title, found, about, none) {
