@@ -9,11 +9,10 @@ from pathlib import Path
 from typing import Callable, Dict, Iterator, NamedTuple, Optional, Sequence
 
 from ruzgalt import (
-    answers, called, changes, commands, export, fitting, front, history, marks, overlaps, picks, picture_cli, program,
-    queries, records, refusals, single, spreadsheets, streams, which,
+    answers, called, changes, commands, databases, export, fitting, front, history, marks, overlaps, picks,
+    picture_cli, program, queries, records, refusals, single, spreadsheets, streams, which,
 )
 from ruzgalt.errors import Misfit
-from ruzgalt.forms import read_point
 from ruzgalt.given import bytes_of, chosen, last, read, warn
 from ruzgalt.page import contents, document, sources
 from ruzgalt.reader import Source
@@ -97,33 +96,22 @@ def do_json(options: Namespace) -> None:
 
 
 def do_sqlite(options: Namespace) -> None:
-    if picks.is_pick(options.database):
-        raise Misfit(f"{options.database}: the DATABASE is missing: it stands behind SCRIPT, and before the first PICK")
+    wishes = databases.Wishes(options.replace, options.open_null, options.day)
+    databases.refuse_words(options.database, wishes, options.query)
     found = chosen(read(options), options.pick)
-    database = sqlite3.connect(options.database)
-    if options.day is not None and read_point(options.day) is None:
-        raise Misfit(f"--day {options.day}: no point, as 2024-01-05 or 2024-01-05T08:30:00")
-    for column in export.to_sqlite(found, database, options.replace, options.open_null):
-        warn(f"{column} has sums past SQLite's integers, so it is a text there, and isn't in the order of numbers")
-    if options.day is not None:
-        export.make_views(found, database, options.day)
-    is_open = export.has_open_ends(found, database)
-    for query in options.query:
-        for told in queries.doubts_of(query, is_open):
-            warn(f"--query: {told}")
-        show(asked(database, query, found))
-    if not options.query:
-        show(export.told_tables(found))
-    database.close()
+    with databases.opened(options.database) as database:
+        for column in databases.make_tables(found, database, wishes):
+            warn(f"{column} has sums past SQLite's integers, so it is a text there, and isn't in the order of numbers")
+        is_open = databases.has_open_ends(found, database)
+        told = [asked(database, query, is_open, found) for query in options.query]
+    # What is printed may be read by a program that ends early, and by then all is kept.
+    show("".join(told) if options.query else databases.tables_told(found))
 
 
-def asked(database: sqlite3.Connection, query: str, made: Sequence[picks.Pick]) -> str:
-    """The answer to the query; where SQLite refuses it, the tables that were made and their columns are told."""
-    try:
-        return export.ask(database, query)
-    except sqlite3.OperationalError as error:
-        tables = "; ".join(f"{pick.name}({', '.join(pick.answer.table.names)})" for pick in made)
-        raise Misfit(f"--query: {error}; made were {records.short(tables)}") from None
+def asked(database: sqlite3.Connection, query: str, is_open: bool, made: Sequence[picks.Pick]) -> str:
+    for told in queries.doubts_of(query, is_open):
+        warn(f"--query: {told}")
+    return databases.ask(database, query, made)
 
 
 def do_changed(options: Namespace) -> None:

@@ -66,6 +66,8 @@ def chosen(found: Found, words: Sequence[str]) -> List[picks.Pick]:
     """The answers that were picked and all that were asked, or where there is neither, all of the script."""
     told = picked(found, words)
     look_at(found, [pick.answer for pick in told])
+    if not told:
+        warn("none of the answers is more than an `ok`, so there is no table: ask by --ask, as --ask rows,T")
     return told
 
 

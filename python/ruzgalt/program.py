@@ -10,26 +10,30 @@ from ruzgalt.reader import Source
 from ruzgalt.refusals import reason
 
 
+NAMED_BY = "DIPQ in the environment, or --program, names it, or a dipq on the PATH is taken"
+
+
 class Running:
     """The program at work on a script. What it says on standard error stands there too."""
 
     def __init__(self, program: str, script: bytes) -> None:
-        self.program, self.printed = program, tempfile.TemporaryFile()
+        self.program = program
         with tempfile.TemporaryFile() as given:
             given.write(script)
             given.seek(0)
+            self.printed = tempfile.TemporaryFile()
             try:
                 self.process = subprocess.Popen([program], stdin=given, stdout=self.printed)
-            except FileNotFoundError:
-                told = "DIPQ in the environment, or --program, names it, or a dipq on the PATH is taken"
-                raise Misfit(f"{program}: no such program: {told}") from None
+            except OSError as error:
+                self.printed.close()
+                raise Misfit(f"{program}: {why_not(error)}: {NAMED_BY}") from None
 
     def output(self) -> bytes:
         """What it answers, when it has ended."""
-        status = self.process.wait()
-        if status not in (0, 1):
-            raise Misfit(f"{self.program} ended with status {status}, so not all is answered")
         with self.printed:
+            status = self.process.wait()
+            if status not in (0, 1):
+                raise Misfit(f"{self.program} ended with status {status}, so not all is answered")
             self.printed.seek(0)
             return self.printed.read()
 
@@ -38,6 +42,10 @@ class Running:
         self.process.kill()
         self.process.wait()
         self.printed.close()
+
+
+def why_not(error: OSError) -> str:
+    return "no such program" if isinstance(error, FileNotFoundError) else f"can't be run: {error.strerror}"
 
 
 def output(program: str, script: bytes) -> bytes:

@@ -1,7 +1,6 @@
 """Each script of examples/ and tests/ beside its answers: tables, pictures, refusals, and answers that are damaged."""
 import json
 import re
-import sqlite3
 import subprocess
 import sys
 import unittest
@@ -10,7 +9,8 @@ from pathlib import Path
 from typing import Iterator, List, Tuple
 
 from ruzgalt import (
-    answers, cells, export, fitting, overlaps, picks, pictures, reader, records, refusals, store, svg, terminal,
+    answers, cells, databases, export, fitting, overlaps, picks, pictures, reader, records, refusals, store, svg,
+    terminal,
 )
 from ruzgalt.answers import Answer
 from ruzgalt.errors import Misfit
@@ -100,15 +100,15 @@ class Scripts(unittest.TestCase):
     def test_tables_are_the_same_in_sqlite_and_json(self) -> None:
         for script in SCRIPTS:
             chosen = picks.pick(found_in(script), [], [], {})
-            database = sqlite3.connect(":memory:")
-            export.to_sqlite(chosen, database)
-            for pick, told in zip(chosen, json.loads(export.to_json(chosen))):
-                with self.subTest(script.name, answer=pick.name):
-                    table = pick.answer.table
-                    kept = database.execute(f"select * from {export.quoted(pick.name)}")
-                    texts = [[None if value is None else str(value) for value in row] for row in kept]
-                    self.assertEqual(texts, list(table.records))
-                    self.assertEqual([list(row.values()) for row in told["records"]], list(table.values()))
+            with databases.opened(":memory:") as database:
+                databases.make_tables(chosen, database, databases.Wishes())
+                for pick, told in zip(chosen, json.loads(export.to_json(chosen))):
+                    with self.subTest(script.name, answer=pick.name):
+                        table = pick.answer.table
+                        kept = database.execute(f"select * from {databases.quoted(pick.name)}")
+                        texts = [[None if value is None else str(value) for value in row] for row in kept]
+                        self.assertEqual(texts, list(table.records))
+                        self.assertEqual([list(row.values()) for row in told["records"]], list(table.values()))
 
     def test_a_record_too_few_or_one_twice_is_noticed(self) -> None:
         for script in SCRIPTS:

@@ -203,6 +203,41 @@ class Sqlite(ToolCase):
         self.check([*words, ":memory:", "5=Pay", *told, "--query", right], "", 0, 'euros,"a ""b"\n5000,"a ""text"""\n')
 
 
+class Databases(ToolCase):
+    def test_a_database_is_made_or_changed_whole_or_not_at_all(self) -> None:
+        words = ["tools/answers", "sqlite", EXAMPLE]
+        told = ["--answers", EXAMPLE + ".stdout"]
+        with tempfile.TemporaryDirectory() as folder:
+            file = Path(folder, "z.db")
+            for more, part in [
+                (["5=a", "--day", "2024-02-30"], "--day 2024-02-30: no point"), (["99=a"], "99: no such answer"),
+                (["5=a", "--query", "select 1", "--query", "select x"], "no such column: x"),
+                (["5=a", "--query", " "], "the query is empty"), (["5=sqlite_a"], "object name reserved for internal"),
+            ]:
+                self.check([*words, str(file), *more, *told], "", 1, part)
+                self.assertEqual(list(Path(folder).iterdir()), [])
+            self.check([*words, str(file), "5=a", *told], "", 0, "a,2\n")
+            before = file.read_bytes()
+            for more, part in [
+                (["5=b", "--query", "drop table a", "--query", "select x"], "no such column: x"),
+                (["7=a", "5=sqlite_a", "--replace"], "object name reserved for internal use"),
+                (["5=b", "--day", "x"], "--day x: no point"), (["5=a", "--day", "2024-01-05"], "a is in the database"),
+            ]:
+                self.check([*words, str(file), *more, *told], "", 1, part)
+                self.assertEqual((file.read_bytes(), list(Path(folder).iterdir())), (before, [file]))
+
+    def test_a_view_of_a_user_isn_t_lost(self) -> None:
+        words = ["tools/answers", "sqlite", EXAMPLE]
+        with tempfile.TemporaryDirectory() as folder:
+            file, told = f"{folder}/z.db", ["--answers", EXAMPLE + ".stdout"]
+            self.check([*words, file, "5=b", *told, "--query", "create view a_day as select 1"], "", 0, "")
+            self.check([*words, file, "5=a", *told, "--day", "2024-01-05"], "", 1, "a_day is in the database")
+
+    def test_sql_in_place_of_the_database_is_refused(self) -> None:
+        words = ["tools/answers", "sqlite", EXAMPLE, "select * from pay", "--answers", EXAMPLE + ".stdout"]
+        self.check(words, "", 1, "select * from pay: no file of a database, which stands behind SCRIPT; SQL stands ")
+
+
 class Only(ToolCase):
     def test_a_value_of_another_kind_is_refused(self) -> None:
         words = ["tools/answers", "only", EXAMPLE, "pay", "2", "--answers", EXAMPLE + ".stdout", "--set"]
@@ -243,7 +278,8 @@ class Spreadsheets(ToolCase):
         with kept(script) as name, kept(told) as answers:
             for words, one in wanted.items():
                 with self.subTest(words):
-                    self.assertEqual(run(["tools/answers", "csv", name, "--answers", answers, *words.split()]), (0, *one))
+                    printed = run(["tools/answers", "csv", name, "--answers", answers, *words.split()])
+                    self.assertEqual(printed, (0, *one))
             self.check(["tools/answers", "csv", name, "--german"], "", 1, "answers: --german is of a spreadsheet")
 
 

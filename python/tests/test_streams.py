@@ -110,6 +110,37 @@ def on_terminal(command: str) -> bytes:
     return read
 
 
+class Files(unittest.TestCase):
+    """Files that the tools write, and those that they read and leave."""
+
+    def test_where_there_is_no_more_room_no_file_is_left(self) -> None:
+        rows = "".join(f"row,{number},2024-01-01,2024-02-01\n" for number in range(1, 20_001))
+        script = "table,t\nload,t\n" + "row,2024-01-01,2024-02-01\n" * 20_000 + "end\nrows,t\n"
+        with tempfile.TemporaryDirectory() as folder:
+            Path(folder, "s").write_text(script)
+            Path(folder, "a").write_text(f"ok,1\nok,2\n{rows}end,20000\n")
+            for words in (f"csv {folder}/s --folder {folder}/out", f"sqlite {folder}/s {folder}/z.db"):
+                status, _, said = run(f"ulimit -f 64; {ANSWERS} {words} --answers {folder}/a")
+                self.assertEqual((status, said.count("\n"), said[:9]), (1, 1, "answers: "), said)
+            left = sorted(str(file.relative_to(folder)) for file in Path(folder).rglob("*"))
+            self.assertEqual(left, ["a", "out", "s"])
+
+    def test_all_that_is_opened_is_closed(self) -> None:
+        strict = f"{sys.executable} -X dev -W error::ResourceWarning tools/answers"
+        script = "examples/pay.csv"
+        with tempfile.TemporaryDirectory() as folder:
+            for words in [
+                f"sqlite {script} {folder}/z.db 4=a", f"sqlite {script} {folder}/z.db 4=a", f"sqlite {script} : --day x",
+                f"csv {script} --folder {folder}", f"list {script} --program /none", f"list {script} --program /etc",
+                f"list {script} --program /bin/false", f"csv {script} --ask '\"'", f"sqlite {script} {folder} 4=a",
+                f"page {script} --once", f"csv {script} 99", f"sqlite {script} {folder}/y.db --query 'select x'",
+            ]:
+                with self.subTest(words):
+                    told = "" if "--program" in words or "--ask" in words else f" --answers {script}.stdout"
+                    _, _, said = run(f"{strict} {words}{told}")
+                    self.assertNotRegex(said, "ResourceWarning|Traceback|DeprecationWarning")
+
+
 class CtrlC(unittest.TestCase):
     def ended(self, words: List[str], status: int, said: str) -> None:
         """A tool that waits for its input ends so by the signal."""
