@@ -304,6 +304,12 @@ class Times(BrowserCase):
         select = f"document.querySelectorAll('#tables select')[{place}]"
         self.value(f"{select}.selectedIndex = {option}, {select}.dispatchEvent(new Event('change'))")
 
+    def test_a_key_is_found_by_its_place_whatever_it_is_called(self) -> None:
+        script = f"table,t,a,text,row_id,text,key,row_id\nload,t\nrow,{TIME},x,1\nrow,{TIME},x,2\nend\n"
+        self.open(page_of(script, "ok,1\nok,2\n"))
+        self.assertEqual({row[5] for row in self.cells("#tables", 1)}, {"1"})
+        self.assertIn("Its key is row_id_.", self.value("document.querySelector('#tables').textContent"))
+
     def test_a_fact_is_told_by_the_key_or_another_column(self) -> None:
         self.open(example("audit"))
         self.assertEqual({row[4] for row in self.cells("#tables", 1)}, {"D05"})

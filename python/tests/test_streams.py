@@ -130,7 +130,7 @@ class Files(unittest.TestCase):
         script = "examples/pay.csv"
         with tempfile.TemporaryDirectory() as folder:
             for words in [
-                f"sqlite {script} {folder}/z.db 4=a", f"sqlite {script} {folder}/z.db 4=a", f"sqlite {script} : --day x",
+                *[f"sqlite {script} {folder}/z.db 4=a"] * 2, f"sqlite {script} : --day x",
                 f"csv {script} --folder {folder}", f"list {script} --program /none", f"list {script} --program /etc",
                 f"list {script} --program /bin/false", f"csv {script} --ask '\"'", f"sqlite {script} {folder} 4=a",
                 f"page {script} --once", f"csv {script} 99", f"sqlite {script} {folder}/y.db --query 'select x'",

@@ -121,7 +121,7 @@ class Parts:
             else:
                 self.left_out.append(f"the {count:,} versions of {name}, and so what held on each day")
             yield {
-                "name": name, "columns": columns_of(table.columns), "key": key_of(self.sources.tables[name]),
+                "name": name, "columns": columns_of(table.columns), "key": key_places(self.sources.tables[name]),
                 "count": count, "isThere": is_there, "number": number,
             }
 
@@ -228,5 +228,6 @@ def question_of(answer: Answer) -> Tuple[Tuple[str, ...], ...]:
     return (tuple(answer.command.front), *(tuple(record.fields) for record in answer.command.rows))
 
 
-def key_of(schema: Schema) -> List[str]:
-    return [schema.names[place] for place in schema.key]
+def key_places(schema: Schema) -> List[int]:
+    """Where the key's values stand in a version: its columns may go by other names there."""
+    return [VALUES + place for place in schema.key]

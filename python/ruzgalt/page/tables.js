@@ -119,7 +119,7 @@ class Fact {
   // The columns by whose values facts are told apart: those of the key, or each alone.
   kindsOf(table) {
     const names = table.columns.map(([name]) => name);
-    const key = table.key.map((name) => names.indexOf(name, VALUES));
+    const { key } = table;
     const single = names.map((_, place) => [place]).slice(VALUES);
     const others = single.filter(([place]) => key.length !== 1 || place !== key[0]);
     const kinds = [...(key.length ? [key] : []), ...others].map((places) => {
@@ -198,7 +198,8 @@ function madeBy(version) {
 function tableOf(table) {
   const values = table.columns.slice(VALUES).map(([name]) => name);
   const columns = values.length ? `Columns: ${values.join(", ")}.` : "It has no columns.";
-  const key = table.key.length ? ` Its key is ${table.key.join(", ")}.` : "";
+  const names = table.key.map((place) => table.columns[place][0]);
+  const key = names.length ? ` Its key is ${names.join(", ")}.` : "";
   const about = make("p", { class: "soft" }, `${columns}${key} ${counted(table.count, "version")} of rows.`);
   const article = make("article", {}, make("h3", {}, make("code", {}, table.name)), about);
   if (!table.isThere) {
