@@ -102,20 +102,29 @@ def do_sqlite(options: Namespace) -> None:
     with databases.opened(options.database) as database:
         for column in databases.make_tables(found, database, wishes):
             warn(f"{column} has sums past SQLite's integers, so it is a text there, and isn't in the order of numbers")
-        is_open = databases.has_open_ends(found, database)
-        told = [asked(database, query, is_open, found) for query in options.query]
+        ends = databases.ends_in(found, database)
+        told = [asked(database, query, ends, found) for query in options.query]
     # What is printed may be read by a program that ends early, and by then all is kept.
     show("".join(told) if options.query else databases.tables_told(found))
+    for pick in found:
+        if options.day is not None and not databases.has_period(pick):
+            warn(f"--day: {pick.name} has no period, so there is no view of it")
 
 
-def asked(database: sqlite3.Connection, query: str, is_open: bool, made: Sequence[picks.Pick]) -> str:
-    for told in queries.doubts_of(query, is_open):
+def asked(database: sqlite3.Connection, query: str, ends: queries.Ends, made: Sequence[picks.Pick]) -> str:
+    for told in queries.doubts_of(query, ends):
         warn(f"--query: {told}")
-    return databases.ask(database, query, made)
+    answer = databases.ask(database, query, made)
+    for name in answer.twins():
+        warn(f"--query: several columns are called {records.visible(name)}: `as` gives each its own name")
+    return answer.text()
 
 
 def do_changed(options: Namespace) -> None:
     before, after = last(read(options), options.pick, 2)
+    if before.commit > after.commit:
+        both = f"the first of the two reads commit {before.commit}, and the second {after.commit}"
+        warn(f"{both}: `-` is what the first has alone, which is later")
     streams.show_records(export.to_csv(changes.between(before, after)))
 
 

@@ -1,6 +1,7 @@
 """Answers as tables of an SQLite database: all that is done with it is kept, or nothing is."""
 import re
 import sqlite3
+from collections import Counter
 from contextlib import closing, contextmanager
 from pathlib import Path
 from typing import Iterator, List, NamedTuple, Optional, Sequence
@@ -9,7 +10,7 @@ from ruzgalt import files, picks
 from ruzgalt.errors import Misfit
 from ruzgalt.forms import is_integer, printed, read_point
 from ruzgalt.picks import Pick
-from ruzgalt.queries import QUOTED
+from ruzgalt.queries import QUOTED, Ends
 from ruzgalt.records import short, to_text
 from ruzgalt.tables import Kind, Table
 
@@ -133,20 +134,38 @@ def quoted(name: str) -> str:
     return '"' + name.replace('"', '""') + '"'
 
 
-def ask(database: sqlite3.Connection, query: str, made: Sequence[Pick]) -> str:
-    """The answer to a query, as CSV with a header; nothing where it has none.
+class Asked(NamedTuple):
+    """What a query is answered: the names of columns, and records; neither where it has no answer."""
 
-    Where SQLite refuses it, the tables that were made and their columns are named.
-    """
+    names: List[str]
+    records: List[List[str]]
+
+    def text(self) -> str:
+        return to_text([self.names, *self.records]) if self.names else ""
+
+    def twins(self) -> List[str]:
+        """Names that several columns have."""
+        return [name for name, count in Counter(self.names).items() if count > 1]
+
+
+def ask(database: sqlite3.Connection, query: str, made: Sequence[Pick]) -> Asked:
+    """The answer to a query. Where SQLite refuses it, the tables that were made and their columns are named."""
     try:
         found = database.execute(with_names(query))
-        if found.description is None:
-            return ""
-        header = [name for name, *_ in found.description]
-        return to_text([header, *(["" if field is None else str(field) for field in row] for row in found)])
+        names = [name for name, *_ in found.description or ()]
+        return Asked(names, [list(map(printed_field, row)) for row in found])
     except sqlite3.OperationalError as error:
         tables = "; ".join(f"{pick.name}({', '.join(pick.answer.table.names)})" for pick in made)
-        raise Misfit(f"--query: {error}; made were {short(tables)}") from None
+        missing = re.fullmatch("no such column: (.*)", str(error), re.DOTALL)
+        is_quoted = missing is not None and quoted(missing[1]) in query
+        remedy = "; a text stands in single quotes" if is_quoted else ""
+        raise Misfit(f"--query: {error}{remedy}; made were {short(tables)}") from None
+
+
+def printed_field(field: object) -> str:
+    if isinstance(field, bytes):
+        return field.decode("utf-8", "surrogateescape")
+    return "" if field is None else str(field)
 
 
 def with_names(query: str) -> str:
@@ -158,10 +177,14 @@ def with_names(query: str) -> str:
     return QUOTED.sub(lambda found: in_backquotes(found[0]) if found[0].startswith('"') else found[0], query)
 
 
-def has_open_ends(found: Sequence[Pick], database: sqlite3.Connection) -> bool:
-    names = [pick.name for pick in found if has_period(pick)]
-    query = "select 1 from {} where valid_to >= '9999' limit 1"
-    return any(database.execute(query.format(quoted(name))).fetchone() for name in names)
+def ends_in(found: Sequence[Pick], database: sqlite3.Connection) -> Ends:
+    """How the tables that were made have an end which isn't known."""
+    names = [quoted(pick.name) for pick in found if has_period(pick)]
+
+    def have(test: str) -> bool:
+        return any(database.execute(f"select 1 from {name} where {test} limit 1").fetchone() for name in names)
+
+    return Ends(have("valid_to >= '9999'"), have("valid_to is null"))
 
 
 def in_backquotes(name: str) -> str:

@@ -54,8 +54,21 @@ def read(options: Namespace, shows_refusals: bool = False, script: Optional[byte
         if answer.command.record.is_asked:
             raise Misfit(f"{refusals.told(answer)} (--go-on passes over no question that is asked)")
     asked = [answer for answer in found if answer.command.record.is_asked]
-    names = {answer.number: name for answer, (name, _) in zip(asked, named) if name}
+    names = names_of(asked, [name for name, _ in named], questions.lines_of(options.ask, own_lines or 0))
     return Found(found, asked, options.answers is None, names, output)
+
+
+def names_of(asked: Sequence[Answer], names: Sequence[str], lines: Sequence[int]) -> Dict[int, str]:
+    """The names of questions by their answers' numbers. A word may have several commands, and a name is of one."""
+    begun, found, name = dict(zip(lines, names)), {}, ""
+    for answer in asked:
+        if name and answer.line not in begun:
+            text = records.short(answer.command.text)
+            raise Misfit(f"--ask {name}=..: a name is of one question, and {text} stands behind it")
+        name = begun.get(answer.line, "")
+        if name:
+            found[answer.number] = name
+    return found
 
 
 def bytes_of(name: str) -> bytes:

@@ -1,6 +1,6 @@
 """What may not be meant in a query of SQL over answers, in which points are texts."""
 import re
-from typing import Iterable, Iterator, Optional
+from typing import Iterable, Iterator, NamedTuple, Optional
 
 from ruzgalt.errors import Misfit
 from ruzgalt.forms import printed, read_point
@@ -47,22 +47,35 @@ CUTS_OFF = (
 TEXT_BESIDE_NUMBER = (
     "strftime(..), substr(..) and their like give texts, which are equal to no number: as '2025' it is a text too"
 )
+# A comparison with an end, and what takes care of NULL.
+BESIDE_END = re.compile(rf"{TO}\s*(?:[<>=!]|(?:not\s+)?between\b)|[<>=!]\s*{TO}|\band\s+{TO}", re.IGNORECASE)
+KNOWS_NULL = re.compile(r"\b(?:null|coalesce|ifnull|iif)\b", re.IGNORECASE)
 LENGTH = re.compile(rf"julianday\s*\(\s*{TO}", re.IGNORECASE)
 
 
-def doubts_of(query: str, has_open_ends: bool) -> Iterator[str]:
+class Ends(NamedTuple):
+    """Whether rows without a known end have one in the year 9999, or NULL, in the tables that are asked."""
+
+    are_open: bool = False
+    are_null: bool = False
+
+
+def doubts_of(query: str, ends: Ends) -> Iterator[str]:
     """What may not be meant, for a person. Raises Misfit where a point has no quotes."""
     bare = BARE_POINT.search(QUOTED.sub("''", query))
     if bare:
         raise Misfit(f"--query: {bare[0]} is a subtraction: a point stands in single quotes, as '{bare[0]}'")
     line = " ".join(query.split())
     yield from (told for form, told in DOUBTS if form.search(line))
+    is_beside = BESIDE_END.search(line) or LENGTH.search(line)
+    if ends.are_null and is_beside and not KNOWS_NULL.search(line):
+        yield "an end that isn't known is NULL by --open-null: no comparison holds for it, and no length or sum has it"
     plain = " ".join(QUOTED.sub(without_text, query).split())
     if any(cuts_off(plain, found.start()) for found in re.finditer("/", plain)):
         yield CUTS_OFF
     if NUMBER_BESIDE.search(plain):
         yield TEXT_BESIDE_NUMBER
-    if has_open_ends and LENGTH.search(line) and "9999" not in line and "min(" not in line.lower():
+    if ends.are_open and LENGTH.search(line) and "9999" not in line and "min(" not in line.lower():
         yield "a length up to 9999-12-31, where no end is known, is 8,000 years: cut it, as by min(valid_to, '..')"
     for text in DAY.findall(query):
         if read_point(text) is None or printed(text) != text:

@@ -1,5 +1,6 @@
 """Questions that are put behind a script, each of which is to be a command of its own."""
 import re
+from itertools import accumulate
 from typing import List, Optional, Sequence, Tuple
 
 from ruzgalt import commands, records
@@ -15,6 +16,8 @@ NAMED = re.compile(r"(?P<name>[A-Za-z_][A-Za-z0-9_]*)=(?P<question>.*)", re.DOTA
 def named(word: str) -> Tuple[str, str]:
     """The name of a question, or nothing, and the question: no word of a command has such a sign."""
     told = NAMED.fullmatch(word)
+    if told is None and "=" in word.partition(",")[0]:
+        raise Misfit(f"--ask {short(word)}: no name of letters, digits and _ before the =")
     return (told["name"], told["question"]) if told else ("", word)
 
 
@@ -40,15 +43,19 @@ def commands_of(text: bytes, questions: Sequence[str], own_lines: Optional[int])
     return begun
 
 
-def refuse_taken(source: Source, begun: List[Command], questions: Sequence[str], line: int) -> None:
+def refuse_taken(source: Source, begun: List[Command], questions: Sequence[str], own_lines: int) -> None:
     """An open quote or a block without its end takes what stands behind it, and another answer would be shown."""
     own = {command.line for command in begun}
-    line += 1
-    for question in questions:
+    for question, line in zip(questions, lines_of(questions, own_lines)):
         if line not in own:
             taker = taker_of(list(Reader(source)), begun, line)
             raise Misfit(f"--ask {short(question)}: the question was taken into {taker}")
-        line += count_lines(records.encode(question.strip("\r\n"))) + 1
+
+
+def lines_of(questions: Sequence[str], own_lines: int) -> List[int]:
+    """The line on which each question begins behind a script of so many lines."""
+    counts = (count_lines(records.encode(question.strip("\r\n"))) + 1 for question in questions)
+    return list(accumulate(counts, initial=own_lines + 1))[:-1]
 
 
 def taker_of(found: List[Record], begun: List[Command], line: int) -> str:

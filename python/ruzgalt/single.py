@@ -5,13 +5,13 @@ from ruzgalt import refusals, store
 from ruzgalt.answers import Answer
 from ruzgalt.errors import Misfit
 from ruzgalt.fields import Field, Role
+from ruzgalt.history import refuse_missing
 
 
 def command_for(answers: Sequence[Answer], table: str, row_id: int, set_to: Sequence[Tuple[str, str]]) -> List[str]:
     """The delete, or the update where there is something to set, that acts on the row of that id and no other."""
-    tables = answers[-1].tables if answers else {}
-    if table not in tables:
-        raise Misfit(f"{table}: no table that is there")
+    refuse_missing(answers, table)
+    tables = answers[-1].tables
     there = store.behind(answers).open[table].by_id
     if row_id not in there:
         raise Misfit(f"{table} has no row {row_id} at the script's end; `csv` with --ask rows,{table} lists them")

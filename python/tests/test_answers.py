@@ -230,6 +230,18 @@ class Tables(unittest.TestCase):
             with self.subTest(query):
                 self.assertEqual((said.count("\n"), part in said), (1 if part else 0, True), said)
 
+    def test_an_end_that_is_null_is_told_beside_a_comparison(self) -> None:
+        script, told = (text.replace("2024-06-01", "9999-12-31") for text in (PAY, f"ok,1\nok,2\n{ROWS}"))
+        part = "an end that isn't known is NULL by --open-null"
+        for query, is_told in [
+            ("select * from a where valid_from <= '2024-05-01' and '2024-05-01' < valid_to", True),
+            ("select sum(julianday(valid_to)) from a", True), ("select valid_to from a", False),
+            ("select * from a where valid_to is null or valid_to > '2024-05-01'", False),
+        ]:
+            words = f"sqlite $S :memory: --answers $A --open-null --ask a=rows,pay --query={query.replace(' ', chr(9))}"
+            with self.subTest(query):
+                self.assertEqual((part in answers(words, script, told)[2]), is_told)
+
     def test_between_the_ends_of_a_record_is_told(self) -> None:
         query = "select\t1\tfrom\ta\twhere\t'1'\tbetween\tvalid_from\tand\tvalid_to"
         words = f"sqlite $S :memory: --answers $A --ask a=rows,pay --query={query}"

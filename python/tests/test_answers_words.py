@@ -193,6 +193,16 @@ class Sqlite(ToolCase):
             [*words, ":memory:", "5=Pay", *told, "--query", "select 1; select 2"], "", 1, "one statement at a time",
         )
 
+    def test_what_a_query_may_lack_is_told(self) -> None:
+        words = ["tools/answers", "sqlite", EXAMPLE, ":memory:", "5=a", "7=log", "--answers", EXAMPLE + ".stdout"]
+        for more, status, part in [
+            (["--query", 'select * from a where person = "Hill, Grace"'], 1, "column: Hill, Grace; a text stands in "),
+            (["--query", "select x.euros, y.euros from a x, a y"], 0, "several columns are called euros: `as` gives"),
+            (["--query", "select cast(person as blob) as p from a limit 1"], 0, 'p\n"Byron, Ada"\n'),
+            (["--day", "2024-08-15"], 0, "answers: --day: log has no period, so there is no view of it\n"),
+        ]:
+            self.check([*words, *more], "", status, part)
+
     def test_a_name_in_double_quotes_is_a_name(self) -> None:
         told = ["--answers", EXAMPLE + ".stdout"]
         words = ["tools/answers", "sqlite", EXAMPLE]
@@ -297,6 +307,23 @@ class Asked(ToolCase):
             with tempfile.TemporaryDirectory() as folder:
                 self.check(["tools/answers", "csv", *words, "t=rows,t", "3=plan", "--folder", folder], "", 0, "")
                 self.assertEqual(sorted(file.name for file in Path(folder).iterdir()), ["plan.csv", "t.csv"])
+
+    def test_a_name_is_of_its_own_question(self) -> None:
+        """Whatever commands stand in the words before it."""
+        log = "commit,1,1,table,t,0,0\nend,1\n"
+        with kept("table,t\n") as name, kept(f"ok,1\nend,0\n{log}dip,0,0,-\n") as answers:
+            words = ["tools/answers", "sqlite", name, ":memory:", "--answers", answers]
+            plain = [*words, "--ask", "rows,t\nlog", "--ask", "b=dip,t"]
+            self.check(plain, "", 0, "table,rows\nrows_t_2,0\nlog_3,1\nb,0\n")
+            named = [*words, "--ask", "a=rows,t\nlog", "--ask", "b=dip,t"]
+            self.check(named, "", 1, "answers: --ask a=..: a name is of one question, and log stands behind it")
+            self.check([*words, "--ask", "my-t=rows,t"], "", 1, "no name of letters, digits and _ before the =")
+
+    def test_two_commits_in_the_wrong_order_are_told(self) -> None:
+        told = "ok,1\nok,2\nend,0\nend,0\n"
+        with kept("table,t,a,int\nload,t\nend\nrows,t\nrows,t,asof,1\n") as name:
+            words = ["tools/answers", "changed", name, "--answers", "-"]
+            self.check(words, told, 0, "answers: the first of the two reads commit 2, and the second 1: `-` is what")
 
 
 class Told(ToolCase):
