@@ -59,8 +59,9 @@ def transaction(name: str) -> Iterator[sqlite3.Connection]:
     with closing(sqlite3.connect(name, isolation_level=None)) as database:
         database.execute("begin immediate")
         yield database
-        if database.in_transaction:
-            database.execute("commit")
+        if not database.in_transaction:
+            raise Misfit("--query: a query has ended the transaction in which all is done: no commit, no rollback")
+        database.execute("commit")
 
 
 def make_tables(found: Sequence[Pick], database: sqlite3.Connection, wishes: Wishes) -> List[str]:

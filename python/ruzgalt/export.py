@@ -9,7 +9,8 @@ from ruzgalt.answers import Answer, Listed
 from ruzgalt.errors import Misfit
 from ruzgalt.picks import Pick
 from ruzgalt.reader import PIECE
-from ruzgalt.records import Printer, encode, to_text
+from ruzgalt.records import Printer, encode, to_text, visible
+from ruzgalt.screen import is_seen
 from ruzgalt.tables import Table
 
 Pieces = Iterator[bytes]
@@ -35,8 +36,8 @@ def to_folder(picks: Sequence[Pick], folder: Path, is_replacing: bool, printed: 
     """
     places = [folder / f"{pick.name}.csv" for pick in picks]
     for pick, file in zip(picks, places):
-        if "/" in pick.name or pick.name.startswith("."):
-            raise Misfit(f"{pick.name}: no name of a file")
+        if "/" in pick.name or pick.name.startswith(".") or not all(map(is_seen, pick.name)):
+            raise Misfit(f"{visible(pick.name)}: no name of a file")
         if file.exists() and not is_replacing:
             raise Misfit(f"{file} is there, so no file was written: --replace replaces it")
     folder.mkdir(parents=True, exist_ok=True)

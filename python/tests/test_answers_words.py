@@ -222,6 +222,7 @@ class Databases(ToolCase):
             for more, part in [
                 (["5=a", "--day", "2024-02-30"], "--day 2024-02-30: no point"), (["99=a"], "99: no such answer"),
                 (["5=a", "--query", "select 1", "--query", "select x"], "no such column: x"),
+                *((["5=a", "--query", end], "has ended the transaction") for end in ("rollback", "commit")),
                 (["5=a", "--query", " "], "the query is empty"), (["5=sqlite_a"], "object name reserved for internal"),
             ]:
                 self.check([*words, str(file), *more, *told], "", 1, part)
@@ -267,6 +268,8 @@ class Folders(ToolCase):
                 f"answers: {folder}/august.csv is there, so no file ",
             )
             self.check([*words, "--folder", folder, "--replace"], "", 0, "")
+            for name in ("a/b", ".a", "a\nb"):
+                self.check([*words[:-1], f"@7={name}", "--folder", folder], "", 1, ": no name of a file")
         self.check([*words, "--replace"], "", 1, "answers: --replace replaces files of a --folder, and none is given: ")
 
 
