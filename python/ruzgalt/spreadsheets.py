@@ -15,8 +15,11 @@ from ruzgalt.records import encode
 from ruzgalt.tables import Kind, Table
 
 FORMULA = re.compile("[=+@\t\r\n\uff1d\uff0b\uff0d\uff20]|-(?!\\d+(?:[.,]\\d+)?\\Z)", re.ASCII)
-# What stands in the bytes of records that have such a text, and seldom in others.
-MAY_RUN = re.compile(rb"(?:^|[\n,])\"?(?:[=+@\t\r\n]|\xef\xbc[\x8b\x8d\x9d\xa0]|-(?!\d+[,\n]))")
+# What stands in the bytes of records of which a field may begin so: a sign, which is seldom there, or a minus behind
+# what ends a field, where it isn't that of a number.
+SIGNS = (b"=", b"+", b"@", b"\t", b"\r", b"\xef\xbc")
+MINUSES = (b",-", b'"-', b"\n-")
+MAY_RUN = re.compile(rb"[,\n]\"?(?:[=+@\t\r]|\xef\xbc[\x8b\x8d\x9d\xa0]|-(?!\d+[,\n]))")
 GUARD = "'"
 
 
@@ -42,7 +45,8 @@ def may_run(table: Table) -> bool:
     records = table.records
     if not isinstance(records, Listed) or not records.has_lines:
         return True
-    return any(map(MAY_RUN.search, records.lines()))
+    pieces = (b"\n" + piece for piece in records.lines())
+    return any(any(sign in piece for sign in (*SIGNS, *MINUSES)) and MAY_RUN.search(piece) for piece in pieces)
 
 
 def text_places(table: Table) -> List[int]:

@@ -1,7 +1,7 @@
 """What the tools make of the program's answers, where texts and names are as odd as they may be, beside Python's csv.
 
 hypothesis draws tables, rows and a question. The program answers, and each tool's table is to have exactly the fields
-that a plain reading of those bytes finds. ANSWERS_EXAMPLES is how many are drawn.
+that a plain reading of those bytes finds. TOOLS_EXAMPLES is how many are drawn.
 """
 import csv
 import io
@@ -23,10 +23,10 @@ try:
     from hypothesis import example, given, settings
     from hypothesis import strategies as st
 except ModuleNotFoundError as error:
-    raise unittest.SkipTest("tables that hypothesis draws for tools/answers, which isn't installed") from error
+    raise unittest.SkipTest("tables that hypothesis draws for tools/answers") from error
 
 PROGRAM = Path(os.environ.get("DIPQ", TOP / "crates/dipq/out/dipq")).resolve()
-EXAMPLES = int(os.environ.get("ANSWERS_EXAMPLES", "150"))
+EXAMPLES = int(os.environ.get("TOOLS_EXAMPLES", "150"))
 # The same ones each time, unless many are wanted.
 DRAWN = settings(max_examples=EXAMPLES, deadline=None, database=None, derandomize=EXAMPLES <= 150)
 # Names that answers have for columns of their own, and others.

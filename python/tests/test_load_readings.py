@@ -1,6 +1,6 @@
 """Numbers and points that tools/csv-to-load reads, beside a reading of their characters that knows nothing of its own.
 
-Texts and words are drawn at random by hypothesis; LOAD_EXAMPLES is how many of each.
+Texts and words are drawn at random by hypothesis; TOOLS_EXAMPLES is how many of each.
 """
 import csv
 import io
@@ -10,12 +10,15 @@ from datetime import datetime, timedelta
 from fractions import Fraction
 from typing import Dict, List, Optional, Sequence, Tuple
 
-from hypothesis import given, settings
-from hypothesis import strategies as st
-
 from tests.test_load import load
 
-EXAMPLES = int(os.environ.get("LOAD_EXAMPLES", "200"))
+try:
+    from hypothesis import given, settings
+    from hypothesis import strategies as st
+except ModuleNotFoundError as error:
+    raise unittest.SkipTest("numbers and dates that hypothesis draws for tools/csv-to-load") from error
+
+EXAMPLES = int(os.environ.get("TOOLS_EXAMPLES", "200"))
 # The same ones each time, unless many are wanted.
 DRAWN = settings(max_examples=EXAMPLES, deadline=None, database=None, derandomize=EXAMPLES <= 200)
 FIRST_DAY = datetime(1899, 12, 30)
