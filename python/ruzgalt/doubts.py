@@ -210,10 +210,10 @@ class Twins:
     def told(self) -> Iterator[str]:
         pair = first_pair(self.rows, self.lines)
         if pair:
-            yield told_of_twins(f"line {pair[0]}", f"line {pair[1]}", len(self.rows) - len(set(self.rows)))
+            yield of_twins(f"line {pair[0]}", f"line {pair[1]}", len(self.rows) - len(set(self.rows)))
 
 
-def told_of_twins(one: str, other: str, count: int) -> str:
+def of_twins(one: str, other: str, count: int) -> str:
     """That one row is the same as another, where so many rows are the same as one before them."""
     more = f"; {count - 1} more rows are so" if count > 1 else ""
     return f"{one} makes the same row as {other}, and both are loaded{more}"

@@ -32,7 +32,7 @@ class Book:
         return self.tables[name]
 
     def behind(self, change: Change, closed: int = 1) -> Book:
-        """The book with a change that closes so many versions. Whether it is refused, the program tells."""
+        """The book with a change that closes so many versions. Whether it is refused, the program answers."""
         made = change.done(self.tables.get(change.name), closed)
         return replace(self, tables={**self.tables, change.name: made}, commands=(*self.commands, *change.commands))
 
@@ -78,7 +78,7 @@ def accepted(book: Book, asked: Sequence[Change]) -> Tuple[Book, List[Changed], 
         first, last = len(book.commands), len(book.commands) + len(change.commands)
         did = Changed(last, int(added[first:last].sum()), int(closed[first:last].sum()))
         behind = book.behind(change, did.closed)
-        told += unmeant.told_of(change, behind.tables[change.name], book.commands, (added[:last], closed[:last]))
+        told += unmeant.doubts_of(change, behind.tables[change.name], book.commands, (added[:last], closed[:last]))
         changed.append(did)
         book = behind
     return book, changed, told

@@ -71,14 +71,14 @@ def making(name: Any, frame: Any, key: Names, options: Options) -> Change:
     side = side_of(frame, names, options.period, options.form, options.decimals)
     doubts.of_decimals(options.decimals, frame)
     made = replace(table_of(name, side, checks.names("key", key) or (), options), kind=side.kind)
-    tell_of_ends(made, side)
+    warn_of_ends(made, side)
     commands = [script.make(name, names, side.columns, made.key), *([script.load(name, side)] if len(side) else [])]
     return Change(name, commands, made)
 
 
 def loading(table: Table, frame: Any) -> Change:
     side = table.side_of(checks.frame("frame", frame), list(table.columns))
-    tell_of_ends(table, side)
+    warn_of_ends(table, side)
     return Change(table.name, [script.load(table.name, side)])
 
 
@@ -99,7 +99,7 @@ def updating(table: Table, frame: Any, where: Names) -> Change:
     side = table.side_of(frame, [*set_to, *equal])
     if not set_to:
         raise Refused("BadCommand", "the frame has no column but those of the period and of where=, so none to set")
-    tell_of_ends(table, side)
+    warn_of_ends(table, side)
     rows = zip(*([(column.name, text) for text in column_texts(column)] for column in side.columns))
     pairs = [[text for pair in row for text in pair] for row in rows]
     times = zip(points.texts_of(side.start), points.texts_of(side.end))
@@ -109,7 +109,7 @@ def updating(table: Table, frame: Any, where: Names) -> Change:
     return Change(table.name, commands, portion=np.concatenate([side.start, side.end]))
 
 
-def tell_of_ends(table: Table, side: Side) -> None:
+def warn_of_ends(table: Table, side: Side) -> None:
     """Warns of ends that look like last days, or the other way round."""
     key = [one for one in side.columns if one.name in table.key]
     doubts.of_ends(side, key, table.period[1], table.options.last_day)

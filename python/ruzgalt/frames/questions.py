@@ -58,7 +58,7 @@ def at(asked: Asked, name: str, point: Any) -> Any:
 def anti(asked: Asked, left: str, right: str, on: Any) -> Any:
     tables = [asked.book.known(name) for name in (left, right)]
     answered = listed(asked, left, ["anti", left, right, *on_of(tables, on, asked.options)], tables[1].kind)
-    tell_of_pairs(asked, tables, on)
+    warn_of_pairs(asked, tables, on)
     return answered
 
 
@@ -93,7 +93,7 @@ def join(asked: Asked, left: str, right: str, on: Any) -> Any:
     sides = [one.cells(cells), other.cells(cells)]
     shared = compared(on, asked.options)[1] if on is not None else []
     sides[1] = [column for column in sides[1] if column[0] not in shared]
-    tell_of_pairs(asked, [one, other], on)
+    warn_of_pairs(asked, [one, other], on)
     return answer.beside(own, sides, asked.options.suffixes)
 
 
@@ -109,7 +109,7 @@ def on_of(tables: Sequence[Table], on: Any, options: Options) -> List[str]:
     return ["on", *told] if told else []
 
 
-def tell_of_pairs(asked: Asked, tables: Sequence[Table], on: Any) -> None:
+def warn_of_pairs(asked: Asked, tables: Sequence[Table], on: Any) -> None:
     """Warns of what frames are warned of: texts that look alike and don't meet, and a column that isn't compared.
 
     Whether there are such texts is looked up in the commands, so that rows are asked for only where some may be.

@@ -245,7 +245,7 @@ class Store:
         return changed
 
     # Questions. as_of is the number of a commit, 0 to the newest; log() lists them. Rows are by row_id, where no other
-    # order is told. A column whose name the answer has for itself has `_` behind it. points_as is as of frames.
+    # order is given. A column whose name the answer has for itself has `_` behind it. points_as is as of frames.
 
     def rows(self, name: str, as_of: Optional[int] = None, *, points_as: Optional[str] = None) -> Any:
         """All rows: row_id, the period, the table's columns.

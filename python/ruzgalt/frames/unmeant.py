@@ -29,7 +29,7 @@ def texts_of(commands: Sequence[Command], table: str, name: str) -> List[str]:
     return list(found)
 
 
-def told_of(change: Change, table: Table, before: Sequence[Command], counts: Tuple[Ints, Ints]) -> Iterator[str]:
+def doubts_of(change: Change, table: Table, before: Sequence[Command], counts: Tuple[Ints, Ints]) -> Iterator[str]:
     """Of a change of a table, and the commands before it; counts are how many versions these and its own commands
     added and closed."""
     of_table = [place for place, one in enumerate(before) if one.fields[1] == change.name]
@@ -52,7 +52,7 @@ def of_load(change: Change, side: Side, before: Sequence[Command]) -> Iterator[s
     if is_twin.any():
         place = int(is_twin.argmax())
         one, other = (f"row {side.labels[at]!r}" for at in (place, int((rows == rows[place]).argmax())))
-        yield f"load of {change.name}: {doubts.told_of_twins(one, other, int(is_twin.sum()))}"
+        yield f"load of {change.name}: {doubts.of_twins(one, other, int(is_twin.sum()))}"
     loaded = [hashes_of(one.side) for one in before if one.side is not None and len(one.side)]
     if loaded and np.isin(rows, np.concatenate(loaded)).all():
         yield f"load of {change.name}: all its rows were loaded before, so each is there twice unless changed since"
