@@ -1,4 +1,4 @@
-"""Stores: the names of answers' columns, points, what changes report, batches, threads, copies, scripts, wrong calls."""
+"""Stores: names of answers' columns, points, what changes report, batches, threads, copies, scripts, wrong calls."""
 import copy
 import datetime
 import decimal
