@@ -1,5 +1,5 @@
 //! What queries read of a snapshot.
-ghost use Rattle.std.specs.Prelude.{◌≡◌, ◌+◌, ◌<◌, ◌≤◌, ◌^◌, All, IfErr, IfOk, IsTrue, Ok, length, nat_le, nat_lt, if◌then◌else◌};
+ghost use Rattle.std.specs.Prelude.{◌≡◌, ◌+◌, ◌<◌, ◌^◌, All, IfErr, IfOk, IsTrue, Ok, length, nat_le, nat_lt, if◌then◌else◌};
 ghost use Rattle.book_core.specs.Versions.{AreBetween, AreFromTo};
 ghost use Rattle.command_core.specs.Fields.{both_ok};
 ghost use Rattle.command_core.specs.Lines.{lines_in};
