@@ -165,8 +165,8 @@ class WrongWords(unittest.TestCase):
     def test_each_tool_tells_its_words(self) -> None:
         for words in (
             "tools/check-random none", "tools/check-random . 5", "tools/check-random tools/answers x",
-            "tools/check-large none", "tools/check-large tools/answers 1 x", "bench/time-tools x",
-            "bench/time-tools 1 2 3", "try x", "tools/answers show x", "tools/csv-to-load",
+            "tools/check-large none", "tools/check-large tools/answers 1 x", "tools/check-growth none",
+            "bench/time-tools x", "bench/time-tools 1 2 3", "try x", "tools/answers show x", "tools/csv-to-load",
         ):
             with self.subTest(words):
                 status, _, said = run(f"{sys.executable} {words}", "")
