@@ -34,6 +34,7 @@ SWAPPED = {
     "31/12/2024": "12/31/2024", "12/31/2024": "31/12/2024", "31-12-2024": "12-31-2024", "12-31-2024": "31-12-2024",
     "12.31.2024": GERMAN,
 }
+HALF = re.compile(r"[AaPp]\.?[Mm]\.?$")
 FRACTION = re.compile(r"(\d:\d\d:\d\d)[.,]\d+", re.ASCII)
 # A row that starts in so many years or later is told of.
 YEARS_AHEAD = 10
@@ -132,6 +133,13 @@ def is_far_off(text: str) -> bool:
     1900-01-01 is what databases make of no date.
     """
     return not ("1900-01-01" < text < "2099" or text[:4] == "9999" or text == "0001-01-01")
+
+
+def without_half(texts: Sequence[str]) -> Optional[str]:
+    """The first text of a time that has neither AM nor PM, where others have."""
+    times = [text for text in texts if ":" in text]
+    plain = [text for text in times if not HALF.search(text)]
+    return plain[0] if plain and len(plain) < len(times) else None
 
 
 def is_far_ahead(text: str) -> bool:

@@ -111,6 +111,8 @@ def refuse_words(options: Namespace) -> None:
         raise Misfit(f"{twice[0]} is told twice, and a column of the file fills one of the table's")
     if options.update and len(options.update) == len(columns):
         raise Misfit("--update: no column is left that would be set")
+    if options.unit and not options.decimals:
+        raise Misfit("--unit: no column is given by --decimals, and others are taken as they are")
     if options.print_table and not options.record:
         raise Misfit("--print-table: --table tells no table")
 

@@ -7,7 +7,7 @@ from zlib import crc32
 
 from ruzgalt import called, records
 from ruzgalt.columns import Column, End, Start, Text, form_of, mark_of, point_text
-from ruzgalt.dates import as_good_swapped
+from ruzgalt.dates import as_good_swapped, without_half
 from ruzgalt.decimals import Marks, Scale, readings
 from ruzgalt.doubts import Ends, Notes, Repeats, Twins
 from ruzgalt.errors import Misfit
@@ -158,7 +158,7 @@ class Load:
             return
         for line, start, end in zip(lines, starts, ends):
             if start >= end:
-                more = "; where that is the last day, --last-day takes it so" if start == end else ""
+                more = "; where that is the last day, --last-day takes it so" if start == end and len(end) == 10 else ""
                 told = f"{self.options.start} is {start}, and isn't before {self.options.end}, {end}{more}"
                 self.add_fault(f"line {line}: {told}")
 
@@ -209,7 +209,7 @@ class Load:
             yield self.left_out
         if not self.options.update and self.options.column and not (self.schema and self.schema.key):
             yield from self.repeats.told()
-        yield from self.told_of_swapped()
+        yield from self.told_of_points()
         yield from self.told_of_words()
         if self.options.update:
             yield from self.ends.told_of_starts()
@@ -229,7 +229,8 @@ class Load:
             told = f"part {part} of {parts} has {self.printed:,} of the file's {self.rows:,} rows"
             yield f"{told}; only all {parts} parts together have each"
 
-    def told_of_swapped(self) -> Iterator[str]:
+    def told_of_points(self) -> Iterator[str]:
+        """Dates that are as good the other way round, and times of which some have AM or PM."""
         texts = [point_text(text, False) for column in self.columns[:2] for text in column]
         found = as_good_swapped(texts, form_of(self.options) or "")
         if found:
@@ -237,6 +238,10 @@ class Load:
             both = f"of {found.found} months either way" if found.wanted == found.found else months
             example = f"'{found.text}', of {found.dates}, is {found.read}, and would be {found.otherwise}"
             told = f"--dates {found.other} reads all dates too, which are then {both}: which is meant? ({example})"
+            yield f"{self.options.start} and {self.options.end}: {told}"
+        plain = without_half(texts)
+        if plain:
+            told = f"'{visible(plain)}' has neither AM nor PM, which others have, and is taken by 24 hours"
             yield f"{self.options.start} and {self.options.end}: {told}"
 
     def told_of_scales(self) -> Iterator[str]:

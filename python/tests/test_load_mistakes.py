@@ -45,6 +45,9 @@ class Refused(Case):
             with self.subTest(number):
                 self.refused(part, rows(f"A,{number},{PERIOD}"), *CENTS)
 
+    def test_a_unit_of_no_column_is_refused(self) -> None:
+        self.refused("--unit: no column is given by --decimals", rows(f"A,5 €,{PERIOD}"), *WORDS, "--unit", "€")
+
     def test_points_of_other_forms_are_refused(self) -> None:
         for end, part in [
             ("2024/03/05", "with --dates 2024/12/31 it is one"), ("25-03-2024", "with --dates 31-12-2024 it is one"),
@@ -67,6 +70,11 @@ class Reported(Case):
                     self.told("a row with a sum of others", rows(*others, f"{name},{count},{PERIOD}"))
         for name in ("Totalenergies", "Summer", "Total Body Fitness"):
             self.loaded(f"load,pay\nrow,{PERIOD},{name},1\nend\n", rows(f"{name},1,{PERIOD}"))
+
+    def test_a_time_without_am_where_others_have_it_is_told(self) -> None:
+        text = rows("A,1,01/13/2024 06:30,01/13/2024 02:30 PM", "B,1,01/13/2024,01/14/2024")
+        told = "Start and End: '01/13/2024 06:30' has neither AM nor PM, which others have"
+        self.told(told, text, *WORDS, "--dates", "12/31/2024")
 
     def test_quotes_that_are_none_of_csv_are_told(self) -> None:
         for name in ("'A'", "„A“", "“A”", "«A»"):
