@@ -16,7 +16,7 @@ from ruzgalt.frames.arrays import NO_INTS, Ints
 from ruzgalt.frames.ask import Found
 from ruzgalt.frames.options import Options
 from ruzgalt.frames.sides import Side
-from ruzgalt.frames.spread import PART, by_part
+from ruzgalt.frames.spread import PART, by_part, with_objects
 from ruzgalt.frames.values import Values
 
 # Starts of a partition that are looked at for where to cut.
@@ -38,6 +38,7 @@ class Question:
         return groups.agg_part(frame, self.function, self.column, self.options)
 
 
+@with_objects
 def agg(frame: Any, function: str, column: Any, options: Options) -> Any:
     """Partitions in the order of time. The frame is read at once, for the cuts."""
     doubts.of_decimals(options.decimals, frame)

@@ -7,8 +7,10 @@ number has among divisions that are given.
 from __future__ import annotations
 
 import inspect
+from functools import wraps
 from typing import Any, Callable, List, Mapping, Sequence
 
+import dask
 import dask.dataframe as dd
 import numpy as np
 import pandas as pd
@@ -28,6 +30,16 @@ HOW = {"shuffle_method" if "shuffle_method" in WORDS else "shuffle": "tasks"}
 Pairs = Callable[[Any, Any, Names, Options], Any]
 
 
+def with_objects(call: Callable[..., Any]) -> Callable[..., Any]:
+    """The call, in which objects stay what they are: where pyarrow is, Dask makes texts of them, as of dates."""
+    @wraps(call)
+    def asked(*given: Any) -> Any:
+        with dask.config.set({"dataframe.convert-string": False}):
+            return call(*given)
+    return asked
+
+
+@with_objects
 def paired(asked: Pairs, left: Any, right: Any, on: Names, options: Options) -> Any:
     """The answer of each partition; one of the frames may be of pandas."""
     names = compared(on, options)
@@ -49,6 +61,7 @@ def as_spread(frame: Any) -> Any:
     return dd.from_pandas(with_labels_twice(frame).set_axis(frame.index.to_flat_index()), npartitions=1, sort=False)
 
 
+@with_objects
 def agg(frame: Any, function: str, column: Any, options: Options) -> Any:
     """Of groups: those in a partition are in order, and partitions are in none."""
     doubts.of_decimals(options.decimals, frame)

@@ -50,7 +50,9 @@ def spread(random, frame):
     """A frame of Dask, whose partitions are of random sizes, empty ones too."""
     cuts = sorted(random.randint(0, len(frame)) for _ in range(random.randint(1, 7) - 1))
     pieces = [frame.iloc[first:last] for first, last in zip([0, *cuts], [*cuts, len(frame)])]
-    return dd.from_delayed([dask.delayed(piece) for piece in pieces], meta=frame.iloc[:0], verify_meta=False)
+    # Where pyarrow is, Dask would make texts of objects, as of dates.
+    with dask.config.set({"dataframe.convert-string": False}):
+        return dd.from_delayed([dask.delayed(piece) for piece in pieces], meta=frame.iloc[:0], verify_meta=False)
 
 
 def rows_of(frame, has_labels):
