@@ -37,6 +37,7 @@ Python 3.9 and its library are all that is needed. A module stands on those abov
     dates, decimals     points and numbers in the forms of other programs
     looks               texts that look like others, or have what can't be seen
     doubts, marks       what may not be meant in a file that is loaded, and in a script
+    loads               what may not be meant in all rows that were loaded into a table
     columns, loading    what the values of a column become, and the load that is made of a file
     claims              somebody's division as a check
     given               the script and its answers that a tool is given

@@ -92,9 +92,9 @@ def look_at(found: Found, told: Sequence[Answer]) -> None:
     """Refuses answers that aren't to this script, unless the program has just been asked, and tells empty pasts."""
     if not found.is_own:
         fitting.refuse_unfit(found.answers, told)
+    beginnings = store.Beginnings(found.answers)
     for answer in told:
-        for name, commit in store.later_tables(found.answers, answer):
-            past = f"{name} was made by commit {commit}, so commit {answer.commit} shows no row of it"
+        for past in beginnings.told(answer):
             warn(f"{answer.place}: {records.short(answer.command.text)}: {past}")
 
 

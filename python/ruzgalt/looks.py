@@ -2,9 +2,10 @@
 import re
 import unicodedata
 from operator import eq
-from typing import Dict, Optional, Sequence
+from typing import Dict, Optional, Sequence, Tuple
 
 from ruzgalt.decimals import SPACES, number_in
+from ruzgalt.records import visible
 
 # Marks of how a text runs, control characters, and ends of lines and paragraphs.
 UNSEEN = ("Cf", "Cc", "Zl", "Zp")
@@ -110,6 +111,13 @@ def fold(value: str) -> str:
         value = value.translate(LIKE_ASCII)
     value = " ".join(value.split()).casefold()
     return value.lstrip("0") or "0" if value.isdigit() else value
+
+
+def told_of(pairs: Sequence[Tuple[str, str]]) -> str:
+    """Pairs of texts that look alike, for a person: the first, and how many there are."""
+    first, other = (repr(visible(text)) for text in pairs[0])
+    more = f" ({len(pairs)} such pairs)" if len(pairs) > 1 else ""
+    return f"{first} and {other} look alike, and are two texts{more}"
 
 
 class LookAlikes:

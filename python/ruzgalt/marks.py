@@ -3,23 +3,20 @@ import re
 from collections import Counter, defaultdict
 from typing import Dict, Iterator, List, NamedTuple, Optional, Sequence, Set, Tuple
 
-from ruzgalt import called, quoting
+from ruzgalt import called, looks, quoting
 from ruzgalt.answers import CHANGES, Answer
 from ruzgalt.dates import NO_END, is_month_end
 from ruzgalt.fields import where_places
-from ruzgalt.looks import fold
+from ruzgalt.loads import Loads
 from ruzgalt.overlaps import pairs
-from ruzgalt.reader import Block
-from ruzgalt.records import visible
-from ruzgalt.store import Store
+from ruzgalt.reader import LOOKED_AT, Block
+from ruzgalt.store import Beginnings, Store
 from ruzgalt.tables import Kind, Schema
 
 HOURS = re.compile(rb",\"?\d{4}-\d\d-\d\dT(?!00:00:00)\d\d:")
 LAST_SECOND = re.compile(rb"row,[^,\r\n]*,(?!9999)\d{4}-\d\d-\d\dT23:59:59")
 JOINS, PORTIONS = ("join", "anti"), ("update", "delete")
 Values = Set[Tuple[str, ...]]
-# Of so many rows at most it is looked whether some of a table without a key overlap.
-LOOKED_AT = 100_000
 
 
 class Mark(NamedTuple):
@@ -59,6 +56,8 @@ class Marks:
     def __init__(self, found: Sequence[Answer]) -> None:
         self.found = found
         self.loads: Dict[Tuple[str, int], int] = {}
+        self.by_table: Dict[str, Loads] = {}
+        self.beginnings = Beginnings(found)
         self.with_hours: Set[str] = set()
         self.marks: List[Mark] = []
 
@@ -68,11 +67,14 @@ class Marks:
             self.add(answer, "these are answers, and no script: what they answer is to be given")
         # Why a block has no end its refusal tells.
         if answer.command.is_ended:
-            for told in quoting.doubts_of(answer.command):
+            for told in quoting.doubts_of(answer.command, bool(answer.refusal)):
                 self.add(answer, told)
         if answer.refusal:
             self.add(answer, self.left_out(answer) if word == "load" else None)
-        elif word == "load":
+            return
+        for told in self.beginnings.told(answer):
+            self.add(answer, told)
+        if word == "load":
             self.look_at_load(answer)
         elif word in JOINS:
             self.add(answer, of_join(answer, store))
@@ -88,6 +90,7 @@ class Marks:
     def look_at_load(self, answer: Answer) -> None:
         table, block = answer.command.record.fields[1], answer.command.block
         data = block.bytes().rstrip(b"\r\n") if isinstance(block, Block) else b""
+        self.by_table.setdefault(table, Loads(answer.tables[table])).add(answer)
         line = self.loads.setdefault((table, hash(data)), answer.line)
         if line != answer.line and len(block) > 1:
             self.add(answer, f"its rows are those of the load at line {line}, so each is there twice")
@@ -124,6 +127,9 @@ class Marks:
         for answer in self.found:
             if not answer.refusal and answer.command.word in PORTIONS:
                 self.add(answer, of_count(answer, store.closed.get(answer.commits, 0)))
+        for loads in self.by_table.values():
+            for told in loads.told():
+                self.add(loads.answers[-1], told)
         for schema in without_key(self.found):
             self.add(last_change_of(self.found, schema.name), of_overlap(schema, store))
         return sorted(self.marks, key=lambda mark: mark.answer.number)
@@ -195,7 +201,7 @@ def of_join(answer: Answer, store: Store) -> Optional[str]:
     if len(front) > 3 and left and right and not left & right:
         told = f"{front[1]} and {front[2]} have no value of these columns in common"
         return f"{told}, so no row matches{like(left, right)}"
-    if front[0] == "anti" and not len(answer.table.records):
+    if front[0] == "anti" and left and not len(answer.table.records):
         told = f"each row of {front[1]} is matched all the time"
         return f"{told}; the rows of {front[2]} without one of {front[1]} are asked for by anti,{front[2]},{front[1]}"
     told = like(left - right, right - left) if len(front) > 3 else ""
@@ -209,10 +215,9 @@ def values_of(store: Store, answer: Answer, name: str, columns: Sequence[str]) -
 
 def like(left: Values, right: Values) -> str:
     """Two values that look alike."""
-    folded = {tuple(map(fold, values)): values for values in right}
-    found = ((values, folded.get(tuple(map(fold, values)))) for values in sorted(left))
+    folded = {tuple(map(looks.fold, values)): values for values in right}
+    found = ((values, folded.get(tuple(map(looks.fold, values)))) for values in sorted(left))
     pairs = [(values, other) for values, other in found if other is not None]
     if not pairs:
         return ""
-    shown = " and ".join(repr(visible(",".join(values))) for values in pairs[0])
-    return f": {shown} look alike, and are two texts" + (f" ({len(pairs)} such pairs)" if len(pairs) > 1 else "")
+    return f": {looks.told_of([(','.join(values), ','.join(other)) for values, other in pairs])}"

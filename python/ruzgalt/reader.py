@@ -16,6 +16,8 @@ csv.field_size_limit(1 << 27)
 END = ["end"]
 # Records of one form are looked at by so many at once.
 PIECE = 1 << 13
+# Of so many rows at most what may not be meant is looked for row by row.
+LOOKED_AT = 100_000
 LIST_END = re.compile(rb"\nend,(\d{1,9})\n")
 BYTE_ORDER_MARK = b"\xef\xbb\xbf"
 # Python 3.9's csv takes no zero byte, so one is put in its place that no decoded text has.

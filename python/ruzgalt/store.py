@@ -175,14 +175,29 @@ def behind(answers: Iterable[Answer]) -> Store:
     return store
 
 
-def later_tables(answers: Sequence[Answer], answer: Answer) -> List[Tuple[str, int]]:
-    """The tables of a query that were made behind the commit that its suffix tells, each with its commit."""
-    if answer.command.as_of is None:
-        return []
-    tables = [one for one in answers if one.command.word == "table" and one.commits > answer.commit and not one.refusal]
-    made = {one.command.record.fields[1]: one.commits for one in tables}
-    names = answer.command.front[1:3 if answer.command.word in ("join", "anti") else 2]
-    return [(name, made[name]) for name in dict.fromkeys(names) if name in made]
+class Beginnings:
+    """Which commit made each table, and which brought its first rows: a past before them is empty."""
+
+    def __init__(self, found: Sequence[Answer]) -> None:
+        self.made: Dict[str, int] = {}
+        self.filled: Dict[str, int] = {}
+        for answer in found:
+            word = answer.command.word
+            if not answer.refusal and word in ("table", "load"):
+                begun = self.made if word == "table" else self.filled
+                if word == "table" or len(answer.command.rows):
+                    begun.setdefault(answer.command.record.fields[1], answer.commits)
+
+    def told(self, answer: Answer) -> Iterator[str]:
+        """Tells the tables of a query that have no row yet at the commit which its suffix has."""
+        if answer.command.as_of is None:
+            return
+        names = answer.command.front[1:3 if answer.command.word in ("join", "anti") else 2]
+        for name in dict.fromkeys(names):
+            if self.made[name] > answer.commit:
+                yield f"{name} was made by commit {self.made[name]}, so commit {answer.commit} shows no row of it"
+            elif self.filled.get(name, 0) > answer.commit:
+                yield f"{name} has rows from commit {self.filled[name]} on, and commit {answer.commit} shows none of it"
 
 
 def asks_for_values(answer: Answer) -> bool:

@@ -104,7 +104,9 @@ class Lists(unittest.TestCase):
             ('"B\nrow,2024-01-01,2024-03-01,C"', "D", "line 7: B\\nrow,2024-01-01,2024-03-01,C goes on to lines"),
             (' "B"', "D", 'line 7:  "B" has a blank before its quote, so blank and quotes belong to it'),
             ("'B'", "'D'", "line 7: 'B' has single quotes, which belong to it: quotes of fields are double (1 more"),
-            ('"two\nlines"', "O'Neill", ""),
+            (" B", "D ", "line 7:  B has a blank at an end, which belongs to it (1 more such fields)"),
+            ('"Byron, Ada "', "D", "line 7: Byron, Ada  has a blank at an end"),
+            ('"two\nlines"', "O'Neill", ""), ('"Byron, Ada"', "van D", ""),
         ]:
             with self.subTest(first):
                 _, _, said = answers("list $S --answers $A", PAY + row.format(first, second), "ok,1\nok,2\nok,3\n")
@@ -128,6 +130,42 @@ class Lists(unittest.TestCase):
             told = "ok,1\nerror,2,KeyOverlap\n" if "key" in other else "ok,1\nok,2\n"
             _, _, said = answers("list $S --answers $A", other, told)
             self.assertEqual(said, "")
+
+    def test_ends_of_rows_that_look_like_last_days_are_marked(self) -> None:
+        follows = "TO: of rows that follow one of the same person, 1 start on the day behind it (line 4 after line 3)"
+        year = "TO is 2024-12-31: a row doesn't hold on that day any more; one that has it ends on the next"
+        touching = PAY.replace("2024-04-01", "2024-03-01")
+        other = "load,pay\nrow,2024-06-{},2024-07-01,A,7\nend\n"
+        for script, part in [
+            (PAY.replace("2024-03-01", "2024-03-31"), follows), (PAY, ""),
+            ("table,t,a,int\nload,t\nrow,2024-01-01,2024-12-31,1\nend\n", year), (touching, ""),
+            (touching + other.format("02"), "1 start on the day behind it (line 7 after line 4) and 1 start on it"),
+            (touching + other.format("01"), ""), (PAY + other.format("15"), ""),
+            ("table,t\nload,t\nrow,2024-01-01,2024-03-31\nrow,2024-04-01,2024-05-01\nend\n", ""),
+        ]:
+            with self.subTest(script):
+                told = "".join(f"ok,{place + 1}\n" for place in range(script.count("table,") + script.count("load,")))
+                _, _, said = answers("list $S --answers $A", script, told)
+                self.assertEqual((part in said, said == ""), (True, part == ""), said)
+
+    def test_texts_that_look_alike_in_several_loads_are_marked(self) -> None:
+        other = "load,pay\nrow,2024-07-01,2024-08-01,a,6\nend\n"
+        self.marks("line 6: load,pay: 'A' and 'a' look alike, and are two texts", PAY + other, "ok,1\nok,2\nok,3\n")
+
+    def test_a_past_without_rows_is_marked(self) -> None:
+        script = PAY + "table,of,name,text\nload,of\nrow,2024-01-01,2024-07-01,A\nend\n"
+        for commit, part in [
+            (3, "of has rows from commit 4 on, and commit 3 shows none of it"),
+            (2, "of was made by commit 3, so commit 2 shows no row of it"), (4, "each row of pay is matched"),
+        ]:
+            told = "ok,1\nok,2\nok,3\nok,4\n" + (ROWS if commit < 4 else "end,0\n")
+            for tool in ("list", "csv") if commit < 4 else ("list",):
+                words, question = f"{tool} $S --answers $A", f"anti,pay,of,on,person,name,asof,{commit}\n"
+                self.assertIn(part, answers(words, script + question, told)[2])
+
+    def test_an_anti_join_of_an_empty_table_isn_t_marked(self) -> None:
+        script = PAY + "table,of,name,text\nanti,of,pay,on,name,person\n"
+        self.assertEqual(answers("list $S --answers $A", script, "ok,1\nok,2\nok,3\nend,0\n")[2], "")
 
     def test_answers_from_a_file_are_compared_whole(self) -> None:
         status, _, said = answers("list $S --answers $A", PAY + "rows,pay\n", "ok,1\nok,2\nend,0\n")
