@@ -131,6 +131,31 @@ class Ends:
             yield f"{self.name} is {days[0]}: {self.remedy()} ({of_all})"
 
 
+class Overwrites:
+    """Tells an update that takes back one before it: of the same key, from an earlier point on, and past its start."""
+
+    def __init__(self, key: str) -> None:
+        self.key = key
+        # Of each key the latest start so far, and its line.
+        self.latest: Dict[object, Tuple[str, int]] = {}
+        self.found: List[Tuple[int, int]] = []
+
+    def add(self, lines: Sequence[int], keys: Sequence[object], starts: Sequence[str], ends: Sequence[str]) -> None:
+        for line, key, start, end in zip(lines, keys, starts, ends):
+            latest, other = self.latest.setdefault(key, (start, line))
+            if start < latest < end:
+                self.found.append((line, other))
+            elif latest < start:
+                self.latest[key] = start, line
+
+    def told(self) -> Iterator[str]:
+        if self.found:
+            line, other = self.found[0]
+            more = f"; {len(self.found) - 1} more do so" if len(self.found) > 1 else ""
+            told = f"line {line} updates the same {self.key} from an earlier point on than line {other}"
+            yield f"{told}, and past its start, so it takes its place: are the file's lines out of order?{more}"
+
+
 class Repeats:
     """Tells rows of equal values that hold at one time, which a key would forbid.
 

@@ -9,7 +9,7 @@ from ruzgalt import called, records
 from ruzgalt.columns import Column, End, Start, Text, form_of, mark_of, point_text
 from ruzgalt.dates import as_good_swapped, without_half
 from ruzgalt.decimals import Marks, Scale, readings
-from ruzgalt.doubts import Ends, Notes, Repeats, Twins
+from ruzgalt.doubts import Ends, Notes, Overwrites, Repeats, Twins
 from ruzgalt.errors import Misfit
 from ruzgalt.forms import is_name, read_point
 from ruzgalt.progress import Progress
@@ -41,7 +41,7 @@ class Load:
         self.left_out: Optional[str] = None
         self.nameless = [place for place, name in enumerate(sheet.header) if not name.strip()]
         key = ", ".join(options.column[place] for place in self.keys) or "table"
-        self.ends = Ends(options.end, key, options.last_day)
+        self.ends, self.overwrites = Ends(options.end, key, options.last_day), Overwrites(key)
 
     def key_places(self) -> List[int]:
         """The columns that tell whose fact a row is: those of the table's key, or else the first."""
@@ -150,7 +150,10 @@ class Load:
             # None is at fault, so each is a text.
             starts, ends, *others = cast(List[Sequence[str]], found)
             self.refuse_empty_periods(lines, starts, ends)
-            self.ends.add(lines, self.keys_of(others) or [""] * len(lines), starts, ends)
+            keys = self.keys_of(others) or [""] * len(lines)
+            self.ends.add(lines, keys, starts, ends)
+            if self.options.update:
+                self.overwrites.add(lines, keys, starts, ends)
 
     def refuse_empty_periods(self, lines: Sequence[int], starts: Sequence[str], ends: Sequence[str]) -> None:
         # The texts of points are in the order of time.
@@ -212,7 +215,7 @@ class Load:
         yield from self.told_of_points()
         yield from self.told_of_words()
         if self.options.update:
-            yield from self.ends.told_of_starts()
+            yield from [*self.ends.told_of_starts(), *self.overwrites.told()]
         if self.rows > MOST_ROWS * 9 // 10 or self.bytes > MOST_BYTES * 9 // 10:
             limits = f"a script has {MOST_BYTES:,} bytes at most, a table {MOST_ROWS:,} versions of rows"
             told = f"{self.rows:,} rows in {self.bytes:,} bytes leave little room for corrections"

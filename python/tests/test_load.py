@@ -408,6 +408,16 @@ class Updates(Case):
         told = "line 3 updates the same person from the same point on as line 2, and the later one stands"
         self.told(told, text, "pay", "Start", "End", "person", "euros", "--update", "person")
 
+    def test_an_update_that_takes_an_earlier_line_s_place_is_told(self) -> None:
+        words = ["pay", "Start", "End", "person", "euros", "--update", "person"]
+        text = "person,euros,Start,End\nA,3,2024-09-01,2025-01-01\nB,1,2024-07-01,2025-01-01\n"
+        told = "line 4 updates the same person from an earlier point on than line 2, and past its start, so it"
+        self.told(told, text + "A,2,2024-07-01,2025-01-01\n", *words)
+        both = text + "A,2,2024-07-01,2025-01-01\nA,4,2024-08-01,2025-01-01\n"
+        self.told("out of order?; 1 more do so", both, *words)
+        for line in ("A,2,2024-07-01,2024-09-01", "A,2,2024-10-01,2025-01-01"):
+            self.assertEqual(load(f"{text}{line}\n", *words)[1], [])
+
     def test_some_of_a_table_s_columns_are_set(self) -> None:
         record = ["--table", "table,pay,pid,int,name,text,grade,text,euros,int,key,pid"]
         text, words = "PID,Euros,Start,End\n7,500,2024-01-01,2024-03-05\n", ["pay", "Start", "End", *record]
