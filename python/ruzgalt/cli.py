@@ -102,8 +102,8 @@ def do_sqlite(options: Namespace) -> None:
     with databases.opened(options.database) as database:
         for column in databases.make_tables(found, database, wishes):
             warn(f"{column} has sums past SQLite's integers, so it is a text there, and isn't in the order of numbers")
-        ends = databases.ends_in(found, database)
-        told = [asked(database, query, ends, found) for query in options.query]
+        made = databases.made_of(found, database)
+        told = [asked(database, query, made, found) for query in options.query]
     # What is printed may be read by a program that ends early, and by then all is kept.
     show("".join(told) if options.query else databases.tables_told(found))
     for pick in found:
@@ -111,10 +111,10 @@ def do_sqlite(options: Namespace) -> None:
             warn(f"--day: {pick.name} has no period, so there is no view of it")
 
 
-def asked(database: sqlite3.Connection, query: str, ends: queries.Ends, made: Sequence[picks.Pick]) -> str:
-    for told in queries.doubts_of(query, ends):
+def asked(database: sqlite3.Connection, query: str, made: queries.Made, found: Sequence[picks.Pick]) -> str:
+    for told in queries.doubts_of(query, made):
         warn(f"--query: {told}")
-    answer = databases.ask(database, query, made)
+    answer = databases.ask(database, query, found)
     for name in answer.twins():
         warn(f"--query: several columns are called {records.visible(name)}: `as` gives each its own name")
     return answer.text()

@@ -10,7 +10,7 @@ from ruzgalt import files, picks
 from ruzgalt.errors import Misfit
 from ruzgalt.forms import is_integer, printed, read_point
 from ruzgalt.picks import Pick
-from ruzgalt.queries import QUOTED, Ends
+from ruzgalt.queries import QUOTED, Made
 from ruzgalt.records import short, to_text
 from ruzgalt.tables import Kind, Table
 
@@ -178,14 +178,18 @@ def with_names(query: str) -> str:
     return QUOTED.sub(lambda found: in_backquotes(found[0]) if found[0].startswith('"') else found[0], query)
 
 
-def ends_in(found: Sequence[Pick], database: sqlite3.Connection) -> Ends:
-    """How the tables that were made have an end which isn't known."""
-    names = [quoted(pick.name) for pick in found if has_period(pick)]
-
-    def have(test: str) -> bool:
+def made_of(found: Sequence[Pick], database: sqlite3.Connection) -> Made:
+    """What the tables that were made have, which a query is to know of."""
+    def have(test: str, column: str) -> bool:
+        names = [quoted(pick.name) for pick in found if column in pick.answer.table.names]
         return any(database.execute(f"select 1 from {name} where {test} limit 1").fetchone() for name in names)
 
-    return Ends(have("valid_to >= '9999'"), have("valid_to is null"))
+    # Records of an `at` hold together at its point.
+    names = [pick.name for pick in found if has_period(pick) and pick.answer.command.word != "at"]
+    return Made(
+        have("valid_to >= '9999'", "valid_to"), have("valid_to is null", "valid_to"),
+        have("sys_to is null", "sys_to"), names,
+    )
 
 
 def in_backquotes(name: str) -> str:

@@ -1,6 +1,6 @@
 """What may not be meant in a query of SQL over answers, in which points are texts."""
 import re
-from typing import Iterable, Iterator, NamedTuple, Optional
+from typing import Iterable, Iterator, NamedTuple, Optional, Sequence
 
 from ruzgalt.errors import Misfit
 from ruzgalt.forms import printed, read_point
@@ -40,27 +40,50 @@ EDGE = re.compile(
 )
 # What makes numbers with a point of a division, and what rounds one: a half of its divisor, which is added before.
 POINTED = re.compile(r"(?<!\w)(?:\d+\.|\.\d|\d+e\d)|\b(?:julianday|avg|total|round|real)\b", re.IGNORECASE)
-HALF, DIVISOR = re.compile(r"\+\s*(\d+)\s*\)*\s*$"), re.compile(r"\s*(\d+)")
+HALF, DIVISOR = re.compile(r"\+\s*([\w.]+)\s*\)*\s*$"), re.compile(r"(\d+)|\(\s*2\s*\*\s*([\w.]+)\s*\)")
 CUTS_OFF = (
     "a division of whole numbers cuts off what is behind the point: (a + 50) / 100 rounds, and a / 100.0 keeps it"
 )
 TEXT_BESIDE_NUMBER = (
     "strftime(..), substr(..) and their like give texts, which are equal to no number: as '2025' it is a text too"
 )
-# A comparison with an end, and what takes care of NULL.
-BESIDE_END = re.compile(rf"{TO}\s*(?:[<>=!]|(?:not\s+)?between\b)|[<>=!]\s*{TO}|\band\s+{TO}", re.IGNORECASE)
+# What takes care of NULL.
 KNOWS_NULL = re.compile(r"\b(?:null|coalesce|ifnull|iif)\b", re.IGNORECASE)
 LENGTH = re.compile(rf"julianday\s*\(\s*{TO}", re.IGNORECASE)
 
 
-class Ends(NamedTuple):
-    """Whether rows without a known end have one in the year 9999, or NULL, in the tables that are asked."""
+def beside(column: str) -> "re.Pattern[str]":
+    """A comparison with a column."""
+    return re.compile(rf"{column}\s*(?:[<>=!]|(?:not\s+)?between\b)|[<>=!]\s*{column}|\band\s+{column}", re.IGNORECASE)
+
+
+BESIDE_END, BESIDE_CLOSED = beside(TO), beside(r"[\w.\"`]*\bsys_to\b[\"`]?")
+# A sum of all records with a column beside it, which is that of some record.
+SUM = rf"(?:sum|count|avg|total)\s*\({WITHIN}\)(?:\s+as\s+\w+)?"
+COLUMN = r"(?!distinct\b|all\b|null\b)[a-z_][\w.]*(?:\s+as\s+\w+)?"
+BESIDE_SUM = re.compile(
+    rf"^(?!.*\b(?:group\s+by|over)\b)select\s+(?:{COLUMN}\s*,\s*)+{SUM}|"
+    rf"^(?!.*\b(?:group\s+by|over)\b)select\s+(?:{SUM}\s*,\s*)+{COLUMN}\s*(?:,|\bfrom\b)", re.IGNORECASE,
+)
+JOINED = re.compile(r"\bjoin\b|\bfrom\s+[\w\"`]+(?:\s+(?:as\s+)?\w+)?\s*,\s*[\w\"`]", re.IGNORECASE)
+# What a join has that is one of periods, or of the same records.
+BY_TIME = re.compile(r"valid_from|valid_to|row_id|left_id|right_id|\bnatural\b", re.IGNORECASE)
+
+
+class Made(NamedTuple):
+    """What the tables that are asked have, which a query is to know of.
+
+    Whether rows without a known end have one in the year 9999, or NULL; whether versions that no commit closed are
+    among them; and the names of tables whose records hold for different times.
+    """
 
     are_open: bool = False
     are_null: bool = False
+    are_current: bool = False
+    with_periods: Sequence[str] = ()
 
 
-def doubts_of(query: str, ends: Ends) -> Iterator[str]:
+def doubts_of(query: str, made: Made) -> Iterator[str]:
     """What may not be meant, for a person. Raises Misfit where a point has no quotes."""
     bare = BARE_POINT.search(QUOTED.sub("''", query))
     if bare:
@@ -68,18 +91,32 @@ def doubts_of(query: str, ends: Ends) -> Iterator[str]:
     line = " ".join(query.split())
     yield from (told for form, told in DOUBTS if form.search(line))
     is_beside = BESIDE_END.search(line) or LENGTH.search(line)
-    if ends.are_null and is_beside and not KNOWS_NULL.search(line):
+    if made.are_null and is_beside and not KNOWS_NULL.search(line):
         yield "an end that isn't known is NULL by --open-null: no comparison holds for it, and no length or sum has it"
+    if made.are_current and BESIDE_CLOSED.search(line) and not KNOWS_NULL.search(line):
+        yield "sys_to is NULL of a version that no commit closed: no comparison holds for it"
     plain = " ".join(QUOTED.sub(without_text, query).split())
+    yield from doubts_of_records(plain, made.with_periods)
     if any(cuts_off(plain, found.start()) for found in re.finditer("/", plain)):
         yield CUTS_OFF
     if NUMBER_BESIDE.search(plain):
         yield TEXT_BESIDE_NUMBER
-    if ends.are_open and LENGTH.search(line) and "9999" not in line and "min(" not in line.lower():
+    if made.are_open and LENGTH.search(line) and "9999" not in line and "min(" not in line.lower():
         yield "a length up to 9999-12-31, where no end is known, is 8,000 years: cut it, as by min(valid_to, '..')"
     for text in DAY.findall(query):
         if read_point(text) is None or printed(text) != text:
             yield f"'{text}' is compared as a text: points are as '2024-01-31' or '2024-01-31T08:30:00' in the tables"
+
+
+def doubts_of_records(plain: str, with_periods: Sequence[str]) -> Iterator[str]:
+    """What may not be meant by which records are summed or joined."""
+    if BESIDE_SUM.search(plain):
+        yield "a column beside a sum of all records is that of some record: `group by` sums for each of its values"
+    forms = (rf"(?<![\w.]){re.escape(name)}(?![\w.])" for name in with_periods)
+    count = sum(bool(re.search(form, plain, re.IGNORECASE)) for form in forms)
+    if count > 1 and JOINED.search(plain) and not BY_TIME.search(plain):
+        told = "records that are joined without their times needn't hold together"
+        yield f"{told}: a.valid_from < b.valid_to and b.valid_from < a.valid_to, or the language's join"
 
 
 def without_text(found: "re.Match[str]") -> str:
@@ -98,7 +135,7 @@ def cuts_off(query: str, place: int) -> bool:
     if POINTED.search(left) or POINTED.search(right):
         return False
     half, divisor = HALF.search(left), DIVISOR.match(right)
-    return not (half and divisor and int(half[1]) == int(divisor[1]) // 2)
+    return not (half and divisor and half[1] == (divisor[2] or str(int(divisor[1]) // 2)))
 
 
 def first_edge(found: Iterable["re.Match[str]"], brackets: str) -> Optional["re.Match[str]"]:

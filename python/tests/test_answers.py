@@ -255,6 +255,12 @@ class Tables(unittest.TestCase):
             ("select round(euros/3, 2) from a", "a division of whole numbers cuts off"),
             ("select euros / 2 - 1.5 from a", "a division of whole numbers cuts off"),
             ("select (euros*103+50)/100, (euros * 1025 + 500) / 1000 from a", ""),
+            ("select (200 * sum(euros) + row_id) / (2 * row_id) from a", ""),
+            ("select (200 * sum(euros) + row_id) / (2 * euros) from a", "a division of whole numbers cuts off"),
+            ("select person, sum(euros) from a", "a column beside a sum of all records is that of some record"),
+            ("select count(*) as n, a.person from a", "a column beside a sum of all records is that of some record"),
+            ("select person, sum(euros) from a group by person", ""), ("select person, max(euros) from a", ""),
+            ("select sum(euros), count(*) from a where person = 'A'", ""),
             ("select euros/3.0, 1.0 * euros / 3, cast(euros as real) / 3, avg(euros)/3, '1/2' from a -- 1/2", ""),
             ("select (julianday(valid_to) - julianday(valid_from)) / 7 from a", ""),
             ("select * from a where strftime('%Y', valid_to)=2025", "give texts, which are equal to no number"),
@@ -279,6 +285,33 @@ class Tables(unittest.TestCase):
             words = f"sqlite $S :memory: --answers $A --open-null --ask a=rows,pay --query={query.replace(' ', chr(9))}"
             with self.subTest(query):
                 self.assertEqual((part in answers(words, script, told)[2]), is_told)
+
+    def test_a_comparison_that_open_versions_are_missing_from_is_told(self) -> None:
+        told = "ok,1\nok,2\n" + "".join(f"version,{ROWS.split()[place][4:-4]},2,-,A,{5 + place}\n" for place in (0, 1))
+        part = "sys_to is NULL of a version that no commit closed"
+        for query, is_told in [
+            ("select * from v where sys_from <= 2 and 2 < v.sys_to", True),
+            ("select * from v where sys_to = '-'", True),
+            ("select * from v where sys_to is null or sys_to > 2", False), ("select sys_to from v", False),
+            ("select * from v where 2 in (sys_from, sys_to)", False),
+        ]:
+            words = f"sqlite $S :memory: --answers $A --ask v=between,pay,0,2 --query={query.replace(' ', chr(9))}"
+            with self.subTest(query):
+                self.assertEqual(part in answers(words, PAY, told + "end,2\n")[2], is_told)
+
+    def test_a_join_without_times_is_told(self) -> None:
+        part = "records that are joined without their times needn't hold together"
+        words = "sqlite $S :memory: --answers $A --ask a=rows,pay --ask b=rows,pay,asof,2 --ask c={} --query={}"
+        for query, is_told in [
+            ("select sum(a.euros) from a join b on a.person = b.person", True), ("select 1 from a x, b y", True),
+            ("select 1 from a join b on a.valid_from < b.valid_to and b.valid_from < a.valid_to", False),
+            ("select 1 from a join b using (row_id)", False), ("select 1 from a join c using (person)", False),
+            ("select person from a union all select person from b", False), ("select 1 from a", False),
+        ]:
+            asked = words.format("at,pay,2024-01-01", query.replace(" ", "\t"))
+            told = f"ok,1\nok,2\n{ROWS}{ROWS}{ROWS.splitlines()[0]}\nend,1\n"
+            with self.subTest(query):
+                self.assertEqual(part in answers(asked, PAY, told)[2], is_told)
 
     def test_between_the_ends_of_a_record_is_told(self) -> None:
         query = "select\t1\tfrom\ta\twhere\t'1'\tbetween\tvalid_from\tand\tvalid_to"
