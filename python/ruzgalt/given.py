@@ -104,7 +104,9 @@ def last(found: Found, words: Sequence[str], count: int) -> List[Answer]:
     if len(told) < count and not words:
         raise Misfit(f"{count} wanted, and {len(told)} of the answers more than an `ok`: ask by --ask, as --ask rows,T")
     if len(told) != count and (words or found.asked):
-        raise Misfit(f"{len(told)} answers, and not {count}: `csv --folder`, `sqlite` and `json` take several")
+        several = ": `csv --folder`, `sqlite` and `json` take several" if count == 1 else ""
+        remedy = ": one more PICK or --ask is wanted" if len(told) < count else several
+        raise Misfit(f"{len(told)} answer{'s' * (len(told) != 1)}, and not {count}{remedy}")
     taken = [pick.answer for pick in told[-count:]]
     look_at(found, taken)
     return taken

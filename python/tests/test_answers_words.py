@@ -343,6 +343,8 @@ class Told(ToolCase):
             ("picture", tiny, "agg,t,sum,a", tiny + "end,2\n", 0, f"\n     0 {chr(39) * 37}{'-' * 36}\n  -100 "),
             ("sqlite :memory: 3=due", january.format(half) * 2, "agg,t,sum,a", january.format(2 * half) + "end,1\n", 0,
              "answers: due.sum_a has sums past SQLite's "),
+            ("changed 3", january.format(5), "rows,t\nrows,t", row + row, 1,
+             "1 answer, and not 2: one more PICK or --ask is wanted"),
             ("changed", january.format(5), "rows,t\nat,t,2024-01-05", row + row, 1,
              "rows,t and at,t,2024-01-05: an `at` "),
             ("changed", january.format(5), "at,t,2024-01-05\nat,t,2024-02-05", row + end, 1,
