@@ -7,6 +7,7 @@ from ruzgalt import called, looks, quoting
 from ruzgalt.answers import CHANGES, Answer
 from ruzgalt.dates import NO_END, is_month_end
 from ruzgalt.fields import where_places
+from ruzgalt.forms import printed
 from ruzgalt.loads import Loads
 from ruzgalt.overlaps import pairs
 from ruzgalt.reader import LOOKED_AT, Block
@@ -32,13 +33,17 @@ def needs_store(found: Sequence[Answer]) -> bool:
 
 
 def without_key(found: Sequence[Answer]) -> Iterator[Schema]:
-    """The tables whose rows no key keeps apart, where so few are loaded that they are looked at."""
+    """The tables whose rows no key keeps apart, or one of all columns, where so few are loaded that they are looked at.
+
+    A key of all columns lets in two salaries of one person at a time, unless they are equal.
+    """
     loads = [one.command for one in found if one.command.word == "load" and not one.refusal]
     counts = Counter({name: 0 for name in (found[-1].tables if found else ())})
     for load in loads:
         counts[load.record.fields[1]] += len(load.rows)
     tables = found[-1].tables.values() if found else ()
-    return (one for one in tables if one.columns and not one.key and 1 < counts[one.name] <= LOOKED_AT)
+    loose = (one for one in tables if one.columns and len(one.key) in (0, len(one.columns)))
+    return (one for one in loose if 1 < counts[one.name] <= LOOKED_AT)
 
 
 def walk(found: Sequence[Answer]) -> Iterator[Tuple[Answer, Store]]:
@@ -124,9 +129,11 @@ class Marks:
 
     def end(self, store: Store) -> List[Mark]:
         """All that is marked, by the answers' order; what changes touched is known now."""
+        ends = store.last_ends()
         for answer in self.found:
             if not answer.refusal and answer.command.word in PORTIONS:
                 self.add(answer, of_count(answer, store.closed.get(answer.commits, 0)))
+                self.add(answer, of_reach(answer, ends.get(answer.commits)))
         for loads in self.by_table.values():
             for told in loads.told():
                 self.add(loads.answers[-1], told)
@@ -160,6 +167,15 @@ def of_count(answer: Answer, count: int) -> Optional[str]:
     return of_touched(answer.command.record.fields, count)
 
 
+def of_reach(answer: Answer, last: Optional[str]) -> Optional[str]:
+    """Tells an update up to a day that no row reaches which it changed: it may be meant to lengthen one."""
+    fields = answer.command.record.fields
+    if fields[0] == "update" and last is not None and last < printed(fields[3]) < "9999":
+        told = f"each row that it changed ends by {last}, before {fields[3]}"
+        return f"{told}: an update lengthens no row, and a load does"
+    return None
+
+
 def of_touched(fields: Sequence[str], count: int) -> Optional[str]:
     """What an update or a delete touched, where that was nothing, or all that there was."""
     has_where = bool(where_places(fields))
@@ -190,7 +206,7 @@ def of_overlap(schema: Schema, store: Store) -> Optional[str]:
     names = " ".join(schema.names[place] for place in places)
     both = f"rows {found.first} and {found.second}, equal in {names.replace(' ', ', ')}, hold at one time"
     question = f"`{called.ANSWERS} overlaps SCRIPT {names} --ask rows,{schema.name}` lists such rows"
-    return f"{schema.name} has no key, and {both}; {question}"
+    return f"{schema.name} has {'a key of all columns' if schema.key else 'no key'}, and {both}; {question}"
 
 
 def of_join(answer: Answer, store: Store) -> Optional[str]:

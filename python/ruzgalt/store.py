@@ -5,7 +5,7 @@ texts are in the order of time; of two values the texts are equal exactly where 
 """
 from collections import defaultdict
 from dataclasses import dataclass, field
-from itertools import count, islice, repeat
+from itertools import chain, count, islice, repeat
 from operator import attrgetter
 from typing import Dict, Iterable, Iterator, List, NamedTuple, Optional, Sequence, Tuple
 
@@ -128,6 +128,14 @@ class Store:
         closed = [version for version in found if version.row.start < end and start < version.row.end]
         made = (parts(version, (start, end), set_to, line_of(command.record)) for version in closed)
         return Change(closed, [row for rows in made for row in rows])
+
+    def last_ends(self) -> Dict[int, str]:
+        """Of each commit the last end of the rows that it closed."""
+        ends: Dict[int, str] = {}
+        for version in chain.from_iterable(self.versions.values()):
+            if version.closed is not None:
+                ends[version.closed] = max(version.row.end, ends.get(version.closed, ""))
+        return ends
 
     def rows(self, table: str, commit: int) -> List[Version]:
         """The rows of a table that a commit shows, by rising id."""

@@ -67,6 +67,14 @@ class Lists(unittest.TestCase):
         script = PAY + "delete,pay,2024-01-01,2024-05-30T23:59:59,where,person,A\n"
         self.marks("2024-05-30T23:59:59 isn't in it", script, "ok,1\nok,2\nok,3\n")
 
+    def test_an_update_past_the_end_of_all_rows_is_marked(self) -> None:
+        part = "each row that it changed ends by 2024-06-01, before 2024-08-01: an update lengthens no row, and a load"
+        for end, is_marked in [
+            ("2024-08-01", True), ("2024-06-01", False), ("2024-06-01T00:00:00", False), ("9999-12-31", False),
+        ]:
+            script = PAY + f"update,pay,2024-05-01,{end},set,euros,7,where,person,A\n"
+            self.assertEqual(part in answers("list $S --answers $A", script, "ok,1\nok,2\nok,3\n")[2], is_marked)
+
     def test_a_row_to_the_last_second_is_marked(self) -> None:
         script = PAY + "load,pay\nrow,2024-07-01,2024-07-05T23:59:59,A,1\nend\n"
         self.marks("2024-07-05T23:59:59 doesn't hold in that second", script, "ok,1\nok,2\nok,3\n")
@@ -126,6 +134,8 @@ class Lists(unittest.TestCase):
         script = PAY.replace("2024-04-01", "2024-02-01")
         part = "1 and 2, equal in person, hold at one time; `tools/answers overlaps SCRIPT person --ask rows,pay`"
         self.marks(part, script, "ok,1\nok,2\n")
+        part = "pay has a key of all columns, and rows 1 and 2, equal in person, hold at one time"
+        self.marks(part, script.replace("euros,int", "euros,int,key,person,euros"), "ok,1\nok,2\n")
         for other in (script.replace("euros,int", "euros,int,key,person"), script.replace("A,6", "B,6"), PAY):
             told = "ok,1\nerror,2,KeyOverlap\n" if "key" in other else "ok,1\nok,2\n"
             _, _, said = answers("list $S --answers $A", other, told)
