@@ -140,7 +140,9 @@ class Text(Column):
         made = text.translate(TO_SPACE) if self.has_plain_spaces else text
         if self.kind is Kind.INT:
             if not is_integer(made):
-                remedy = f"numbers are whole, as 5000; --decimals {self.name}=2 makes them so of others"
+                # Of a number with zeros in front cents are seldom meant.
+                digits = 0 if made.isdecimal() else 2
+                remedy = f"numbers are whole, as 5000; --decimals {self.name}={digits} makes them so of others"
                 raise Misfit(f"no number of the table; {remedy}")
             return made
         # No character has more than four bytes.

@@ -2,6 +2,7 @@
 from argparse import Namespace
 from itertools import compress, repeat
 from operator import ge
+from os.path import isfile
 from typing import Iterator, List, Optional, Sequence, Tuple, cast
 from zlib import crc32
 
@@ -263,6 +264,8 @@ def refuse_header(header: List[str], names: List[str]) -> None:
         shown = ", ".join(f"'{visible(name)}'" for name in header)
         mark = next((mark for mark in "|:^~ " if mark in header[0]), "") if len(header) == 1 < len(names) else ""
         remedy = f"; `(echo 'sep={mark}'; cat FILE)` says that '{mark}' parts its fields" if mark else ""
+        file = next((name for name in unknown if isfile(name)), None)
+        remedy = f"; {visible(file)} is a file, which --file or `<` gives" if file else remedy
         raise Misfit(f"not in the header: {', '.join(map(visible, unknown))}; it has {shown}{remedy}")
     if any(read_point(name) for name in names[:2]):
         raise Misfit(f"the first line is to have names, and has a date: {visible(','.join(header))}")

@@ -45,6 +45,15 @@ class Refused(Case):
             with self.subTest(number):
                 self.refused(part, rows(f"A,{number},{PERIOD}"), *CENTS)
 
+    def test_a_number_with_zeros_in_front_is_offered_no_decimals(self) -> None:
+        table = [*WORDS, "--table", "table,pay,name,text,pay,int"]
+        for number, digits in (("05", 0), ("00", 0), ("5,5", 2)):
+            self.refused(f"as 5000; --decimals Pay={digits} makes", rows(f'A,"{number}",{PERIOD}'), *table)
+        self.loaded(f"load,pay\nrow,{PERIOD},A,5\nend\n", rows(f"A,05,{PERIOD}"), *table, "--decimals", "Pay=0")
+
+    def test_a_file_as_a_column_is_told_as_that(self) -> None:
+        self.refused(f"{__file__} is a file, which --file or `<` gives", rows(f"A,1,{PERIOD}"), *WORDS, __file__)
+
     def test_a_unit_of_no_column_is_refused(self) -> None:
         self.refused("--unit: no column is given by --decimals", rows(f"A,5 €,{PERIOD}"), *WORDS, "--unit", "€")
 
