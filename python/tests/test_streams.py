@@ -160,6 +160,29 @@ class CtrlC(unittest.TestCase):
         about = "nothing is proved yet: the program is compiled from its sources, in about two minutes"
         self.ended([sys.executable, "try"], 128 + signal.SIGINT, f"try: {about}; ./dipq proves it\n")
 
+    def test_growth_is_broken_off(self) -> None:
+        """Neither a file nor a program is left, whichever signal comes."""
+        for number, said in ((signal.SIGINT, "broken off"), (signal.SIGTERM, "ended")):
+            with self.subTest(said), tempfile.TemporaryDirectory() as name:
+                folder = Path(name)
+                (folder / "files").mkdir()
+                valgrind = folder / "valgrind"
+                valgrind.write_text(f"#!/bin/sh\necho $$ >>{folder}/begun\nexec sleep 1000\n")
+                valgrind.chmod(0o755)
+                paths = {"PATH": f"{folder}:{os.environ['PATH']}", "TMPDIR": str(folder / "files")}
+                with subprocess.Popen(
+                    [sys.executable, "tools/check-growth", "/bin/true"], cwd=TOP, env={**os.environ, **paths},
+                    stderr=subprocess.PIPE, text=True,
+                ) as tool:
+                    while not (folder / "begun").exists():
+                        time.sleep(0.1)
+                    tool.send_signal(number)
+                    told = tool.communicate(timeout=30)[1]
+                self.assertEqual((tool.returncode, told), (1, f"check-growth: it was {said}\n"))
+                self.assertEqual(list((folder / "files").iterdir()), [])
+                for begun in (folder / "begun").read_text().split():
+                    self.assertRaises(ProcessLookupError, os.kill, int(begun), 0)
+
 
 class WrongWords(unittest.TestCase):
     def test_each_tool_tells_its_words(self) -> None:

@@ -1,10 +1,9 @@
 """Whether a program's costs grow as it is promised."""
-import os
-from concurrent.futures import ThreadPoolExecutor
 from dataclasses import dataclass
+from pathlib import Path
 from typing import Iterable, Iterator, List, Sequence
 
-from growth.counting import Counter, Counts, NoCount
+from growth.counting import Counting, Counts, NoCount, above
 from growth.promises import Promise
 
 
@@ -37,15 +36,18 @@ class Verdict:
         return ("" if self.is_kept() else "FAILED ") + "; ".join([*parts, *filter(None, [self.fault])])
 
 
-def judged(counter: Counter, promise: Promise) -> Verdict:
-    """Counts what the promise is about."""
+def judged(counting: Counting, program: Path, promise: Promise) -> Verdict:
+    """What was counted for a promise whose runs were begun."""
     try:
-        return Verdict(promise, [promise.counts(counter, number) for number in promise.numbers])
+        each = [[counting.of(run) for run in promise.runs(program, number)] for number in promise.numbers]
     except NoCount as why:
         return Verdict(promise, [], str(why))
+    return Verdict(promise, [above(whole, *base) for whole, *base in each])
 
 
-def verdicts(counter: Counter, wanted: Sequence[Promise]) -> Iterator[Verdict]:
-    """What is counted of each promise, in their order, by as many runs at a time as there are processors."""
-    with ThreadPoolExecutor(os.cpu_count()) as pool:
-        yield from pool.map(lambda promise: judged(counter, promise), wanted)
+def verdicts(counting: Counting, program: Path, wanted: Sequence[Promise]) -> Iterator[Verdict]:
+    """What is counted of each promise, in their order."""
+    for promise in wanted:
+        for number in promise.numbers:
+            counting.begin(promise.runs(program, number))
+    return (judged(counting, program, promise) for promise in wanted)

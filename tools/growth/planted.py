@@ -1,14 +1,13 @@
 """Wrong bodies of the program: they answer right, but at more cost. Each is to break the promise that it names."""
-import os
-from concurrent.futures import ThreadPoolExecutor
+from concurrent.futures import Future
 from dataclasses import dataclass
 from pathlib import Path
-from typing import Iterator, Sequence, Tuple
+from typing import Iterator, List, Mapping, Sequence, Tuple
 
 from building.copies import copied
-from building.toolchain import Toolchain
-from growth.counting import Counter
-from growth.judging import Verdict, judged
+from growth.children import Children, NotOver
+from growth.counting import Counting
+from growth.judging import Verdict, verdicts
 from growth.promises import Promise
 from growth.unproved import PROGRAM, NotCompiled, compile_unproved
 
@@ -33,21 +32,43 @@ class Planted:
         """That of a file, which has a line `breaks: ` and, for each edit, `file: `, `old: ` and `new: `."""
         lines = [line.partition(": ") for line in file.read_text().splitlines()]
         if [word for word, _, _ in lines] != ["breaks", *["file", "old", "new"] * (len(lines) // 3)]:
-            raise NotPlanted(f"{file} has other lines than breaks, and file, old and new")
+            raise NotPlanted(f"{file.name} has other lines than breaks, and file, old and new")
         texts = [text for _, _, text in lines]
         return cls(file.stem, texts[0], tuple(zip(texts[1::3], texts[2::3], texts[3::3])))
 
-    def plant(self, top: Path) -> None:
-        """Makes its edits in a copy of the sources."""
+    def edited(self, top: Path) -> List[Tuple[Path, str]]:
+        """The files of the sources at the top that it changes, as they are with it."""
+        found = []
         for name, old, new in self.edits:
             text = (top / name).read_text()
             if text.count(old) != 1:
-                raise NotPlanted(f"{name} has the text {text.count(old)} times: {old}")
-            (top / name).write_text(text.replace(old, new))
+                raise NotPlanted(f"{self.name}: {name} has this text {text.count(old)} times: {old}")
+            found.append((top / name, text.replace(old, new)))
+        return found
+
+    def plant(self, top: Path) -> None:
+        """Makes its edits in a copy of the sources."""
+        for file, text in self.edited(top):
+            file.write_text(text)
 
 
 # The bodies as they are.
 RIGHT = Planted("nothing", "", ())
+
+
+def wrong_bodies() -> List[Path]:
+    return sorted(FOLDER.glob("*.edit"))
+
+
+def misfit(file: Path, promises: Sequence[Promise]) -> str:
+    """Why a wrong body can't be tried, if it can't."""
+    try:
+        planted = Planted.read(file)
+        planted.edited(TOP)
+    except (NotPlanted, OSError) as why:
+        return str(why)
+    is_promised = any(promise.what == planted.breaks for promise in promises)
+    return "" if is_promised else f"{planted.name}: no promise is named {planted.breaks}"
 
 
 @dataclass(frozen=True)
@@ -65,27 +86,35 @@ class Trial:
 
     def line(self) -> str:
         """What was planted, and what was counted of the promise."""
+        mark = "" if self.passed() else "NOT KEPT " if self.planted is RIGHT else "NOT SEEN "
         shown = [verdict.line() for verdict in self.verdicts if self.planted is not RIGHT or not verdict.is_kept()]
-        return ": ".join([f"{'' if self.passed() else 'NOT SEEN '}planted {self.planted.name}", *shown, self.fault])
+        return ": ".join([f"{mark}planted {self.planted.name}", *shown, *filter(None, [self.fault])])
 
 
-def tried(planted: Planted, wanted: Sequence[Promise]) -> Trial:
-    """Compiles the program with what is planted, and counts what the promises are about."""
+def compiled(children: Children, planted: Planted, to: Path) -> Path:
+    """The program with what is planted, which is made at that place."""
+    with copied(TOP, PROGRAM) as top:
+        planted.plant(top)
+        compile_unproved(children, top, to)
+    return to
+
+
+def tried(counting: Counting, planted: Planted, program: "Future[Path]", wanted: Sequence[Promise]) -> Trial:
+    """Counts what the promises are about, as soon as the program is there."""
     try:
-        with copied(TOP, PROGRAM) as top:
-            planted.plant(top)
-            compile_unproved(Toolchain.found(), top, top / PROGRAM)
-            counter = Counter(top / PROGRAM)
-            return Trial(planted, [judged(counter, promise) for promise in wanted])
-    except (NotPlanted, NotCompiled) as why:
+        return Trial(planted, list(verdicts(counting, program.result(), wanted)))
+    except (NotPlanted, NotCompiled, NotOver) as why:
         return Trial(planted, [], str(why))
 
 
-def trials(promises: Sequence[Promise]) -> Iterator[Trial]:
-    """Each wrong body with the promise that it breaks, and before them none with all of these."""
-    by_name = {promise.what: promise for promise in promises}
-    wrong = [Planted.read(file) for file in sorted(FOLDER.glob("*.edit"))]
+def trials(counting: Counting, promises: Sequence[Promise], folder: Path) -> Iterator[Trial]:
+    """Each wrong body with the promise that it breaks, and before them none with all of these.
+
+    Their programs are made in the folder.
+    """
+    by_name: Mapping[str, Promise] = {promise.what: promise for promise in promises}
+    wrong = [Planted.read(file) for file in wrong_bodies()]
     broken = [by_name[name] for name in dict.fromkeys(it.breaks for it in wrong)]
     cases = [(RIGHT, broken), *((it, [by_name[it.breaks]]) for it in wrong)]
-    with ThreadPoolExecutor(os.cpu_count()) as pool:
-        yield from pool.map(lambda case: tried(*case), cases)
+    begun = [counting.pool.submit(compiled, counting.children, it, folder / it.name) for it, _ in cases]
+    return (tried(counting, it, program, wanted) for (it, wanted), program in zip(cases, begun))

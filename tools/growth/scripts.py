@@ -1,14 +1,19 @@
 """Scripts whose cost is counted. One of more rows is made like that of fewer, so nothing but their number differs."""
 import random
 from datetime import date, timedelta
+from functools import lru_cache
 from typing import Iterable, Iterator, List
 
 FIRST = date(2000, 1, 1)
 YEAR = "2024-01-01,2025-01-01"
+# So many changes of each kind make tables ready.
+CHANGES = 50
+# Rows enough for four workers, and the loads that one thread reads if they are as many.
+MANY, LOADS = 33_000, 3
 
 
 def table(name: str, key: str = "") -> str:
-    """A table of two numbers, with that column as its key, if one is told."""
+    """A table of two numbers, with that column as its key, if one is named."""
     return f"table,{name},who,int,amount,int{key and f',key,{key}'}\n"
 
 
@@ -21,9 +26,13 @@ def filled(name: str, rows: Iterable[str], key: str = "") -> str:
     return table(name, key) + load(name, rows)
 
 
-def period(day: int, days: int) -> str:
-    """So many days from a day on, which is told by its number."""
-    return f"{FIRST + timedelta(day)},{FIRST + timedelta(day + days)}"
+def day(number: int) -> str:
+    return str(FIRST + timedelta(number))
+
+
+def period(first: int, days: int) -> str:
+    """So many days from a day on, which is given by its number."""
+    return f"{day(first)},{day(first + days)}"
 
 
 def each_once(count: int) -> Iterator[str]:
@@ -60,12 +69,76 @@ def payments(persons: int) -> Iterator[str]:
             yield f"{period(30 * month, 30)},{who},{who % 13}"
 
 
-def changed(count: int) -> str:
-    """A table of so many versions: half of them were loaded, and an update put the others in their place."""
-    return filled("t", each_once(count // 2)) + f"update,t,{YEAR},set,amount,1\n"
-
-
 def long_texts(count: int) -> str:
     """A table of so many texts of 4,000 bytes each."""
     rows = (f"row,{YEAR},{'x' * 4_000}\n" for _ in range(count))
     return "".join(["table,t,text,text\nload,t\n", *rows, "end\n"])
+
+
+def at_half(count: int) -> str:
+    """A question about the day when half of the rows hold at once."""
+    return f"at,crowded,{day(count // 2)}\n"
+
+
+def update(number: int) -> str:
+    """An update of a month of a person."""
+    return f"update,updated,2024-03-01,2024-04-01,set,amount,{number},where,who,{number}\n"
+
+
+def again(_: int) -> str:
+    """An update of a row that is always the same."""
+    return f"update,updated,{YEAR},set,amount,7,where,who,5\n"
+
+
+def rename(number: int) -> str:
+    """An update of a row's key."""
+    return f"update,keyed,{YEAR},set,who,{10_000_000 + number},where,who,{number}\n"
+
+
+def add(number: int) -> str:
+    """A load of one row, behind that of the same person."""
+    return load("added", [f"2025-01-01,2026-01-01,{number},1"])
+
+
+def add_with_key(number: int) -> str:
+    """The same of a person whose row isn't renamed."""
+    return load("keyed", [f"2025-01-01,2026-01-01,{2 * CHANGES + number},1"])
+
+
+def block(number: int) -> str:
+    """A load in a block of commands, whose snapshot is kept meanwhile."""
+    return f"together\n{add(number)}end\n"
+
+
+@lru_cache(maxsize=None)
+def to_be_changed(count: int) -> str:
+    """Tables of so many rows, and changes of each kind, so that what the first of them makes ready isn't counted."""
+    keys = {"updated": "", "added": "", "keyed": "who"}
+    tables = [filled(name, each_once(count), key) for name, key in keys.items()]
+    ready = [change(number) for change in (update, rename, add, add_with_key) for number in range(CHANGES)]
+    return "".join([*tables, block(0), *ready])
+
+
+def of_few_rows(_: int) -> str:
+    """Tables of so few rows that many changes are most of what they have."""
+    return "".join(filled(name, each_once(10)) for name in ("updated", "added"))
+
+
+@lru_cache(maxsize=None)
+def to_be_asked(count: int) -> str:
+    """Tables of so many rows: with a past, random ones, a crowded one, those of a payroll, and one without rows."""
+    persons = count // 10
+    return "".join([
+        filled("past", each_once(count // 2)), f"update,past,{YEAR},set,amount,1\n",
+        filled("a", spread(count, 1)), filled("b", spread(count, 2)), filled("crowded", crowded(count)),
+        filled("pay", payments(persons)), filled("job", contracts(persons)), table("empty"),
+    ])
+
+
+@lru_cache(maxsize=None)
+def to_be_shared(_: int) -> str:
+    """A table of rows enough for four workers, and one of a quarter of them, in a script that one thread reads."""
+    made = []
+    for name, rows in (("a", spread(MANY, 1)), ("b", spread(MANY // 4, 2))):
+        made += [table(name), *(load(name, rows[part::LOADS]) for part in range(LOADS))]
+    return "".join(made)

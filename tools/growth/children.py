@@ -1,0 +1,81 @@
+"""Programs that are run side by side, from several threads. None goes on when the work that needs it has ended."""
+import contextlib
+import os
+import signal
+import subprocess
+import threading
+from dataclasses import dataclass
+from pathlib import Path
+from types import TracebackType
+from typing import List, Mapping, Optional, Set, Type
+
+Child = subprocess.Popen
+
+
+class NotOver(Exception):
+    """A program took too long, or all was broken off."""
+
+
+@dataclass(frozen=True)
+class Ended:
+    """The status of a program that has ended, and what it said of mistakes."""
+
+    status: int
+    said: str
+
+
+def kill(child: "Child[str]") -> None:
+    """Kills a program with all that it began, if it still runs."""
+    with contextlib.suppress(ProcessLookupError):
+        if child.poll() is None:
+            os.killpg(child.pid, signal.SIGKILL)
+
+
+class Children:
+    """Runs programs, each in a group of its own. At the end those that still run are killed, and none is begun then."""
+
+    def __init__(self) -> None:
+        self.running: Set["Child[str]"] = set()
+        self.lock = threading.Lock()
+        self.is_over = False
+
+    def __enter__(self) -> "Children":
+        return self
+
+    def __exit__(
+        self, kind: Optional[Type[BaseException]], why: Optional[BaseException], trace: Optional[TracebackType]
+    ) -> None:
+        with self.lock:
+            self.is_over = True
+            for child in self.running:
+                kill(child)
+
+    def run(
+        self, words: List[str], given: Path, seconds: int, environment: Optional[Mapping[str, str]] = None
+    ) -> Ended:
+        """Runs a program on a file, for so many seconds at most. What it answers is dropped."""
+        child = self.begin(words, given, environment)
+        try:
+            _, said = child.communicate(timeout=seconds)
+            return Ended(child.returncode, said)
+        except subprocess.TimeoutExpired as late:
+            raise NotOver(f"not over in {seconds} seconds") from late
+        finally:
+            self.end(child)
+
+    def begin(self, words: List[str], given: Path, environment: Optional[Mapping[str, str]]) -> "Child[str]":
+        with self.lock, given.open() as script:
+            if self.is_over:
+                raise NotOver("broken off")
+            child = Child(
+                words, stdin=script, stdout=subprocess.DEVNULL, stderr=subprocess.PIPE, env=environment,
+                text=True, errors="replace", start_new_session=True,
+            )
+            self.running.add(child)
+        return child
+
+    def end(self, child: "Child[str]") -> None:
+        kill(child)
+        child.communicate()
+        with self.lock:
+            self.running.remove(child)
