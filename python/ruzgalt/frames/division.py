@@ -10,6 +10,7 @@ from ruzgalt import forms
 from ruzgalt.frames import ask, doubts, points, script, sides, split
 from ruzgalt.frames.arrays import Ints
 from ruzgalt.frames.errors import Refused
+from ruzgalt.frames.kinds import Kind
 from ruzgalt.frames.options import Options
 from ruzgalt.frames.output import Output, reading
 
@@ -32,7 +33,7 @@ def dip(frame: Any, options: Options) -> Any:
         for part in range(int(told[2])):
             parts[ask.rows_of(side, ids_of(output))] = part
         series = pd.Series(parts, frame.index, name="part")
-        series.attrs = attributes(told)
+        series.attrs = attributes(told, side.kind)
     return series
 
 
@@ -41,12 +42,15 @@ def ids_of(output: Output) -> Ints:
     return np.array(output.record()[2:], np.int64)
 
 
-def attributes(told: Sequence[str]) -> Dict[str, Any]:
+def attributes(told: Sequence[str], kind: Kind = Kind()) -> Dict[str, Any]:
     """How many parts there are, and the first point at which as many rows hold."""
-    return {"count": int(told[2]), "instant": instant_of(told[3])}
+    return {"count": int(told[2]), "instant": instant_of(told[3], kind)}
 
 
-def instant_of(text: str) -> Optional[Any]:
-    """A Period of a second; None of a dash."""
+def instant_of(text: str, kind: Kind) -> Optional[Any]:
+    """A Period of a second, in a zone a Timestamp there; None of a dash."""
     point = forms.read_point(text)
-    return None if point is None else points.period_of(round((point - points.EPOCH).total_seconds()))
+    if point is None:
+        return None
+    second = round((point - points.EPOCH).total_seconds())
+    return points.period_of(second) if kind.zone is None else points.series_of(np.array([second]), kind)[0]

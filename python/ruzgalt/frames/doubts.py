@@ -10,7 +10,7 @@ from typing import Any, Iterable, List, Mapping, Sequence, Set, Tuple
 import numpy as np
 
 from ruzgalt.doubts import Ends
-from ruzgalt.frames import points
+from ruzgalt.frames import points, zones
 from ruzgalt.frames.arrays import Ints
 from ruzgalt.frames.errors import doubt
 from ruzgalt.frames.named import names_of, same
@@ -91,17 +91,24 @@ class RowEnds(Ends):
 def of_ends(side: Side, key: Sequence[Values], name: Any, is_last_day: bool) -> None:
     """Tells of ends that look like last days where they aren't taken for such, or the other way round."""
     rows = some_rows(key, len(side))
-    start, end = side.start[rows], side.end[rows]
-    if not len(rows) or (start % points.DAY).any() or (end % points.DAY).any():
+    start, end = walls_of(side.start[rows], side), walls_of(side.end[rows], side)
+    if not len(rows) or (start % zones.DAY).any() or (end % zones.DAY).any():
         return
     keys = keys_of(key, rows)
-    if overlap(keys, start, np.where(end == points.NO_END, end, end - is_last_day * points.DAY)):
+    if overlap(keys, start, np.where(end == points.NO_END, end, end - is_last_day * zones.DAY)):
         keys = np.arange(len(rows))
     ends = RowEnds(str(name), ", ".join(str(column.name) for column in key), is_last_day)
     labels = list(side.labels[rows])
     ends.add(labels, keys.tolist(), points.texts_of(start), points.texts_of(end))
     for told in ends.told():
         doubt(told)
+
+
+def walls_of(seconds: Ints, side: Side) -> Ints:
+    """What clocks show in the side's zone; no end stays no end."""
+    walls, known = seconds.copy(), seconds != points.NO_END
+    walls[known] = zones.walls_of(seconds[known], side.kind.zone)
+    return walls
 
 
 def some_rows(key: Sequence[Values], count: int) -> Ints:

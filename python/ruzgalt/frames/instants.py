@@ -8,7 +8,7 @@ import numpy as np
 import pandas as pd
 
 from ruzgalt import forms
-from ruzgalt.frames import points
+from ruzgalt.frames import points, zones
 from ruzgalt.frames.arrays import Ints
 from ruzgalt.frames.ask import REMEDIES
 from ruzgalt.frames.errors import Refused
@@ -53,7 +53,7 @@ def second_of(point: Any) -> int:
 def portion(start: Any, end: Any, form: Form) -> Ints:
     """The seconds of a start, and of the first point behind an end as the form has it; None is no end."""
     first = second_of(start)
-    if form.has_last_days and first % points.DAY:
+    if form.has_last_days and first % zones.DAY:
         raise Refused("BadPoint", f"{start!r}: a start has no time where ends are last days")
     if end is None:
         return np.array([first, points.NO_END], np.int64)

@@ -7,7 +7,7 @@ from typing import Any, Dict, Iterator, List, Optional, Sequence, Tuple
 import numpy as np
 
 from ruzgalt import fields
-from ruzgalt.frames import instants, points
+from ruzgalt.frames import instants, points, zones
 from ruzgalt.frames.arrays import Cells, Ints, Marks, of_objects
 from ruzgalt.frames.errors import Refused
 from ruzgalt.frames.script import Command
@@ -115,6 +115,6 @@ def shown(column: Values, value: Any) -> str:
 def named(table: Table, row: Row) -> str:
     """A row with its period, an end as its frame has it."""
     _, start, end, origin = row
-    last = end - points.DAY if table.form.has_last_days and end != points.NO_END else end
+    last = end - zones.DAY if table.form.has_last_days and end != points.NO_END else end
     name = f"row {origin.label!r}" if isinstance(origin, Loaded) else origin
     return f"{name} from {points.text_of(start)} to {points.text_of(last)}"

@@ -12,7 +12,7 @@ import pandas as pd
 from ruzgalt import answers, commands, refusals
 from ruzgalt.answers import Answer
 from ruzgalt.errors import Misfit
-from ruzgalt.frames import ask, checks, points, program, script
+from ruzgalt.frames import ask, checks, kinds, points, program, script
 from ruzgalt.frames.arrays import NO_INTS, Cells
 from ruzgalt.frames.book import Book
 from ruzgalt.frames.errors import Refused, Stopped, doubt
@@ -114,10 +114,10 @@ def filled(book: Book) -> Book:
 def with_points(table: Table, cells: Sequence[Cells]) -> Table:
     """The table with the kind of all points of its versions. Raises Refused of times where it has last days."""
     start, end = cells[1:3]
-    has_time = not points.has_all("D", np.concatenate([start, end]))
+    has_time = not points.has_all(kinds.Kind("D"), np.concatenate([start, end]))
     if has_time and table.form.has_last_days:
         raise Refused("BadPoint", f"{table.name} has points with times, so its ends are no last days: no last_day=True")
-    side = Side(start, end, kind="S" if has_time else "D")
+    side = Side(start, end, kind=kinds.Kind("S" if has_time else "D"))
     return table.with_rows(side) if len(start) else table
 
 

@@ -4,9 +4,10 @@ from __future__ import annotations
 from dataclasses import dataclass, field
 from typing import Any, Callable, Dict, List, Mapping, Optional, Sequence, Tuple, Union
 
-from ruzgalt.frames import checks, points
+from ruzgalt.frames import checks, kinds
 from ruzgalt.frames.checks import Suffixes
 from ruzgalt.frames.errors import Refused
+from ruzgalt.frames.kinds import Kind
 from ruzgalt.frames.points import Form
 from ruzgalt.frames.sides import Period
 
@@ -67,9 +68,10 @@ class Options:
     def other_period(self) -> Period:
         return self.right_period or self.period
 
-    def kind_of(self, *kinds: str) -> str:
-        """The kind of the answer's points, of frames of these."""
-        return self.points_as or points.joint_kind(*kinds)
+    def kind_of(self, *given: Kind) -> Kind:
+        """The kind of the answer's points, of frames of these. Raises Refused."""
+        joint = kinds.joint_kind(*given)
+        return joint if self.points_as is None else joint.asked_as(self.points_as)
 
 
 def workers_of(option: str, given: Any) -> int:
@@ -81,7 +83,7 @@ def parts_of(option: str, given: Any) -> int:
 
 
 def kind_named(option: str, given: Any) -> str:
-    return checks.one_of(option, given, points.KINDS)
+    return checks.one_of(option, given, kinds.NAMES)
 
 
 # How each option is looked at.

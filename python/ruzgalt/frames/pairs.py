@@ -13,6 +13,7 @@ from ruzgalt.frames import answer, doubts, points, sides, split, values
 from ruzgalt.frames.answer import Column
 from ruzgalt.frames.arrays import Ints
 from ruzgalt.frames.errors import Refused
+from ruzgalt.frames.kinds import refuse_two_zones
 from ruzgalt.frames.named import column_of, names_of, place_of, refuse_twice
 from ruzgalt.frames.options import Names, Options, compared
 from ruzgalt.frames.sides import Side
@@ -101,6 +102,7 @@ def sides_of(left: Any, right: Any, on: Names, options: Options) -> List[Side]:
     both = [sides.side_of(frame, own, period, options.form, options.decimals) for frame, own, period in frames]
     for one, other in zip(both[0].columns, both[1].columns):
         refuse_two_kinds(one, other)
+    refuse_two_zones(both[0].kind, both[1].kind, options.other_period[0])
     return both
 
 

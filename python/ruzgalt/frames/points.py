@@ -1,11 +1,6 @@
 """Points of a frame's columns as seconds from 1970 on, and back into the dtype that came in.
 
-A column of points is of one of these kinds; docs/FRAMES.md tells what each may hold:
-
-    ns, us, ms, s   datetime64 of that unit. datetime64[ns], the only one of pandas 1.5, ends in 2262
-    D, S            period[D], period[S]
-    date, datetime  objects of datetime.date, of datetime.datetime
-    (empty)         objects without a single point
+Points in a time zone are seconds of UTC.
 """
 from __future__ import annotations
 
@@ -16,22 +11,21 @@ from typing import Any, List, Tuple
 import numpy as np
 import pandas as pd
 
+from ruzgalt.frames import zones
 from ruzgalt.frames.arrays import Bytes, Cells, Ints, Marks, of_objects
 from ruzgalt.frames.errors import Refused, label_at, refuse
+from ruzgalt.frames.kinds import DAYS, NS, OFFSETS, UNITS, Kind
+from ruzgalt.frames.zones import DAY
 
-DAY = 86_400
 FIRST, LAST, NO_END = -62_135_596_800, 253_402_300_799, 253_402_214_400
-NS = 1_000_000_000
 NS_RANGE = (-(2**63) // NS + 1, (2**63 - 1) // NS)
 NAT = np.iinfo(np.int64).min
 EPOCH = datetime.datetime(1970, 1, 1)
-# Units of datetime64, with how many of each a second has; from the finest.
-UNITS = {"ns": NS, "us": 1_000_000, "ms": 1_000, "s": 1}
-OFFSETS = {"D": pd.offsets.Day(), "S": pd.offsets.Second()}
 LENGTHS = {"D": DAY, "S": 1}
-KINDS = (*UNITS, *OFFSETS, "date", "datetime")
 # A last day that is the day before the one that stands for no end.
 LAST_BUT_ONE = NO_END - DAY
+# The years of points in a time zone, by whether they are of datetime64[ns]: those before and behind are there too.
+ZONED = {False: ("0002", "9998"), True: ("1678", "2261")}
 
 
 @dataclass(frozen=True)
@@ -45,52 +39,63 @@ class Form:
     is_open: bool = False
     has_last_days: bool = False
 
-    def starts_of(self, column: Any) -> Tuple[Ints, str]:
+    def starts_of(self, column: Any) -> Tuple[Ints, Kind]:
         """The starts, and their kind. Raises Refused (BadPoint, WrongKind)."""
         seconds, kind = seconds_of(column)
         if self.has_last_days:
-            refuse_times(seconds, column)
+            refuse_times(seconds, kind, column)
         return seconds, kind
 
-    def ends_of(self, column: Any) -> Tuple[Ints, str]:
+    def ends_of(self, column: Any) -> Tuple[Ints, Kind]:
         """The first points behind the rows, and their kind. Raises Refused (BadPoint, WrongKind)."""
         seconds, kind = seconds_of(column, self.is_open)
         if not self.has_last_days:
             return seconds, kind
-        refuse_times(seconds, column)
-        if not self.is_open:
-            refuse(seconds == NO_END, column, "BadPoint", "no day is behind it; open_end=True takes it for no end")
-            return seconds + DAY, kind
+        known = ~self.are_open(seconds)
+        refuse_times(seconds, kind, column, known)
+        refuse((seconds == NO_END) & known, column, "BadPoint", "no day is behind it; open_end=True takes it for no end")
         told = "behind it is 9999-12-31, which stands for no end: an earlier day"
-        refuse(seconds == LAST_BUT_ONE, column, "BadPoint", told)
-        return np.where(seconds == NO_END, seconds, seconds + DAY), kind
+        refuse((seconds == LAST_BUT_ONE) & self.is_open, column, "BadPoint", told)
+        seconds[known] = zones.days_behind(seconds[known], kind.zone)
+        return seconds, kind
 
-    def restored_ends(self, seconds: Ints, kind: str, index: Any = None) -> Any:
+    def restored_ends(self, seconds: Ints, kind: Kind, index: Any = None) -> Any:
         """A column of ends, as they came in. Raises Refused (BadPoint)."""
         if not self.has_last_days:
             return series_of(seconds, kind, index, self.is_open)
-        with_times = seconds[seconds % DAY != 0]
+        known = ~self.are_open(seconds)
+        ends = seconds[known]
+        with_times = ends[zones.has_time(ends, kind.zone)]
         if len(with_times):
-            told = f"a row ends at {text_of(int(with_times[0]))}, so it has no last day"
+            told = f"a row ends at {text_of(zones.walls_of(with_times, kind.zone)[0])}, so it has no last day"
             raise Refused("BadPoint", f"{told}; without last_day=True ends are the first points behind rows")
-        stays = (seconds == NO_END) & self.is_open
-        return series_of(np.where(stays, seconds, seconds - DAY), kind, index, self.is_open)
+        lasts = seconds.copy()
+        lasts[known] = zones.days_before(ends, kind.zone)
+        return series_of(lasts, kind, index, self.is_open)
+
+    def are_open(self, seconds: Ints) -> Marks:
+        """Which of these ends are none."""
+        marked: Marks = (seconds == NO_END) & self.is_open
+        return marked
 
 
-def refuse_times(seconds: Ints, column: Any) -> None:
+def refuse_times(seconds: Ints, kind: Kind, column: Any, known: Any = slice(None)) -> None:
+    """Of the known ones; those left out stand for no point."""
+    marked = np.zeros(len(seconds), bool)
+    marked[known] = zones.has_time(seconds[known], kind.zone)
     told = "with last_day=True points are days, and this has a time; .dt.floor('D') drops it"
-    refuse(seconds % DAY != 0, column, "BadPoint", told)
+    refuse(marked, column, "BadPoint", told)
 
 
-def seconds_of(column: Any, is_open: bool = False) -> Tuple[Ints, str]:
+def seconds_of(column: Any, is_open: bool = False) -> Tuple[Ints, Kind]:
     """The points of a Series as seconds, and their kind. Raises Refused (BadPoint, WrongKind) with the row's label.
 
     is_open: what is missing stands for 9999-12-31.
     """
     dtype = column.dtype
     if isinstance(dtype, pd.DatetimeTZDtype):
-        raise Refused("WrongKind", "points have no time zone: .dt.tz_convert(ZONE).dt.tz_localize(None)", column.name)
-    if isinstance(dtype, pd.PeriodDtype) and kind_of_period(dtype) in OFFSETS:
+        seconds, kind = of_zone(column)
+    elif isinstance(dtype, pd.PeriodDtype) and kind_of_period(dtype) in OFFSETS:
         seconds, kind = of_periods(column)
     elif getattr(dtype, "kind", "") == "M":
         seconds, kind = of_datetimes(column)
@@ -111,29 +116,39 @@ def kind_of_period(dtype: Any) -> str:
     return "S" if told == "s" else told
 
 
-def of_datetimes(column: Any) -> Tuple[Ints, str]:
+def of_zone(column: Any) -> Tuple[Ints, Kind]:
+    """Of points in a time zone, the seconds in UTC. Where clocks there may show another year, they are refused."""
+    seconds, kind = of_datetimes(column.dt.tz_convert(None))
+    first, last = ZONED[kind.name == "ns"]
+    years = np.where(seconds == NAT, np.int64(0), seconds).view("M8[s]").astype("M8[Y]")
+    told = f"in a time zone points of this dtype are of the years {first} to {last}"
+    refuse((years < np.datetime64(first)) | (years > np.datetime64(last)), column, "BadPoint", told)
+    return seconds, Kind(kind.name, column.dtype.tz)
+
+
+def of_datetimes(column: Any) -> Tuple[Ints, Kind]:
     cells = column.to_numpy()
-    kind = np.datetime_data(cells.dtype)[0]
-    numbers, many = cells.view("i8"), UNITS[kind]
+    name = np.datetime_data(cells.dtype)[0]
+    numbers, many = cells.view("i8"), UNITS[name]
     present = numbers != NAT
     refuse((numbers % many != 0) & present, column, "BadPoint", "a fraction of a second; .dt.floor('s') drops it")
     seconds = np.where(present, numbers // many, NAT)
     refuse_outside(present & ((seconds < FIRST) | (seconds > LAST)), column)
-    return seconds, kind
+    return seconds, Kind(name)
 
 
-def of_periods(column: Any) -> Tuple[Ints, str]:
-    numbers, kind = column.array.asi8, kind_of_period(column.dtype)
-    length, present = LENGTHS[kind], numbers != NAT
+def of_periods(column: Any) -> Tuple[Ints, Kind]:
+    numbers, name = column.array.asi8, kind_of_period(column.dtype)
+    length, present = LENGTHS[name], numbers != NAT
     refuse_outside(present & ((numbers < FIRST // length) | (numbers > LAST // length)), column)
-    return np.where(present, numbers * length, NAT), kind
+    return np.where(present, numbers * length, NAT), Kind(name)
 
 
 def refuse_outside(marked: Marks, column: Any) -> None:
     refuse(marked, column, "BadPoint", "outside the years 0001 to 9999; a start or end within them")
 
 
-def of_dates(column: Any) -> Tuple[Ints, str]:
+def of_dates(column: Any) -> Tuple[Ints, Kind]:
     """Objects: dates or datetimes. Each that differs is looked at once."""
     inferred = pd.api.types.infer_dtype(column, skipna=True)
     if inferred not in ("date", "datetime", "empty"):
@@ -145,10 +160,10 @@ def of_dates(column: Any) -> Tuple[Ints, str]:
     for place, one in enumerate(found):
         if not is_second(one):
             label = label_at(codes == place, column.index)
-            told = f"{one} has a zone or a fraction of a second; .replace drops it"
+            told = f"{one} has a zone or a fraction of a second; .replace drops it, pandas.to_datetime takes one zone"
             raise Refused("BadPoint", told, column.name, label)
     table = np.array([second_of(one) for one in found] + [NAT], np.int64)
-    return table[codes], "".join(kinds)
+    return table[codes], Kind("".join(kinds))
 
 
 def is_second(point: datetime.date) -> bool:
@@ -164,42 +179,38 @@ def second_of(point: datetime.date) -> int:
     return days * DAY + point.hour * 3600 + point.minute * 60 + point.second
 
 
-def joint_kind(*kinds: str) -> str:
-    """The kind of an answer from frames of these: the same one, the coarser unit of two, else period[S]."""
-    told = set(kinds) - {""}
-    if len(told) < 2:
-        return "".join(told)
-    if told <= set(UNITS):
-        return max(told, key=list(UNITS).index)
-    return "datetime" if told == {"date", "datetime"} else "S"
-
-
-def has_all(kind: str, seconds: Ints) -> bool:
+def has_all(kind: Kind, seconds: Ints) -> bool:
     """Whether a column of the kind can have each of these points."""
-    if kind in ("", "D", "date"):
+    if kind.name in DAYS:
         return not (seconds % DAY).any()
-    return kind != "ns" or bool(((seconds >= NS_RANGE[0]) & (seconds <= NS_RANGE[1])).all())
+    return kind.name != "ns" or bool(((seconds >= NS_RANGE[0]) & (seconds <= NS_RANGE[1])).all())
 
 
-def series_of(seconds: Ints, kind: str, index: Any = None, is_open: bool = False) -> Any:
+def series_of(seconds: Ints, kind: Kind, index: Any = None, is_open: bool = False) -> Any:
     """The points as a Series. Raises Refused (BadPoint) where the kind hasn't one of them.
 
     The dtype is told: of objects pandas makes datetime64[ns], where all of them fit.
     """
-    missing = seconds == NO_END if is_open else np.zeros(len(seconds), bool)
-    if kind in ("", "D", "date") and (seconds % DAY).any():
+    name, missing = kind.name, seconds == NO_END if is_open else np.zeros(len(seconds), bool)
+    if name in DAYS and (seconds % DAY).any():
         point = texts_of(seconds[seconds % DAY > 0][:1])[0]
         raise Refused("BadPoint", f"{point} is no day alone: points_as='S' asks for period[S]")
-    if kind in UNITS:
-        try:
-            return pd.Series(datetimes_of(seconds, missing, kind), index)
-        except pd.errors.OutOfBoundsDatetime as error:
-            # pandas 1.5 has no other unit than ns.
-            raise Refused("BadPoint", f"{error}: points_as='S' asks for period[S]") from None
-    if kind in OFFSETS:
-        ordinals = np.where(missing, NAT, seconds // LENGTHS[kind])
-        return pd.Series(pd.arrays.PeriodArray(ordinals, dtype=pd.PeriodDtype(OFFSETS[kind])), index)
-    return pd.Series(objects_of(seconds, missing, kind), index, dtype=object)
+    if name in UNITS:
+        return in_zone(datetimes_of(seconds, missing, name), kind.zone, index)
+    if name in OFFSETS:
+        ordinals = np.where(missing, NAT, seconds // LENGTHS[name])
+        return pd.Series(pd.arrays.PeriodArray(ordinals, dtype=pd.PeriodDtype(OFFSETS[name])), index)
+    return pd.Series(objects_of(seconds, missing, name), index, dtype=object)
+
+
+def in_zone(cells: Cells, zone: Any, index: Any) -> Any:
+    """The datetimes as a Series, in a zone where there is one."""
+    try:
+        made = pd.Series(cells, index)
+    except pd.errors.OutOfBoundsDatetime as error:
+        # pandas 1.5 has no other unit than ns.
+        raise Refused("BadPoint", f"{error}: points_as='S' asks for period[S]") from None
+    return made if zone is None else made.dt.tz_localize("UTC").dt.tz_convert(zone)
 
 
 def datetimes_of(seconds: Ints, missing: Marks, kind: str) -> Cells:

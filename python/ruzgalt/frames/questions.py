@@ -12,6 +12,7 @@ from ruzgalt.frames.answer import Columns
 from ruzgalt.frames.arrays import Cells
 from ruzgalt.frames.book import Book
 from ruzgalt.frames.errors import Refused
+from ruzgalt.frames.kinds import Kind
 from ruzgalt.frames.options import Options, compared
 from ruzgalt.frames.sides import Side
 from ruzgalt.frames.tables import Table, coded
@@ -62,7 +63,7 @@ def anti(asked: Asked, left: str, right: str, on: Any) -> Any:
     return answered
 
 
-def listed(asked: Asked, name: str, words: Sequence[str], *kinds: str) -> Any:
+def listed(asked: Asked, name: str, words: Sequence[str], *kinds: Kind) -> Any:
     """Rows of a table; kinds are those of the points of others that are asked."""
     table = asked.book.known(name)
     cells = asked.block(words, "ipp" + table.readers)

@@ -7,9 +7,10 @@ from typing import Any, List, Mapping, Optional, Sequence, Tuple
 
 import numpy as np
 
-from ruzgalt.frames import points, values
+from ruzgalt.frames import kinds, values, zones
 from ruzgalt.frames.arrays import NO_INTS, Ints, Marks
 from ruzgalt.frames.errors import Refused, label_at
+from ruzgalt.frames.kinds import Kind, refuse_two_zones
 from ruzgalt.frames.named import column_of
 from ruzgalt.frames.points import Form
 from ruzgalt.frames.values import Values
@@ -27,7 +28,7 @@ class Side:
     start: Ints
     end: Ints
     columns: List[Values] = field(default_factory=list)
-    kind: str = "S"
+    kind: Kind = Kind("S")
     labels: Any = None
     places: Ints = field(default_factory=lambda: NO_INTS)
 
@@ -54,7 +55,7 @@ class Side:
     @cached_property
     def width(self) -> int:
         """At most so many bytes a row has in a script."""
-        has_time = (self.start % points.DAY).any() or (self.end % points.DAY).any()
+        has_time = (self.start % zones.DAY).any() or (self.end % zones.DAY).any()
         return (44 if has_time else 26) + sum(1 + values.widest(column) for column in self.columns)
 
 
@@ -74,9 +75,10 @@ def side_of(frame: Any, names: Sequence[Any], period: Period, form: Form, decima
     found = [column_of(frame, name) for name in names]
     start, first = form.starts_of(starts)
     end, last = form.ends_of(ends)
+    refuse_two_zones(first, last, ends.name)
     refuse_empty(start >= end, starts, ends)
     columns = [values.values_of(column, decimals.get(column.name)) for column in found]
-    return Side(start, end, columns, points.joint_kind(first, last), frame.index, np.arange(len(start)))
+    return Side(start, end, columns, kinds.joint_kind(first, last), frame.index, np.arange(len(start)))
 
 
 def refuse_empty(marked: Marks, starts: Any, ends: Any) -> None:

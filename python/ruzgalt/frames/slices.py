@@ -10,10 +10,11 @@ import dask.dataframe as dd
 import numpy as np
 import pandas as pd
 
-from ruzgalt.frames import doubts, groups, pairs, points, split
+from ruzgalt.frames import doubts, groups, kinds, pairs, points, split
 from ruzgalt.frames.answer import Columns
 from ruzgalt.frames.arrays import NO_INTS, Ints
 from ruzgalt.frames.ask import Found
+from ruzgalt.frames.kinds import Kind
 from ruzgalt.frames.options import Options
 from ruzgalt.frames.sides import Side
 from ruzgalt.frames.spread import PART, by_part, with_objects
@@ -56,16 +57,16 @@ def agg(frame: Any, function: str, column: Any, options: Options) -> Any:
     return dd.from_delayed(made, meta=meta, verify_meta=False)
 
 
-def cuts_of(frame: Any, asked: Question, parts: int) -> Tuple[Ints, str]:
+def cuts_of(frame: Any, asked: Question, parts: int) -> Tuple[Ints, Kind]:
     """Points that part the rows into slices of about as many starts, and the kind of the frame's points."""
     told = dask.compute(*[dask.delayed(sample)(part, asked) for part in frame.to_delayed()])
-    kind, starts = points.joint_kind(*(one for _, one in told)), np.concatenate([starts for starts, _ in told])
+    kind, starts = kinds.joint_kind(*(one for _, one in told)), np.concatenate([starts for starts, _ in told])
     if not len(starts) or parts < 2:
         return NO_INTS, kind
     return np.unique(np.quantile(starts, np.arange(1, parts) / parts).astype(np.int64)), kind
 
 
-def sample(frame: Any, asked: Question) -> Tuple[Any, str]:
+def sample(frame: Any, asked: Question) -> Tuple[Any, Kind]:
     side = asked.side_of(frame)
     return np.quantile(side.start, QUANTILES) if len(side) else np.empty(0), side.kind
 

@@ -9,10 +9,11 @@ import numpy as np
 import pandas as pd
 
 from ruzgalt import forms
-from ruzgalt.frames import checks, instants, points, sides, values
+from ruzgalt.frames import checks, instants, kinds, points, sides, values
 from ruzgalt.frames.arrays import Cells, Ints
 from ruzgalt.frames.ask import REMEDIES
 from ruzgalt.frames.errors import Refused
+from ruzgalt.frames.kinds import WITHOUT_ZONE, Kind
 from ruzgalt.frames.options import Options
 from ruzgalt.frames.points import Form
 from ruzgalt.frames.sides import Period, Side
@@ -30,7 +31,7 @@ class Table:
     columns: Mapping[str, Values]
     key: Sequence[str]
     options: Options
-    kind: str = ""
+    kind: Kind = Kind()
     first: int = points.LAST
     last: int = points.FIRST
 
@@ -61,6 +62,7 @@ class Table:
             if name not in set(self.period):
                 self.column(name)
         side = sides.side_of(frame, names, self.period, self.form, self.options.decimals)
+        refuse_zone(side, self.period)
         for one in side.columns:
             self.refuse_kind(one)
         return side
@@ -106,14 +108,14 @@ class Table:
     def with_rows(self, side: Side) -> Table:
         """The table with more rows."""
         first, last = int(side.start.min(initial=self.first)), int(side.end.max(initial=self.last))
-        return replace(self, kind=points.joint_kind(self.kind, side.kind), first=first, last=last)
+        return replace(self, kind=kinds.joint_kind(self.kind, side.kind), first=first, last=last)
 
     def widened(self, portion: Ints) -> Table:
         """The table with rows cut at these seconds: its points are of a kind that has those that can lie in a row."""
         inside = portion[(self.first < portion) & (portion < self.last)]
         if points.has_all(self.kind, inside):
             return self
-        return replace(self, kind="datetime" if self.kind in ("", "date") else "S")
+        return replace(self, kind=Kind("datetime" if self.kind.name in ("", "date") else "S"))
 
     # What comes out.
 
@@ -121,7 +123,7 @@ class Table:
         """The next columns of an answer as the table's columns."""
         return [(name, one.restored(next(cells))) for name, one in self.columns.items()]
 
-    def period_cells(self, cells: Iterator[Cells], kind: str) -> List[Tuple[Any, Any]]:
+    def period_cells(self, cells: Iterator[Cells], kind: Kind) -> List[Tuple[Any, Any]]:
         """The next two columns of an answer as the period, of points of that kind."""
         start, end = next(cells), next(cells)
         return list(zip(self.period, (points.series_of(start, kind), self.form.restored_ends(end, kind))))
@@ -160,8 +162,17 @@ def coded(column: Values, cells: Cells) -> Values:
     return replace(column, codes=codes, texts=Texts(found))
 
 
+def refuse_zone(side: Side, period: Period) -> None:
+    """Raises Refused, since a store's script, its questions and its days have no zone."""
+    if side.kind.zone is not None:
+        told = f"a store's points have no time zone, and these have {side.kind.zone}"
+        remedy = f".dt.tz_convert(ZONE){WITHOUT_ZONE} takes the days and times of a zone"
+        raise Refused("WrongKind", f"{told}; {remedy}", period[0])
+
+
 def table_of(name: str, side: Side, key: Sequence[str], options: Options) -> Table:
     """Of its first rows, which it hasn't yet. Raises Refused where a name is none of the store."""
+    refuse_zone(side, options.period)
     for one in side.columns:
         if not (isinstance(one.name, str) and forms.is_name(one.name)):
             raise Refused("BadName", f"no name of a column of a store: {REMEDIES['BadName']}", one.name)

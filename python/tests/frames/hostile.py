@@ -19,7 +19,12 @@ NAMES = st.sampled_from(TEXTS) | st.sampled_from([*TEXTS, *ODD])
 KEYS = [st.sampled_from([1, 2]), st.sampled_from(["", "a", "A", " a", "é", "e\u0301", 'a"b', "a,b", "001", "1", "a\0"])]
 OTHERS = st.sampled_from([None, (1, 2), "x", "", 7, 1.5, datetime.date(2024, 1, 1)])
 FIRST = datetime.date(2024, 1, 1)
-DAYS = {"ns": pd.Timestamp, "date": lambda told: told, "D": lambda told: pd.Period(told, "D")}
+# A zone and a day before its clocks are put on.
+ZONE, SPRING = pd.DatetimeTZDtype("ns", "Europe/Berlin"), datetime.timedelta(days=84)
+DAYS = {
+    "ns": pd.Timestamp, "date": lambda told: told, "D": lambda told: pd.Period(told, "D"),
+    "zone": lambda told: pd.Timestamp(told + SPRING, tz=ZONE.tz),
+}
 FRAME = pd.DataFrame({"from": [pd.Timestamp("2024-01-01")], "to": [pd.Timestamp("2024-01-02")], "id": [1]})
 NO_FRAMES = [None, [1], {"from": [1]}, FRAME["id"], "pay.csv", 5, FRAME.to_numpy(), FRAME.index]
 NO_FLAGS = ["no", "", 1, 0, None, (True, False), np.int64(1), [], np.array([True])]
@@ -97,7 +102,7 @@ class Case:
     def points(self, told):
         if self.kind == "D":
             return pd.Series(pd.PeriodIndex(told, freq="D"))
-        return pd.Series(told, dtype="M8[ns]" if self.kind == "ns" else object)
+        return pd.Series(told, dtype={"ns": "M8[ns]", "zone": ZONE}.get(self.kind, object))
 
 
 def dtype_of(cells):

@@ -9,6 +9,7 @@ import pandas as pd
 import ruzgalt
 from random_frames import period
 from ruzgalt.frames import points, values
+from ruzgalt.frames.kinds import Kind, joint_kind
 
 FIRST, LAST = datetime.datetime(1, 1, 1), datetime.datetime(9999, 12, 31, 23, 59, 59)
 
@@ -35,8 +36,8 @@ class Points(unittest.TestCase):
         for kind, column in EDGES.items():
             with self.subTest(kind):
                 seconds, told = points.seconds_of(column)
-                self.assertEqual(told, kind)
-                pd.testing.assert_series_equal(points.series_of(seconds, kind), column)
+                self.assertEqual(told, Kind(kind))
+                pd.testing.assert_series_equal(points.series_of(seconds, told), column)
 
     def test_missing_ends_come_back_as_missing(self):
         form = points.Form(is_open=True)
@@ -45,8 +46,8 @@ class Points(unittest.TestCase):
                 missing = column.copy()
                 missing.iloc[1] = None
                 seconds, told = form.ends_of(missing)
-                self.assertEqual((told, seconds[1]), (kind, points.NO_END))
-                got = form.restored_ends(seconds, kind)
+                self.assertEqual((told, seconds[1]), (Kind(kind), points.NO_END))
+                got = form.restored_ends(seconds, told)
                 self.assertTrue(pd.isna(got.iloc[1]))
                 self.assertEqual(got.dtype, column.dtype)
 
@@ -72,7 +73,8 @@ class Points(unittest.TestCase):
             ("date", "datetime", "datetime"), ("D", "S", "S"), ("date", "D", "S"), ("", "", ""),
         ]
         for one, other, wanted in cases:
-            self.assertEqual((points.joint_kind(one, other), points.joint_kind(other, one)), (wanted, wanted))
+            told = [joint_kind(Kind(first), Kind(second)) for first, second in ((one, other), (other, one))]
+            self.assertEqual(told, [Kind(wanted)] * 2)
 
     def test_other_points_may_be_asked_for(self):
         frame = pd.DataFrame({"from": objects(datetime.date(2024, 1, 1)), "to": objects(datetime.date(9999, 12, 31))})
@@ -115,10 +117,10 @@ class Points(unittest.TestCase):
         form = points.Form(has_last_days=True)
         ends = np.array([86_400, 2 * 86_400 + 43_200], np.int64)
         with self.assertRaises(ruzgalt.Refused) as caught:
-            form.restored_ends(ends, "S")
+            form.restored_ends(ends, Kind("S"))
         self.assertEqual(caught.exception.name, "BadPoint")
         self.assertIn("1970-01-03T12:00:00", caught.exception.reason)
-        self.assertEqual(list(map(str, form.restored_ends(ends[:1], "D"))), ["1970-01-01"])
+        self.assertEqual(list(map(str, form.restored_ends(ends[:1], Kind("D")))), ["1970-01-01"])
 
 
 class Values(unittest.TestCase):

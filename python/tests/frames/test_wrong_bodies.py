@@ -9,7 +9,7 @@ import pandas as pd
 import test_random_frames
 import test_random_stores
 from ruzgalt import naming
-from ruzgalt.frames import instants, output, points, split, values
+from ruzgalt.frames import instants, kinds, output, points, split, values
 
 # So many seeds are tried until a wrong body is noticed.
 SEEDS = 400
@@ -65,7 +65,7 @@ WRONG = [
     ("an anti-join by blocks each for itself", split, "anti", unchained, FRAMES),
     ("texts that end at a zero byte", values, "codes_by_dict", factorized, FRAMES),
     ("a missing end as a start", points, "NO_END", points.LAST, FRAMES),
-    ("points as the left frame's", points, "joint_kind", lambda *kinds: kinds[0], FRAMES),
+    ("points as the left frame's", kinds, "joint_kind", lambda *kinds: kinds[0], FRAMES),
     ("last days as the days behind", points.Form, "ends_of", next_days, FRAMES),
     ("each row in a class of its own", split, "classes_of", classes, FRAMES),
     ("quotes that stay", output, "READERS", {**output.READERS, "t": quoted}, STORES),

@@ -1,0 +1,70 @@
+"""The kinds of points that a column of a frame has; docs/FRAMES.md tells what each may hold:
+
+    ns, us, ms, s   datetime64 of that unit. datetime64[ns], the only one of pandas 1.5, ends in 2262
+    D, S            period[D], period[S]
+    date, datetime  objects of datetime.date, of datetime.datetime
+    (empty)         objects without a single point
+
+A point of the first four may be one in a time zone.
+"""
+from __future__ import annotations
+
+from dataclasses import dataclass
+from typing import Any, Set
+
+import pandas as pd
+
+from ruzgalt.frames.errors import Refused
+
+NS = 1_000_000_000
+# Units of datetime64, with how many of each a second has; from the finest.
+UNITS = {"ns": NS, "us": 1_000_000, "ms": 1_000, "s": 1}
+OFFSETS = {"D": pd.offsets.Day(), "S": pd.offsets.Second()}
+NAMES = (*UNITS, *OFFSETS, "date", "datetime")
+# Those whose points are days.
+DAYS = ("", "D", "date")
+
+
+@dataclass(frozen=True)
+class Kind:
+    """A kind by its name; zone is the tzinfo of its time zone, where it has one."""
+
+    name: str = ""
+    zone: Any = None
+
+    def asked_as(self, name: str) -> Kind:
+        """The kind of this name in the same zone. Raises Refused, since no other kind has a zone than datetime64."""
+        if self.zone is not None and name not in UNITS:
+            told = f"points_as={name!r}: points in {self.zone} come as one of {', '.join(UNITS)}"
+            raise Refused("WrongKind", f"{told}; {WITHOUT_ZONE} takes the zone away before")
+        return Kind(name, self.zone)
+
+
+WITHOUT_ZONE = ".dt.tz_localize(None)"
+
+
+def refuse_two_zones(one: Kind, other: Kind, name: Any) -> None:
+    """Raises Refused, by the name of the other's column, where two kinds aren't of one zone, or of none.
+
+    Zones are the same where their names are: pytz and zoneinfo have a tzinfo each for one.
+    """
+    zones = [str(kind.zone or "no zone") for kind in (one, other)]
+    if one.name and other.name and zones[0] != zones[1]:
+        told = f"points in {zones[1]} beside points in {zones[0]}: one zone, or none, in a call"
+        raise Refused("WrongKind", f"{told}; .dt.tz_convert(ZONE) of both, or {WITHOUT_ZONE} of both", name)
+
+
+def joint_kind(*kinds: Kind) -> Kind:
+    """The kind of an answer from frames of these: the same one, the coarser unit of two, else period[S]."""
+    there = [kind for kind in kinds if kind.name]
+    if not there:
+        return Kind()
+    return Kind(joint_name({kind.name for kind in there}), there[0].zone)
+
+
+def joint_name(told: Set[str]) -> str:
+    if len(told) == 1:
+        return "".join(told)
+    if told <= set(UNITS):
+        return max(told, key=list(UNITS).index)
+    return "datetime" if told == {"date", "datetime"} else "S"

@@ -1,0 +1,231 @@
+"""Points in a time zone: compared in UTC, and given back in their zone. Days there may have 23 or 25 hours, or be none.
+
+What is wanted is computed by rows with Python's own datetimes and zoneinfo, or written by hand.
+"""
+import datetime
+import importlib.util
+import unittest
+import warnings
+from random import Random
+from zoneinfo import ZoneInfo
+
+import numpy as np
+import pandas as pd
+
+import ruzgalt
+from ruzgalt.frames.zones import begins_of, days_before, days_behind, has_time, walls_of
+
+BERLIN, UTC = ZoneInfo("Europe/Berlin"), datetime.timezone.utc
+HOUR, DAY = datetime.timedelta(hours=1), datetime.timedelta(days=1)
+# Each night in which clocks were put on or back.
+NIGHTS = [datetime.datetime(2024, 3, 30, 20, tzinfo=UTC), datetime.datetime(2024, 10, 26, 19, tzinfo=UTC)]
+
+
+def zoned(moments, zone="Europe/Berlin", unit="ns"):
+    """Aware datetimes, and None, as a column."""
+    texts = [None if one is None else one.astimezone(UTC).replace(tzinfo=None) for one in moments]
+    return pd.Series(np.array(texts, f"M8[{unit}]")).dt.tz_localize("UTC").dt.tz_convert(zone)
+
+
+def frame(rows, names=("from", "to", "k"), **words):
+    starts, ends, keys = zip(*rows)
+    return pd.DataFrame(dict(zip(names, (zoned(starts, **words), zoned(ends, **words), keys))))
+
+
+def told(got):
+    """The rows of an answer, its points in UTC."""
+    columns = [[None if cell is pd.NaT else cell for cell in got[name]] for name in got]
+    return [[one.tz_convert("UTC").to_pydatetime() if isinstance(one, pd.Timestamp) else one for one in row]
+            for row in zip(*columns)]
+
+
+def night(random, count):
+    """Rows of an hour to twelve of one night, in UTC."""
+    begin, rows = random.choice(NIGHTS), []
+    for _ in range(count):
+        start = begin + random.randrange(10) * HOUR
+        rows.append((start, start + random.randint(1, 12) * HOUR, random.choice("ab")))
+    return rows
+
+
+def pairs(left, right):
+    found = (
+        [max(one[0], two[0]), min(one[1], two[1]), one[2], row, other]
+        for row, one in enumerate(left) for other, two in enumerate(right)
+        if one[2] == two[2] and max(one[0], two[0]) < min(one[1], two[1])
+    )
+    return sorted(found, key=lambda row: [*row[:2], *row[3:]])
+
+
+def counts(rows):
+    """Start, end and number of the rows that hold, hour by hour."""
+    found = []
+    hours = range(48) if rows else ()
+    first = min((start for start, _, _ in rows), default=None)
+    for moment in (first + place * HOUR for place in hours):
+        count = sum(start <= moment < end for start, end, _ in rows)
+        if count and found and found[-1][1:] == [moment, count]:
+            found[-1][1] = moment + HOUR
+        elif count:
+            found.append([moment, moment + HOUR, count])
+    return found
+
+
+class Zones(unittest.TestCase):
+    def refuses(self, what, asked, wanted, column):
+        with self.subTest(what), self.assertRaises(ruzgalt.Refused) as caught:
+            asked()
+        self.assertEqual((caught.exception.name, caught.exception.column), ("WrongKind", column))
+        self.assertIn(wanted, caught.exception.reason)
+
+    def test_nights_in_which_clocks_change_are_as_python_has_them(self):
+        with warnings.catch_warnings():
+            warnings.simplefilter("ignore", ruzgalt.Doubt)
+            for seed in range(60):
+                random = Random(seed)
+                left, right = night(random, random.randint(1, 8)), night(random, random.randint(1, 8))
+                with self.subTest(seed):
+                    got = ruzgalt.join(frame(left), frame(right), on="k", labels=True)
+                    self.assertEqual(told(got[["from", "to", "k", "left_label", "right_label"]]), pairs(left, right))
+                    self.assertEqual(got["from"].dtype, frame(left)["from"].dtype)
+                    self.assertEqual(told(ruzgalt.agg(frame(left), "count")), counts(left))
+
+    def test_an_anti_join_and_a_division_are_in_the_zone(self):
+        begin = NIGHTS[1]
+        one, other = [(begin, begin + 10 * HOUR, "a")], [(begin + 4 * HOUR, begin + 6 * HOUR, "a")]
+        got = ruzgalt.anti(frame(one), frame(other), on="k")
+        self.assertEqual(told(got), [[begin, begin + 4 * HOUR, "a"], [begin + 6 * HOUR, begin + 10 * HOUR, "a"]])
+        self.assertEqual(list(map(str, got["from"])), ["2024-10-26 21:00:00+02:00", "2024-10-27 02:00:00+01:00"])
+        instant = ruzgalt.dip(frame(other)).attrs["instant"]
+        self.assertEqual(str(instant), "2024-10-27 01:00:00+02:00")
+
+    def test_a_missing_end_is_missing_in_the_zone(self):
+        begin = NIGHTS[0]
+        rows = [(begin, None, "a"), (begin + HOUR, begin + 2 * HOUR, "a")]
+        got = ruzgalt.agg(frame(rows), "count", open_end=True)
+        self.assertEqual(told(got)[-1], [begin + 2 * HOUR, None, 1])
+        self.assertEqual(got["to"].dtype, frame(rows)["to"].dtype)
+        self.assertRaises(ruzgalt.Refused, lambda: ruzgalt.agg(frame(rows), "count"))
+
+    @unittest.skipUnless(importlib.util.find_spec("dask"), "Dask isn't here: apt-get install python3-dask")
+    def test_frames_of_dask_are_answered_in_the_zone(self):
+        import dask.dataframe as dask
+        random = Random(1)
+        left, right = frame(night(random, 9)), frame(night(random, 9))
+        spread = [dask.from_pandas(one, npartitions=3) for one in (left, right)]
+        wanted = ruzgalt.join(left, right, on="k")
+        got = ruzgalt.join(*spread, on="k").compute()
+        self.assertEqual((sorted(told(got)), got["to"].dtype), (sorted(told(wanted)), wanted["to"].dtype))
+        self.assertEqual(told(ruzgalt.agg(spread[0], "count").compute()), told(ruzgalt.agg(left, "count")))
+
+    def test_one_zone_has_several_names_of_classes(self):
+        begin = NIGHTS[0]
+        rows = [(begin, begin + HOUR, "a")]
+        for zone in (BERLIN, UTC, datetime.timezone(HOUR)):
+            with self.subTest(zone):
+                got = ruzgalt.join(frame(rows, zone=zone), frame(rows, zone=zone), on="k")
+                self.assertEqual((told(got), str(got["to"].dt.tz)), ([[*rows[0]]], str(zone)))
+        self.assertEqual(len(ruzgalt.join(frame(rows, zone=BERLIN), frame(rows), on="k")), 1)
+
+    def test_two_zones_in_one_call_are_refused(self):
+        begin = NIGHTS[0]
+        one = frame([(begin, begin + HOUR, "a")])
+        utc, plain = (one.assign(**{name: change(one[name].dt) for name in ("from", "to")})
+                      for change in (lambda cells: cells.tz_convert("UTC"), lambda cells: cells.tz_localize(None)))
+        mixed = one.assign(to=plain["to"])
+        cases = [
+            ("two", lambda: ruzgalt.join(one, utc, on="k"), "points in UTC beside points in Europe/Berlin", "from"),
+            ("none", lambda: ruzgalt.anti(one, plain, on="k"), "points in no zone beside points in Europe", "from"),
+            ("none first", lambda: ruzgalt.anti(plain, one, on="k"), "Europe/Berlin beside points in no zone", "from"),
+            ("in a frame", lambda: ruzgalt.agg(mixed, "count"), "points in no zone beside points in Europe", "to"),
+            ("as periods", lambda: ruzgalt.agg(one, "count", points_as="S"), "points in Europe/Berlin come as", None),
+        ]
+        for case in cases:
+            self.refuses(*case)
+        self.assertEqual(str(ruzgalt.agg(one, "count", points_as="ns")["to"].dt.tz), "Europe/Berlin")
+
+    def test_a_store_has_no_zone(self):
+        one, made = frame([(NIGHTS[0], NIGHTS[0] + HOUR, "a")]), ruzgalt.Store()
+        plain = one.assign(**{name: one[name].dt.tz_localize(None) for name in ("from", "to")})
+        remedy = "a store's points have no time zone, and these have Europe/Berlin; .dt.tz_convert(ZONE).dt.tz_localize"
+        self.refuses("a table", lambda: made.table("t", one), remedy, "from")
+        made.table("t", plain)
+        before = made.script()
+        self.refuses("a load", lambda: made.load("t", one), remedy, "from")
+        self.refuses("updates", lambda: made.update_rows("t", one, where="k"), remedy, "from")
+        self.assertEqual(made.script(), before)
+
+    def test_years_near_the_ends_of_time_are_refused(self):
+        for text in ("2262-01-01", "1677-12-01"):
+            cells = pd.Series(pd.to_datetime([text])).dt.tz_localize("Europe/Berlin")
+            given = pd.DataFrame({"from": cells, "to": cells + pd.Timedelta(days=1)})
+            with self.subTest(text), self.assertRaises(ruzgalt.Refused) as caught:
+                ruzgalt.agg(given, "count")
+            self.assertEqual((caught.exception.name, caught.exception.label), ("BadPoint", 0))
+
+
+def midnights(zone, *days):
+    return pd.Series(pd.to_datetime(list(days))).dt.tz_localize(zone)
+
+
+class LastDays(unittest.TestCase):
+    def test_last_days_are_days_of_the_zone(self):
+        days = pd.DataFrame({
+            "from": midnights("Europe/Berlin", "2024-03-30", "2024-10-26"), "k": [1, 2],
+            "to": midnights("Europe/Berlin", "2024-03-31", "2024-10-27"),
+        })
+        single = pd.DataFrame({name: midnights("Europe/Berlin", "2024-03-31", "2024-10-27") for name in ("from", "to")})
+        got = ruzgalt.join(days, single.assign(k=[1, 2]), on="k", last_day=True)
+        self.assertEqual(list(map(str, got["to"])), ["2024-03-31 00:00:00+01:00", "2024-10-27 00:00:00+02:00"])
+        got = ruzgalt.anti(days, single.assign(k=[1, 2]), on="k", last_day=True)
+        self.assertEqual(list(map(str, got["to"])), ["2024-03-30 00:00:00+01:00", "2024-10-26 00:00:00+02:00"])
+        self.assertEqual(got["to"].dtype, days["to"].dtype)
+
+    def test_a_day_s_hours_are_those_of_python(self):
+        for zone in ("Europe/Berlin", "America/New_York", "America/Havana", "Asia/Kolkata", "Australia/Lord_Howe"):
+            python, day = ZoneInfo(zone), datetime.datetime(2024, 1, 1)
+            days = [(day + place * DAY).replace(tzinfo=python) for place in range(367)]
+            wanted = np.array([round(one.timestamp()) for one in days], np.int64)
+            walls = np.array([round(one.replace(tzinfo=UTC).timestamp()) for one in days], np.int64)
+            with self.subTest(zone):
+                self.assertEqual(begins_of(walls + 40_000, zone).tolist(), wanted.tolist())
+                self.assertEqual(days_behind(wanted[:-1], zone).tolist(), wanted[1:].tolist())
+                self.assertEqual(days_before(wanted[1:], zone).tolist(), wanted[:-1].tolist())
+                self.assertFalse(has_time(wanted, zone).any())
+
+    def test_days_without_a_midnight_or_with_two_and_days_that_were_left_out(self):
+        """The first points of days by the zones' rules, in UTC."""
+        cases = [
+            ("America/Sao_Paulo", ["2018-11-03T03", "2018-11-04T03", "2018-11-05T02"]),
+            ("America/Havana", ["2024-11-02T04", "2024-11-03T04", "2024-11-04T05"]),
+            ("Pacific/Apia", ["2011-12-29T10", "2011-12-30T10", "2011-12-31T10"]),
+            ("America/Toronto", ["1919-03-30T05", "1919-03-31T04:30", "1919-04-01T04"]),
+        ]
+        for zone, texts in cases:
+            wanted = np.array(texts, "M8[s]").view("i8")
+            with self.subTest(zone):
+                self.assertEqual(begins_of(walls_of(wanted + 3_600, zone), zone).tolist(), wanted.tolist())
+                self.assertEqual(days_behind(wanted[:-1], zone).tolist(), wanted[1:].tolist())
+                self.assertEqual(days_before(wanted[1:], zone).tolist(), wanted[:-1].tolist())
+
+    def test_a_time_is_refused_and_a_missing_end_is_none(self):
+        days = pd.DataFrame({name: midnights("Europe/Berlin", "2024-03-31") for name in ("from", "to")})
+        late = days.assign(to=days["to"] + pd.Timedelta(hours=1))
+        with self.assertRaises(ruzgalt.Refused) as caught:
+            ruzgalt.agg(late, "count", last_day=True)
+        self.assertIn("this has a time", caught.exception.reason)
+        open_end = days.assign(to=pd.Series([pd.NaT], dtype=days["to"].dtype))
+        got = ruzgalt.agg(open_end, "count", last_day=True, open_end=True)
+        self.assertEqual((got["to"].tolist(), got["to"].dtype), ([pd.NaT], days["to"].dtype))
+
+    def test_what_looks_like_last_days_is_doubted_by_the_zone_s_days(self):
+        days = pd.DataFrame({
+            "from": midnights("Europe/Berlin", "2024-01-01", "2024-02-01", "2024-03-01", "2024-04-01"),
+            "to": midnights("Europe/Berlin", "2024-01-31", "2024-02-29", "2024-03-31", "2024-04-30"),
+        })
+        with self.assertWarns(ruzgalt.Doubt):
+            ruzgalt.agg(days, "count")
+
+
+if __name__ == "__main__":
+    unittest.main()
