@@ -53,7 +53,8 @@ class Form:
             return seconds, kind
         known = ~self.are_open(seconds)
         refuse_times(seconds, kind, column, known)
-        refuse((seconds == NO_END) & known, column, "BadPoint", "no day is behind it; open_end=True takes it for no end")
+        is_last = (seconds == NO_END) & known
+        refuse(is_last, column, "BadPoint", "no day is behind it; open_end=True takes it for no end")
         told = "behind it is 9999-12-31, which stands for no end: an earlier day"
         refuse((seconds == LAST_BUT_ONE) & self.is_open, column, "BadPoint", told)
         seconds[known] = zones.days_behind(seconds[known], kind.zone)

@@ -136,6 +136,9 @@ def refuse_value(column: Values, value: Any) -> None:
     if column.digits is not None:
         wanted, remedy = f"numbers of {column.digits} decimals", "decimal.Decimal(..) makes one of a text"
         is_right = checks.is_whole(value) or isinstance(value, (float, np.floating, Decimal))
+    elif values.is_bool(column.dtype):
+        wanted, remedy = "True and False", "bool(..) makes one of a number"
+        is_right = isinstance(value, (bool, np.bool_))
     elif column.kind == "int":
         wanted, remedy = "whole numbers", f"decimals={{{column.name!r}: 2}}, where the table is made, takes others"
         is_right = checks.is_whole(value)

@@ -1,6 +1,7 @@
 """Columns of a frame as columns of the store: their kinds, and the bytes of their fields.
 
     integers, also Int64 without NA          int
+    bool, boolean without NA                 int, 0 and 1
     objects of str, string                   text
     category                                 as its categories
     floats, objects of Decimal               int, of smaller units, where decimals={COLUMN: DIGITS} tells how many
@@ -93,11 +94,30 @@ class Values:
 
 
 def plain(cells: Cells, dtype: Any) -> Any:
-    if pd.api.types.is_integer_dtype(dtype):
-        bounds = np.iinfo(getattr(dtype, "numpy_dtype", dtype))
-        if len(cells) and not bounds.min <= cells.min() <= cells.max() <= bounds.max:
+    if is_whole(dtype):
+        least, greatest = bounds_of(dtype)
+        if len(cells) and not least <= cells.min() <= cells.max() <= greatest:
             return cells
+    if is_bool(dtype):
+        cells = cells.astype(bool)
     return pd.array(cells, dtype=dtype) if pd.api.types.is_extension_array_dtype(dtype) else cells.astype(dtype)
+
+
+def is_bool(dtype: Any) -> bool:
+    """Whether it has True and False; a category of them too."""
+    return bool(pd.api.types.is_bool_dtype(dtype))
+
+
+def is_whole(dtype: Any) -> bool:
+    """Whether it has numbers of the store as they are: whole ones, or True and False."""
+    return bool(pd.api.types.is_integer_dtype(dtype)) or is_bool(dtype)
+
+
+def bounds_of(dtype: Any) -> Tuple[int, int]:
+    if is_bool(dtype):
+        return 0, 1
+    bounds = np.iinfo(getattr(dtype, "numpy_dtype", dtype))
+    return int(bounds.min), int(bounds.max)
 
 
 def categories_of(cells: Cells, dtype: Any) -> Any:
@@ -121,7 +141,7 @@ def values_of(column: Any, digits: Optional[int] = None) -> Values:
         return Values(column.name, "int", scaled(column, digits), Texts(), dtype, digits)
     if isinstance(dtype, pd.CategoricalDtype):
         return of_categories(column)
-    if pd.api.types.is_integer_dtype(dtype):
+    if is_whole(dtype):
         return Values(column.name, "int", ints_of(column), Texts(), dtype)
     if dtype == object or isinstance(dtype, pd.StringDtype):
         return texts_of(column)
@@ -131,8 +151,8 @@ def values_of(column: Any, digits: Optional[int] = None) -> Values:
 def remedy_of(column: Any) -> str:
     """Of a dtype that has no kind."""
     hundredths = f"decimals={{{column.name!r}: 2}} takes those of two decimals for hundredths"
-    remedies = {"f": f".astype('Int64') of whole numbers, or {hundredths}", "b": ".astype('int8') makes numbers"}
-    return remedies.get(getattr(column.dtype, "kind", ""), ".astype(str) makes texts")
+    is_float = getattr(column.dtype, "kind", "") == "f"
+    return f".astype('Int64') of whole numbers, or {hundredths}" if is_float else ".astype(str) makes texts"
 
 
 def number_kind(dtype: Any) -> str:
@@ -160,7 +180,7 @@ def of_categories(column: Any) -> Values:
 def ints_of(column: Any) -> Ints:
     missing = column.isna().to_numpy()
     refuse(missing, column, "BadNumber", no_value(column.name))
-    is_signed = getattr(column.dtype, "numpy_dtype", column.dtype).kind == "i"
+    is_signed = getattr(column.dtype, "numpy_dtype", column.dtype).kind != "u"
     numbers: Cells = column.to_numpy(dtype="i8" if is_signed else "u8")
     if not is_signed:
         refuse(numbers > np.uint64(GREATEST), column, "BadNumber", f"greater than {GREATEST}; .astype(str) makes texts")
@@ -192,7 +212,10 @@ def no_text(cell: Any, name: Any) -> str:
     if cell is None or cell is pd.NA or cell is pd.NaT or isinstance(cell, float) and cell != cell:
         return no_value(name)
     hundredths = f"decimals={{{name!r}: 2}} takes Decimals"
-    remedies = {int: ".astype('int64') makes numbers of all, .astype(str) texts", decimal.Decimal: hundredths}
+    remedies = {
+        int: ".astype('int64') makes numbers of all, .astype(str) texts", decimal.Decimal: hundredths,
+        bool: ".astype('boolean') takes it as it is, .astype(str) makes texts of all",
+    }
     return f"{cell!r} is no text; {remedies.get(type(cell), '.astype(str) makes texts of all')}"
 
 

@@ -16,7 +16,8 @@ TEXTS = [
 ]
 ODD = [7, -1, 1.5, float("nan"), None, ("id", "a"), ("id",), datetime.date(2024, 1, 1), pd.NaT]
 NAMES = st.sampled_from(TEXTS) | st.sampled_from([*TEXTS, *ODD])
-KEYS = [st.sampled_from([1, 2]), st.sampled_from(["", "a", "A", " a", "é", "e\u0301", 'a"b', "a,b", "001", "1", "a\0"])]
+KEYS = [st.sampled_from([1, 2]), st.booleans()]
+KEYS += [st.sampled_from(["", "a", "A", " a", "é", "e\u0301", 'a"b', "a,b", "001", "1", "a\0"])]
 OTHERS = st.sampled_from([None, (1, 2), "x", "", 7, 1.5, datetime.date(2024, 1, 1)])
 FIRST = datetime.date(2024, 1, 1)
 # A zone and a day before its clocks are put on.
@@ -47,7 +48,7 @@ OF_CALL = {
 NO_FUNCTIONS = [
     ("summ", "id"), (None, None), (["sum"], "id"), ("Count", None), ("sum", None), ("count", "id"), ("sum", ["id"]),
 ]
-AMOUNTS = [st.integers(-3, 3), st.sampled_from([0.25, -1.5, 2.75])]
+AMOUNTS = [st.integers(-3, 3), st.booleans(), st.sampled_from([0.25, -1.5, 2.75])]
 SUFFIXES = st.sampled_from([("_left", "_right"), ("", "_2"), (None, "_r"), ("_l", None), (None, None), ("", "")])
 
 
@@ -107,7 +108,7 @@ class Case:
 
 def dtype_of(cells):
     kinds = set(map(type, cells))
-    return "int64" if kinds == {int} else "float64" if kinds == {float} else object
+    return {"int": "int64", "float": "float64", "bool": "bool"}.get("".join(kind.__name__ for kind in kinds), object)
 
 
 def rarely(draw):

@@ -96,6 +96,7 @@ class Page(unittest.TestCase):
         noon = pd.Series([datetime.datetime(2024, 1, 1, 12), datetime.datetime(2024, 1, 2)], dtype=object)
         self.tries("Kinds and points", {
             "integers": lambda: compared(np.array([1, 2], "i1"), pd.array([1, 2], "Int64"), pd.Categorical([1, 2])),
+            "bool, `boolean`": lambda: compared([True, False], pd.array([True, False], "boolean")),
             "objects of `str`": lambda: compared(
                 ["a", "é" * 2048], pd.array(["a", ""], "string"), pd.Categorical(["b", "a"]),
             ),

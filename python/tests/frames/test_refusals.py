@@ -66,7 +66,6 @@ POINTS = [
 TWO = {"decimals": {"k": 2}}
 VALUES = [
     ("floats", [1.0, 2.0], {}, "WrongKind", None),
-    ("bools", [True, False], {}, "WrongKind", None),
     ("points", DAYS(["2024-01-01", "2024-01-01"]), {}, "WrongKind", None),
     ("complex numbers", [1j, 2j], {}, "WrongKind", None),
     ("NaN among texts", ["a", np.nan], {}, "WrongKind", "y"),

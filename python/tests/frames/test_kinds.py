@@ -1,0 +1,122 @@
+"""Kinds of columns that people have: each is compared by its values, and comes back in its dtype."""
+import datetime
+import unittest
+
+import numpy as np
+import pandas as pd
+
+import ruzgalt
+
+DAY = datetime.timedelta(days=1)
+BEGIN = datetime.datetime(2024, 1, 1)
+# Start, end, and whether.
+ROWS = [(0, 5, True), (2, 9, False), (4, 6, True), (7, 8, False)]
+
+
+def frame(rows, cells, dtype=None, name="k"):
+    """Rows whose first two are days, with a column of these cells."""
+    start, end = (pd.to_datetime([BEGIN + DAY * row[place] for row in rows]) for place in (0, 1))
+    return pd.DataFrame({"from": start, "to": end, name: pd.Series(cells, dtype=dtype)})
+
+
+def pairs(left, right):
+    """Places of the rows that meet, by rows."""
+    return sorted(
+        (max(one[0], two[0]), min(one[1], two[1]), row, other)
+        for row, one in enumerate(left) for other, two in enumerate(right)
+        if one[2] == two[2] and max(one[0], two[0]) < min(one[1], two[1])
+    )
+
+
+def found(got):
+    days = [(got[name] - BEGIN).dt.days.tolist() for name in ("from", "to")]
+    return list(zip(*days, got["left_label"], got["right_label"]))
+
+
+class Bools(unittest.TestCase):
+    DTYPES = ("bool", "boolean", "category")
+
+    def of(self, dtype, rows=ROWS):
+        return frame(rows, [row[2] for row in rows], dtype)
+
+    def test_they_meet_their_equals_whatever_their_dtypes(self):
+        for one in self.DTYPES:
+            for other in self.DTYPES:
+                with self.subTest((one, other)):
+                    left, right = self.of(one), self.of(other, ROWS[::-1])
+                    got = ruzgalt.join(left, right, on="k", labels=True)
+                    wanted = pairs(ROWS, ROWS[::-1])
+                    self.assertEqual(found(got), wanted)
+                    self.assertEqual(got["k"].dtype, left["k"].dtype)
+                    self.assertEqual(got["k"].tolist(), [ROWS[row[2]][2] for row in wanted])
+
+    def test_they_are_groups_and_are_counted(self):
+        for dtype in self.DTYPES:
+            with self.subTest(dtype):
+                one = self.of(dtype)
+                got = ruzgalt.agg(one, "count", by="k")
+                self.assertEqual((got["k"].tolist(), got["count"].tolist()), ([False] * 3 + [True] * 3, [1, 2, 1] * 2))
+                self.assertEqual(got["k"].dtype, one["k"].dtype)
+                self.assertEqual(ruzgalt.agg(one, "sum", "k")["sum_k"].tolist(), [1, 2, 1, 0])
+                least = ruzgalt.agg(one, "min", "k")["min_k"]
+                self.assertEqual((least.tolist(), least.dtype), ([True, False], one["k"].dtype))
+
+    def test_an_anti_join_is_of_equal_ones(self):
+        got = ruzgalt.anti(self.of("bool"), self.of("boolean", [(0, 9, True)]), on="k")
+        self.assertEqual((got.index.tolist(), got["k"].tolist(), got["k"].dtype), ([1, 3], [False, False], "bool"))
+
+    def test_true_meets_1_as_in_python(self):
+        got = ruzgalt.join(self.of("bool"), frame([(0, 9), (0, 9)], [1, 2]), on="k")
+        self.assertEqual(got["k"].tolist(), [True, True])
+
+    def test_a_store_keeps_them(self):
+        for dtype in self.DTYPES:
+            with self.subTest(dtype):
+                made, one = ruzgalt.Store(), self.of(dtype)
+                made.table("t", one)
+                made.update("t", "2024-01-01", "2024-01-03", {"k": False}, {"k": True})
+                got = made.rows("t")
+                self.assertEqual(sorted(got["k"].tolist()), [False] * 3 + [True] * 2)
+                self.assertEqual(got["k"].dtype, one["k"].dtype)
+                for value in (1, "True", None, np.int64(0)):
+                    with self.assertRaises(ruzgalt.Refused) as caught:
+                        made.update("t", "2024-01-01", None, {"k": value})
+                    self.assertEqual((caught.exception.name, caught.exception.column), ("WrongKind", "k"))
+                made.load("t", frame([(0, 1)], [2]))
+                self.assertEqual(sorted(map(int, made.rows("t")["k"].tolist())), [0, 0, 0, 1, 1, 2])
+
+    def test_what_is_missing_is_refused_where_it_is_compared_alone(self):
+        cells = [True, None, True, False]
+        for dtype in ("boolean", "category", object):
+            with self.subTest(dtype), self.assertRaises(ruzgalt.Refused) as caught:
+                ruzgalt.join(frame(ROWS, cells, dtype), self.of("bool"), on="k")
+            self.assertEqual((caught.exception.column, caught.exception.label), ("k", 0 if dtype is object else 1))
+
+    def test_objects_of_them_have_a_remedy(self):
+        with self.assertRaises(ruzgalt.Refused) as caught:
+            ruzgalt.agg(self.of(object), "count", by="k")
+        self.assertIn("True is no text; .astype('boolean')", caught.exception.reason)
+
+
+class NotCompared(unittest.TestCase):
+    def test_columns_with_na_come_along_by_place(self):
+        columns = [
+            ([1, pd.NA, 2**62, 3], "Int64"), (["a", pd.NA, "", "b"], "string"), ([True, pd.NA, False, True], "boolean"),
+            ([1.5, pd.NA, 0.1, 2], "Float64"), (["a", None, "b", "a"], "category"),
+            (pd.to_datetime([BEGIN, None, BEGIN, BEGIN]), None), (pd.to_timedelta([1, None, 2, 3]), None),
+        ]
+        rows = [(*row[:2], 1) for row in ROWS]
+        wanted = pairs(rows, rows)
+        for cells, dtype in columns:
+            one = frame(ROWS, cells, dtype, "other").assign(k=1)
+            with self.subTest(dtype):
+                got = ruzgalt.join(one, frame(rows, [1] * 4), on="k", labels=True)
+                self.assertEqual(found(got), wanted)
+                given = one["other"].take([row[2] for row in wanted]).reset_index(drop=True)
+                pd.testing.assert_series_equal(got["other"], given)
+                left = ruzgalt.anti(one, frame([(4, 6)], [1]), on="k")
+                pd.testing.assert_series_equal(left["other"], one["other"].take([0, 1, 1, 3]))
+
+
+if __name__ == "__main__":
+    unittest.main()
