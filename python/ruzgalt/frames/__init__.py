@@ -12,6 +12,7 @@ A module stands on those above it:
     arrays, errors          arrays of numpy; the exceptions
     checks, named           what is given to a call, by its type; a frame's columns by their names
     kinds, zones            the kinds of points; days in a time zone
+    arrow                   columns in types of pyarrow
     points, values          columns as seconds, numbers and texts, and back
     sides, script           rows on their way; a script in pieces
     program, output         a run; its answers as columns

@@ -5,7 +5,7 @@
     date, datetime  objects of datetime.date, of datetime.datetime
     (empty)         objects without a single point
 
-A point of the first four may be one in a time zone.
+A point of the first four may be one in a time zone, or of pyarrow's timestamps; a date one of pyarrow's.
 """
 from __future__ import annotations
 
@@ -27,10 +27,11 @@ DAYS = ("", "D", "date")
 
 @dataclass(frozen=True)
 class Kind:
-    """A kind by its name; zone is the tzinfo of its time zone, where it has one."""
+    """A kind by its name; zone is the tzinfo of its time zone, and arrow the dtype of pyarrow, where it has one."""
 
     name: str = ""
     zone: Any = None
+    arrow: Any = None
 
     def asked_as(self, name: str) -> Kind:
         """The kind of this name in the same zone. Raises Refused, since no other kind has a zone than datetime64."""
@@ -57,8 +58,8 @@ def refuse_two_zones(one: Kind, other: Kind, name: Any) -> None:
 def joint_kind(*kinds: Kind) -> Kind:
     """The kind of an answer from frames of these: the same one, the coarser unit of two, else period[S]."""
     there = [kind for kind in kinds if kind.name]
-    if not there:
-        return Kind()
+    if len(set(there)) < 2:
+        return there[0] if there else Kind()
     return Kind(joint_name({kind.name for kind in there}), there[0].zone)
 
 

@@ -11,7 +11,7 @@ from typing import Any, List, Tuple
 import numpy as np
 import pandas as pd
 
-from ruzgalt.frames import zones
+from ruzgalt.frames import arrow, zones
 from ruzgalt.frames.arrays import Bytes, Cells, Ints, Marks, of_objects
 from ruzgalt.frames.errors import Refused, label_at, refuse
 from ruzgalt.frames.kinds import DAYS, NS, OFFSETS, UNITS, Kind
@@ -94,7 +94,9 @@ def seconds_of(column: Any, is_open: bool = False) -> Tuple[Ints, Kind]:
     is_open: what is missing stands for 9999-12-31.
     """
     dtype = column.dtype
-    if isinstance(dtype, pd.DatetimeTZDtype):
+    if arrow.is_point(dtype):
+        seconds, kind = of_arrow(column)
+    elif isinstance(dtype, pd.DatetimeTZDtype):
         seconds, kind = of_zone(column)
     elif isinstance(dtype, pd.PeriodDtype) and kind_of_period(dtype) in OFFSETS:
         seconds, kind = of_periods(column)
@@ -115,6 +117,12 @@ def kind_of_period(dtype: Any) -> str:
     """Of pandas 2.2 on, seconds are `s`."""
     told = str(dtype.freq.freqstr)
     return "S" if told == "s" else told
+
+
+def of_arrow(column: Any) -> Tuple[Ints, Kind]:
+    told = arrow.datetimes_of(column)
+    seconds, kind = of_zone(told) if isinstance(told.dtype, pd.DatetimeTZDtype) else of_datetimes(told)
+    return seconds, Kind("date" if arrow.is_date(column.dtype) else kind.name, kind.zone, column.dtype)
 
 
 def of_zone(column: Any) -> Tuple[Ints, Kind]:
@@ -196,6 +204,9 @@ def series_of(seconds: Ints, kind: Kind, index: Any = None, is_open: bool = Fals
     if name in DAYS and (seconds % DAY).any():
         point = texts_of(seconds[seconds % DAY > 0][:1])[0]
         raise Refused("BadPoint", f"{point} is no day alone: points_as='S' asks for period[S]")
+    if kind.arrow is not None:
+        cells = datetimes_of(seconds, missing, name if name in UNITS else "s")
+        return pd.Series(arrow.points_of(cells, missing, kind.arrow), index)
     if name in UNITS:
         return in_zone(datetimes_of(seconds, missing, name), kind.zone, index)
     if name in OFFSETS:

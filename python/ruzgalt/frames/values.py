@@ -3,6 +3,7 @@
     integers, also Int64 without NA          int
     bool, boolean without NA                 int, 0 and 1
     objects of str, string                   text
+    types of pyarrow                         as pandas' own
     category                                 as its categories
     floats, objects of Decimal               int, of smaller units, where decimals={COLUMN: DIGITS} tells how many
     all else                                 refused
@@ -18,6 +19,7 @@ import numpy as np
 import pandas as pd
 
 from ruzgalt import forms
+from ruzgalt.frames import arrow
 from ruzgalt.frames.arrays import Bytes, Cells, Ints, of_objects
 from ruzgalt.frames.errors import Refused, refuse
 
@@ -143,7 +145,7 @@ def values_of(column: Any, digits: Optional[int] = None) -> Values:
         return of_categories(column)
     if is_whole(dtype):
         return Values(column.name, "int", ints_of(column), Texts(), dtype)
-    if dtype == object or isinstance(dtype, pd.StringDtype):
+    if dtype == object or isinstance(dtype, pd.StringDtype) or arrow.is_text(dtype):
         return texts_of(column)
     raise Refused("WrongKind", f"{dtype} has no kind of the store; {remedy_of(column)}", column.name)
 

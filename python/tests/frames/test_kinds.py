@@ -118,5 +118,46 @@ class NotCompared(unittest.TestCase):
                 pd.testing.assert_series_equal(left["other"], one["other"].take([0, 1, 1, 3]))
 
 
+@unittest.skipUnless(pd.Series(np.zeros(1, "M8[s]")).dtype == "M8[s]", "pandas before 2 has no other unit than ns")
+class Units(unittest.TestCase):
+    UNITS = ("ns", "us", "ms", "s")
+
+    def of(self, rows, unit):
+        made = frame(rows, [row[2] for row in rows])
+        return made.astype({"from": f"M8[{unit}]", "to": f"M8[{unit}]"})
+
+    def test_points_come_back_in_their_unit_or_in_the_coarser_one(self):
+        for place, one in enumerate(self.UNITS):
+            for other in self.UNITS[place:]:
+                with self.subTest((one, other)):
+                    left, right = self.of(ROWS, one), self.of(ROWS[::-1], other)
+                    for pair in ((left, right), (right, left)):
+                        got = ruzgalt.join(*pair, on="k", labels=True)
+                        wanted = pairs(ROWS, ROWS[::-1]) if pair[0] is left else pairs(ROWS[::-1], ROWS)
+                        self.assertEqual(found(got), wanted)
+                        self.assertEqual({str(got[name].dtype) for name in ("from", "to")}, {f"datetime64[{other}]"})
+
+    def test_each_holds_all_years_but_ns(self):
+        for unit in self.UNITS[1:]:
+            cells = np.array(["0001-01-01", "9999-12-31T23:59:59"], f"M8[{unit}]")
+            one = pd.DataFrame({"from": cells[:1], "to": cells[1:]})
+            with self.subTest(unit):
+                pd.testing.assert_frame_equal(ruzgalt.agg(one, "count")[["from", "to"]], one)
+                first = one.assign(to=one["from"] + np.timedelta64(1, "s"))
+                got = ruzgalt.anti(one, first, on=[])
+                self.assertEqual((got["from"].dtype, str(got["from"][0])), (one["from"].dtype, "0001-01-01 00:00:01"))
+
+    def test_a_fraction_of_a_second_is_refused_and_a_missing_end_comes_back(self):
+        for unit in self.UNITS[:3]:
+            one = pd.DataFrame({"from": np.array(["2024-01-01"] * 2, f"M8[{unit}]"),
+                                "to": np.array(["2024-01-02", "2024-01-02T00:00:00.001"], f"M8[{unit}]")})
+            with self.subTest(unit), self.assertRaises(ruzgalt.Refused) as caught:
+                ruzgalt.dip(one)
+            self.assertEqual((caught.exception.column, caught.exception.label), ("to", 1))
+            endless = one.assign(to=np.array(["2024-01-02", "NaT"], f"M8[{unit}]"))
+            got = ruzgalt.agg(endless, "count", open_end=True)
+            self.assertEqual((str(got["to"].dtype), got["to"].isna().tolist()), (f"datetime64[{unit}]", [False, True]))
+
+
 if __name__ == "__main__":
     unittest.main()

@@ -17,6 +17,7 @@ from ruzgalt.frames.zones import begins_of, days_before, days_behind, has_time, 
 
 BERLIN, UTC = ZoneInfo("Europe/Berlin"), datetime.timezone.utc
 HOUR, DAY = datetime.timedelta(hours=1), datetime.timedelta(days=1)
+HAS_UNITS = pd.Series(np.zeros(1, "M8[s]")).dtype == "M8[s]"
 # Each night in which clocks were put on or back.
 NIGHTS = [datetime.datetime(2024, 3, 30, 20, tzinfo=UTC), datetime.datetime(2024, 10, 26, 19, tzinfo=UTC)]
 
@@ -81,7 +82,7 @@ class Zones(unittest.TestCase):
     def test_nights_in_which_clocks_change_are_as_python_has_them(self):
         with warnings.catch_warnings():
             warnings.simplefilter("ignore", ruzgalt.Doubt)
-            for seed in range(60):
+            for seed in range(30):
                 random = Random(seed)
                 left, right = night(random, random.randint(1, 8)), night(random, random.randint(1, 8))
                 with self.subTest(seed):
@@ -162,6 +163,22 @@ class Zones(unittest.TestCase):
             with self.subTest(text), self.assertRaises(ruzgalt.Refused) as caught:
                 ruzgalt.agg(given, "count")
             self.assertEqual((caught.exception.name, caught.exception.label), ("BadPoint", 0))
+
+
+@unittest.skipUnless(HAS_UNITS, "pandas before 2 has no other unit than ns")
+class Units(unittest.TestCase):
+    def test_each_unit_comes_back_in_the_zone(self):
+        begin = datetime.datetime(1066, 10, 14, tzinfo=UTC)
+        rows = [(begin, begin + 9 * DAY, "a"), (begin + DAY, None, "a")]
+        for unit in ("s", "ms", "us"):
+            with self.subTest(unit):
+                one = frame(rows, zone=UTC, unit=unit)
+                got = ruzgalt.agg(one, "count", open_end=True)
+                wanted = [[begin, begin + DAY, 1], [begin + DAY, begin + 9 * DAY, 2], [begin + 9 * DAY, None, 1]]
+                self.assertEqual((told(got), got["to"].dtype), (wanted, one["to"].dtype))
+                whole = frame([(begin, begin + DAY, "a")], zone=UTC, unit="s")
+                coarser = ruzgalt.anti(one, whole, on="k", open_end=True)
+                self.assertEqual(str(coarser["from"].dtype), "datetime64[s, UTC]")
 
 
 def midnights(zone, *days):
