@@ -10,7 +10,7 @@ from ruzgalt.frames import checks, doubts, sides, split
 from ruzgalt.frames.answer import Column, Columns
 from ruzgalt.frames.arrays import Ints
 from ruzgalt.frames.errors import Refused
-from ruzgalt.frames.named import column_of
+from ruzgalt.frames.named import column_of, with_levels
 from ruzgalt.frames.options import Options
 from ruzgalt.frames.pairs import period_of, with_labels_twice
 from ruzgalt.frames.sides import Side
@@ -20,6 +20,7 @@ FUNCTIONS = ("count", "sum", "min", "max")
 
 
 def agg(frame: Any, function: str, column: Any, options: Options) -> Any:
+    frame = with_levels(frame, options.by or ())
     side = side_of(frame, function, column, options)
     doubts.of_decimals(options.decimals, frame)
     doubts.of_groups(side.columns[:len(options.by or ())])
@@ -29,6 +30,7 @@ def agg(frame: Any, function: str, column: Any, options: Options) -> Any:
 
 def agg_part(frame: Any, function: str, column: Any, options: Options) -> Any:
     """Of a partition, in which nothing is looked at that may not be meant."""
+    frame = with_levels(frame, options.by or ())
     return counted(frame, side_of(frame, function, column, options), (function, column), options)
 
 

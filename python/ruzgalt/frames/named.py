@@ -1,7 +1,7 @@
 """A frame's columns by their names, whatever these are: texts, numbers, tuples, None. Columns are taken by place."""
 from __future__ import annotations
 
-from typing import Any, List
+from typing import Any, List, Sequence
 
 import numpy as np
 
@@ -33,6 +33,30 @@ def place_of(frame: Any, name: Any) -> int:
 def column_of(frame: Any, name: Any) -> Any:
     """The column of this name, as a Series. Raises Refused (NoColumn)."""
     return frame.iloc[:, place_of(frame, name)]
+
+
+def with_levels(frame: Any, names: Sequence[Any]) -> Any:
+    """The frame, with those levels of its index in front that are named here, as pandas.merge and groupby take them.
+
+    Raises Refused (NoColumn) where a name is that of a column too, or of two levels.
+    """
+    levels, columns = [same(name) for name in frame.index.names if name is not None], names_of(frame)
+    found = [name for name in dict.fromkeys(map(same, names)) if name in levels]
+    for name in found:
+        if name in columns or name in naming.twice(levels):
+            remedy = ".rename_axis(..) gives levels other names, .reset_index(drop=True) drops them"
+            raise Refused("NoColumn", f"of several columns and levels of the index: {remedy}", name)
+    # A name of several parts is of columns alone.
+    if not found or frame.columns.nlevels > 1:
+        return frame
+    made = frame.copy(deep=False)
+    for place, name in enumerate(found):
+        made.insert(place, name, frame.index.get_level_values(levels_place(frame, name)))
+    return made
+
+
+def levels_place(frame: Any, name: Any) -> int:
+    return list(map(same, frame.index.names)).index(name)
 
 
 def refuse_twice(frame: Any) -> None:

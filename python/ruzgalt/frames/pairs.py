@@ -14,7 +14,7 @@ from ruzgalt.frames.answer import Column
 from ruzgalt.frames.arrays import Ints
 from ruzgalt.frames.errors import Refused
 from ruzgalt.frames.kinds import refuse_two_zones
-from ruzgalt.frames.named import column_of, names_of, place_of, refuse_twice
+from ruzgalt.frames.named import column_of, names_of, place_of, refuse_twice, with_levels
 from ruzgalt.frames.options import Names, Options, compared
 from ruzgalt.frames.sides import Side
 from ruzgalt.frames.values import Values
@@ -23,18 +23,27 @@ LABELS = ("left_label", "right_label")
 
 
 def join(left: Any, right: Any, on: Names, options: Options) -> Any:
-    for frame in (left, right):
-        refuse_twice(frame)
-    both = sides_of(left, right, on, options)
-    tell((left, right), both, on, options)
-    return joined((left, right), both, on, options)
+    frames = with_keys(left, right, on, options)
+    both = sides_of(frames, on, options)
+    tell(frames, both, on, options)
+    return joined(frames, both, on, options)
 
 
 def join_part(left: Any, right: Any, on: Names, options: Options) -> Any:
     """Of a partition, in which nothing is looked at that may not be meant."""
+    frames = with_keys(left, right, on, options)
+    return joined(frames, sides_of(frames, on, options), on, options)
+
+
+def with_keys(left: Any, right: Any, on: Names, options: Options) -> List[Any]:
+    """The frames, with compared levels of their indexes as columns. Raises Refused where a name is there twice."""
     for frame in (left, right):
         refuse_twice(frame)
-    return joined((left, right), sides_of(left, right, on, options), on, options)
+    return keyed((left, right), on, options)
+
+
+def keyed(frames: Sequence[Any], on: Names, options: Options) -> List[Any]:
+    return [with_levels(frame, names) for frame, names in zip(frames, compared(on, options))]
 
 
 def joined(frames: Sequence[Any], both: Sequence[Side], on: Names, options: Options) -> Any:
@@ -50,14 +59,15 @@ def joined(frames: Sequence[Any], both: Sequence[Side], on: Names, options: Opti
 
 
 def anti(left: Any, right: Any, on: Names, options: Options) -> Any:
-    both = sides_of(left, right, on, options)
-    tell((left, right), both, on, options)
+    frames = keyed((left, right), on, options)
+    both = sides_of(frames, on, options)
+    tell(frames, both, on, options)
     return left_over(left, both, options)
 
 
 def anti_part(left: Any, right: Any, on: Names, options: Options) -> Any:
     """Of a partition, as join_part."""
-    return left_over(left, sides_of(left, right, on, options), options)
+    return left_over(left, sides_of(keyed((left, right), on, options), on, options), options)
 
 
 def left_over(left: Any, both: Sequence[Side], options: Options) -> Any:
@@ -93,13 +103,13 @@ def columns_at(frame: Any, left_out: Sequence[Any], rows: Ints) -> Iterable[Colu
     return [(name, taken.iloc[:, place]) for place, name in enumerate(names_of(taken))]
 
 
-def sides_of(left: Any, right: Any, on: Names, options: Options) -> List[Side]:
+def sides_of(frames: Sequence[Any], on: Names, options: Options) -> List[Side]:
     """The rows of both frames, with their compared columns. Raises Refused."""
     names = compared(on, options)
-    for pair in zip(*([column_of(frame, name) for name in own] for frame, own in zip((left, right), names))):
+    for pair in zip(*([column_of(frame, name) for name in own] for frame, own in zip(frames, names))):
         refuse_float_beside_int(*pair)
-    frames = zip((left, right), names, (options.period, options.other_period))
-    both = [sides.side_of(frame, own, period, options.form, options.decimals) for frame, own, period in frames]
+    told = zip(frames, names, (options.period, options.other_period))
+    both = [sides.side_of(frame, own, period, options.form, options.decimals) for frame, own, period in told]
     for one, other in zip(both[0].columns, both[1].columns):
         refuse_two_kinds(one, other)
     refuse_two_zones(both[0].kind, both[1].kind, options.other_period[0])

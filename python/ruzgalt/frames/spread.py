@@ -17,7 +17,7 @@ import pandas as pd
 
 from ruzgalt.frames import doubts, groups, values
 from ruzgalt.frames.errors import Refused
-from ruzgalt.frames.named import column_of, names_of
+from ruzgalt.frames.named import column_of, names_of, with_levels
 from ruzgalt.frames.options import Names, Options, compared
 from ruzgalt.frames.pairs import with_labels_twice
 
@@ -94,7 +94,8 @@ def refuse_names(frame: Any) -> None:
 
 
 def with_part(frame: Any, names: List[Any], decimals: Mapping[Any, int], parts: int) -> Any:
-    hashed = values.hashes([values.values_of(column_of(frame, name), decimals.get(name)) for name in names])
+    keyed = with_levels(frame, names)
+    hashed = values.hashes([values.values_of(column_of(keyed, name), decimals.get(name)) for name in names])
     part = (hashed % np.uint64(parts)).astype(np.int64)
     return with_labels_twice(frame).assign(**{LABEL: label_column(frame), PART: part})
 

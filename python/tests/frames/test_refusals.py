@@ -160,9 +160,9 @@ class Refusals(unittest.TestCase):
                 asked()
             self.assertIn(wanted, caught.exception.reason)
 
-    def test_a_level_of_the_index_is_no_column(self):
+    def test_a_level_of_the_index_is_no_period(self):
         with self.assertRaises(ruzgalt.Refused) as caught:
-            ruzgalt.agg(OK.set_index("k"), "count", by="k")
+            ruzgalt.agg(OK.set_index("from"), "count", by="k")
         self.assertIn(".reset_index() makes it a column", caught.exception.reason)
 
     def test_the_remedies_for_a_float_beside_an_integer_are_taken(self):
