@@ -90,6 +90,8 @@ class RowEnds(Ends):
 
 def of_ends(side: Side, key: Sequence[Values], name: Any, is_last_day: bool) -> None:
     """Tells of ends that look like last days where they aren't taken for such, or the other way round."""
+    if side.kind.is_long:
+        return
     rows = some_rows(key, len(side))
     start, end = walls_of(side.start[rows], side), walls_of(side.end[rows], side)
     if not len(rows) or (start % zones.DAY).any() or (end % zones.DAY).any():

@@ -28,6 +28,8 @@ def column_of(point: Any) -> Any:
         raise Refused("BadPoint", f"{point!r} is no point: {REMEDIES['BadPoint']}")
     if isinstance(point, np.datetime64):
         point = datetime_of(point)
+    if isinstance(point, pd.Period) and points.kind_of_period(pd.PeriodDtype(point.freq)).is_long:
+        raise Refused("WrongKind", f"{point!r} is no point, but has many days: .asfreq('D', 'start') is the first")
     # Objects for dates, datetimes and Timestamps; pandas finds the dtype of a Period itself.
     return pd.Series([point], dtype=object if isinstance(point, datetime.date) else None)
 

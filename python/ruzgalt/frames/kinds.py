@@ -2,6 +2,7 @@
 
     ns, us, ms, s   datetime64 of that unit. datetime64[ns], the only one of pandas 1.5, ends in 2262
     D, S            period[D], period[S]
+    M, Q-DEC, ..    longer periods, by pandas' name of their frequency: each stands for all its days
     date, datetime  objects of datetime.date, of datetime.datetime
     (empty)         objects without a single point
 
@@ -21,6 +22,8 @@ NS = 1_000_000_000
 UNITS = {"ns": NS, "us": 1_000_000, "ms": 1_000, "s": 1}
 OFFSETS = {"D": pd.offsets.Day(), "S": pd.offsets.Second()}
 NAMES = (*UNITS, *OFFSETS, "date", "datetime")
+# How the names of longer periods begin; A of pandas before 2.2.
+LONG = ("W", "M", "Q", "Y", "A")
 # Those whose points are days.
 DAYS = ("", "D", "date")
 
@@ -32,6 +35,11 @@ class Kind:
     name: str = ""
     zone: Any = None
     arrow: Any = None
+
+    @property
+    def is_long(self) -> bool:
+        """Whether it is of weeks, months, quarters or years."""
+        return self.name.partition("-")[0] in LONG
 
     def asked_as(self, name: str) -> Kind:
         """The kind of this name in the same zone. Raises Refused, since no other kind has a zone than datetime64."""

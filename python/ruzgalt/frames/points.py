@@ -48,6 +48,8 @@ class Form:
 
     def ends_of(self, column: Any) -> Tuple[Ints, Kind]:
         """The first points behind the rows, and their kind. Raises Refused (BadPoint, WrongKind)."""
+        if kind_of_period(column.dtype).is_long:
+            return behind_of_long(column, self.is_open)
         seconds, kind = seconds_of(column, self.is_open)
         if not self.has_last_days:
             return seconds, kind
@@ -62,6 +64,8 @@ class Form:
 
     def restored_ends(self, seconds: Ints, kind: Kind, index: Any = None) -> Any:
         """A column of ends, as they came in. Raises Refused (BadPoint)."""
+        if kind.is_long:
+            return series_of(np.where(self.are_open(seconds), seconds, seconds - 1), kind, index, self.is_open)
         if not self.has_last_days:
             return series_of(seconds, kind, index, self.is_open)
         known = ~self.are_open(seconds)
@@ -98,25 +102,47 @@ def seconds_of(column: Any, is_open: bool = False) -> Tuple[Ints, Kind]:
         seconds, kind = of_arrow(column)
     elif isinstance(dtype, pd.DatetimeTZDtype):
         seconds, kind = of_zone(column)
-    elif isinstance(dtype, pd.PeriodDtype) and kind_of_period(dtype) in OFFSETS:
+    elif kind_of_period(dtype).name in OFFSETS:
         seconds, kind = of_periods(column)
+    elif kind_of_period(dtype).is_long:
+        seconds, kind = of_long(column, "start")
     elif getattr(dtype, "kind", "") == "M":
         seconds, kind = of_datetimes(column)
     elif dtype == object:
         seconds, kind = of_dates(column)
     else:
-        remedy = "pandas.to_datetime makes points of texts, .dt.to_timestamp() of longer periods"
+        remedy = "pandas.to_datetime makes points of texts, .dt.to_timestamp() of other periods"
         raise Refused("WrongKind", f"{dtype} is none of datetime64, period[D], period[S], date; {remedy}", column.name)
     missing = seconds == NAT
-    if not is_open:
-        refuse(missing, column, "BadPoint", "no point; open_end=True takes a missing end for 9999-12-31")
+    refuse_missing(missing, is_open, column)
     return np.where(missing, NO_END, seconds), kind
 
 
-def kind_of_period(dtype: Any) -> str:
+def kind_of_period(dtype: Any) -> Kind:
     """Of pandas 2.2 on, seconds are `s`."""
-    told = str(dtype.freq.freqstr)
-    return "S" if told == "s" else told
+    told = str(dtype)[len("period["):-1] if isinstance(dtype, pd.PeriodDtype) else ""
+    return Kind("S" if told == "s" else told)
+
+
+def of_long(column: Any, how: str) -> Tuple[Ints, Kind]:
+    """The first seconds of longer periods, or the last ones."""
+    seconds = of_periods(column.dt.asfreq(OFFSETS["S"].freqstr, how))[0]
+    return seconds, kind_of_period(column.dtype)
+
+
+def behind_of_long(column: Any, is_open: bool) -> Tuple[Ints, Kind]:
+    """The first points behind longer periods: an end of March is April 1st, whatever ends are otherwise."""
+    lasts, kind = of_long(column, "end")
+    missing = lasts == NAT
+    refuse_missing(missing, is_open, column)
+    told = "behind it is 9999-12-31 or the year 10000: open_end=True takes a missing end for no end"
+    refuse(~missing & (lasts >= NO_END - 1), column, "BadPoint", told)
+    return np.where(missing, NO_END, lasts + 1), kind
+
+
+def refuse_missing(missing: Marks, is_open: bool, column: Any) -> None:
+    if not is_open:
+        refuse(missing, column, "BadPoint", "no point; open_end=True takes a missing end for 9999-12-31")
 
 
 def of_arrow(column: Any) -> Tuple[Ints, Kind]:
@@ -147,7 +173,7 @@ def of_datetimes(column: Any) -> Tuple[Ints, Kind]:
 
 
 def of_periods(column: Any) -> Tuple[Ints, Kind]:
-    numbers, name = column.array.asi8, kind_of_period(column.dtype)
+    numbers, name = column.array.asi8, kind_of_period(column.dtype).name
     length, present = LENGTHS[name], numbers != NAT
     refuse_outside(present & ((numbers < FIRST // length) | (numbers > LAST // length)), column)
     return np.where(present, numbers * length, NAT), Kind(name)
@@ -210,9 +236,15 @@ def series_of(seconds: Ints, kind: Kind, index: Any = None, is_open: bool = Fals
     if name in UNITS:
         return in_zone(datetimes_of(seconds, missing, name), kind.zone, index)
     if name in OFFSETS:
-        ordinals = np.where(missing, NAT, seconds // LENGTHS[name])
-        return pd.Series(pd.arrays.PeriodArray(ordinals, dtype=pd.PeriodDtype(OFFSETS[name])), index)
+        return periods_of(seconds, missing, name, index)
+    if kind.is_long:
+        return periods_of(seconds, missing, "S", index).dt.asfreq(name)
     return pd.Series(objects_of(seconds, missing, name), index, dtype=object)
+
+
+def periods_of(seconds: Ints, missing: Marks, name: str, index: Any) -> Any:
+    ordinals = np.where(missing, NAT, seconds // LENGTHS[name])
+    return pd.Series(pd.arrays.PeriodArray(ordinals, dtype=pd.PeriodDtype(OFFSETS[name])), index)
 
 
 def in_zone(cells: Cells, zone: Any, index: Any) -> Any:

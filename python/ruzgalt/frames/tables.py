@@ -62,7 +62,7 @@ class Table:
             if name not in set(self.period):
                 self.column(name)
         side = sides.side_of(frame, names, self.period, self.form, self.options.decimals)
-        refuse_zone(side, self.period)
+        refuse_points(side, self.period)
         for one in side.columns:
             self.refuse_kind(one)
         return side
@@ -165,8 +165,12 @@ def coded(column: Values, cells: Cells) -> Values:
     return replace(column, codes=codes, texts=Texts(found))
 
 
-def refuse_zone(side: Side, period: Period) -> None:
-    """Raises Refused, since a store's script, its questions and its days have no zone."""
+def refuse_points(side: Side, period: Period) -> None:
+    """Raises Refused, since a store's script, its questions and its days have no zone, and are no months."""
+    if side.kind.is_long:
+        told = f"a store's points are days or times, and these are period[{side.kind.name}]"
+        remedy = ".dt.asfreq('D', 'start') of starts, .dt.asfreq('D', 'end') of ends with last_day=True"
+        raise Refused("WrongKind", f"{told}; {remedy}", period[0])
     if side.kind.zone is not None:
         told = f"a store's points have no time zone, and these have {side.kind.zone}"
         remedy = f".dt.tz_convert(ZONE){WITHOUT_ZONE} takes the days and times of a zone"
@@ -175,7 +179,7 @@ def refuse_zone(side: Side, period: Period) -> None:
 
 def table_of(name: str, side: Side, key: Sequence[str], options: Options) -> Table:
     """Of its first rows, which it hasn't yet. Raises Refused where a name is none of the store."""
-    refuse_zone(side, options.period)
+    refuse_points(side, options.period)
     for one in side.columns:
         if not (isinstance(one.name, str) and forms.is_name(one.name)):
             raise Refused("BadName", f"no name of a column of a store: {REMEDIES['BadName']}", one.name)

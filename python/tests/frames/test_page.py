@@ -105,6 +105,7 @@ class Page(unittest.TestCase):
                 pd.Series(pd.to_datetime(days)), pd.Series(pd.PeriodIndex(days, freq="D")),
                 pd.Series(pd.PeriodIndex(noon, freq=pd.offsets.Second())), days, noon,
             ),
+            "`period[W]`": lambda: at(*(pd.Series(pd.PeriodIndex(days, freq=freq)) for freq in ("W", "M", "Q", "Y"))),
             **{str(end or "missing"): lambda end=end, wanted=wanted: (
                 [becomes(end, words) for words in FORMS] == wanted.split(", ")
             ) for end, wanted in ENDS.items()},

@@ -53,7 +53,7 @@ POINTS = [
     ("dates and datetimes", {"to": objects(NOON, NOON.date())}, {}, "WrongKind", "to", None),
     ("texts", {"to": ["2024-02-01", "2024-02-02"]}, {}, "WrongKind", "to", None),
     ("numbers", {"to": [1, 2]}, {}, "WrongKind", "to", None),
-    ("months", {"to": pd.PeriodIndex(["2024-02", "2024-03"], freq="M")}, {}, "WrongKind", "to", None),
+    ("two months", {"to": pd.PeriodIndex(["2024-02", "2024-03"], freq="2M")}, {}, "WrongKind", "to", None),
     ("the year 0", {"from": pd.PeriodIndex([days(-1), days(2024)])}, {}, "BadPoint", "from", "x"),
     ("the year 10000", {"to": pd.PeriodIndex([days(2025), days(10000)])}, {}, "BadPoint", "to", "y"),
     ("start at end", {"to": DAYS(["2024-02-01", "2024-01-02"])}, {}, "BadPeriod", "to", "y"),
