@@ -66,7 +66,8 @@ def refuse_two_zones(one: Kind, other: Kind, name: Any) -> None:
 def joint_kind(*kinds: Kind) -> Kind:
     """The kind of an answer from frames of these: the same one, the coarser unit of two, else period[S]."""
     there = [kind for kind in kinds if kind.name]
-    if len(set(there)) < 2:
+    # By equality alone, since zones of dateutil have no hash.
+    if all(kind == there[0] for kind in there):
         return there[0] if there else Kind()
     return Kind(joint_name({kind.name for kind in there}), there[0].zone)
 

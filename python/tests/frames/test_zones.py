@@ -11,6 +11,7 @@ from zoneinfo import ZoneInfo
 
 import numpy as np
 import pandas as pd
+from dateutil import tz
 
 import ruzgalt
 from ruzgalt.frames.zones import begins_of, days_before, days_behind, has_time, walls_of
@@ -122,7 +123,8 @@ class Zones(unittest.TestCase):
     def test_one_zone_has_several_names_of_classes(self):
         begin = NIGHTS[0]
         rows = [(begin, begin + HOUR, "a")]
-        for zone in (BERLIN, UTC, datetime.timezone(HOUR)):
+        # Of dateutil no zone has a hash.
+        for zone in (BERLIN, UTC, datetime.timezone(HOUR), tz.gettz("Europe/Berlin")):
             with self.subTest(zone):
                 got = ruzgalt.join(frame(rows, zone=zone), frame(rows, zone=zone), on="k")
                 self.assertEqual((told(got), str(got["to"].dt.tz)), ([[*rows[0]]], str(zone)))
