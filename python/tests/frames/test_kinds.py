@@ -118,6 +118,15 @@ class NotCompared(unittest.TestCase):
                 pd.testing.assert_series_equal(left["other"], one["other"].take([0, 1, 1, 3]))
 
 
+class Intervals(unittest.TestCase):
+    def test_they_are_taken_by_their_sides(self):
+        wanted = frame(ROWS, [row[2] for row in ROWS])
+        spans = pd.IntervalIndex.from_arrays(wanted["from"], wanted["to"], closed="left")
+        for given in (spans, pd.IntervalIndex(pd.DataFrame({"span": spans})["span"])):
+            one = wanted[["k"]].assign(**{"from": given.left, "to": given.right})
+            pd.testing.assert_frame_equal(ruzgalt.agg(one, "count", by="k"), ruzgalt.agg(wanted, "count", by="k"))
+
+
 @unittest.skipUnless(pd.Series(np.zeros(1, "M8[s]")).dtype == "M8[s]", "pandas before 2 has no other unit than ns")
 class Units(unittest.TestCase):
     UNITS = ("ns", "us", "ms", "s")
