@@ -101,7 +101,8 @@ class Ends:
             for count, where, ends in ((on_next, "the day behind it", self.behind), (on_end, "it", self.same)) if count
         )
         remedy = self.remedy() if is_odd else "is it the last day in some rows, and the day behind it in others?"
-        return f"{self.name}: of rows that follow one of the same {self.key}, {told}: {remedy}"
+        other = f"one of the same {self.key}" if self.key else "another one"
+        return f"{self.name}: of rows that follow {other}, {told}: {remedy}"
 
     def example_of(self, ends: "array[int]") -> str:
         starts = dict(zip(self.starts, chain(*self.lines)))

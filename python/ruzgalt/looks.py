@@ -16,7 +16,8 @@ PLAIN = re.compile("[!-<>-~][!-~]*(?: [!-~]+)*")
 LINES = re.compile(r"(?:(?:[^\W\d_][ !#-~\w]*|[0-9][ !#-~\w]*(?<=[^\W\d_])|0|[1-9][0-9]*)\n)+")
 ENTITY = re.compile(r"&(?:#\d+|#x[0-9A-Fa-f]+|[A-Za-z]+\d*);")
 # What other programs write for no value.
-WORDS = dict.fromkeys(("null", "none", "nan", "nat", "n/a"), "other programs write it for no value; it is a text")
+NO_VALUES = ("null", "none", "nan", "nat", "<na>", "n/a")
+WORDS = dict.fromkeys(NO_VALUES, "other programs write it for no value; it is a text")
 # The rows that sum up others are named so, some with a year or a colon.
 TOTAL = re.compile(
     r"(?:(?:grand |sub-?)?totals?|sums?|(?:gesamt|zwischen)?summen?|(?:ins)?gesamt)[ :.]*(?:\d{4})?[ :.]*",
@@ -101,7 +102,8 @@ def is_garbled(value: str) -> bool:
 
 
 def fold(value: str) -> str:
-    """What texts have in common that look alike: without capitals, accents of their own, spaces and zeros in front."""
+    """What texts have in common that look alike: without capitals, accents of their own, spaces, zeros in front, or
+    the .0 that a float has behind."""
     if value.isascii() and value[-1:].isalpha() and "  " not in value and value[0] != " ":
         return value.lower()
     if not value.isascii():
@@ -110,7 +112,8 @@ def fold(value: str) -> str:
             value = "".join(one for one in value if unicodedata.category(one) != "Cf")
         value = value.translate(LIKE_ASCII)
     value = " ".join(value.split()).casefold()
-    return value.lstrip("0") or "0" if value.isdigit() else value
+    whole = value[:-2] if value.endswith(".0") else value
+    return whole.lstrip("0") or "0" if whole.isdigit() else value
 
 
 def told_of(pairs: Sequence[Tuple[str, str]]) -> str:

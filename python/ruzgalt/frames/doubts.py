@@ -16,11 +16,14 @@ from ruzgalt.frames.errors import doubt
 from ruzgalt.frames.named import names_of, same
 from ruzgalt.frames.sides import Period, Side
 from ruzgalt.frames.values import Values
-from ruzgalt.looks import LookAlikes, fold
+from ruzgalt.looks import NO_VALUES, LookAlikes, fold
 
 # So many texts of a column are looked at, and so many rows.
 MOST_TEXTS, MOST_ROWS = 20_000, 4_000
-REMEDY = "but for spaces, capitals, or zeros in front they are equal: .str.strip(), .str.lower(), .str.lstrip('0')"
+REMEDY = (
+    "but for spaces, capitals, zeros in front, or .0 behind they are equal: "
+    ".str.strip(), .str.lower(), .str.lstrip('0'), .str.removesuffix('.0')"
+)
 
 
 def of_decimals(decimals: Mapping[Any, int], *frames: Any) -> None:
@@ -36,7 +39,9 @@ def of_no_columns(frames: Sequence[Any], periods: Sequence[Period]) -> None:
     left, right = ([name for name in names_of(frame) if name not in own] for frame, own in zip(frames, periods))
     both = [name for name in left if name in right]
     if len(both) == 1:
-        doubt(f"both frames have {both[0]!r}, which isn't compared: on={both[0]!r} does it, on=[] says that none is")
+        # As on= alone None is none, and a tuple several.
+        told = repr([both[0]] if both[0] is None or isinstance(both[0], tuple) else both[0])
+        doubt(f"both frames have {both[0]!r}, which isn't compared: on={told} does it, on=[] says that none is")
 
 
 def of_keys(left: Sequence[Values], right: Sequence[Values]) -> None:
@@ -63,9 +68,19 @@ def alike(texts: Sequence[str], there: Set[str], others: Sequence[str]) -> List[
     return [(text, folds[told]) for text, told in zip(alone, map(fold, alone)) if told in folds]
 
 
+def of_no_value(name: Any, *sides: Sequence[str]) -> None:
+    """Warns of a text that each side has, and that other programs write for no value."""
+    texts = (text for text in sides[0][:MOST_TEXTS] if text.lower() in NO_VALUES)
+    found = next((text for text in texts if all(text in side for side in sides)), None)
+    if found is not None:
+        remedy = f".dropna(subset=[{name!r}]) before .astype(str) leaves such rows out"
+        doubt(f"{name!r} has {found!r}, which other programs write for no value, and rows of it are equal; {remedy}")
+
+
 def of_groups(columns: Iterable[Values]) -> None:
-    """Tells of groups of texts that look alike."""
+    """Tells of groups of texts that look alike, and of a text that stands for no value elsewhere."""
     for column in columns:
+        of_no_value(column.name, column.texts.cells)
         seen = LookAlikes()
         for text in column.texts.cells[:MOST_TEXTS]:
             other = seen.other(text)
@@ -92,12 +107,15 @@ def of_ends(side: Side, key: Sequence[Values], name: Any, is_last_day: bool) -> 
     """Tells of ends that look like last days where they aren't taken for such, or the other way round."""
     if side.kind.is_long:
         return
+    of_last_minutes(walls_of(side.end, side), name)
     rows = some_rows(key, len(side))
     start, end = walls_of(side.start[rows], side), walls_of(side.end[rows], side)
     if not len(rows) or (start % zones.DAY).any() or (end % zones.DAY).any():
         return
     keys = keys_of(key, rows)
-    if overlap(keys, start, np.where(end == points.NO_END, end, end - is_last_day * zones.DAY)):
+    # Without a key rows that share a last day may well be of two things, and of some rows none follows another.
+    is_apart = not key and (is_last_day or len(rows) < len(side))
+    if is_apart or overlap(keys, start, np.where(end == points.NO_END, end, end - is_last_day * zones.DAY)):
         keys = np.arange(len(rows))
     ends = RowEnds(str(name), ", ".join(str(column.name) for column in key), is_last_day)
     labels = list(side.labels[rows])
@@ -113,6 +131,14 @@ def walls_of(seconds: Ints, side: Side) -> Ints:
     return walls
 
 
+def of_last_minutes(end: Ints, name: Any) -> None:
+    """Warns of an end in the last minute of a day, as those have it who take an end for the last point."""
+    late = end[(end % zones.DAY >= zones.DAY - 60) & (end < points.NO_END)]
+    if len(late):
+        told = "a row doesn't hold at its end, and a day ends at the next one's midnight"
+        doubt(f"{name} is {points.text_of(int(late[0]))}: {told}; .dt.ceil('D') makes it that")
+
+
 def some_rows(key: Sequence[Values], count: int) -> Ints:
     """All rows, or of many so many; where the first column of a key has many values, all rows of some of these."""
     if count <= MOST_ROWS:
@@ -123,9 +149,9 @@ def some_rows(key: Sequence[Values], count: int) -> Ints:
 
 
 def keys_of(key: Sequence[Values], rows: Ints) -> Ints:
-    """A number for each row, equal for equal values; without a key for none."""
+    """A number for each row, equal for equal values; without a key for all."""
     if not key:
-        return np.arange(len(rows))
+        return np.zeros(len(rows), np.int64)
     table = np.stack([column.codes[rows] for column in key], axis=1)
     keys: Ints = np.unique(table, axis=0, return_inverse=True)[1].ravel()
     return keys

@@ -23,8 +23,9 @@ def agg(frame: Any, function: str, column: Any, options: Options) -> Any:
     frame = with_levels(frame, options.by or ())
     side = side_of(frame, function, column, options)
     doubts.of_decimals(options.decimals, frame)
-    doubts.of_groups(side.columns[:len(options.by or ())])
-    doubts.of_ends(side, [], options.period[1], options.last_day)
+    by = side.columns[:len(options.by or ())]
+    doubts.of_groups(by)
+    doubts.of_ends(side, by, options.period[1], options.last_day)
     return counted(frame, side, (function, column), options)
 
 

@@ -85,6 +85,8 @@ def tell(frames: Sequence[Any], both: Sequence[Side], on: Names, options: Option
         doubts.of_no_columns(frames, periods)
     doubts.of_decimals(options.decimals, *frames)
     doubts.of_keys(*(side.columns for side in both))
+    for one, other in zip(*(side.columns for side in both)):
+        doubts.of_no_value(one.name, one.texts.cells, other.texts.cells)
     for side, period in zip(both, periods):
         doubts.of_ends(side, side.columns, period[1], options.last_day)
 

@@ -121,6 +121,8 @@ def warn_of_pairs(asked: Asked, tables: Sequence[Table], on: Any) -> None:
     pairs_of = list(zip(*compared(on, asked.options)))
     told = [[unmeant.texts_of(asked.book.commands, table.name, name) for table, name in zip(tables, pair)]
             for pair in pairs_of]
+    for pair, texts in zip(pairs_of, told):
+        doubts.of_no_value(pair[0], *texts)
     doubtful = [pair for pair, texts in zip(pairs_of, told) if doubts.strangers(*texts)]
     if doubtful:
         doubts.of_keys(*(filled(asked, table, names) for table, names in zip(tables, zip(*doubtful))))

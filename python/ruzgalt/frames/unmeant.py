@@ -1,7 +1,7 @@
 """What may not be meant in a change that was accepted: rows that are there twice, and changes of no row or of all."""
 from __future__ import annotations
 
-from typing import Dict, Iterator, List, Sequence, Tuple
+from typing import Any, Dict, Iterator, List, Sequence, Tuple
 
 import numpy as np
 import pandas as pd
@@ -51,11 +51,17 @@ def of_load(change: Change, side: Side, before: Sequence[Command]) -> Iterator[s
     is_twin = pd.Series(rows).duplicated().to_numpy()
     if is_twin.any():
         place = int(is_twin.argmax())
-        one, other = (f"row {side.labels[at]!r}" for at in (place, int((rows == rows[place]).argmax())))
+        one, other = two_rows(side.labels, place, int((rows == rows[place]).argmax()))
         yield f"load of {change.name}: {doubts.of_twins(one, other, int(is_twin.sum()))}"
     loaded = [hashes_of(one.side) for one in before if one.side is not None and len(one.side)]
     if loaded and np.isin(rows, np.concatenate(loaded)).all():
         yield f"load of {change.name}: all its rows were loaded before, so each is there twice unless changed since"
+
+
+def two_rows(labels: Sequence[Any], *places: int) -> List[str]:
+    """Two rows by their labels, or where these are the same by their places."""
+    told = [f"row {labels[place]!r}" for place in places]
+    return told if told[0] != told[1] else [f"row {place} by place" for place in places]
 
 
 def hashes_of(side: Side) -> Hashes:
@@ -88,3 +94,17 @@ def of_rows(change: Change, touched: List[int]) -> Iterator[str]:
     if idle:
         more = f"; {len(idle) - 1} more rows are so" if len(idle) > 1 else ""
         yield f"update of {change.name}: row {idle[0].label!r}: {marks.of_touched(idle[0].fields, 0)}{more}"
+    yield from of_updated_twice(change)
+
+
+def of_updated_twice(change: Change) -> Iterator[str]:
+    """Of rows of update_rows that update the same rows from the same point on."""
+    updated = [(one.fields[2], *one.fields[fields.where_place(one.fields):]) for one in change.commands]
+    is_later = pd.Series(updated).duplicated().to_numpy()
+    if is_later.any():
+        place = int(is_later.argmax())
+        labels = [one.label for one in change.commands]
+        one, other = two_rows(labels, place, updated.index(updated[place]))
+        more = f"; {int(is_later.sum()) - 1} more rows do so" if is_later.sum() > 1 else ""
+        told = f"{one} updates the same rows from the same point on as {other}, and the later one stands"
+        yield f"update of {change.name}: {told}{more}"

@@ -1,4 +1,5 @@
 """What may not be meant is warned of, as of the line that asks; what is as it should be isn't."""
+import datetime
 import unittest
 import warnings
 from unittest import mock
@@ -54,6 +55,26 @@ class Doubts(unittest.TestCase):
             both = pd.concat([left, right])
             self.tells(lambda: ruzgalt.agg(both, "count", by="person"), repr(one), repr(other), "two groups")
 
+    def test_texts_of_floats_that_look_like_those_of_whole_numbers(self):
+        floats, whole = (pay(pd.Series([1, 20], dtype=dtype).astype(str)) for dtype in ("float64", "int64"))
+        self.tells(lambda: ruzgalt.anti(floats, whole, on="person"), "'1.0' and '1'", ".str.removesuffix('.0')")
+        self.tells(lambda: ruzgalt.join(whole, floats, on="person"), "'1' and '1.0'")
+        halves = pay(["1.5", "2.50"])
+        self.assertEqual(self.told(lambda: ruzgalt.join(halves, whole, on="person")), [])
+
+    def test_texts_that_stand_for_no_value_elsewhere(self):
+        """.astype(str) makes them of missing cells, and then these are equal."""
+        for missing in (None, np.nan, pd.NA, pd.NaT):
+            rows = pay(pd.Series(["Hill", missing], dtype=object).astype(str))
+            word = rows["person"].iloc[1]
+            self.tells(lambda: ruzgalt.join(rows, rows, on="person"), repr(word), "'person'", "no value", "are equal")
+            self.tells(lambda: ruzgalt.agg(rows, "count", by="person"), repr(word), ".dropna(subset=['person'])")
+            self.assertEqual(self.told(lambda: ruzgalt.join(rows, rows.iloc[:1], on="person")), [])
+            store = ruzgalt.Store()
+            store.table("t", rows)
+            self.tells(lambda: store.anti("t", "t", on="person"), repr(word), "are equal")
+            self.tells(lambda: store.agg("t", "count", by="person"), repr(word))
+
     def test_keys_that_meet_are_not_told_though_they_look_like_others(self):
         both = pay(["Hill", "HILL"])
         self.assertEqual(self.told(lambda: ruzgalt.join(both, both, on="person")), [])
@@ -69,10 +90,36 @@ class Doubts(unittest.TestCase):
         on = {"on": "person"}
         self.tells(lambda: ruzgalt.join(wrong, right, **on), "to: ", "row 1 after row 0", "last_day=True takes it")
         self.tells(lambda: ruzgalt.anti(right, wrong, **on), "to: ", "start on the day behind it")
-        for asked in (lambda: ruzgalt.agg(wrong, "count"), lambda: ruzgalt.dip(wrong)):
+        two = pd.concat([wrong, wrong])
+        for asked in (lambda: ruzgalt.agg(two, "count"), lambda: ruzgalt.dip(two)):
             self.tells(asked, "to is 2023-12-31", "last days of a month", "last_day=True takes it")
         self.assertEqual(self.told(lambda: ruzgalt.join(wrong, wrong, last_day=True, **on)), [])
         self.assertEqual(self.told(lambda: ruzgalt.join(right, right, **on)), [])
+
+    def test_last_days_within_months_without_a_key(self):
+        """Where no two rows share a point they are looked at as those of one key; of groups those of a group are."""
+        starts = DAYS(["2024-01-01", "2024-01-16", "2024-02-11"])
+        ends = DAYS(["2024-01-15", "2024-02-10", "2024-03-20"])
+        wrong = pay(["Hill"] * 3, **{"from": starts, "to": ends})
+        right = wrong.assign(to=ends + pd.Timedelta(days=1))
+        made = lambda rows: ruzgalt.Store().table("t", rows)  # noqa: E731
+        for call in (lambda rows: ruzgalt.agg(rows, "count"), ruzgalt.dip, made):
+            self.tells(lambda: call(wrong), "follow another one, 2 start on the day behind it", "row 1 after row 0")
+            self.assertEqual(self.told(lambda: call(right)), [])
+        two = pd.concat([wrong, wrong.assign(person="Byron")])
+        self.tells(lambda: ruzgalt.agg(two, "count", by="person"), "one of the same person, 4 start on the day behind")
+        self.assertEqual(self.told(lambda: ruzgalt.agg(two, "count")), [])
+
+    def test_ends_that_are_the_last_second_of_a_day(self):
+        late = pay(to=pd.to_datetime(["2024-06-30T23:59:59", "2024-07-01"]))
+        store = ruzgalt.Store()
+        store.table("t", pay())
+        for call in (ruzgalt.dip, lambda rows: ruzgalt.agg(rows, "count"), lambda rows: store.load("t", rows)):
+            self.tells(lambda: call(late), "to is 2024-06-30T23:59:59", "doesn't hold at its end", ".dt.ceil('D')")
+        minute = pay(to=pd.to_datetime(["2024-06-30T23:59", "2024-06-30T23:58"]))
+        self.tells(lambda: ruzgalt.anti(pay(), minute, on="person"), "to is 2024-06-30T23:59:00")
+        last = pay(to=np.array([datetime.datetime(9999, 12, 31, 23, 59, 59)] * 2, object))
+        self.assertEqual(self.told(lambda: ruzgalt.dip(last)), [])
 
     def test_last_days_that_look_like_ends(self):
         wrong = years(last=False)
@@ -105,6 +152,12 @@ class Doubts(unittest.TestCase):
             self.tells(lambda: call(left, right), "both frames have 'person'", "on='person'", "on=[] says")
             self.assertEqual(self.told(lambda: call(left, right, on=[])), [])
             self.assertEqual(self.told(lambda: call(left, pay())), [])
+
+    def test_a_common_column_of_a_name_that_on_takes_in_a_list(self):
+        for name in (None, ("person", "name")):
+            left, right = (pay().rename(columns={"person": name, "cents": other}) for other in ("cents", "euros"))
+            self.tells(lambda: ruzgalt.anti(left, right), f"on=[{name!r}] does it")
+            self.assertEqual(len(ruzgalt.join(left, right, on=[name])), 2)
 
     def test_a_million_keys_are_looked_at_no_longer_than_a_run_takes(self):
         """Those that are looked at are counted, since a time would be of this machine."""

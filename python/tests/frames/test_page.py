@@ -113,16 +113,23 @@ class Page(unittest.TestCase):
 
     def test_doubts(self):
         one, other = frame(k=["Hill ", "a"]), frame(k=["HILL", "a"])
+        late = frame().assign(to=pd.Timestamp("2024-01-15T23:59"))
+        none = frame(k=pd.Series(["a", np.nan], dtype=object).astype(str))
         store = ruzgalt.Store()
-        store.table("t", other)
+        store.table("t", other.assign(x=1), key="k")
+        store.table("u", other)
+        raises = pd.concat([frame(k="a", x=2).iloc[1:], frame(k="a", x=3).iloc[1:]])
         months = frame(k=["a", "b"]).assign(to=pd.to_datetime(["2024-01-31", "2024-02-29"]))
         self.tries("Doubts", {
-            "keys": lambda: warns(lambda: ruzgalt.join(one, other, on="k")),
-            "ends": lambda: warns(lambda: ruzgalt.join(months, other, on="k")),
+            "keys that": lambda: warns(lambda: ruzgalt.join(one, other, on="k")),
+            "keys of both": lambda: warns(lambda: ruzgalt.join(none, none, on="k")),
+            "ends that": lambda: warns(lambda: ruzgalt.join(months, other, on="k")),
+            "ends at 23:59": lambda: warns(lambda: ruzgalt.dip(late)),
             "no `on=`": lambda: warns(lambda: ruzgalt.join(one, one)),
             "`decimals=`": lambda: warns(lambda: ruzgalt.agg(one, "count", decimals={"eur": 2})),
-            "a store's load": lambda: warns(lambda: store.load("t", other)),
+            "a store's load": lambda: warns(lambda: store.load("u", other)),
             "a store's change": lambda: warns(lambda: store.update("t", FIRST, None, {"k": "b"}, {"k": "hill"})),
+            "rows of `update_rows`": lambda: warns(lambda: store.update_rows("t", raises)),
             "a portion's end": lambda: warns(lambda: store.delete("t", FIRST, "2024-01-31", {"k": "a"})),
             "refused changes": lambda: warns(lambda: ruzgalt.Store.from_script(b"load,t\nend\n")),
         })

@@ -252,6 +252,7 @@ class Changes(Case):
         self.assertEqual(repr(made.load("u", frame())), "commit 11: 2 added, 0 closed")
 
     def test_a_change_of_nothing_or_of_all_is_doubted(self):
+        twice = {"from": DAYS(["2024-01-10"] * 2), "k": "a", "n": [3, 4]}
         cases = [
             ("touched nothing", lambda made: made.update("t", "2024-01-10", None, {"k": "z"}, {"k": "A"}), "`where`"),
             ("deleted nothing", lambda made: made.delete("t", "2024-01-10", None, {"k": "A"}), "`where`"),
@@ -268,6 +269,12 @@ class Changes(Case):
             ("loaded again", lambda made: made.load("t", frame(n=1)), "loaded before"),
             ("a load of no rows", lambda made: made.load("t", frame(n=1).iloc[:0]), "no rows"),
             ("updates of no rows", lambda made: made.update_rows("t", frame(n=1).iloc[:0], "k"), "no rows"),
+            ("two updates from one point", lambda made: made.update_rows("t", frame(**twice), "k"),
+             "row 'y' updates the same rows from the same point on as row 'x'"),
+            ("two of one label", lambda made: made.update_rows("t", frame(**twice).set_axis([7, 7]), "k"),
+             "row 1 by place updates"),
+            ("twice within, of one label", lambda made: made.load("t", pd.concat([frame(k="q", n=7).iloc[:1]] * 2)),
+             "row 1 by place makes the same row as row 0 by place"),
             ("twice within", lambda made: made.load("t", pd.concat([frame(k="q", n=7).iloc[:1]] * 3)), "1 more rows"),
         ]
         for what, change, told in cases:
