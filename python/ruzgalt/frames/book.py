@@ -4,7 +4,7 @@ from __future__ import annotations
 from dataclasses import dataclass, field, replace
 from typing import Any, List, Mapping, Sequence, Tuple
 
-from ruzgalt.frames import ask, keys, script, unmeant
+from ruzgalt.frames import ask, checks, keys, script, unmeant
 from ruzgalt.frames.arrays import Ints
 from ruzgalt.frames.changes import Change, Changed
 from ruzgalt.frames.errors import Refused
@@ -28,7 +28,7 @@ class Book:
     def known(self, name: Any) -> Table:
         if not isinstance(name, str) or name not in self.tables:
             told = ", ".join(self.tables) or "there is none"
-            raise Refused("NoTable", f"{name!r} is no table that is there: {told}")
+            raise Refused("NoTable", f"{checks.shown(name)} is no table that is there: {told}")
         return self.tables[name]
 
     def behind(self, change: Change, closed: int = 1) -> Book:

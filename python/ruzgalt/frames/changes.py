@@ -9,12 +9,11 @@ import numpy as np
 from ruzgalt import forms
 from ruzgalt.frames import checks, doubts, points, script, values
 from ruzgalt.frames.arrays import NO_INTS, Ints
-from ruzgalt.frames.ask import REMEDIES
 from ruzgalt.frames.errors import Refused
 from ruzgalt.frames.options import Names, Options
 from ruzgalt.frames.script import Command
 from ruzgalt.frames.sides import Side, side_of
-from ruzgalt.frames.tables import Table, table_of
+from ruzgalt.frames.tables import Table, table_of, wanted_of
 from ruzgalt.frames.values import Values
 
 
@@ -65,7 +64,7 @@ class Change:
 def making(name: Any, frame: Any, key: Names, options: Options) -> Change:
     """A table of a frame's columns, and its rows."""
     if not isinstance(name, str) or not forms.is_name(name):
-        told = REMEDIES["BadName"].partition(";")[0]
+        told = wanted_of(name).partition(";")[0]
         raise Refused("BadName", f"{checks.shown(name)} is no name of a table: {told}")
     names = [column for column in frame.columns if column not in set(options.period)]
     side = side_of(frame, names, options.period, options.form, options.decimals)

@@ -133,7 +133,8 @@ def refuse_two_kinds(one: Values, other: Values) -> None:
         remedy = ".astype('int64') makes numbers of texts as '001', .astype(str) texts of numbers"
         raise Refused("WrongKind", f"{told}; {remedy}", one.name)
     if one.digits != other.digits:
-        told = f"it has {one.digits} decimals, and {other.name!r} of the right frame {other.digits}"
+        one_has, other_has = ("no" if column.digits is None else column.digits for column in (one, other))
+        told = f"it has {one_has} decimals, and {other.name!r} of the right frame {other_has}"
         raise Refused("WrongKind", f"{told}; decimals= takes as many of both", one.name)
 
 

@@ -85,7 +85,8 @@ class Table:
     def pairs(self, word: str, told: Any) -> List[str]:
         """The columns with values of set= or where=, as the fields of a change."""
         if not isinstance(told, Mapping):
-            raise Refused("BadCommand", f"{word}={told!r} is no dict of columns with values, as {{'person': 'Ada'}}")
+            given = f"{word}={checks.shown(told)}"
+            raise Refused("BadCommand", f"{given} is no dict of columns with values, as {{'person': 'Ada'}}")
         if not told:
             remedy = "leave it out for all rows" if word == "where" else "it names what is to be changed"
             raise Refused("BadCommand", f"{word}={{}} has no column: {remedy}")
@@ -177,12 +178,19 @@ def refuse_points(side: Side, period: Period) -> None:
         raise Refused("WrongKind", f"{told}; {remedy}", period[0])
 
 
+def wanted_of(name: Any) -> str:
+    """What a name is to be, of one that is none of a store."""
+    if name in forms.RESERVED:
+        return f"a word of the language; .rename(columns={{{name!r}: '{name}_'}}) gives another"
+    return REMEDIES["BadName"]
+
+
 def table_of(name: str, side: Side, key: Sequence[str], options: Options) -> Table:
     """Of its first rows, which it hasn't yet. Raises Refused where a name is none of the store."""
     refuse_points(side, options.period)
     for one in side.columns:
         if not (isinstance(one.name, str) and forms.is_name(one.name)):
-            raise Refused("BadName", f"no name of a column of a store: {REMEDIES['BadName']}", one.name)
+            raise Refused("BadName", f"no name of a column of a store: {wanted_of(one.name)}", one.name)
     columns = {one.name: replace(one, codes=one.codes[:0], texts=Texts()) for one in side.columns}
     for column in key:
         if column not in columns:

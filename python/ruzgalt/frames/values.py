@@ -89,7 +89,7 @@ class Values:
     def restored(self, cells: Cells) -> Any:
         """What the program told of this column, in the dtype that it came from, or a wider one that has all of it."""
         if self.digits is not None:
-            return unscaled(cells, self.digits, self.dtype)
+            return unscaled(cells, self)
         if isinstance(self.dtype, pd.CategoricalDtype):
             return categories_of(cells, self.dtype)
         return plain(cells, self.dtype)
@@ -211,7 +211,7 @@ def texts_of(column: Any) -> Values:
 
 def no_text(cell: Any, name: Any) -> str:
     """What is told of a cell that is none."""
-    if cell is None or cell is pd.NA or cell is pd.NaT or isinstance(cell, float) and cell != cell:
+    if is_missing(cell):
         return no_value(name)
     hundredths = f"decimals={{{name!r}: 2}} takes Decimals"
     remedies = {
@@ -219,6 +219,12 @@ def no_text(cell: Any, name: Any) -> str:
         bool: ".astype('boolean') takes it as it is, .astype(str) makes texts of all",
     }
     return f"{cell!r} is no text; {remedies.get(type(cell), '.astype(str) makes texts of all')}"
+
+
+def is_missing(cell: Any) -> bool:
+    if isinstance(cell, decimal.Decimal):
+        return cell.is_nan()
+    return cell is None or cell is pd.NA or cell is pd.NaT or isinstance(cell, float) and cell != cell
 
 
 def codes_by_dict(cells: Cells) -> Tuple[Ints, List[str]]:
@@ -234,8 +240,9 @@ def scaled(column: Any, digits: int) -> Ints:
         return scaled_decimals(column, digits)
     dtype = getattr(column.dtype, "numpy_dtype", column.dtype)
     if getattr(dtype, "kind", "") != "f":
-        told = f"{dtype}: decimals= is of floats and of Decimals; without it whole numbers are taken as they are"
-        raise Refused("WrongKind", told, column.name)
+        is_category = isinstance(dtype, pd.CategoricalDtype)
+        remedy = ".astype('float64') makes floats" if is_category else "without it whole numbers are taken as they are"
+        raise Refused("WrongKind", f"{dtype}: decimals= is of floats and of Decimals; {remedy}", column.name)
     cells = column.to_numpy(dtype=dtype, na_value=np.nan)
     bits = np.finfo(dtype).nmant + 1
     with np.errstate(invalid="ignore", over="ignore"):
@@ -254,8 +261,14 @@ def scaled_decimals(column: Any, digits: int) -> Ints:
     wrong = np.fromiter((number is None for number in numbers), bool, len(numbers))
     if wrong.any():
         cell = column.iloc[int(wrong.argmax())]
-        refuse(wrong, column, "BadNumber", f"{cell!r} is no Decimal of {digits} decimals; quantize() makes it one")
+        told = f"{cell!r} is no Decimal of {digits} decimals; {no_decimal(cell)} makes it one"
+        refuse(wrong, column, "BadNumber", no_value(column.name) if is_missing(cell) else told)
     return np.array(numbers, np.int64)
+
+
+def no_decimal(cell: Any) -> str:
+    """What makes a Decimal of so many decimals of a cell."""
+    return "quantize()" if isinstance(cell, decimal.Decimal) else "decimal.Decimal(str(..))"
 
 
 def whole_of(cell: Any, digits: int) -> Optional[int]:
@@ -267,12 +280,15 @@ def whole_of(cell: Any, digits: int) -> Optional[int]:
     return whole if not rest and LEAST <= whole <= GREATEST else None
 
 
-def unscaled(cells: Cells, digits: int, dtype: Any) -> Any:
+def unscaled(cells: Cells, column: Values) -> Any:
+    """Numbers of a column's smaller units, in its dtype. Raises Refused (BadNumber) where this doesn't hold one."""
+    digits, dtype = column.digits or 0, column.dtype
     if dtype == object:
         return of_objects([decimal.Decimal(f"{int(cell)}E-{digits}") for cell in cells])
     bits = np.finfo(getattr(dtype, "numpy_dtype", dtype)).nmant + 1
     if len(cells) and max(abs(int(cells.max())), abs(int(cells.min()))) >= 2**bits:
-        raise Refused("BadNumber", f"a number that {bits} bits don't hold: take Decimals in place of floats")
+        told = f"the answer has a number that {bits} bits don't hold: take Decimals in place of floats"
+        raise Refused("BadNumber", told, column.name)
     return pd.Series(cells.astype("f8") / 10.0**digits).astype(dtype).array
 
 

@@ -185,6 +185,22 @@ class Refusals(unittest.TestCase):
         self.assertRaises(TypeError, lambda: ruzgalt.dip(OK, by="k"))
         self.assertRaises(TypeError, lambda: ruzgalt.join(OK, OK, onn="k"))
 
+    def test_what_is_told_of_decimals(self):
+        """Of a missing cell, a float, a category of floats, and a sum that the column's floats can't have."""
+        agg = ruzgalt.agg
+        cases = [
+            (objects(Decimal(1), None), "no value"), (objects(Decimal(1), Decimal("NaN")), "no value"),
+            (objects(Decimal(1), 1.5), "decimal.Decimal(str(..))"),
+            (objects(Decimal(1), Decimal("0.125")), "quantize()"),
+            (pd.Categorical([1.5, 2.5]), ".astype('float64') makes floats"),
+            ([90071992547409.91] * 2, "53 bits don't hold"),
+        ]
+        for cells, words in cases:
+            with self.assertRaises(ruzgalt.Refused) as caught:
+                agg(frame(k=cells), "sum", "k", **TWO)
+            self.assertIn(words, str(caught.exception))
+            self.assertEqual(caught.exception.column, "k")
+
     def test_keys(self):
         good = store(OK, key=["k"])
         self.refuses("in one frame", lambda: store(frame(k=["a", "a"]), key=["k"]), "KeyOverlap", None, "y")

@@ -324,6 +324,21 @@ class Changes(Case):
             made.update("t", "2024-01-10", "2024-01-11", {"price": value}, {"k": "a"})
             self.assertEqual(made.at("t", "2024-01-10")["price"].tolist()[-1], 3.25)
 
+    def test_a_word_of_the_language_is_no_name(self):
+        self.refuses(lambda: store(frame(where=[1, 2])), "BadName", "'where'", "a word of the language", "'where_'")
+        self.refuses(lambda: store(frame(), name="on"), "BadName", "'on'", "a word of the language")
+
+    def test_what_is_no_name_is_told_by_its_type(self):
+        made = store(frame())
+        self.refuses(lambda: made.load(frame(), "t"), "NoTable", "<DataFrame>")
+        told = self.refuses(lambda: made.delete("t", "2024-01-10", None, frame()["k"] == "a"), "BadCommand", "<Series>")
+        self.assertNotIn("\n", str(told))
+
+    def test_columns_of_units_beside_whole_numbers(self):
+        made = store(frame(n=[1, 2], price=[1.5, 2.5]), decimals={"price": 2})
+        asked = lambda: made.join("t", "t", left_on="price", right_on="n")  # noqa: E731
+        self.refuses(asked, "WrongKind", "'price'", "has 2 decimals, and 'n' of the right frame no")
+
     def test_frames_have_the_columns_of_the_table(self):
         made = store(frame(n=[1, 2]), key=["k"])
         self.refuses(lambda: made.load("t", frame(n=[1, 2], note="x")), "NoColumn", "'note'")
