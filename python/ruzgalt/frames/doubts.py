@@ -10,7 +10,7 @@ from typing import Any, Iterable, List, Mapping, Sequence, Set, Tuple
 import numpy as np
 
 from ruzgalt.doubts import Ends
-from ruzgalt.frames import points, zones
+from ruzgalt.frames import instants, points, zones
 from ruzgalt.frames.arrays import Ints
 from ruzgalt.frames.errors import doubt
 from ruzgalt.frames.named import names_of, same
@@ -20,6 +20,8 @@ from ruzgalt.looks import NO_VALUES, LookAlikes, fold
 
 # So many texts of a column are looked at, and so many rows.
 MOST_TEXTS, MOST_ROWS = 20_000, 4_000
+# Ends from the one on and before the other are those that files are doubted for (ruzgalt.dates.is_far_off).
+FAR, FARTHEST = map(instants.second_of, ("2099-01-01", "9999-01-01"))
 REMEDY = (
     "but for spaces, capitals, zeros in front, or .0 behind they are equal: "
     ".str.strip(), .str.lower(), .str.lstrip('0'), .str.removesuffix('.0')"
@@ -107,7 +109,9 @@ def of_ends(side: Side, key: Sequence[Values], name: Any, is_last_day: bool) -> 
     """Tells of ends that look like last days where they aren't taken for such, or the other way round."""
     if side.kind.is_long:
         return
-    of_last_minutes(walls_of(side.end, side), name)
+    walls = walls_of(side.end, side)
+    of_last_minutes(walls, name)
+    of_far_ends(walls, name)
     rows = some_rows(key, len(side))
     start, end = walls_of(side.start[rows], side), walls_of(side.end[rows], side)
     if not len(rows) or (start % zones.DAY).any() or (end % zones.DAY).any():
@@ -137,6 +141,14 @@ def of_last_minutes(end: Ints, name: Any) -> None:
     if len(late):
         told = "a row doesn't hold at its end, and a day ends at the next one's midnight"
         doubt(f"{name} is {points.text_of(int(late[0]))}: {told}; .dt.ceil('D') makes it that")
+
+
+def of_far_ends(end: Ints, name: Any) -> None:
+    """Warns of an end that is far off, as databases have it for no end."""
+    far = end[(end >= FAR) & (end < FARTHEST)]
+    if len(far):
+        remedy = "where no end is known, a missing one with open_end=True says so"
+        doubt(f"{name} is {points.text_of(int(far[0]))}: a row ends there; {remedy}")
 
 
 def some_rows(key: Sequence[Values], count: int) -> Ints:

@@ -121,6 +121,15 @@ class Doubts(unittest.TestCase):
         last = pay(to=np.array([datetime.datetime(9999, 12, 31, 23, 59, 59)] * 2, object))
         self.assertEqual(self.told(lambda: ruzgalt.dip(last)), [])
 
+    def test_ends_that_are_far_off(self):
+        """As databases have them for no end; 9999-12-31 is no end."""
+        far = pay(to=DAYS(["2024-07-01", "2199-12-31"]))
+        made = lambda rows: ruzgalt.Store().table("t", rows)  # noqa: E731
+        for call in (ruzgalt.dip, lambda rows: ruzgalt.anti(pay(), rows, on="person"), made):
+            self.tells(lambda: call(far), "to is 2199-12-31", "a row ends there", "open_end=True")
+        last = pay(to=np.array([datetime.date(9999, 12, 31), datetime.date(2098, 12, 30)], object))
+        self.assertEqual(self.told(lambda: ruzgalt.dip(last)), [])
+
     def test_last_days_that_look_like_ends(self):
         wrong = years(last=False)
         self.tells(lambda: ruzgalt.anti(wrong, pay(["x"], to=DAYS(["2024-06-30"])), on="person", last_day=True), "to: ",
