@@ -65,6 +65,8 @@ def lists_of(parts: Any) -> List[Ints]:
         raise Refused("WrongKind", f"{row_id.dtype}: ids are whole numbers, as Store.dip has them", "row_id")
     ids = values.ints_of(row_id)
     refuse(ids < 0, row_id, "BadNumber", "ids are numbers from 1 on")
+    if pd.api.types.is_float_dtype(part.dtype):
+        raise Refused("WrongKind", f"{part.dtype}: parts are texts or whole numbers; .astype('Int64')", "part")
     ranks = groups.ranks(values.values_of(part))
     order = np.argsort(ranks, kind="stable")
     return np.split(ids[order], np.flatnonzero(np.diff(ranks[order])) + 1)

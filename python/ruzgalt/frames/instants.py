@@ -8,7 +8,7 @@ import numpy as np
 import pandas as pd
 
 from ruzgalt import forms
-from ruzgalt.frames import points, zones
+from ruzgalt.frames import checks, points, zones
 from ruzgalt.frames.arrays import Ints
 from ruzgalt.frames.ask import REMEDIES
 from ruzgalt.frames.errors import Refused
@@ -23,7 +23,7 @@ def column_of(point: Any) -> Any:
             raise Refused("BadPoint", f"{point!r}: {REMEDIES['BadPoint']}")
         return pd.Series([told], dtype=object)
     if not pd.api.types.is_scalar(point):
-        raise Refused("WrongKind", f"{point!r} is no point: {REMEDIES['BadPoint']}")
+        raise Refused("WrongKind", f"{checks.shown(point)} is no point: {REMEDIES['BadPoint']}")
     if pd.isna(point):
         raise Refused("BadPoint", f"{point!r} is no point: {REMEDIES['BadPoint']}")
     if isinstance(point, np.datetime64):

@@ -100,8 +100,9 @@ class Table:
             told = values.values_of(series_of(column, value), column.digits)
         except Refused as error:
             raise Refused(error.name, error.reason, name) from None
-        except OverflowError as error:
-            raise Refused("BadNumber", f"{value!r}: {error}", name) from None
+        except OverflowError:
+            bounds = f"numbers are of 64 bits, from {values.LEAST} to {values.GREATEST}"
+            raise Refused("BadNumber", f"{checks.shown(value)}: {bounds}", name) from None
         return values.fields_of(told)[0] if told.kind == "int" else told.texts.cells[0]
 
     # What the table's points become.

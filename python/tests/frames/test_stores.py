@@ -333,6 +333,13 @@ class Changes(Case):
         self.refuses(lambda: made.load(frame(), "t"), "NoTable", "<DataFrame>")
         told = self.refuses(lambda: made.delete("t", "2024-01-10", None, frame()["k"] == "a"), "BadCommand", "<Series>")
         self.assertNotIn("\n", str(told))
+        self.refuses(lambda: made.at("t", frame()["from"]), "WrongKind", "<Series> is no point")
+
+    def test_a_number_past_64_bits_is_refused_with_the_bounds(self):
+        made = store(frame(n=[1, 2], price=[1.5, 2.5]), decimals={"price": 2})
+        for name in ("n", "price"):
+            value = {name: 2**63 if name == "n" else 10**400}
+            self.refuses(lambda: made.update("t", "2024-01-10", None, value), "BadNumber", str(2**63 - 1), repr(name))
 
     def test_columns_of_units_beside_whole_numbers(self):
         made = store(frame(n=[1, 2], price=[1.5, 2.5]), decimals={"price": 2})
@@ -359,6 +366,8 @@ class Changes(Case):
         self.refuses(lambda: made.check("t", ruzgalt.dip(frame())), "BadCommand", "Store.dip")
         self.refuses(lambda: made.check("t", parts.rename(columns={"part": "desk"})), "NoColumn", "'part'")
         self.refuses(lambda: made.check("t", parts.astype("float64")), "WrongKind", "'row_id'")
+        floats = parts.astype({"part": "float64"})
+        self.assertNotIn("decimals", str(self.refuses(lambda: made.check("t", floats), "WrongKind", "'part'", "parts")))
         self.refuses(lambda: made.check("t", parts, count=True), "BadCommand", "count")
         self.refuses(lambda: made.check("t", parts.assign(part=[0, None])), "WrongKind", "'part'")
         self.assertTrue(made.check("t", parts.assign(part=["desk b", "desk a"])))
