@@ -45,21 +45,33 @@ Python 3.9 and its library are all that is needed. A module stands on those abov
     cli, load_cli       the words of tools/answers and of tools/csv-to-load
 """
 from importlib import import_module
-from typing import Any
+from typing import TYPE_CHECKING, Any, List
 
-FRAMES = ("frames", "join", "anti", "agg", "dip", "Store", "Changed", "Refused", "Stopped", "Doubt")
+__all__ = [
+    "join", "anti", "agg", "dip", "Store", "Changed", "Verdict", "Refused", "Stopped", "Doubt", "frames", "__version__",
+]
+
+if TYPE_CHECKING:
+    from ruzgalt import frames
+    from ruzgalt.frames import Changed, Doubt, Refused, Stopped, Store, Verdict, agg, anti, dip, join
+
+    __version__: str
+else:
+    # Type checkers would take any name for one that is there.
+    def __getattr__(name: str) -> Any:
+        """The version, and the calls of frames. These need pandas, which isn't imported before one is asked for."""
+        if name == "__version__":
+            return import_module("ruzgalt.version").version()
+        if name not in __all__:
+            raise AttributeError(f"module 'ruzgalt' has no attribute {name!r}")
+        try:
+            frames = import_module("ruzgalt.frames")
+            return frames if name == "frames" else getattr(frames, name)
+        except ModuleNotFoundError as missing:
+            if missing.name not in ("numpy", "pandas"):
+                raise
+            raise ImportError(f"ruzgalt.{name} needs {missing.name}: apt-get install python3-pandas") from None
 
 
-def __getattr__(name: str) -> Any:
-    """The version, and the calls of frames. These need pandas, which isn't imported before one is asked for."""
-    if name == "__version__":
-        return import_module("ruzgalt.version").version()
-    if name not in FRAMES:
-        raise AttributeError(f"module 'ruzgalt' has no attribute {name!r}")
-    try:
-        frames = import_module("ruzgalt.frames")
-        return frames if name == "frames" else getattr(frames, name)
-    except ModuleNotFoundError as missing:
-        if missing.name not in ("numpy", "pandas"):
-            raise
-        raise ImportError(f"ruzgalt.{name} needs {missing.name}: apt-get install python3-pandas") from None
+def __dir__() -> List[str]:
+    return sorted(__all__)

@@ -2,7 +2,7 @@
 
     join, anti, agg, dip    frames in, a frame out
     Store                   tables with a past: changes, commits, questions
-    Changed                 what a change of a store did
+    Changed, Verdict        what a change of a store did; what a check of a division found
     Refused                 what all of them raise of a value or a call: name, reason, column, label
     Stopped                 the program ended without all answers
     Doubt                   the warning of what may not be meant
@@ -17,7 +17,7 @@ A module stands on those above it:
     sides, script           rows on their way; a script in pieces
     program, output         a run; its answers as columns
     ask, split              a question's run; rows past the limits in parts
-    options, answer         what may be told to a call; the columns of an answer, and their names
+    options, answer         what may be given to a call; the columns of an answer, and their names
     doubts                  what may not be meant
     pairs, groups, division join and anti; agg; dip
     spread, slices          the same of Dask: by value; by time
@@ -30,7 +30,8 @@ A module stands on those above it:
 """
 from ruzgalt.frames.calls import agg, anti, dip, join
 from ruzgalt.frames.changes import Changed
+from ruzgalt.frames.divisions import Verdict
 from ruzgalt.frames.errors import Doubt, Refused, Stopped
 from ruzgalt.frames.store import Store
 
-__all__ = ["join", "anti", "agg", "dip", "Store", "Changed", "Refused", "Stopped", "Doubt"]
+__all__ = ["join", "anti", "agg", "dip", "Store", "Changed", "Verdict", "Refused", "Stopped", "Doubt"]

@@ -1,12 +1,21 @@
 """The calls: join, anti, agg and dip, of frames of pandas or of Dask, as their frames are."""
+# Debian's pandas has no types, so mypy takes frames of pandas and of Dask for the same, and overloads for repeated.
+# mypy: disable-error-code="misc"
 from __future__ import annotations
 
 import sys
-from typing import Any
+from typing import TYPE_CHECKING, Any, Mapping, Optional, Union, overload
+
+import pandas as pd
 
 from ruzgalt.frames import checks, division, groups, pairs
 from ruzgalt.frames.errors import Refused
-from ruzgalt.frames.options import Names, options_of
+from ruzgalt.frames.options import (
+    NO_DECIMALS, PERIOD, SUFFIXES, WORKERS, Names, PairOfNames, PairOfSuffixes, options_of,
+)
+
+if TYPE_CHECKING:
+    import dask.dataframe as dd
 
 
 def are_spread(**frames: Any) -> bool:
@@ -19,59 +28,334 @@ def are_spread(**frames: Any) -> bool:
     return bool(spread)
 
 
-def join(left: Any, right: Any, on: Names = None, **options: Any) -> Any:
-    """The pairs of a left and a right row that are equal in the columns `on`, for as long as both hold.
+@overload
+def join(left: pd.DataFrame, right: pd.DataFrame, on: Names = ..., *, left_on: Names = ..., right_on: Names = ...,
+         period: PairOfNames = ..., right_period: Optional[PairOfNames] = ..., open_end: bool = ...,
+         last_day: bool = ..., decimals: Mapping[Any, int] = ..., suffixes: PairOfSuffixes = ..., labels: bool = ...,
+         points_as: Optional[str] = ..., workers: int = ..., parts: Optional[int] = ...) -> pd.DataFrame: ...
 
-    A DataFrame: the period's two columns, named as the left frame's; the other columns of the left frame, then those of
-    the right one, the compared ones once. Of those that both have, suffixes= are put behind the names. Rows are by
-    start, end, place of the left and place of the right row. Without `on` each row may meet each. Options:
-    frames.options.Options. Raises Refused, Stopped. Of frames of Dask the answer is one, its partitions in no order.
+
+@overload
+def join(left: dd.DataFrame, right: Union[dd.DataFrame, pd.DataFrame], on: Names = ..., *, left_on: Names = ...,
+         right_on: Names = ..., period: PairOfNames = ..., right_period: Optional[PairOfNames] = ...,
+         open_end: bool = ..., last_day: bool = ..., decimals: Mapping[Any, int] = ..., suffixes: PairOfSuffixes = ...,
+         labels: bool = ..., points_as: Optional[str] = ..., workers: int = ...,
+         parts: Optional[int] = ...) -> dd.DataFrame: ...
+
+
+@overload
+def join(left: pd.DataFrame, right: dd.DataFrame, on: Names = ..., *, left_on: Names = ..., right_on: Names = ...,
+         period: PairOfNames = ..., right_period: Optional[PairOfNames] = ..., open_end: bool = ...,
+         last_day: bool = ..., decimals: Mapping[Any, int] = ..., suffixes: PairOfSuffixes = ..., labels: bool = ...,
+         points_as: Optional[str] = ..., workers: int = ..., parts: Optional[int] = ...) -> dd.DataFrame: ...
+
+
+def join(left: Any, right: Any, on: Names = None, *, left_on: Names = None, right_on: Names = None,
+         period: PairOfNames = PERIOD, right_period: Optional[PairOfNames] = None, open_end: bool = False,
+         last_day: bool = False, decimals: Mapping[Any, int] = NO_DECIMALS, suffixes: PairOfSuffixes = SUFFIXES,
+         labels: bool = False, points_as: Optional[str] = None, workers: int = WORKERS,
+         parts: Optional[int] = None) -> Any:
+    """The pairs of a left and a right row that are equal in the columns `on`, each for as long as both hold.
+
+    Parameters
+    ----------
+    left, right : DataFrame
+        Frames of pandas or of Dask; one of each is allowed.
+    on : name or list of names, optional
+        Columns of both frames that are to be equal. `on=[]` says that each row may meet each.
+    left_on, right_on : name or list of names, optional
+        The compared columns in place of `on`, where the two frames have different names for them.
+    period : pair of names, default ("from", "to")
+        The columns of a row's start and of its end, the first point behind it.
+    right_period : pair of names, optional
+        The same of the right frame, where they are others.
+    open_end : bool, default False
+        A missing end stands for 9999-12-31, and comes back as missing.
+    last_day : bool, default False
+        An end is a row's last day, in the answer too. No point has a time then.
+    decimals : dict, optional
+        How many decimals are compared of a column of floats or Decimals, as `{"hours": 2}`.
+    suffixes : pair of str or None, default ("_left", "_right")
+        What is put behind names that are taken, of the left frame and of the right one; None for nothing.
+    labels : bool, default False
+        Adds the index labels of each pair, as the columns left_label and right_label.
+    points_as : str, optional
+        ns, us, ms, s, D, S, date or datetime: the answer's points, where not as they came in.
+    workers : int, default 4
+        Threads of the program, 1 to 64.
+    parts : int, optional
+        Of Dask, how many partitions the answer has, where not as many as the larger frame.
+
+    Returns
+    -------
+    DataFrame
+        Of Dask where one frame is. Its columns are the period's two, named as the left frame's, then the left frame's
+        others, then the right frame's, the compared ones once; each has the dtype with which it came in. Points of two
+        kinds come as period[S] or the coarser kind. Rows are by start, end, place of the left and of the right row,
+        under labels from 0 on; of Dask within each partition.
+
+    Raises
+    ------
+    Refused
+        Where a frame or an option is none that can be taken, or a value would be lost or changed.
+    Stopped
+        Where the program ended without all answers.
+
+    Warns
+    -----
+    Doubt
+        Of keys that meet none and look like another, of ends that look like last days, and of a missing `on`.
+
+    Examples
+    --------
+    >>> day = pd.to_datetime
+    >>> pay = pd.DataFrame({"from": day(["2024-01-01", "2024-07-01"]), "to": day(["2024-07-01", None]),
+    ...                     "person": ["Ada", "Ada"], "cents": [5000, 5400]})
+    >>> contract = pd.DataFrame({"from": day(["2024-02-01"]), "to": day(["2024-09-01"]),
+    ...                          "person": ["Ada"], "centre": ["press"]})
+    >>> ruzgalt.join(pay, contract, on="person", open_end=True)
+            from         to person  cents centre
+    0 2024-02-01 2024-07-01    Ada   5000  press
+    1 2024-07-01 2024-09-01    Ada   5400  press
     """
-    told = options_of("join", options)
+    options = options_of(
+        left_on=left_on, right_on=right_on, period=period, right_period=right_period, open_end=open_end,
+        last_day=last_day, decimals=decimals, suffixes=suffixes, labels=labels, points_as=points_as, workers=workers,
+        parts=parts,
+    )
     if are_spread(left=left, right=right):
         from ruzgalt.frames import spread
-        return spread.paired(pairs.join_part, left, right, on, told)
-    return pairs.join(left, right, on, told)
+        return spread.paired(pairs.join_part, left, right, on, options)
+    return pairs.join(left, right, on, options)
 
 
-def anti(left: Any, right: Any, on: Names = None, **options: Any) -> Any:
-    """The left rows while no right row holds that is equal in the columns `on`: the left frame's columns and labels.
+@overload
+def anti(left: pd.DataFrame, right: pd.DataFrame, on: Names = ..., *, left_on: Names = ..., right_on: Names = ...,
+         period: PairOfNames = ..., right_period: Optional[PairOfNames] = ..., open_end: bool = ...,
+         last_day: bool = ..., decimals: Mapping[Any, int] = ..., points_as: Optional[str] = ..., workers: int = ...,
+         parts: Optional[int] = ...) -> pd.DataFrame: ...
 
-    A row comes never, once or several times, each as long as can be; rows are by the left rows' places, then start.
-    Options: frames.options.Options. Raises Refused, Stopped. Of frames of Dask as join.
+
+@overload
+def anti(left: dd.DataFrame, right: Union[dd.DataFrame, pd.DataFrame], on: Names = ..., *, left_on: Names = ...,
+         right_on: Names = ..., period: PairOfNames = ..., right_period: Optional[PairOfNames] = ...,
+         open_end: bool = ..., last_day: bool = ..., decimals: Mapping[Any, int] = ..., points_as: Optional[str] = ...,
+         workers: int = ..., parts: Optional[int] = ...) -> dd.DataFrame: ...
+
+
+@overload
+def anti(left: pd.DataFrame, right: dd.DataFrame, on: Names = ..., *, left_on: Names = ..., right_on: Names = ...,
+         period: PairOfNames = ..., right_period: Optional[PairOfNames] = ..., open_end: bool = ...,
+         last_day: bool = ..., decimals: Mapping[Any, int] = ..., points_as: Optional[str] = ..., workers: int = ...,
+         parts: Optional[int] = ...) -> dd.DataFrame: ...
+
+
+def anti(left: Any, right: Any, on: Names = None, *, left_on: Names = None, right_on: Names = None,
+         period: PairOfNames = PERIOD, right_period: Optional[PairOfNames] = None, open_end: bool = False,
+         last_day: bool = False, decimals: Mapping[Any, int] = NO_DECIMALS, points_as: Optional[str] = None,
+         workers: int = WORKERS, parts: Optional[int] = None) -> Any:
+    """The left rows, each for as long as no right row holds that is equal in the columns `on`.
+
+    Parameters
+    ----------
+    left, right : DataFrame
+        Frames of pandas or of Dask; one of each is allowed.
+    on : name or list of names, optional
+        Columns of both frames that are to be equal. `on=[]` says that each row may meet each.
+    left_on, right_on : name or list of names, optional
+        The compared columns in place of `on`, where the two frames have different names for them.
+    period : pair of names, default ("from", "to")
+        The columns of a row's start and of its end, the first point behind it.
+    right_period : pair of names, optional
+        The same of the right frame, where they are others.
+    open_end : bool, default False
+        A missing end stands for 9999-12-31, and comes back as missing.
+    last_day : bool, default False
+        An end is a row's last day, in the answer too. No point has a time then.
+    decimals : dict, optional
+        How many decimals are compared of a column of floats or Decimals, as `{"hours": 2}`.
+    points_as : str, optional
+        ns, us, ms, s, D, S, date or datetime: the answer's points, where not as they came in.
+    workers : int, default 4
+        Threads of the program, 1 to 64.
+    parts : int, optional
+        Of Dask, how many partitions the answer has, where not as many as the larger frame.
+
+    Returns
+    -------
+    DataFrame
+        Of Dask where one frame is. It has the left frame's columns, dtypes and labels. A row comes never, once or
+        several times, each as long as can be. Rows are by the left row's place, then start; of Dask within each
+        partition.
+
+    Raises
+    ------
+    Refused
+        Where a frame or an option is none that can be taken, or a value would be lost or changed.
+    Stopped
+        Where the program ended without all answers.
+
+    Warns
+    -----
+    Doubt
+        Of keys that meet none and look like another, of ends that look like last days, and of a missing `on`.
+
+    Examples
+    --------
+    >>> day = pd.to_datetime
+    >>> contract = pd.DataFrame({"from": day(["2024-02-01"]), "to": day([None]), "person": ["Ada"]}, index=["c1"])
+    >>> pay = pd.DataFrame({"from": day(["2024-03-01"]), "to": day(["2024-07-01"]), "person": ["Ada"]})
+    >>> ruzgalt.anti(contract, pay, on="person", open_end=True)
+             from         to person
+    c1 2024-02-01 2024-03-01    Ada
+    c1 2024-07-01        NaT    Ada
     """
-    told = options_of("anti", options)
+    options = options_of(
+        left_on=left_on, right_on=right_on, period=period, right_period=right_period, open_end=open_end,
+        last_day=last_day, decimals=decimals, points_as=points_as, workers=workers, parts=parts,
+    )
     if are_spread(left=left, right=right):
         from ruzgalt.frames import spread
-        return spread.paired(pairs.anti_part, left, right, on, told)
-    return pairs.anti(left, right, on, told)
+        return spread.paired(pairs.anti_part, left, right, on, options)
+    return pairs.anti(left, right, on, options)
 
 
-def agg(frame: Any, function: str, column: Any = None, **options: Any) -> Any:
+@overload
+def agg(frame: pd.DataFrame, function: str, column: Any = ..., *, by: Names = ..., period: PairOfNames = ...,
+        open_end: bool = ..., last_day: bool = ..., decimals: Mapping[Any, int] = ..., points_as: Optional[str] = ...,
+        workers: int = ..., parts: Optional[int] = ...) -> pd.DataFrame: ...
+
+
+@overload
+def agg(frame: dd.DataFrame, function: str, column: Any = ..., *, by: Names = ..., period: PairOfNames = ...,
+        open_end: bool = ..., last_day: bool = ..., decimals: Mapping[Any, int] = ..., points_as: Optional[str] = ...,
+        workers: int = ..., parts: Optional[int] = ...) -> dd.DataFrame: ...
+
+
+def agg(frame: Any, function: str, column: Any = None, *, by: Names = None, period: PairOfNames = PERIOD,
+        open_end: bool = False, last_day: bool = False, decimals: Mapping[Any, int] = NO_DECIMALS,
+        points_as: Optional[str] = None, workers: int = WORKERS, parts: Optional[int] = None) -> Any:
     """count, sum, min or max of the rows that hold, for each period in which it stays the same, by groups.
 
-    A DataFrame: the columns of `by`, the period's two, and the value, named count or FUNCTION_COLUMN. Rows are by
-    group, then start; where no row holds there is none. A sum past 64 bits makes its column one of Python's ints.
-    Options: frames.options.Options. Raises Refused, Stopped. Of a frame of Dask with `by` partitions are in no order;
-    without they are in the order of time, and the frame is read once as this is called, for where to cut time.
+    Parameters
+    ----------
+    frame : DataFrame
+        A frame of pandas or of Dask.
+    function : str
+        count, sum, min or max.
+    column : name, optional
+        The column of numbers of a sum, min or max. A count has none.
+    by : name or list of names, optional
+        Columns whose equal values are a group; without any all rows are one.
+    period : pair of names, default ("from", "to")
+        The columns of a row's start and of its end, the first point behind it.
+    open_end : bool, default False
+        A missing end stands for 9999-12-31, and comes back as missing.
+    last_day : bool, default False
+        An end is a row's last day, in the answer too. No point has a time then.
+    decimals : dict, optional
+        How many decimals are compared or added of a column of floats or Decimals, as `{"hours": 2}`.
+    points_as : str, optional
+        ns, us, ms, s, D, S, date or datetime: the answer's points, where not as they came in.
+    workers : int, default 4
+        Threads of the program, 1 to 64.
+    parts : int, optional
+        Of Dask, how many partitions the answer has, where not as many as the frame.
+
+    Returns
+    -------
+    DataFrame
+        Of Dask where the frame is. It has the columns of `by` and the period's two in their dtypes, then the value,
+        named count or FUNCTION_COLUMN: of the column's dtype, but a count and a sum of whole numbers are int64, and
+        where a sum has more than 64 bits, objects of int. Rows are by group, then start; where no row holds there is
+        none. Of Dask with `by` partitions are in no order; without, they are in the order of time, and the frame is
+        read once at the call.
+
+    Raises
+    ------
+    Refused
+        Where the frame or an option is none that can be taken, or a value would be lost or changed.
+    Stopped
+        Where the program ended without all answers.
+
+    Warns
+    -----
+    Doubt
+        Of groups that look like one another, and of ends that look like last days.
+
+    Examples
+    --------
+    >>> day = pd.to_datetime
+    >>> pay = pd.DataFrame({"from": day(["2024-01-01", "2024-03-01"]), "to": day(["2024-07-01", "2024-10-01"]),
+    ...                     "person": ["Ada", "Grace"], "cents": [5000, 4800]})
+    >>> ruzgalt.agg(pay, "sum", "cents")
+            from         to  sum_cents
+    0 2024-01-01 2024-03-01       5000
+    1 2024-03-01 2024-07-01       9800
+    2 2024-07-01 2024-10-01       4800
+    >>> ruzgalt.agg(pay, "count", by="person")
+      person       from         to  count
+    0    Ada 2024-01-01 2024-07-01      1
+    1  Grace 2024-03-01 2024-10-01      1
     """
-    told = options_of("agg", options)
+    options = options_of(
+        by=by, period=period, open_end=open_end, last_day=last_day, decimals=decimals, points_as=points_as,
+        workers=workers, parts=parts,
+    )
     groups.refuse_call(function, column)
     if are_spread(frame=frame):
         from ruzgalt.frames import slices, spread
-        asked = spread.agg if told.by else slices.agg
-        return asked(frame, function, column, told)
-    return groups.agg(frame, function, column, told)
+        asked = spread.agg if options.by else slices.agg
+        return asked(frame, function, column, options)
+    return groups.agg(frame, function, column, options)
 
 
-def dip(frame: Any, **options: Any) -> Any:
-    """The number of each row's part, from 0 on, under its label: the fewest parts in which no two rows overlap.
+def dip(frame: pd.DataFrame, *, period: PairOfNames = PERIOD, open_end: bool = False, last_day: bool = False,
+        workers: int = WORKERS) -> pd.Series:
+    """The fewest parts into which the rows can be divided so that no two of a part hold at one time.
 
-    A Series. Its attrs have count, how many parts there are, and instant, the first point at which as many rows hold, a
-    Period of a second (None without rows), which is why there can't be fewer. Options: frames.options.Options.
-    Raises Refused, Stopped.
+    Parameters
+    ----------
+    frame : DataFrame
+        A frame of pandas, of at most 1,000,000 rows.
+    period : pair of names, default ("from", "to")
+        The columns of a row's start and of its end, the first point behind it.
+    open_end : bool, default False
+        A missing end stands for 9999-12-31, and comes back as missing.
+    last_day : bool, default False
+        An end is a row's last day, in the answer too. No point has a time then.
+    workers : int, default 4
+        Threads of the program, 1 to 64.
+
+    Returns
+    -------
+    Series
+        The number of each row's part, from 0 on, under its label: int64, of the name part. Its attrs have count, how
+        many parts there are, and instant, the first point at which as many rows hold: why there can't be fewer. It is a
+        Period of a second, and None where there is no row.
+
+    Raises
+    ------
+    Refused
+        Where the frame or an option is none that can be taken, as a frame of Dask, or a value would be lost or changed.
+    Stopped
+        Where the program ended without all answers.
+
+    Warns
+    -----
+    Doubt
+        Of ends that look like last days.
+
+    Examples
+    --------
+    >>> day = pd.to_datetime
+    >>> stay = pd.DataFrame({"from": day(["2024-01-01", "2024-01-03", "2024-01-05"]),
+    ...                      "to": day(["2024-01-05", "2024-01-08", "2024-01-06"])}, index=["a", "b", "c"])
+    >>> parts = ruzgalt.dip(stay)
+    >>> parts.to_dict(), parts.attrs["count"], str(parts.attrs["instant"])
+    ({'a': 0, 'b': 1, 'c': 0}, 2, '2024-01-03 00:00:00')
     """
-    told = options_of("dip", options)
+    options = options_of(period=period, open_end=open_end, last_day=last_day, workers=workers)
     if are_spread(frame=frame):
         raise Refused("BadCommand", f"dip of a frame of Dask: a division isn't that of its parts; {division.OTHERWISE}")
-    return division.dip(frame, told)
+    return division.dip(frame, options)

@@ -19,7 +19,27 @@ from ruzgalt.frames.values import Values
 
 @dataclass(frozen=True, repr=False)
 class Changed:
-    """What a change did: its commit, the newest of several, and how many versions of rows they added and closed."""
+    """What a change of a store did.
+
+    Attributes
+    ----------
+    commit : int
+        The number of its commit, of several of the newest.
+    added : int
+        How many versions of rows it added.
+    closed : int
+        How many versions of rows it closed, which no later commit shows.
+
+    Examples
+    --------
+    >>> day = pd.to_datetime
+    >>> pay = pd.DataFrame({"from": day(["2024-01-01"]), "to": day(["2025-01-01"]), "cents": [5000]})
+    >>> changed = ruzgalt.Store().table("pay", pay)
+    >>> changed
+    commit 2: 1 added, 0 closed
+    >>> changed.commit, changed.added, changed.closed
+    (2, 1, 0)
+    """
 
     commit: int
     added: int

@@ -18,8 +18,30 @@ COLUMNS = ("part", "row_id")
 
 @dataclass(frozen=True)
 class Verdict:
-    """Of a check: whether the parts are a division, with as few as can be; else the reason and its numbers, as the
-    language tells them. It is true or false as a condition."""
+    """What a check of a store found: whether parts are a division with as few as can be. It is true or false.
+
+    Attributes
+    ----------
+    is_yes : bool
+        Whether they are.
+    reason : str
+        Where not, the word of the language: WrongCount, EmptyPart, Unknown, Twice, Missing, Overlap or NotCrowded.
+    numbers : tuple of int
+        The reason's numbers, as of Overlap the ids of two rows.
+
+    Examples
+    --------
+    >>> day = pd.to_datetime
+    >>> stay = pd.DataFrame({"from": day(["2024-01-01", "2024-01-03"]), "to": day(["2024-01-05", "2024-01-08"])})
+    >>> store = ruzgalt.Store()
+    >>> store.table("stay", stay)
+    commit 2: 2 added, 0 closed
+    >>> parts = store.dip("stay")
+    >>> bool(store.check("stay", parts))
+    True
+    >>> store.check("stay", parts.assign(part=0), count=1, instant="2024-01-01")
+    Verdict(is_yes=False, reason='Overlap', numbers=(1, 2))
+    """
 
     is_yes: bool
     reason: str = ""

@@ -14,13 +14,29 @@ OURS = (str(Path(__file__).resolve().parents[1]), str(contextlib.__file__))
 
 
 class Refused(ValueError):
-    """A frame, a change or a question was refused, and nothing was changed.
+    """A frame, an option, a change or a question was refused, and nothing was changed.
 
-    name    the refusal's name in docs/LANGUAGE.md, as BadPeriod or KeyOverlap; where the value never came to the
-            program, the name that it would have got, and WrongKind for a dtype that has no kind of the store
-    reason  what is wrong and what to do, in one line
-    column  the frame's column at fault, where it is one
-    label   the index label of the row at fault, where it is one
+    Attributes
+    ----------
+    name : str
+        The refusal's name in the language, as BadPeriod or KeyOverlap, also where the value never came to the program;
+        WrongKind of a dtype that has no kind of the store.
+    reason : str
+        What is wrong and what to do, in one line.
+    column : name or None
+        The frame's column at fault, where it is one.
+    label : object or None
+        The index label of the row at fault, where it is one.
+
+    Examples
+    --------
+    >>> day = pd.to_datetime
+    >>> pay = pd.DataFrame({"from": day(["2024-07-01"]), "to": day([None])}, index=["Ada"])
+    >>> try:
+    ...     ruzgalt.dip(pay)
+    ... except ruzgalt.Refused as refused:
+    ...     print(refused.name, refused.column, refused.label, refused.reason, sep=" | ")
+    BadPoint | to | Ada | no point; open_end=True takes a missing end for 9999-12-31
     """
 
     def __init__(self, name: str, reason: str, column: Any = None, label: Any = None) -> None:
@@ -35,11 +51,31 @@ class Refused(ValueError):
 
 
 class Stopped(RuntimeError):
-    """The program ended without all answers, or there is none: killed, out of memory, not found."""
+    """The program ended without all answers, or there is none: killed, out of memory, not found.
+
+    Examples
+    --------
+    >>> issubclass(ruzgalt.Stopped, RuntimeError)
+    True
+    """
 
 
 class Doubt(UserWarning):
-    """What was given is taken as it stands, and it may not be what was meant: a warning of Python's `warnings`."""
+    """What was given is taken as it stands, and it may not be what was meant: a warning of Python's `warnings`.
+
+    Examples
+    --------
+    >>> import warnings
+    >>> day = pd.to_datetime
+    >>> pay = pd.DataFrame({"from": day(["2024-01-01"]), "to": day(["2024-02-01"]), "person": ["Hill "]})
+    >>> with warnings.catch_warnings():
+    ...     warnings.simplefilter("error", ruzgalt.Doubt)
+    ...     try:
+    ...         ruzgalt.join(pay, pay.assign(person="HILL"), on="person")
+    ...     except ruzgalt.Doubt as doubt:
+    ...         print(str(doubt).partition(";")[0])
+    'person' has 'Hill ' and 'HILL', which don't meet
+    """
 
 
 def doubt(told: str) -> None:

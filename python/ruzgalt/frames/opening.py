@@ -16,7 +16,7 @@ from ruzgalt.frames import ask, checks, kinds, points, program, script
 from ruzgalt.frames.arrays import NO_INTS, Cells
 from ruzgalt.frames.book import Book
 from ruzgalt.frames.errors import Refused, Stopped, doubt
-from ruzgalt.frames.options import ALLOWED, Options, options_of
+from ruzgalt.frames.options import OF_TABLE, Options, options_of
 from ruzgalt.frames.script import Command
 from ruzgalt.frames.sides import Side
 from ruzgalt.frames.tables import Table, coded
@@ -78,9 +78,9 @@ def options_of_table(options: Any, schema: Schema, schemas: Mapping[str, Schema]
         if name not in schemas:
             raise Refused("NoTable", f"options= has {name!r}, and the script's tables are {', '.join(schemas)}")
     given = options.get(schema.name, {})
-    if not set(given) <= set(ALLOWED["table"]):
-        raise checks.wrong("options", given, f"of a table these can be given: {', '.join(ALLOWED['table'])}")
-    told = options_of("table", given)
+    if not set(given) <= set(OF_TABLE):
+        raise checks.wrong("options", given, f"of a table these can be given: {', '.join(OF_TABLE)}")
+    told = options_of(**given)
     for name in told.decimals:
         if name not in schema.names or schema.columns[schema.place(name)].kind is not Kind.INT:
             raise Refused("NoColumn", f"decimals= is of columns of numbers; {schema.name} has no such one", name)

@@ -1,7 +1,8 @@
-"""What may be told to join, anti, agg and dip beside their frames."""
+"""What may be given to join, anti, agg and dip beside their frames."""
 from __future__ import annotations
 
 from dataclasses import dataclass, field
+from types import MappingProxyType
 from typing import Any, Callable, Dict, List, Mapping, Optional, Sequence, Tuple, Union
 
 from ruzgalt.frames import checks, kinds
@@ -13,38 +14,22 @@ from ruzgalt.frames.sides import Period
 
 # As a call takes them, and as they are worked with.
 Names = Union[str, int, Sequence[Any], None]
+PairOfNames = Union[Tuple[Any, Any], List[Any]]
+PairOfSuffixes = Union[Suffixes, List[Optional[str]]]
 Told = Optional[Tuple[Any, ...]]
+# What a call has where nothing else is given.
 PERIOD: Period = ("from", "to")
+SUFFIXES: Suffixes = ("_left", "_right")
+NO_DECIMALS: Mapping[Any, int] = MappingProxyType({})
+WORKERS = 4
 MOST_WORKERS = 64
-OF_ALL = ("period", "open_end", "last_day", "workers")
-OF_PAIRS = ("left_on", "right_on", "right_period", "decimals", "points_as", "parts")
-ALLOWED = {
-    "join": (*OF_ALL, *OF_PAIRS, "suffixes", "labels"),
-    "anti": (*OF_ALL, *OF_PAIRS),
-    "agg": (*OF_ALL, "by", "decimals", "points_as", "parts"),
-    "dip": OF_ALL,
-    "table": ("period", "open_end", "last_day", "decimals"),
-    "question": ("left_on", "right_on", "by", "suffixes", "points_as"),
-}
+# What may be given of a table's frames.
+OF_TABLE = ("period", "open_end", "last_day", "decimals")
 
 
 @dataclass(frozen=True)
 class Options:
-    """Options of a call, each of which was looked at.
-
-    left_on, right_on  compared columns, in place of `on`, where the two frames have different names for them
-    by                 columns of agg whose equal values are a group
-    period             the columns with a row's start and its end, the first point behind it
-    right_period       the same of the right frame, where they are others
-    open_end           a missing end stands for 9999-12-31, and comes back as missing
-    last_day           an end is a row's last day, in the answer too; no point has a time then
-    decimals           of a column of floats or Decimals, how many decimals are compared or added
-    suffixes           what is put behind names that are taken, of the left frame and of the right one; None for nothing
-    labels             two more columns, left_label and right_label: the index labels of each pair
-    points_as          ns, us, ms, s, D, S, date or datetime: the answer's points, where not as they came in
-    workers            threads of the program, 1 to 64
-    parts              of Dask: how many partitions the answer has, where they aren't to be those of the larger frame
-    """
+    """Options of a call, each of which was looked at. What each means stands with the calls."""
 
     left_on: Told = None
     right_on: Told = None
@@ -54,10 +39,10 @@ class Options:
     open_end: bool = False
     last_day: bool = False
     decimals: Mapping[Any, int] = field(default_factory=dict)
-    suffixes: Suffixes = ("_left", "_right")
+    suffixes: Suffixes = SUFFIXES
     labels: bool = False
     points_as: Optional[str] = None
-    workers: int = 4
+    workers: int = WORKERS
     parts: Optional[int] = None
 
     @property
@@ -94,17 +79,14 @@ CHECKS: Dict[str, Callable[[str, Any], Any]] = {
     "decimals": checks.digits, "suffixes": checks.suffixes, "points_as": kind_named,
     "workers": workers_of, "parts": parts_of,
 }
-# Those that may be None, as where they aren't told.
+# Those that may be None, as where they aren't given.
 OPTIONAL = ("left_on", "right_on", "by", "right_period", "points_as", "parts")
 
 
-def options_of(call: str, told: Mapping[str, Any]) -> Options:
-    """Raises TypeError, as of a function, where the call has no such option; Refused where a value is none of it."""
-    for name in told:
-        if name not in ALLOWED[call]:
-            raise TypeError(f"{call} has no option {name}, but {', '.join(ALLOWED[call])}")
-    given = {name: value for name, value in told.items() if value is not None or name not in OPTIONAL}
-    return Options(**{name: CHECKS[name](name, value) for name, value in given.items()})
+def options_of(**given: Any) -> Options:
+    """Raises Refused where a value is none of its option's. Which options there are, the calls' signatures say."""
+    there = {name: value for name, value in given.items() if value is not None or name not in OPTIONAL}
+    return Options(**{name: CHECKS[name](name, value) for name, value in there.items()})
 
 
 def compared(on: Names, options: Options) -> Tuple[List[Any], List[Any]]:

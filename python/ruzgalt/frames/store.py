@@ -9,16 +9,18 @@ from dataclasses import dataclass
 from threading import RLock
 from typing import Any, Dict, List, Mapping, Optional, Sequence, Tuple, Type
 
+import pandas as pd
+
 from ruzgalt.frames import changes, checks, divisions, opening, questions
 from ruzgalt.frames.book import Book, accepted
 from ruzgalt.frames.changes import Change, Changed
-from ruzgalt.frames.checks import Suffixes
 from ruzgalt.frames.divisions import Verdict
 from ruzgalt.frames.errors import Refused, doubt
 from ruzgalt.frames.opening import Script
-from ruzgalt.frames.options import PERIOD, Names, options_of, workers_of
+from ruzgalt.frames.options import (
+    NO_DECIMALS, PERIOD, SUFFIXES, WORKERS, Names, PairOfNames, PairOfSuffixes, options_of, workers_of,
+)
 from ruzgalt.frames.questions import Asked
-from ruzgalt.frames.sides import Period
 from ruzgalt.frames.tables import Table
 
 
@@ -54,18 +56,45 @@ class Batch:
 
 
 class Store:
-    """A store in memory. Each change and question raises Refused or Stopped where it fails, and then changes nothing.
+    """Tables with a past, in memory: each change is a commit, and each question may be asked as of any of them.
 
-    Threads may share one: a change is done alone, and a batch is one change. `copy.copy` makes another store of the
-    same commits; so does pickle.
+    What is refused changes nothing. Threads may share a store: a change is done alone, and a batch is one change.
+    `copy.copy` makes another store of the same commits; so does pickle.
 
     Parameters
     ----------
     workers : int, default 4
         Threads of the program, 1 to 64.
+
+    Raises
+    ------
+    Refused
+        Here, and of each change and question, where it fails: it changes nothing then.
+    Stopped
+        Of each change and question, where the program ended without all answers.
+
+    Warns
+    -----
+    Doubt
+        Of changes and questions, where they may not be meant.
+
+    Examples
+    --------
+    Those of the methods go on from this one.
+
+    >>> day = pd.to_datetime
+    >>> pay = pd.DataFrame({"from": day(["2024-01-01", "2024-03-01"]), "to": day(["2025-01-01", "2024-10-01"]),
+    ...                     "person": ["Ada", "Grace"], "cents": [5000, 4800]})
+    >>> store = ruzgalt.Store()
+    >>> store.table("pay", pay, key="person")
+    commit 2: 2 added, 0 closed
+    >>> store.update("pay", "2024-07-01", "2025-01-01", {"cents": 5400}, where={"person": "Ada"})
+    commit 3: 2 added, 1 closed
+    >>> store
+    <Store of 3 commits, tables: pay>
     """
 
-    def __init__(self, *script: Any, workers: int = 4) -> None:
+    def __init__(self, *script: Any, workers: int = WORKERS) -> None:
         if script:
             raise checks.wrong("script", script[0], "a store begins empty; Store.from_script(..) opens a script")
         self.book = Book(workers_of("workers", workers))
@@ -73,22 +102,41 @@ class Store:
         self.draft: Optional[Draft] = None
 
     @classmethod
-    def from_script(cls, script: Script, *, workers: int = 4,
+    def from_script(cls, script: Script, *, workers: int = WORKERS,
                     options: Optional[Mapping[str, Mapping[str, Any]]] = None) -> Store:
-        """A store of a script's accepted changes. Its questions are left out, and so are refused changes.
+        """A store of a script's accepted changes; its questions and refused changes are left out.
 
         Parameters
         ----------
         script : bytes or path
             The script, as ./dipq and Store.script() have it; or the file that has it.
+        workers : int, default 4
+            Threads of the program, 1 to 64.
         options : dict, optional
             Of tables by their names, a dict of what `table` takes: period, open_end, last_day, decimals. Numbers
-            become Decimals by decimals. Points come as period[D], or where some have times as period[S].
+            become Decimals by decimals.
+
+        Returns
+        -------
+        Store
+            Its points come as period[D], or of tables that have times as period[S].
+
+        Raises
+        ------
+        Refused
+            Where there is no such file, or options are of no table or column.
+        Stopped
+            Where the program ended without all answers.
 
         Warns
         -----
         Doubt
-            For each change that the program refuses.
+            Of changes that the program refuses.
+
+        Examples
+        --------
+        >>> ruzgalt.Store.from_script(store.script(), options={"pay": {"open_end": True}})
+        <Store of 3 commits, tables: pay>
         """
         store = cls(workers=workers)
         store.book = opening.book_of(script, {} if options is None else options, store.book)
@@ -118,7 +166,18 @@ class Store:
 
     @property
     def tables(self) -> Dict[str, Table]:
-        """The tables by their names."""
+        """The tables by their names.
+
+        Returns
+        -------
+        dict
+            Of each name the table, which has columns, period and key.
+
+        Examples
+        --------
+        >>> {name: list(table.columns) for name, table in store.tables.items()}
+        {'pay': ['person', 'cents']}
+        """
         return dict(self.seen().tables)
 
     def seen(self) -> Book:
@@ -130,43 +189,108 @@ class Store:
         return self.seen().known(name)
 
     def asked(self, as_of: Optional[int] = None, **options: Any) -> Asked:
-        return Asked(self.seen(), as_of, options_of("question", options))
+        return Asked(self.seen(), as_of, options_of(**options))
 
     def script(self) -> bytes:
-        """All changes that were accepted, as ./dipq and tools/answers read them."""
+        """All changes that were accepted, as ./dipq and tools/answers read them.
+
+        Returns
+        -------
+        bytes
+            A script of the language: CSV in UTF-8.
+
+        Examples
+        --------
+        >>> print(store.script().decode().strip())
+        table,pay,person,text,cents,int,key,person
+        load,pay
+        row,2024-01-01,2025-01-01,Ada,5000
+        row,2024-03-01,2024-10-01,Grace,4800
+        end
+        update,pay,2024-07-01,2025-01-01,set,cents,5400,where,person,Ada
+        """
         return self.book.script
 
     # Changes. Each answers what it did, or within a batch None. It warns of what may not be meant (ruzgalt.Doubt).
 
-    def table(self, name: str, frame: Any, *, period: Period = PERIOD, key: Names = (),
-              **options: Any) -> Optional[Changed]:
+    def table(self, name: str, frame: pd.DataFrame, *, period: PairOfNames = PERIOD, key: Names = (),
+              open_end: bool = False, last_day: bool = False,
+              decimals: Mapping[Any, int] = NO_DECIMALS) -> Optional[Changed]:
         """Makes a table of a frame's columns, but for the period's two, and loads its rows.
 
         Parameters
         ----------
         name : str
             1 to 32 of a to z, 0 to 9 and _, the first a letter; so are the names of columns.
-        period : pair of names
-            The columns with a row's start and its end, the first point behind it.
-        key : name or list of names
+        frame : DataFrame
+            Of pandas, with the period's columns and the table's.
+        period : pair of names, default ("from", "to")
+            The columns of a row's start and of its end, the first point behind it.
+        key : name or list of names, default none
             Columns of which no two rows that are equal in all hold at one point.
-        open_end, last_day, decimals
-            As frames.options.Options has them, of each frame of this table.
+        open_end : bool, default False
+            Of each frame of this table, a missing end stands for 9999-12-31, and comes back as missing.
+        last_day : bool, default False
+            Of each frame of this table, and of each change, an end is the last day. No point has a time then.
+        decimals : dict, optional
+            How many decimals a column of floats or Decimals has, as `{"hours": 2}`.
 
         Returns
         -------
         Changed
-            As of the load, which is a commit behind that of the table.
+            As of the load, which is a commit behind that of the table; in a batch None.
+
+        Raises
+        ------
+        Refused
+            Where there is such a table, a name or a value is none that can be taken, or two rows of one key overlap.
+        Stopped
+            Where the program ended without all answers.
+
+        Warns
+        -----
+        Doubt
+            Of ends that look like last days, or with last_day=True don't; of rows that stand twice.
+
+        Examples
+        --------
+        >>> store.table("centre", pay[["from", "to", "person"]].assign(centre="lab"), key=["person"])
+        commit 5: 2 added, 0 closed
         """
-        of_table = options_of("table", {"period": period, **options})
+        of_table = options_of(period=period, open_end=open_end, last_day=last_day, decimals=decimals)
         return self.change(changes.making(name, checks.frame("frame", frame), key, of_table))
 
-    def load(self, name: str, frame: Any) -> Optional[Changed]:
+    def load(self, name: str, frame: pd.DataFrame) -> Optional[Changed]:
         """Adds the rows of a frame that has the table's columns and no others, in any order.
+
+        Parameters
+        ----------
+        name : str
+            The table.
+        frame : DataFrame
+            Of pandas, with the period's columns and the table's.
 
         Returns
         -------
         Changed
+            What it did; in a batch None.
+
+        Raises
+        ------
+        Refused
+            Where the table or a column isn't there, a value can't be taken, or two rows of one key overlap.
+        Stopped
+            Where the program ended without all answers.
+
+        Warns
+        -----
+        Doubt
+            Of rows that were loaded before or stand twice, and of ends that look like last days.
+
+        Examples
+        --------
+        >>> store.load("pay", pay.assign(person=["Mary", "Emmy"]))
+        commit 4: 2 added, 0 closed
         """
         with self.lock:
             return self.change(changes.loading(self.known(name), frame))
@@ -177,14 +301,36 @@ class Store:
 
         Parameters
         ----------
+        name : str
+            The table.
         start, end : str, date, datetime, Timestamp or Period
             In a table of last days `end` is the last day. None as the end is no end: 9999-12-31.
-        set, where : dict
-            Columns with values.
+        set : dict
+            Columns with the values that they get.
+        where : dict, optional
+            Columns with the values that rows are to have.
 
         Returns
         -------
         Changed
+            What it did; in a batch None.
+
+        Raises
+        ------
+        Refused
+            Where the table or a column isn't there, a value can't be taken, or two rows of one key would overlap.
+        Stopped
+            Where the program ended without all answers.
+
+        Warns
+        -----
+        Doubt
+            Of a change of no row, or without `where` of all; of an end that looks like a last day, and cuts a row.
+
+        Examples
+        --------
+        >>> store.update("pay", "2024-09-01", None, set={"cents": 4900}, where={"person": "Grace"})
+        commit 4: 2 added, 1 closed
         """
         with self.lock:
             table = self.known(name)
@@ -192,31 +338,79 @@ class Store:
             return self.change(changes.changing("update", table, table.portion(start, end), fields))
 
     def delete(self, name: str, start: Any, end: Any, where: Optional[Mapping[str, Any]] = None) -> Optional[Changed]:
-        """Takes a portion of time out of all rows, or of those of `where`; these are given as to an update.
+        """Takes the time from `start` on and before `end` out of rows: all, or those that have all values of `where`.
+
+        Parameters
+        ----------
+        name : str
+            The table.
+        start, end : str, date, datetime, Timestamp or Period
+            In a table of last days `end` is the last day. None as the end is no end: 9999-12-31.
+        where : dict, optional
+            Columns with the values that rows are to have.
 
         Returns
         -------
         Changed
+            What it did; in a batch None.
+
+        Raises
+        ------
+        Refused
+            Where the table or a column isn't there, or a value can't be taken.
+        Stopped
+            Where the program ended without all answers.
+
+        Warns
+        -----
+        Doubt
+            Of a change of no row, or without `where` of all; of an end that looks like a last day, and cuts a row.
+
+        Examples
+        --------
+        >>> store.delete("pay", "2024-06-01", None, where={"person": "Grace"})
+        commit 4: 1 added, 1 closed
         """
         with self.lock:
             table = self.known(name)
             fields = changes.condition(table, where)
             return self.change(changes.changing("delete", table, table.portion(start, end), fields))
 
-    def update_rows(self, name: str, frame: Any, where: Names = None) -> Optional[Changed]:
+    def update_rows(self, name: str, frame: pd.DataFrame, where: Names = None) -> Optional[Changed]:
         """An update for each row of a frame, in their order, each of which is a commit. All are done, or none.
 
         Parameters
         ----------
+        name : str
+            The table.
         frame : DataFrame
-            Portions of time, with the values to find rows by and those that they get. Columns may be left out.
-        where : name or list of names
-            The columns in which rows are to be equal; without them the table's key.
+            Of pandas: portions of time, with the values to find rows by and those that they get. Columns may be left
+            out.
+        where : name or list of names, optional
+            The columns in which rows are to be equal, where not the table's key.
 
         Returns
         -------
         Changed
-            Of all together, and the commit of the last.
+            Of all together, and the commit of the last; in a batch None.
+
+        Raises
+        ------
+        Refused
+            Where the table or a column isn't there, a value can't be taken, or two rows of one key would overlap.
+        Stopped
+            Where the program ended without all answers.
+
+        Warns
+        -----
+        Doubt
+            Of updates of no row, and of ends that look like last days.
+
+        Examples
+        --------
+        >>> raises = pay.assign(cents=[5100, 4900])
+        >>> store.update_rows("pay", raises)
+        commit 5: 3 added, 3 closed
         """
         with self.lock:
             return self.change(changes.updating(self.known(name), frame, where))
@@ -224,8 +418,28 @@ class Store:
     def batch(self) -> Batch:
         """The changes within are tried together at the end: all are kept, or none and the first refusal is raised.
 
-        `with store.batch() as changed:` gives a list, which has at its end what each change did. A question within is
-        answered with the changes before it, which are tried for that; other threads wait for the batch's end.
+        A question within is answered with the changes before it, which are tried for that; other threads wait for the
+        batch's end.
+
+        Returns
+        -------
+        Batch
+            For a `with`, in which it gives a list: at its end that has a Changed for each change.
+
+        Raises
+        ------
+        Refused
+            At the end, where a change is refused; at the begin, where the store is in a batch.
+        Stopped
+            Where the program ended without all answers.
+
+        Examples
+        --------
+        >>> with store.batch() as changed:
+        ...     store.update("pay", "2024-08-01", "2024-09-01", {"cents": 5500}, where={"person": "Ada"})
+        ...     store.delete("pay", "2024-09-01", None, where={"person": "Ada"})
+        >>> changed
+        [commit 4: 3 added, 1 closed, commit 5: 0 added, 1 closed]
         """
         return Batch(self)
 
@@ -244,92 +458,374 @@ class Store:
         self.book = book
         return changed
 
-    # Questions. as_of is the number of a commit, 0 to the newest; log() lists them. Rows are by row_id, where no other
-    # order is given. A column whose name the answer has for itself has `_` behind it. points_as is as of frames.
+    # Questions. A column whose name the answer has for itself has `_` behind it.
 
-    def rows(self, name: str, as_of: Optional[int] = None, *, points_as: Optional[str] = None) -> Any:
-        """All rows: row_id, the period, the table's columns.
+    def rows(self, name: str, as_of: Optional[int] = None, *, points_as: Optional[str] = None) -> pd.DataFrame:
+        """All rows of a table, as of a commit.
 
         Parameters
         ----------
+        name : str
+            The table.
         as_of : int, optional
-            The number of a commit, of which the rows are, where not of the newest.
+            The number of a commit, as of which it is asked, where not of the newest. log() lists them.
         points_as : str, optional
-            ns, us, ms, s, D, S, date or datetime: the points, where not of the table's kind.
+            ns, us, ms, s, D, S, date or datetime: the answer's points, where not of the table's kind.
+
+        Returns
+        -------
+        DataFrame
+            row_id in int64, the period's columns, and the table's in the dtypes with which they came. Rows are by
+            row_id.
+
+        Raises
+        ------
+        Refused
+            Where the table or the commit isn't there, or an option is none that can be taken.
+        Stopped
+            Where the program ended without all answers.
+
+        Examples
+        --------
+        >>> store.rows("pay", as_of=2)
+           row_id       from         to person  cents
+        0       1 2024-01-01 2025-01-01    Ada   5000
+        1       2 2024-03-01 2024-10-01  Grace   4800
         """
         return questions.rows(self.asked(as_of, points_as=points_as), name)
 
-    def at(self, name: str, point: Any, as_of: Optional[int] = None, *, points_as: Optional[str] = None) -> Any:
-        """The rows that hold at a point, as rows() lists them. A day is its midnight."""
-        return questions.at(self.asked(as_of, points_as=points_as), name, point)
-
-    def between(self, name: str, first: int, last: int, *, points_as: Optional[str] = None) -> Any:
-        """The versions of rows that a commit from `first` to `last` shows, with sys_from and sys_to, NA where one is
-        open. Commits are numbers, which log() lists, and no days."""
-        return questions.versions(self.asked(points_as=points_as), "between", name, first, last)
-
-    def fromto(self, name: str, first: int, behind: int, *, points_as: Optional[str] = None) -> Any:
-        """As between, of the commits before `behind`."""
-        return questions.versions(self.asked(points_as=points_as), "fromto", name, first, behind)
-
-    def join(self, left: str, right: str, on: Names = None, *, left_on: Names = None, right_on: Names = None,
-             suffixes: Suffixes = ("_left", "_right"), points_as: Optional[str] = None,
-             as_of: Optional[int] = None) -> Any:
-        """As ruzgalt.join, of two tables' rows, with left_id and right_id behind the period; by start, end and ids.
+    def at(self, name: str, point: Any, as_of: Optional[int] = None, *,
+           points_as: Optional[str] = None) -> pd.DataFrame:
+        """The rows of a table that hold at a point, as of a commit.
 
         Parameters
         ----------
-        on : name or list of names
+        name : str
+            The table.
+        point : str, date, datetime, Timestamp or Period
+            A day is its midnight.
+        as_of : int, optional
+            The number of a commit, as of which it is asked, where not of the newest. log() lists them.
+        points_as : str, optional
+            ns, us, ms, s, D, S, date or datetime: the answer's points, where not of the table's kind.
+
+        Returns
+        -------
+        DataFrame
+            As of rows().
+
+        Raises
+        ------
+        Refused
+            Where the table or the commit isn't there, or an option is none that can be taken.
+        Stopped
+            Where the program ended without all answers.
+
+        Examples
+        --------
+        >>> [store.at("pay", "2024-12-01", as_of=commit)["cents"].tolist() for commit in (2, 3)]
+        [[5000], [5400]]
+        """
+        return questions.at(self.asked(as_of, points_as=points_as), name, point)
+
+    def between(self, name: str, first: int, last: int, *, points_as: Optional[str] = None) -> pd.DataFrame:
+        """The versions of rows that some commit from `first` to `last` shows.
+
+        Parameters
+        ----------
+        name : str
+            The table.
+        first, last : int
+            Numbers of commits, which log() lists; no days.
+        points_as : str, optional
+            ns, us, ms, s, D, S, date or datetime: the answer's points, where not of the table's kind.
+
+        Returns
+        -------
+        DataFrame
+            row_id, the period, sys_from in int64 and sys_to in Int64, the commits that made and closed it, NA of an
+            open one; then the table's columns. Rows are by row_id.
+
+        Raises
+        ------
+        Refused
+            Where the table isn't there, or an option is none that can be taken.
+        Stopped
+            Where the program ended without all answers.
+
+        Examples
+        --------
+        >>> store.between("pay", 1, 3)[["row_id", "sys_from", "sys_to", "cents"]]
+           row_id  sys_from  sys_to  cents
+        0       1         2       3   5000
+        1       2         2    <NA>   4800
+        2       3         3    <NA>   5000
+        3       4         3    <NA>   5400
+        """
+        return questions.versions(self.asked(points_as=points_as), "between", name, first, last)
+
+    def fromto(self, name: str, first: int, behind: int, *, points_as: Optional[str] = None) -> pd.DataFrame:
+        """The versions of rows that some commit from `first` on and before `behind` shows.
+
+        Parameters
+        ----------
+        name : str
+            The table.
+        first, behind : int
+            Numbers of commits, which log() lists; no days.
+        points_as : str, optional
+            ns, us, ms, s, D, S, date or datetime: the answer's points, where not of the table's kind.
+
+        Returns
+        -------
+        DataFrame
+            As of between().
+
+        Raises
+        ------
+        Refused
+            Where the table isn't there, or an option is none that can be taken.
+        Stopped
+            Where the program ended without all answers.
+
+        Examples
+        --------
+        >>> store.fromto("pay", 1, 3)["row_id"].tolist()
+        [1, 2]
+        """
+        return questions.versions(self.asked(points_as=points_as), "fromto", name, first, behind)
+
+    def join(self, left: str, right: str, on: Names = None, *, left_on: Names = None, right_on: Names = None,
+             suffixes: PairOfSuffixes = SUFFIXES, points_as: Optional[str] = None,
+             as_of: Optional[int] = None) -> pd.DataFrame:
+        """The pairs of rows of two tables that are equal in the columns `on`, each for as long as both hold.
+
+        Parameters
+        ----------
+        left, right : str
+            The tables.
+        on : name or list of names, optional
             Columns of both tables that are to be equal. Without any each row may meet each.
-        left_on, right_on : name or list of names
-            The same, where the tables have different names for them.
-        suffixes : pair of str or None
-            What is put behind names that are taken, of the left table and of the right one.
+        left_on, right_on : name or list of names, optional
+            The compared columns in place of `on`, where the two tables have different names for them.
+        suffixes : pair of str or None, default ("_left", "_right")
+            What is put behind names that are taken, of the left table and of the right one; None for nothing.
+        points_as : str, optional
+            ns, us, ms, s, D, S, date or datetime: the answer's points, where not of the tables' kind.
+        as_of : int, optional
+            The number of a commit, as of which it is asked, where not of the newest. log() lists them.
+
+        Returns
+        -------
+        DataFrame
+            The period, left_id and right_id in int64, the left table's columns, then the right one's, the compared ones
+            once. Rows are by start, end and ids.
+
+        Raises
+        ------
+        Refused
+            Where the tables, a column or the commit isn't there, or an option is none that can be taken.
+        Stopped
+            Where the program ended without all answers.
+
+        Warns
+        -----
+        Doubt
+            Of keys that meet none and look like another, and of a missing `on`.
+
+        Examples
+        --------
+        >>> lab = pd.DataFrame({"from": day(["2024-02-01"]), "to": day(["2024-06-01"]), "person": ["Grace"]})
+        >>> store.table("lab", lab)
+        commit 5: 1 added, 0 closed
+        >>> store.join("pay", "lab", on="person")
+                from         to  left_id  right_id person  cents
+        0 2024-03-01 2024-06-01        2         1  Grace   4800
         """
         told = self.asked(as_of, left_on=left_on, right_on=right_on, suffixes=suffixes, points_as=points_as)
         return questions.join(told, left, right, on)
 
     def anti(self, left: str, right: str, on: Names = None, *, left_on: Names = None, right_on: Names = None,
-             points_as: Optional[str] = None, as_of: Optional[int] = None) -> Any:
-        """The left table's rows while no right one holds that is equal, as rows() lists them, by row_id, then start."""
+             points_as: Optional[str] = None, as_of: Optional[int] = None) -> pd.DataFrame:
+        """The left table's rows, each for as long as no right one holds that is equal in the columns `on`.
+
+        Parameters
+        ----------
+        left, right : str
+            The tables.
+        on : name or list of names, optional
+            Columns of both tables that are to be equal. Without any each row may meet each.
+        left_on, right_on : name or list of names, optional
+            The compared columns in place of `on`, where the two tables have different names for them.
+        points_as : str, optional
+            ns, us, ms, s, D, S, date or datetime: the answer's points, where not of the tables' kind.
+        as_of : int, optional
+            The number of a commit, as of which it is asked, where not of the newest. log() lists them.
+
+        Returns
+        -------
+        DataFrame
+            As of rows(); a row comes never, once or several times. Rows are by row_id, then start.
+
+        Raises
+        ------
+        Refused
+            Where the tables, a column or the commit isn't there, or an option is none that can be taken.
+        Stopped
+            Where the program ended without all answers.
+
+        Warns
+        -----
+        Doubt
+            Of keys that meet none and look like another, and of a missing `on`.
+
+        Examples
+        --------
+        >>> lab = pd.DataFrame({"from": day(["2024-02-01"]), "to": day(["2024-06-01"]), "person": ["Grace"]})
+        >>> store.table("lab", lab)
+        commit 5: 1 added, 0 closed
+        >>> store.anti("lab", "pay", on="person")
+           row_id       from         to person
+        0       1 2024-02-01 2024-03-01  Grace
+        """
         told = self.asked(as_of, left_on=left_on, right_on=right_on, points_as=points_as)
         return questions.anti(told, left, right, on)
 
     def agg(self, name: str, function: str, column: Optional[str] = None, by: Names = None,
-            as_of: Optional[int] = None, *, points_as: Optional[str] = None) -> Any:
-        """As ruzgalt.agg, of the table's rows.
+            as_of: Optional[int] = None, *, points_as: Optional[str] = None) -> pd.DataFrame:
+        """count, sum, min or max of the rows that hold, for each period in which it stays the same, by groups.
 
         Parameters
         ----------
+        name : str
+            The table.
         function : str
-            count, or of a column's numbers sum, min or max.
-        by : name or list of names
-            Columns whose equal values are a group.
+            count, sum, min or max.
+        column : name, optional
+            The column of numbers of a sum, min or max. A count has none.
+        by : name or list of names, optional
+            Columns whose equal values are a group; without any all rows are one.
+        as_of : int, optional
+            The number of a commit, as of which it is asked, where not of the newest. log() lists them.
+        points_as : str, optional
+            ns, us, ms, s, D, S, date or datetime: the answer's points, where not of the table's kind.
+
+        Returns
+        -------
+        DataFrame
+            The columns of `by`, the period's, and the value, as of ruzgalt.agg. Rows are by group, then start.
+
+        Raises
+        ------
+        Refused
+            Where the table, a column or the commit isn't there, or an option is none that can be taken.
+        Stopped
+            Where the program ended without all answers.
+
+        Warns
+        -----
+        Doubt
+            Of groups that look like one another.
+
+        Examples
+        --------
+        >>> store.agg("pay", "max", "cents", by="person")
+          person       from         to  max_cents
+        0    Ada 2024-01-01 2024-07-01       5000
+        1    Ada 2024-07-01 2025-01-01       5400
+        2  Grace 2024-03-01 2024-10-01       4800
         """
         return questions.agg(self.asked(as_of, by=by, points_as=points_as), name, function, column)
 
-    def dip(self, name: str, as_of: Optional[int] = None) -> Any:
-        """part and row_id, by part and start, of the fewest parts without an overlap; attrs as of ruzgalt.dip."""
-        return divisions.dip(self.asked(as_of), name)
-
-    def check(self, name: str, parts: Any, count: Optional[int] = None, instant: Any = None,
-              as_of: Optional[int] = None) -> Verdict:
-        """Whether a frame of part and row_id divides the rows, no two that overlap in one part, in as few as can be.
+    def dip(self, name: str, as_of: Optional[int] = None) -> pd.DataFrame:
+        """The fewest parts into which the rows can be divided so that no two of a part hold at one time.
 
         Parameters
         ----------
+        name : str
+            The table.
+        as_of : int, optional
+            The number of a commit, as of which it is asked, where not of the newest. log() lists them.
+
+        Returns
+        -------
+        DataFrame
+            part, from 0 on, and row_id, both in int64, by part and start. Its attrs are as of ruzgalt.dip.
+
+        Raises
+        ------
+        Refused
+            Where the table or the commit isn't there, or an option is none that can be taken.
+        Stopped
+            Where the program ended without all answers.
+
+        Examples
+        --------
+        >>> parts = store.dip("pay")
+        >>> parts.to_dict("list"), parts.attrs["count"]
+        ({'part': [0, 0, 1], 'row_id': [3, 4, 2]}, 2)
+        """
+        return divisions.dip(self.asked(as_of), name)
+
+    def check(self, name: str, parts: pd.DataFrame, count: Optional[int] = None, instant: Any = None,
+              as_of: Optional[int] = None) -> Verdict:
+        """Whether a frame divides the rows into parts of which no two rows overlap, as few as can be.
+
+        Parameters
+        ----------
+        name : str
+            The table.
         parts : DataFrame
             part, numbers or texts, and row_id.
-        count, instant : optional
-            How many parts there are, and a point at which as many rows hold; else those of parts.attrs, as of dip().
+        count : int, optional
+            How many parts there are, where not as parts.attrs has it, as of dip().
+        instant : str, date, datetime, Timestamp or Period, optional
+            A point at which as many rows hold, where not as parts.attrs has it.
+        as_of : int, optional
+            The number of a commit, as of which it is asked, where not of the newest. log() lists them.
 
         Returns
         -------
         Verdict
-            True or false as a condition; else with the reason and its numbers.
+            True or false as a condition; with the reason and its numbers.
+
+        Raises
+        ------
+        Refused
+            Where the table or the commit isn't there, or an option is none that can be taken.
+        Stopped
+            Where the program ended without all answers.
+
+        Examples
+        --------
+        >>> parts = store.dip("pay")
+        >>> store.check("pay", parts)
+        Verdict(is_yes=True, reason='', numbers=())
+        >>> store.check("pay", parts.assign(part=0), count=1, instant="2024-03-01")
+        Verdict(is_yes=False, reason='Overlap', numbers=(3, 2))
         """
         return divisions.check(self.asked(as_of), name, parts, count, instant)
 
-    def log(self) -> Any:
-        """commit, caller, kind, table, and how many versions it added and closed."""
+    def log(self) -> pd.DataFrame:
+        """The commits, with what each did.
+
+        Returns
+        -------
+        DataFrame
+            commit and caller in int64, kind (table, load, update or delete) and table as objects of str, and in int64
+            how many versions of rows the commit added and closed. Rows are by commit.
+
+        Raises
+        ------
+        Stopped
+            Where the program ended without all answers.
+
+        Examples
+        --------
+        >>> store.log()
+           commit  caller    kind table  added  closed
+        0       1       1   table   pay      0       0
+        1       2       1    load   pay      2       0
+        2       3       1  update   pay      2       1
+        """
         return questions.log(self.asked())

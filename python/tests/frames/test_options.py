@@ -1,4 +1,5 @@
 """What may be told to a call: each option is taken in its types, and in others refused by its name."""
+import inspect
 import unittest
 from pathlib import Path
 
@@ -6,6 +7,7 @@ import numpy as np
 import pandas as pd
 
 import ruzgalt
+from ruzgalt.frames import options
 
 DAYS = pd.to_datetime
 FRAME = pd.DataFrame({"from": DAYS(["2024-01-01"]), "to": DAYS(["2024-02-01"]), "k": ["a"], "x": [1]})
@@ -73,6 +75,29 @@ class Types(unittest.TestCase):
         self.assertEqual(len(ruzgalt.join(one, other, on="ab")), 1)
         self.assertEqual(len(ruzgalt.join(one, other, on=["a", "b"])), 0)
         self.assertEqual(len(ruzgalt.anti(one, other, left_on="ab", right_on="ab")), 0)
+
+
+class Signatures(unittest.TestCase):
+    def test_each_option_is_a_keyword_that_is_looked_at(self):
+        for call in (ruzgalt.join, ruzgalt.anti, ruzgalt.agg, ruzgalt.dip):
+            with self.subTest(call):
+                kinds = {name: one.kind for name, one in inspect.signature(call).parameters.items()}
+                self.assertNotIn(inspect.Parameter.VAR_KEYWORD, kinds.values())
+                named = {name for name, kind in kinds.items() if kind is inspect.Parameter.KEYWORD_ONLY}
+                self.assertLessEqual({"period", "open_end", "last_day", "workers"}, named)
+                self.assertLessEqual(named, set(options.CHECKS))
+        of_table = inspect.signature(ruzgalt.Store.table).parameters
+        self.assertLessEqual(set(options.OF_TABLE), set(of_table))
+
+    def test_another_word_is_a_type_error_as_of_any_function(self):
+        for asked in (lambda: ruzgalt.join(FRAME, FRAME, onn="k"), lambda: ruzgalt.Store().table("t", FRAME, onn="k")):
+            with self.assertRaisesRegex(TypeError, "unexpected keyword argument 'onn'"):
+                asked()
+
+    def test_the_package_lists_its_calls(self):
+        self.assertLessEqual({"join", "anti", "agg", "dip", "Store", "Refused", "__version__"}, set(dir(ruzgalt)))
+        self.assertEqual(dir(ruzgalt), sorted(ruzgalt.__all__))
+        self.assertIn("open_end", str(inspect.signature(ruzgalt.join)))
 
 
 class Suffixes(unittest.TestCase):

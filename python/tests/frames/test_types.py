@@ -1,4 +1,4 @@
-"""Whether mypy finds the types of frames right, strictly; in the long form, since it reads all of numpy."""
+"""Whether mypy finds the types of frames right, strictly, and those of a program that calls them."""
 import importlib.util
 import os
 import subprocess
@@ -8,17 +8,77 @@ import unittest
 from pathlib import Path
 
 TOP = Path(__file__).resolve().parents[3]
+# Stand for packages that have no types, or whose types would be read for long.
+STUBS = {
+    "pandas.pyi": "class DataFrame: ...\nclass Series: ...\n",
+    "dask/__init__.pyi": "",
+    "dask/dataframe.pyi": "class DataFrame: ...\n",
+    "numpy.pyi": "from typing import Any\ndef __getattr__(name: str) -> Any: ...\n",
+}
+# mypy is to refuse the lines that say so, and no others.
+PROGRAM = """
+from typing import Optional
+import dask.dataframe as dd
+import pandas as pd
+import ruzgalt
+
+frame, spread = pd.DataFrame(), dd.DataFrame()
+store = ruzgalt.Store(workers=2)
+pairs: pd.DataFrame = ruzgalt.join(frame, frame, on="k", labels=True, suffixes=("_l", None))
+left: pd.DataFrame = ruzgalt.anti(frame, frame, ["k"], period=["start", "end"], decimals={"k": 2})
+costs: pd.DataFrame = ruzgalt.agg(frame, "sum", "cents", by="k", open_end=True)
+parts: pd.Series = ruzgalt.dip(frame, last_day=True)
+two: dd.DataFrame = ruzgalt.join(spread, spread, on="k", parts=2)
+first: dd.DataFrame = ruzgalt.join(spread, frame, on="k")
+second: dd.DataFrame = ruzgalt.anti(frame, spread, on="k")
+counts: dd.DataFrame = ruzgalt.agg(spread, "count")
+changed: Optional[ruzgalt.Changed] = store.table("pay", frame, key="k", open_end=True)
+rows: pd.DataFrame = store.rows("pay", as_of=2)
+verdict: ruzgalt.Verdict = store.check("pay", store.dip("pay"))
+version: str = ruzgalt.__version__
+ruzgalt.join(frame, frame, onn="k")  # refused
+ruzgalt.join(frame, frame, "k", ["k"])  # refused
+ruzgalt.join(frame, [frame])  # refused
+ruzgalt.join(frame, frame, workers="4")  # refused
+ruzgalt.anti(frame, frame, labels=True)  # refused
+ruzgalt.agg(spread, "count", open_ends=True)  # refused
+ruzgalt.dip(frame, by="k")  # refused
+ruzgalt.dip(spread)  # refused
+none: dd.DataFrame = ruzgalt.join(frame, frame)  # refused
+store.table("pay", frame, opened=True)  # refused
+ruzgalt.jion(frame, frame)  # refused
+"""
 
 
+def mypy(words, path, folder):
+    """What mypy prints, whose own files go to the folder."""
+    environment = {**os.environ, "MYPYPATH": os.pathsep.join(map(str, path))}
+    command = [sys.executable, "-m", "mypy", "--config-file", "python/mypy.ini", "--cache-dir", f"{folder}/cache"]
+    return subprocess.run([*command, *words], cwd=TOP, env=environment, capture_output=True).stdout.decode()
+
+
+@unittest.skipUnless(importlib.util.find_spec("mypy"), "mypy isn't here: apt-get install python3-mypy")
 class Types(unittest.TestCase):
-    @unittest.skipUnless(os.environ.get("FRAMES_LONG"), "only in the long form")
-    @unittest.skipUnless(importlib.util.find_spec("mypy"), "mypy isn't here: apt-get install python3-mypy")
+    def setUp(self):
+        folder = tempfile.TemporaryDirectory()
+        self.addCleanup(folder.cleanup)
+        self.folder = Path(folder.name)
+
+    @unittest.skipUnless(os.environ.get("FRAMES_LONG"), "only in the long form, since it reads all of numpy")
     def test_types_are_right(self):
-        with tempfile.TemporaryDirectory() as cache:
-            words = ["mypy", "--config-file", "python/mypy.ini", "--cache-dir", cache, "-p", "ruzgalt.frames"]
-            environment = {**os.environ, "MYPYPATH": str(TOP / "python")}
-            ran = subprocess.run([sys.executable, "-m", *words], cwd=TOP, env=environment, capture_output=True)
-        self.assertEqual(ran.returncode, 0, ran.stdout.decode())
+        printed = mypy(["-p", "ruzgalt.frames"], [TOP / "python"], self.folder)
+        self.assertTrue(printed.startswith("Success"), printed)
+
+    def test_a_program_is_refused_where_it_is_wrong(self):
+        for name, text in {**STUBS, "program.py": PROGRAM}.items():
+            self.folder.joinpath(name).parent.mkdir(exist_ok=True)
+            self.folder.joinpath(name).write_text(text)
+        # Of other Pythons' packages nothing is read.
+        words = ["--no-site-packages", "--hide-error-context", str(self.folder / "program.py")]
+        printed = mypy(words, [self.folder, TOP / "python"], self.folder)
+        found = {int(line.split(":")[1]) for line in printed.splitlines() if ": error: " in line}
+        wanted = {number for number, line in enumerate(PROGRAM.splitlines(), 1) if "# refused" in line}
+        self.assertEqual(found, wanted, printed)
 
 
 if __name__ == "__main__":

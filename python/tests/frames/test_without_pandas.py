@@ -25,11 +25,23 @@ class WithoutPandas(unittest.TestCase):
         self.assertEqual(self.run_lines("from ruzgalt import answers, cli, records; print('yes')"), ("yes\n", ""))
 
     def test_frames_say_what_is_to_be_installed(self):
-        for name in ("join", "anti", "agg", "dip", "Store", "Refused", "Stopped", "Doubt"):
+        for name in ("join", "anti", "agg", "dip", "Store", "Changed", "Verdict", "Refused", "Stopped", "Doubt"):
             printed, said = self.run_lines(f"import ruzgalt; print('imported'); ruzgalt.{name}")
             self.assertEqual(printed, "imported\n")
             self.assertIn("ImportError: ruzgalt." + name + " needs", said)
             self.assertIn("apt-get install python3-pandas", said)
+
+    def test_importing_it_imports_nothing_of_frames_and_changes_nothing_of_the_host(self):
+        lines = """
+import csv, gc, signal, sys, warnings
+def host():
+    signals = [signal.getsignal(one) for one in signal.valid_signals()]
+    return csv.field_size_limit(), gc.isenabled(), gc.get_threshold(), signals, warnings.filters[:], sys.path[:]
+before = host()
+import ruzgalt
+print(host() == before, "join" in dir(ruzgalt), sorted(one for one in sys.modules if one.startswith("ruzgalt.")))
+"""
+        self.assertEqual(self.run_lines(lines), ("True True []\n", ""))
 
     def test_other_names_are_no_attributes(self):
         _, said = self.run_lines("import ruzgalt; ruzgalt.nothing")
