@@ -45,6 +45,7 @@ Python 3.9 and its library are all that is needed. A module stands on those abov
     cli, load_cli       the words of tools/answers and of tools/csv-to-load
 """
 from importlib import import_module
+from importlib.util import find_spec
 from typing import TYPE_CHECKING, Any, List
 
 __all__ = [
@@ -74,4 +75,10 @@ else:
 
 
 def __dir__() -> List[str]:
-    return sorted(__all__)
+    """What can be had here: whoever lists names asks for each, and without pandas the calls can't be."""
+    return sorted(__all__) if find_spec("pandas") else ["__version__"]
+
+
+def load_tests(_: Any, found: Any, __: Any) -> Any:
+    """The package has no tests, so unittest needn't import its modules to look for some."""
+    return found

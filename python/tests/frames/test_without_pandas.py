@@ -5,6 +5,9 @@ import sys
 import tempfile
 import unittest
 from pathlib import Path
+from unittest import mock
+
+import ruzgalt
 
 TOP = Path(__file__).resolve().parents[3]
 
@@ -42,6 +45,10 @@ import ruzgalt
 print(host() == before, "join" in dir(ruzgalt), sorted(one for one in sys.modules if one.startswith("ruzgalt.")))
 """
         self.assertEqual(self.run_lines(lines), ("True True []\n", ""))
+
+    def test_calls_that_cannot_be_had_are_not_listed(self):
+        with mock.patch.object(ruzgalt, "find_spec", return_value=None):
+            self.assertEqual(dir(ruzgalt), ["__version__"])
 
     def test_other_names_are_no_attributes(self):
         _, said = self.run_lines("import ruzgalt; ruzgalt.nothing")
