@@ -8,6 +8,10 @@ from ruzgalt.store import loaded
 from ruzgalt.tables import Kind, Schema
 
 
+# In so many loads at most rows are looked at, since each is looked for in the script.
+LOADS = 1_000
+
+
 class Ends(doubts.Ends):
     """Whether ends of a script's rows look like last days."""
 
@@ -28,10 +32,14 @@ class Loads:
         self.answers: List[Answer] = []
         self.count = 0
 
+    @property
+    def are_few(self) -> bool:
+        return self.count <= LOOKED_AT and len(self.answers) < LOADS
+
     def add(self, answer: Answer) -> None:
         """Adds the rows of an accepted load, where the table's are so few that they are looked at."""
         self.count += len(answer.command.rows)
-        if self.count > LOOKED_AT or answer.command.record.is_asked or not self.places:
+        if not self.are_few or answer.command.record.is_asked or not self.places:
             return
         self.answers.append(answer)
         rows = list(loaded(answer.command))
@@ -44,7 +52,7 @@ class Loads:
                     self.pairs[other] = value
 
     def told(self) -> Iterator[str]:
-        if self.count > LOOKED_AT:
+        if not self.are_few:
             return
         yield from self.ends.told()
         if self.pairs:
