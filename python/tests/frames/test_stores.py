@@ -15,6 +15,8 @@ import pandas as pd
 import ruzgalt
 
 DAYS = pd.to_datetime
+# Printed as period[S], and since pandas 2.2 as period[s].
+SECONDS = pd.PeriodDtype(pd.offsets.Second())
 
 
 def frame(**cells):
@@ -184,7 +186,7 @@ class Points(Case):
         made.update("t", "2300-01-01", None, {"k": "c"}, {"k": "a"})
         for got in (made.rows("t"), made.at("t", "2350-01-01"), made.agg("t", "count"), made.join("t", "t", on="k"),
                     made.between("t", 0, 3), made.anti("t", "t", on=[])):
-            self.assertEqual(str(got["from"].dtype), "period[S]")
+            self.assertEqual(got["from"].dtype, SECONDS)
         self.assertEqual(str(made.rows("t", points_as="D")["to"].dtype), "period[D]")
         self.assertEqual(made.at("t", "2350-01-01", points_as="date")["from"].tolist(), [datetime.date(2300, 1, 1)])
         self.refuses(lambda: made.rows("t", points_as="ns"), "BadPoint", "points_as")
@@ -570,7 +572,7 @@ class Scripts(Case):
         rows = made.rows("pay")
         self.assertEqual([str(one) for one in rows.dtypes], ["int64", "period[D]", "period[D]", "object", "int64"])
         self.assertEqual(rows["cents"].tolist(), [480000, 500000, 540000, 7])
-        self.assertEqual(str(made.rows("shift")["to"].dtype), "period[S]")
+        self.assertEqual(made.rows("shift")["to"].dtype, SECONDS)
         more = pd.DataFrame({"from": pd.PeriodIndex(["2025-01-01"], freq="D"),
                              "to": pd.PeriodIndex(["2025-06-01"], freq="D"), "person": ["Byron, Ada"], "cents": [8]})
         made.load("pay", more)
@@ -584,7 +586,7 @@ class Scripts(Case):
         again = ruzgalt.Store.from_script(first.script())
         self.assertEqual(again.script(), first.script())
         for name in ("t", "none"):
-            wanted = first.rows(name, points_as="S").astype({"from": "period[S]", "to": "period[S]"})
+            wanted = first.rows(name, points_as="S").astype({"from": SECONDS, "to": SECONDS})
             pd.testing.assert_frame_equal(again.rows(name, points_as="S"), wanted)
         self.assertIn("loaded before", quietly(lambda: ruzgalt.Store.from_script(store(frame()).script()).load("t", (
             frame(**{name: frame()[name].dt.to_period("D") for name in ("from", "to")}))))[1][0])
