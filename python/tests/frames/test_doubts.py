@@ -111,7 +111,7 @@ class Doubts(unittest.TestCase):
         self.assertEqual(self.told(lambda: ruzgalt.agg(two, "count")), [])
 
     def test_ends_that_are_the_last_second_of_a_day(self):
-        late = pay(to=pd.to_datetime(["2024-06-30T23:59:59", "2024-07-01"]))
+        late = pay(to=pd.to_datetime(["2024-06-30T23:59:59", "2024-07-01T00:00:00"]))
         store = ruzgalt.Store()
         store.table("t", pay())
         for call in (ruzgalt.dip, lambda rows: ruzgalt.agg(rows, "count"), lambda rows: store.load("t", rows)):
