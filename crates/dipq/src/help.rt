@@ -43,7 +43,8 @@ error,3,BadPoint: the number of the faulty record, and what is wrong with it.
 The program ends with status
   0   where no command was refused,
   1   where some command was refused,
-  2   where it doesn't take its words,
+  2   where its words are wrong, as in dipq SCRIPT, which is to be
+      dipq < SCRIPT, and in --workers 100, which is past 64,
   3   where the run stopped: reading or writing failed, the script has more
       than 67,108,864 bytes, or there was no memory. Standard error says which.
 
