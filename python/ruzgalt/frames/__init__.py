@@ -26,7 +26,8 @@ A module stands on those above it:
     keys, changes, unmeant  why a key refuses; what a change is; what may not be meant by it
     book                    what a store holds at one moment
     questions, divisions    what is asked of it
-    opening, store          a script as a store; the store
+    opening, batches        a script as a store; changes that are tried together
+    store                   the store
 """
 from ruzgalt.frames.calls import agg, anti, dip, join
 from ruzgalt.frames.changes import Changed

@@ -5,13 +5,14 @@ asked for; within `with store.batch():` all are tried at its end, in one run.
 """
 from __future__ import annotations
 
-from dataclasses import dataclass
+import copy
 from threading import RLock
-from typing import Any, Dict, List, Mapping, Optional, Sequence, Tuple, Type
+from typing import Any, Dict, List, Mapping, Optional, Sequence
 
 import pandas as pd
 
 from ruzgalt.frames import changes, checks, divisions, opening, questions
+from ruzgalt.frames.batches import Batch, Draft
 from ruzgalt.frames.book import Book, accepted
 from ruzgalt.frames.changes import Change, Changed
 from ruzgalt.frames.divisions import Verdict
@@ -22,37 +23,6 @@ from ruzgalt.frames.options import (
 )
 from ruzgalt.frames.questions import Asked
 from ruzgalt.frames.tables import Table
-
-
-@dataclass(frozen=True)
-class Draft:
-    """The changes of a batch, and the book behind them if none is refused."""
-
-    book: Book
-    changes: Tuple[Change, ...] = ()
-
-
-class Batch:
-    """Holds its store's lock, and has the changes of its `with` tried at the end."""
-
-    def __init__(self, store: Store) -> None:
-        self.store, self.changed = store, []  # type: Store, List[Changed]
-
-    def __enter__(self) -> List[Changed]:
-        self.store.lock.acquire()
-        if self.store.draft is not None:
-            self.store.lock.release()
-            raise Refused("BadCommand", "a batch within a batch: end the outer one first")
-        self.store.draft, self.changed = Draft(self.store.book), []
-        return self.changed
-
-    def __exit__(self, kind: Optional[Type[BaseException]], *_: Any) -> None:
-        draft, self.store.draft = self.store.draft, None
-        try:
-            if kind is None and draft is not None:
-                self.changed += self.store.accept(draft.changes)
-        finally:
-            self.store.lock.release()
 
 
 class Store:
@@ -146,14 +116,9 @@ class Store:
         book = self.book
         return f"<Store of {len(book.commands)} commits, tables: {', '.join(book.tables) or 'none'}>"
 
-    def __copy__(self) -> Store:
-        """Another store of the same commits. Raises Refused within a batch."""
-        made = type(self).__new__(type(self))
-        made.__setstate__(self.__getstate__())
-        return made
-
     def __deepcopy__(self, _: Any) -> Store:
-        return self.__copy__()
+        """As copy.copy: what a book has is never changed, so both may share it."""
+        return copy.copy(self)
 
     def __getstate__(self) -> Dict[str, Any]:
         with self.lock:
