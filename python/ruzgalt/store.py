@@ -208,12 +208,6 @@ class Beginnings:
                 yield f"{name} has rows from commit {self.filled[name]} on, and commit {answer.commit} shows none of it"
 
 
-def asks_for_values(answer: Answer) -> bool:
-    """Whether it is a change of rows with some values, which may touch none."""
-    is_change = not answer.refusal and answer.command.word in ("update", "delete")
-    return is_change and bool(fields.where_places(answer.command.record.fields))
-
-
 def rows_of(answers: Sequence[Answer], answer: Answer) -> List[Version]:
     """The rows that a query of one table reads: those of its commit."""
     texts = answer.command.front

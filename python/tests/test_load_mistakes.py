@@ -62,7 +62,7 @@ class Refused(Case):
             ("2024/03/05", "with --dates 2024/12/31 it is one"), ("25-03-2024", "with --dates 31-12-2024 it is one"),
             ("05-03-2024", "with --dates 31-12-2024 or --dates 12-31-2024 it is one"), ("5 Mar 2024", "no date as"),
             ("2024-03-05T24:00:00", "a day ends at the next one's midnight"), ("2024-03", "no date as"),
-            ("2024-W09", "no date as"), ("1709600000", "no date as"), ("5/3/24", "a year has four digits"),
+            ("2024W091", "no date as"), ("1709600000", "no date as"), ("5/3/24", "a year has four digits"),
             ("\uff12024-03-05", "no date as"), ("2024-02-30", "no date as"), ("24-03-05", "a year has four digits"),
         ]:
             with self.subTest(end):
