@@ -1,6 +1,7 @@
 //! Shares.
 
-ghost use Rattle.std.specs.Prelude.{◌≡◌, ◌+◌, ◌/◌, max, min, ℕ, ◌<◌, ◌≤◌, None, length, IfOk, IfSome, true};
+ghost use Rattle.std.specs.Prelude.{◌≡◌, ◌+◌, ◌/◌, max, min, ℕ, ◌<◌, ◌≤◌, None, length, option_map, slice_get, unwrap_or,
+    IfOk, IfSome, true};
 ghost use Rattle.share_core.specs.Ranges.{is_from};
 ghost use Rattle.share_core.specs.Shares.{AreCuts, HaveEach, end_at, range_at, workers_in};
 
@@ -87,7 +88,9 @@ impl<T: Ord + Copy> Shares<T> {
     /// How many workers the range of that number has.
     pub fn workers_of(&self, number: usize) -> u32
         requires { number ≤ length self.now.cuts.items }
-        ensures { (0 < result) × (result ≤ self.now.workers) }
+        ensures some { (0 < result) × (result ≤ self.now.workers) }
+        ensures value { result ≡ unwrap_or (
+            option_map (λ cut. cut.workers) (slice_get self.now.cuts.items number)) self.now.last }
     {
         match self.cuts.get(number) {
             None => self.last,
