@@ -1,48 +1,23 @@
-"""Reads a script of dipq beside its answers, for the tools beside this folder and for programs.
+"""Facts that hold for a time: a script of dipq beside its answers, and frames of pandas and Dask.
+
+    import ruzgalt
+    ruzgalt.join(pay, rates, on="person")      frames, which need pandas
 
     from ruzgalt import answers
     for answer in answers.of("examples/pay.csv", "examples/pay.csv.stdout"):
         print(answer.number, answer.line, answer.command.text, answer.table.names)
 
-Python 3.9 and its library are all that is needed. A module stands on those above it:
+Python 3.9 and its library are all that is needed, but for frames. A folder stands on those above it:
 
-    called              by what names the tools go
-    records, forms      CSV as dipq prints it; points, numbers and names
-    reader              records with their lines, read one behind another; of many only where they stand
-    naming              names of an answer's columns
-    commands, tables    a script's commands; the columns of tables and of answers
-    questions           put behind a script
-    checking, answers   the forms of many records; the answers of a script, each with its command
-    picks               answers chosen by number, line or name
-    fields, reasons     what each field is to be, and the words for what is wrong with it
-    refusals            why a record was refused
-    store, overlaps     the changes done again; rows of one key that hold at one point, and times without any
-    again, fitting      queries done again, and whether answers can be those of a script
-    changes, single     what really changed; a change of one row alone
-    history, front      what each commit changed; whether kept answers are still the front of today's
-    export, queries     CSV, SQLite and JSON; what may not be meant in a query of SQL
-    timeline, cells     the axis of a picture; how wide a text is
-    amounts, shapes     how numbers are printed; the bars and steps that a picture has
-    wishes, squares     what is told beside an answer that is drawn; the picture of versions
-    pictures, scales    what is drawn of an answer; the scale of steps
-    terminal            how it is drawn as text
-    drawing, shades     the pieces of a drawing in SVG, and the colours of its bars
-    labels, svg_steps   where labels stand; steps in SVG
-    svg, picture_cli    how a picture is drawn as SVG; the words of `picture`
-    progress, streams   a line that tells how far a tool is; standard input and output that are closed
-    which, program      which program answers, for frames too; how tools ask it
-    version, installed  which version this is; the commands that a wheel installs
-    page                all answers as one page for a browser
-    sheets              a CSV file with a header: its bytes, its records by pieces
-    dates, decimals     points and numbers in the forms of other programs
-    looks               texts that look like others, or have what can't be seen
-    doubts, marks       what may not be meant in a file that is loaded, and in a script
-    loads               what may not be meant in all rows that were loaded into a table
-    columns, loading    what the values of a column become, and the load that is made of a file
-    claims              somebody's division as a check
-    given               the script and its answers that a tool is given
-    words               those that several tools take
-    cli, load_cli       the words of tools/answers and of tools/csv-to-load
+    errors, version     the one way in which tools end early; which version this is
+    which               which program answers, for frames too
+    script              a script as text: its records, its commands, the columns of its tables
+    answers             the answers of a script: as tables, CSV, JSON and SQLite, and what changed
+    loading             a CSV file with a header becomes a load
+    checking            what is done again beside the program; what may not be meant
+    pictures, page      pictures of answers; all answers as one page for a browser
+    commands            the command lines
+    frames              joins, divisions and stores of frames
 """
 from importlib import import_module
 from importlib.util import find_spec

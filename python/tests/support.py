@@ -9,11 +9,11 @@ from pathlib import Path
 from typing import Iterator, List, Tuple
 from unittest import mock
 
-from ruzgalt import cli, load_cli
+from ruzgalt.commands import answers_tool, load_tool
 
 TOP = Path(__file__).resolve().parents[2]
 EXAMPLE = "examples/pay.csv"
-TOOLS = {"tools/answers": cli.main, "tools/csv-to-load": load_cli.main}
+TOOLS = {"tools/answers": answers_tool.main, "tools/csv-to-load": load_tool.main}
 
 
 class Stream(io.TextIOWrapper):

@@ -9,9 +9,11 @@ from pathlib import Path
 from typing import Iterator, List, Tuple
 from unittest import mock
 
-from ruzgalt import answers as of_answers
-from ruzgalt import cli, reader, which
-from ruzgalt.progress import Progress
+from ruzgalt import which
+from ruzgalt.answers import reading
+from ruzgalt.commands import answers_tool
+from ruzgalt.commands.progress import Progress
+from ruzgalt.script import reader
 
 PAY = "table,pay,person,text,euros,int\nload,pay\nrow,2024-01-01,2024-03-01,A,5\nrow,2024-04-01,2024-06-01,A,6\nend\n"
 ROWS = "row,1,2024-01-01,2024-03-01,A,5\nrow,2,2024-04-01,2024-06-01,A,6\nend,2\n"
@@ -38,7 +40,7 @@ def answers(words: str, script: str, told: str) -> Tuple[int, str, str]:
 def run(words: List[str]) -> Tuple[int, str, str]:
     printed, said = io.TextIOWrapper(io.BytesIO(), "utf-8"), io.StringIO()
     with mock.patch.object(sys, "stdout", printed), contextlib.redirect_stderr(said):
-        status = cli.main(words)
+        status = answers_tool.main(words)
         printed.flush()
     data = printed.buffer
     assert isinstance(data, io.BytesIO)
@@ -332,7 +334,7 @@ class Tables(unittest.TestCase):
 
 @contextlib.contextmanager
 def pieces_of(size: int) -> Iterator[None]:
-    with mock.patch.object(reader, "PIECE", size), mock.patch.object(of_answers, "PIECE", size):
+    with mock.patch.object(reader, "PIECE", size), mock.patch.object(reading, "PIECE", size):
         yield
 
 
@@ -359,7 +361,7 @@ class Terminals(unittest.TestCase):
     def test_a_line_tells_how_far_a_tool_is_after_two_seconds(self) -> None:
         said = io.StringIO()
         with contextlib.redirect_stderr(said), mock.patch.object(said, "isatty", return_value=True, create=True):
-            with mock.patch("ruzgalt.progress.monotonic", side_effect=[0.0, 1.0, 2.5, 2.5]):
+            with mock.patch("ruzgalt.commands.progress.monotonic", side_effect=[0.0, 1.0, 2.5, 2.5]):
                 progress = Progress("answers")
                 progress.tell(1000)
                 progress.tell(2000)

@@ -1,7 +1,7 @@
 """What the columns of an answer are called, whose names the table may have too."""
 import unittest
 
-from ruzgalt import naming
+from ruzgalt.script import naming
 from tests.support import ToolCase, kept
 
 SCRIPT = """table,t,row_id,int,row_id_,int,valid_to,text

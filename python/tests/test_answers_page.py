@@ -320,7 +320,7 @@ class Limits(unittest.TestCase):
             ("<svg><rect x='1' fill='url(//a)'/></svg>", ["svg", {}, ["rect", {"x": "1"}]]),
             ("<svg><rect id='a' fill='url(#b)'/></svg>", ["svg", {}, ["rect", {"id": "p4-a", "fill": "url(#p4-b)"}]]),
         ]:
-            with self.subTest(text), mock.patch("ruzgalt.svg.draw", return_value=text):
+            with self.subTest(text), mock.patch("ruzgalt.pictures.svg.draw", return_value=text):
                 [question, *_] = data_of(example("pay"))["data"]["questions"]
                 self.assertEqual(question["picture"], tree)
 

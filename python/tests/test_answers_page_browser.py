@@ -11,7 +11,8 @@ from pathlib import Path
 from typing import Any, Dict, List, Tuple
 from unittest import mock
 
-from ruzgalt import answers, store
+from ruzgalt import answers
+from ruzgalt.checking import replay
 from ruzgalt.page import contents
 from tests.browser import MISSING, PROGRAM, Browser
 from tests.support import TOP, kept, run
@@ -243,7 +244,7 @@ class Times(BrowserCase):
         for name in ("payroll", "pay", "ward", "joins"):
             script = TOP / f"examples/{name}.csv"
             found = answers.of(script, script.with_name(f"{name}.csv.stdout"))
-            kept = store.behind(found)
+            kept = replay.behind(found)
             self.open(example(name))
             for place, table in enumerate(kept.versions):
                 for (point, commit), shown in self.moments(place).items():

@@ -8,12 +8,12 @@ import xml.etree.ElementTree
 from pathlib import Path
 from typing import Iterator, List, Tuple
 
-from ruzgalt import (
-    answers, cells, databases, export, fitting, overlaps, picks, pictures, reader, records, refusals, store, svg,
-    terminal,
-)
-from ruzgalt.answers import Answer
+from ruzgalt import answers
+from ruzgalt.answers import Answer, databases, export, picks
+from ruzgalt.checking import fitting, overlaps, refusals, replay
 from ruzgalt.errors import Misfit
+from ruzgalt.pictures import cells, figures, svg, terminal
+from ruzgalt.script import reader, records
 from tests.support import TOP
 
 SCRIPTS = sorted([*TOP.glob("examples/*.csv"), *TOP.glob("tests/**/*.csv")])
@@ -59,7 +59,7 @@ class Scripts(unittest.TestCase):
             for answer in found:
                 if answer.command.word == "rows" and not answer.refusal:
                     with self.subTest(script.name, line=answer.line):
-                        rows = store.rows_of(found, answer)
+                        rows = replay.rows_of(found, answer)
                         texts = [[str(one.row_id), one.row.start, one.row.end, *one.row.values] for one in rows]
                         self.assertEqual(texts, list(answer.table.records))
 
@@ -73,7 +73,7 @@ class Scripts(unittest.TestCase):
                         self.assertIn(f": {answer.refusal.name}: ", told)
                         self.assertNotIn("\n", told)
                         if answer.refusal.name == "KeyOverlap":
-                            self.assertTrue(overlaps.explained(store.behind(found[:answer.number - 1]), answer))
+                            self.assertTrue(overlaps.explained(replay.behind(found[:answer.number - 1]), answer))
 
     def test_pictures_keep_to_80_columns_and_are_xml(self) -> None:
         for script in SCRIPTS:
@@ -87,7 +87,7 @@ class Scripts(unittest.TestCase):
         if answer.refusal or word not in ("dip", "rows", "at", "anti", "join", "agg", "between", "fromto"):
             return
         try:
-            picture = pictures.of(found, answer, pictures.Wish())
+            picture = figures.of(found, answer, figures.Wish())
         except Misfit:
             # Versions are drawn of one fact, and there may be several.
             self.assertIn(word, ("between", "fromto"))

@@ -12,9 +12,10 @@ from pathlib import Path
 from typing import List, Sequence, Tuple, Union
 from unittest import mock
 
-from ruzgalt import load_cli, loading
+from ruzgalt.commands import load_tool
 from ruzgalt.errors import Misfit
-from ruzgalt.records import visible
+from ruzgalt.loading import making
+from ruzgalt.script.records import visible
 
 HEADER = "Name,Pay,Start,End\n"
 WORDS = ["pay", "Start", "End", "Name", "Pay"]
@@ -25,9 +26,9 @@ def load(text: Union[str, bytes], *words: str) -> Tuple[str, List[str]]:
     with tempfile.TemporaryDirectory() as folder:
         file = Path(folder, "pay.txt")
         file.write_bytes(text.encode() if isinstance(text, str) else text)
-        options = load_cli.words().parse_intermixed_args([*words, "--file", str(file)])
+        options = load_tool.words().parse_intermixed_args([*words, "--file", str(file)])
         try:
-            pieces, faults, notes, _ = load_cli.made(options)
+            pieces, faults, notes, _ = load_tool.made(options)
         except Misfit as error:
             return "", [str(error)]
     return "" if faults else b"".join(pieces).decode(), faults or notes
@@ -516,7 +517,7 @@ class Files(Case):
 
     def test_nine_tenths_of_a_limit_are_told(self) -> None:
         lines = [f"{letter},1,2024-01-01,2024-03-05" for letter in "ABCDEFGHIJ"]
-        with mock.patch.object(loading, "MOST_ROWS", 10):
+        with mock.patch.object(making, "MOST_ROWS", 10):
             self.told("10 rows in 300 bytes leave little room for corrections", rows(*lines))
 
     def test_rows_behind_a_wrong_one_are_read_for_their_faults(self) -> None:

@@ -4,7 +4,7 @@ import unittest
 from typing import List, Tuple, Union
 from unittest import mock
 
-from ruzgalt import load_cli
+from ruzgalt.commands import load_tool
 from tests.support import Stream
 from tests.test_load import HEADER, WORDS, Case, load, rows
 
@@ -124,7 +124,7 @@ class Terminals(unittest.TestCase):
                 with self.subTest(text, words=words):
                     given, printed, said = Stream(text.encode()), Terminal(), Terminal()
                     with mock.patch.multiple(sys, stdin=given, stdout=printed, stderr=said):
-                        load_cli.main(words)
+                        load_tool.main(words)
                     shown = (printed.bytes.getvalue() + said.bytes.getvalue()).decode()
                     self.assertTrue(all(one.isprintable() for one in shown.replace("\n", "")), repr(shown))
 

@@ -3,7 +3,8 @@ from argparse import Action, ArgumentParser
 from typing import Iterable, Iterator, List, Sequence
 
 from manual.roff import exact, inline, item, opening, paragraph, prose, section, verbatim
-from ruzgalt import cli, load_cli, picks
+from ruzgalt.answers import picks
+from ruzgalt.commands import answers_tool, load_tool
 
 # The words that each command of dipq-answers takes are told once.
 SHARED = ("script", "help", "program", "answers", "ask", "go_on")
@@ -46,22 +47,22 @@ def answers() -> Iterator[str]:
     yield from opening("dipq-answers")
     yield from section("name", [rf"dipq-answers \- {prose('reads a script of dipq beside its answers')}"])
     yield from section("synopsis", [r"\fBdipq-answers\fR \fICOMMAND\fR \fISCRIPT\fR .."])
-    about = cli.ABOUT.split("\n\n")
+    about = answers_tool.ABOUT.split("\n\n")
     described = [about[0], about[2], IN_A_REPOSITORY.format("tools/answers")]
     yield from section("description", (one for text in described for one in paragraph(text)))
     yield ".SH COMMANDS"
-    for name, tool in cli.TOOLS.items():
-        parser = cli.parser_of(name, tool)
+    for name, tool in answers_tool.TOOLS.items():
+        parser = answers_tool.parser_of(name, tool)
         own = [action for action in parser._actions if action.dest not in SHARED]
         yield from [f".SS {name}", *paragraph(parser.description or ""), *words(own)]
-    parser = cli.parser_of("list", cli.TOOLS["list"])
+    parser = answers_tool.parser_of("list", answers_tool.TOOLS["list"])
     shared = [action for action in parser._actions if action.dest in SHARED]
     yield from section("options", [*words(shared), *item(r"\fIPICK\fR", [inline(sentence(picks.HELP))])])
     yield from ending(ANSWERS_STATUS, ANSWERS_EXAMPLES, r"\fBdipq-load\fR(1)")
 
 
 def load() -> Iterator[str]:
-    parser = load_cli.words()
+    parser = load_tool.words()
     yield from opening("dipq-load")
     yield from section("name", [rf"dipq-load \- {prose('turns a CSV file with a header into a load of dipq')}"])
     yield from section("synopsis", synopsis(parser))

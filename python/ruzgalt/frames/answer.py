@@ -11,10 +11,10 @@ from typing import Any, Iterable, List, Optional, Sequence, Tuple
 
 import pandas as pd
 
-from ruzgalt import naming
 from ruzgalt.frames.checks import Suffixes
 from ruzgalt.frames.errors import Refused
 from ruzgalt.frames.named import same
+from ruzgalt.script import naming
 
 # A name, and cells: a Series by places from 0 on, or an array.
 Column = Tuple[Any, Any]

@@ -3,13 +3,13 @@ from __future__ import annotations
 
 from typing import List, Optional, Sequence, Tuple
 
-from ruzgalt import records
-from ruzgalt.frames import program, script
+from ruzgalt.frames import running, script
 from ruzgalt.frames.arrays import NO_INTS, Cells, Ints
 from ruzgalt.frames.errors import Refused, Stopped
 from ruzgalt.frames.output import Output
 from ruzgalt.frames.script import Command
 from ruzgalt.frames.sides import Side
+from ruzgalt.script import records
 
 # The columns of an answer: start, end, and what tells its rows apart.
 Found = Tuple[Cells, ...]
@@ -36,7 +36,7 @@ def answered(commands: Sequence[Command], workers: int) -> Output:
 
 
 def output_of(commands: Sequence[Command], workers: int) -> Output:
-    return Output(program.answer((piece for command in commands for piece in command.pieces), workers))
+    return Output(running.answer((piece for command in commands for piece in command.pieces), workers))
 
 
 def first_refused(output: Output, changes: Sequence[Command]) -> Optional[Tuple[int, Sequence[str]]]:

@@ -6,7 +6,6 @@ from typing import Any, List, Optional, Sequence
 
 import numpy as np
 
-from ruzgalt import forms
 from ruzgalt.frames import checks, doubts, points, script, values
 from ruzgalt.frames.arrays import NO_INTS, Ints
 from ruzgalt.frames.errors import Refused
@@ -15,6 +14,7 @@ from ruzgalt.frames.script import Command
 from ruzgalt.frames.sides import Side, side_of
 from ruzgalt.frames.tables import Table, table_of, wanted_of
 from ruzgalt.frames.values import Values
+from ruzgalt.script import forms
 
 
 @dataclass(frozen=True, repr=False)

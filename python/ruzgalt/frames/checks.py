@@ -9,8 +9,8 @@ from typing import Any, Hashable, Iterable, Mapping, Optional, Sequence, Tuple
 import numpy as np
 import pandas as pd
 
-from ruzgalt import naming
 from ruzgalt.frames.errors import Refused
+from ruzgalt.script import naming
 
 Pair = Tuple[Any, Any]
 Suffixes = Tuple[Optional[str], Optional[str]]

@@ -6,13 +6,13 @@ from typing import Any, Dict, Optional, Sequence
 import numpy as np
 import pandas as pd
 
-from ruzgalt import forms
 from ruzgalt.frames import ask, doubts, points, script, sides, split
 from ruzgalt.frames.arrays import Ints
 from ruzgalt.frames.errors import Refused
 from ruzgalt.frames.kinds import Kind
 from ruzgalt.frames.options import Options
 from ruzgalt.frames.output import Output, reading
+from ruzgalt.script import forms
 
 OTHERWISE = "agg(frame, 'count') tells how many parts it has, the greatest count, and the instant, where that begins"
 

@@ -9,14 +9,14 @@ from typing import Any, Iterable, List, Mapping, Sequence, Set, Tuple
 
 import numpy as np
 
-from ruzgalt.doubts import Ends
+from ruzgalt.checking.doubts import Ends
+from ruzgalt.checking.looks import NO_VALUES, LookAlikes, fold
 from ruzgalt.frames import instants, points, zones
 from ruzgalt.frames.arrays import Ints
 from ruzgalt.frames.errors import doubt
 from ruzgalt.frames.named import names_of, same
 from ruzgalt.frames.sides import Period, Side
 from ruzgalt.frames.values import Values
-from ruzgalt.looks import NO_VALUES, LookAlikes, fold
 
 # So many texts of a column are looked at, and so many rows.
 MOST_TEXTS, MOST_ROWS = 20_000, 4_000

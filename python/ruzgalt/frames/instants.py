@@ -7,12 +7,12 @@ from typing import Any
 import numpy as np
 import pandas as pd
 
-from ruzgalt import forms
 from ruzgalt.frames import checks, points, zones
 from ruzgalt.frames.arrays import Ints
 from ruzgalt.frames.ask import REMEDIES
 from ruzgalt.frames.errors import Refused
 from ruzgalt.frames.points import Form
+from ruzgalt.script import forms
 
 
 def column_of(point: Any) -> Any:

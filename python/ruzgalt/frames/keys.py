@@ -6,7 +6,6 @@ from typing import Any, Dict, Iterator, List, Optional, Sequence, Tuple
 
 import numpy as np
 
-from ruzgalt import fields
 from ruzgalt.frames import instants, points, zones
 from ruzgalt.frames.arrays import Cells, Ints, Marks, of_objects
 from ruzgalt.frames.errors import Refused
@@ -14,6 +13,7 @@ from ruzgalt.frames.script import Command
 from ruzgalt.frames.sides import Side
 from ruzgalt.frames.tables import Table
 from ruzgalt.frames.values import Values
+from ruzgalt.script import fields
 
 # The values of the key, start, end, and where the row is from.
 Row = Tuple[Tuple[Any, ...], int, int, Any]

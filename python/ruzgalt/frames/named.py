@@ -5,8 +5,8 @@ from typing import Any, List, Sequence
 
 import numpy as np
 
-from ruzgalt import naming
 from ruzgalt.frames.errors import Refused
+from ruzgalt.script import naming
 
 
 def same(name: Any) -> Any:

@@ -9,10 +9,11 @@ from typing import Any, Dict, Mapping, Sequence, Union
 import numpy as np
 import pandas as pd
 
-from ruzgalt import answers, commands, refusals
+from ruzgalt import answers
 from ruzgalt.answers import Answer
+from ruzgalt.checking import refusals
 from ruzgalt.errors import Misfit
-from ruzgalt.frames import ask, checks, kinds, points, program, script
+from ruzgalt.frames import ask, checks, kinds, points, running, script
 from ruzgalt.frames.arrays import NO_INTS, Cells
 from ruzgalt.frames.book import Book
 from ruzgalt.frames.errors import Refused, Stopped, doubt
@@ -21,8 +22,9 @@ from ruzgalt.frames.script import Command
 from ruzgalt.frames.sides import Side
 from ruzgalt.frames.tables import Table, coded
 from ruzgalt.frames.values import Texts, Values
-from ruzgalt.reader import Block, Source
-from ruzgalt.tables import Kind, Schema
+from ruzgalt.script import commands
+from ruzgalt.script.reader import Block, Source
+from ruzgalt.script.schemas import Kind, Schema
 
 Script = Union[bytes, str, "os.PathLike[str]"]
 # So many refused changes are named.
@@ -32,7 +34,7 @@ NAMED = 10
 def book_of(given: Script, options: Any, empty: Book) -> Book:
     """The book of a script's accepted changes. Raises Refused, Stopped; warns of refused changes."""
     data = bytes_of(given)
-    output = program.answer([data], empty.workers).tobytes()
+    output = running.answer([data], empty.workers).tobytes()
     try:
         found = answers.of_commands(commands.commands(Source(data)), output, is_own=True)
     except Misfit as misfit:

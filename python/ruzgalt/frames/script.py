@@ -6,11 +6,11 @@ from typing import Any, Iterator, List, Optional, Sequence
 
 import numpy as np
 
-from ruzgalt import records
 from ruzgalt.frames import points, values
 from ruzgalt.frames.arrays import Bytes
 from ruzgalt.frames.sides import Side
 from ruzgalt.frames.values import Values
+from ruzgalt.script import records
 
 LIMIT = 67_108_864
 # What a script has beside its rows takes less than the rest.

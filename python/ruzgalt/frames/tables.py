@@ -8,7 +8,6 @@ from typing import Any, Iterator, List, Mapping, Sequence, Tuple
 import numpy as np
 import pandas as pd
 
-from ruzgalt import forms
 from ruzgalt.frames import checks, instants, kinds, points, sides, values
 from ruzgalt.frames.arrays import Cells, Ints
 from ruzgalt.frames.ask import REMEDIES
@@ -18,6 +17,7 @@ from ruzgalt.frames.options import Options
 from ruzgalt.frames.points import Form
 from ruzgalt.frames.sides import Period, Side
 from ruzgalt.frames.values import Texts, Values
+from ruzgalt.script import forms
 
 
 @dataclass(frozen=True)

@@ -6,7 +6,7 @@ from typing import Any, Dict, Iterator, List, Sequence, Tuple
 import numpy as np
 import pandas as pd
 
-from ruzgalt import doubts, fields, marks
+from ruzgalt.checking import doubts, marks
 from ruzgalt.frames import values
 from ruzgalt.frames.arrays import Hashes, Ints
 from ruzgalt.frames.changes import Change
@@ -14,6 +14,7 @@ from ruzgalt.frames.script import Command
 from ruzgalt.frames.sides import Side
 from ruzgalt.frames.tables import Table
 from ruzgalt.frames.values import Values
+from ruzgalt.script import fields
 
 
 def texts_of(commands: Sequence[Command], table: str, name: str) -> List[str]:

@@ -18,10 +18,10 @@ from typing import Any, Dict, List, Optional, Sequence, Tuple
 import numpy as np
 import pandas as pd
 
-from ruzgalt import forms
 from ruzgalt.frames import arrow
 from ruzgalt.frames.arrays import Bytes, Cells, Ints, of_objects
 from ruzgalt.frames.errors import Refused, refuse
+from ruzgalt.script import forms
 
 # Texts up to so many bytes are written by numpy, from a table of fixed width.
 NARROW = 64

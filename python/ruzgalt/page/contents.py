@@ -3,14 +3,14 @@ import json
 from itertools import islice
 from typing import Any, Dict, Iterator, List, NamedTuple, Optional, Sequence, Tuple, TypeVar
 
-from ruzgalt import called, history
-from ruzgalt.answers import CHANGES, Answer
-from ruzgalt.given import EMPTY
+from ruzgalt.answers import CHANGES, Answer, history
+from ruzgalt.answers.picks import BARE
+from ruzgalt.commands import called
+from ruzgalt.commands.given import EMPTY
 from ruzgalt.page import drawings, findings
 from ruzgalt.page.sources import CLOSED, MADE, VALUES, Marked, Sources, Tally, tally
-from ruzgalt.picks import BARE
-from ruzgalt.records import short
-from ruzgalt.tables import Column, Schema, Table
+from ruzgalt.script.records import short
+from ruzgalt.script.schemas import Column, Schema, Table
 
 # So many records of a table are shown; so many questions, pictures, commits, and parts of a check are there at most.
 SHOWN, QUESTIONS, PICTURES, COMMITS, PARTS = 1_000, 1_000, 200, 50_000, 1_000

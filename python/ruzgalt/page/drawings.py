@@ -4,9 +4,10 @@ import xml.etree.ElementTree
 from typing import Any, Dict, List, NamedTuple, Optional, Sequence
 from xml.etree.ElementTree import Element
 
-from ruzgalt import called, pictures, svg
 from ruzgalt.answers import Answer
+from ruzgalt.commands import called
 from ruzgalt.errors import Misfit
+from ruzgalt.pictures import figures, svg
 
 # Of more records the table alone is shown, and a picture has so many pixels across.
 MOST, WIDTH = 400, 640
@@ -41,7 +42,7 @@ def of(found: Sequence[Answer], answer: Answer) -> Drawing:
         told = f"No picture: {count:,} records are more than {MOST}. `{called.ANSWERS} picture` draws some of them."
         return Drawing(None, told)
     try:
-        text = svg.draw(pictures.of(of_one_table(found, answer), answer, pictures.Wish()), WIDTH)
+        text = svg.draw(figures.of(of_one_table(found, answer), answer, figures.Wish()), WIDTH)
     except Misfit:
         return Drawing(None, "No picture of several facts in one: each has its own under Tables over time.")
     prefix = f"p{answer.number}-"

@@ -1,14 +1,14 @@
 """What an auditor looks at first: what was refused, what touched nothing, what may not be meant, each with a reason."""
 from typing import Iterator, List, NamedTuple, Optional, Sequence, Tuple
 
-from ruzgalt import marks, overlaps, refusals
 from ruzgalt.answers import CHANGES, Answer
-from ruzgalt.fields import where_places
-from ruzgalt.looks import fold
+from ruzgalt.checking import marks, overlaps, refusals
+from ruzgalt.checking.looks import fold
+from ruzgalt.checking.replay import Store
 from ruzgalt.page.sources import CLOSED, MADE, VALUES, Sources, Tally
-from ruzgalt.records import short, to_record, visible
-from ruzgalt.store import Store
-from ruzgalt.tables import Table
+from ruzgalt.script.fields import where_places
+from ruzgalt.script.records import short, to_record, visible
+from ruzgalt.script.schemas import Table
 
 # So many findings of each kind are told, and of so many changes that touched nothing the rows are looked at.
 TOLD, LOOKED_AT = 1_000, 100

@@ -6,18 +6,19 @@ from pathlib import Path
 from typing import Counter as Counts
 from typing import Dict, List, NamedTuple, Optional, Sequence
 
-from ruzgalt import called, fitting, shell
-from ruzgalt.again import texts_of
 from ruzgalt.answers import Answer
-from ruzgalt.given import Found, bytes_of, read
-from ruzgalt.commands import commands
+from ruzgalt.checking import fitting
+from ruzgalt.checking.again import texts_of
+from ruzgalt.checking.replay import Store, behind
+from ruzgalt.commands import called, shell
+from ruzgalt.commands.given import Found, bytes_of, read
 from ruzgalt.errors import Misfit
-from ruzgalt.forms import is_name
-from ruzgalt.questions import commands_of, named, put_behind
-from ruzgalt.reader import Source
-from ruzgalt.records import short
-from ruzgalt.store import Store, behind
-from ruzgalt.tables import PERIOD, Schema, Table, ints, unique
+from ruzgalt.script.commands import commands
+from ruzgalt.script.forms import is_name
+from ruzgalt.script.questions import commands_of, named, put_behind
+from ruzgalt.script.reader import Source
+from ruzgalt.script.records import short
+from ruzgalt.script.schemas import PERIOD, Schema, Table, ints, unique
 
 # No commit has a greater number.
 NEWEST = 1_000_000

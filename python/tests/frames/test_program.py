@@ -16,7 +16,7 @@ import pandas as pd
 import ruzgalt
 from processes import children, is_running, wait_for
 from ruzgalt import which
-from ruzgalt.frames import program
+from ruzgalt.frames import running
 
 TOP = Path(__file__).resolve().parents[3]
 FRAME = pd.DataFrame({"from": pd.to_datetime(["2024-01-01"]), "to": pd.to_datetime(["2024-02-01"]), "k": [1]})
@@ -67,7 +67,7 @@ class Program(unittest.TestCase):
         self.assertTrue(wait_for(lambda: not is_running(running), 5))
 
     def test_a_program_does_not_start_whose_caller_is_gone(self):
-        words = program.ending_with_us([str(self.command("echo started"))])
+        words = running.ending_with_us([str(self.command("echo started"))])
         told = [str(os.getpid() + 1) if word == str(os.getpid()) else word for word in words]
         ran = subprocess.run(told, stdout=subprocess.PIPE)
         self.assertEqual((ran.returncode, ran.stdout), (3, b""))
@@ -149,8 +149,8 @@ class Program(unittest.TestCase):
             self.assertFalse((self.folder / "settings").exists())
 
     def test_without_setpriv_the_program_runs_as_it_is(self):
-        with mock.patch.object(program.shutil, "which", lambda name: None if name == "setpriv" else name):
-            self.assertEqual(program.ending_with_us(["dipq"]), ["dipq"])
+        with mock.patch.object(running.shutil, "which", lambda name: None if name == "setpriv" else name):
+            self.assertEqual(running.ending_with_us(["dipq"]), ["dipq"])
             self.assertEqual(len(ruzgalt.join(FRAME, FRAME, on="k")), 1)
 
     def test_nothing_is_printed(self):

@@ -6,7 +6,7 @@ import numpy as np
 import pandas as pd
 
 import ruzgalt
-from ruzgalt.frames import program, split
+from ruzgalt.frames import running, split
 
 DAY = np.timedelta64(1, "D")
 
@@ -26,7 +26,7 @@ def days_of(first, last, count):
 
 def counted():
     """The program's runs, as a context."""
-    return mock.patch.object(program, "run", side_effect=program.run)
+    return mock.patch.object(running, "run", side_effect=running.run)
 
 
 QUESTIONS = {

@@ -8,8 +8,8 @@ import pandas as pd
 
 import test_random_frames
 import test_random_stores
-from ruzgalt import naming
 from ruzgalt.frames import instants, kinds, output, points, split, values
+from ruzgalt.script import naming
 
 # So many seeds are tried until a wrong body is noticed.
 SEEDS = 400

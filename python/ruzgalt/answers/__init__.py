@@ -1,0 +1,19 @@
+"""The answers of a script, each with its command and its columns. A module stands on those above it.
+
+    from ruzgalt import answers
+    for answer in answers.of("examples/pay.csv", "examples/pay.csv.stdout"):
+        print(answer.number, answer.line, answer.command.text, answer.table.names)
+
+    lists               the forms of many records at once
+    reading             the answers of a script, each with its command; what this package gives by its own name
+    picks               answers chosen by number, line or name
+    asking              the program is asked for a script's answers
+    changes, history    what really changed between two answers; what each commit changed
+    front               whether kept answers are still the front of today's
+    export              CSV and JSON
+    spreadsheets        CSV for a spreadsheet
+    databases           tables of an SQLite database
+"""
+from ruzgalt.answers.reading import CHANGES, READERS, Answer, Listed, Reading, of, of_commands
+
+__all__ = ["CHANGES", "READERS", "Answer", "Listed", "Reading", "of", "of_commands"]

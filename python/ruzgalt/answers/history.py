@@ -1,0 +1,121 @@
+"""What each commit changed of a table: the time for which values hold since, or don't any more; what lay in the past.
+
+The records are by commit; those of a commit as in an answer to `changed`.
+"""
+from itertools import islice
+from typing import Dict, Iterable, Iterator, List, Optional, Sequence, Tuple
+
+from ruzgalt.answers import CHANGES, Answer
+from ruzgalt.answers.changes import Held, changes, order
+from ruzgalt.checking.replay import Store, Version, behind
+from ruzgalt.errors import Misfit
+from ruzgalt.script.schemas import PERIOD, Column, Kind, Schema, Table, ints, unique
+
+# So many commits are named of which a diary has no day.
+COMMITS = 5
+# The places in a change of its commit's day, and of its own start, where it has a day.
+ENTERED, START = 2, 4
+CHANGE = [Column("change", Kind.TEXT), *PERIOD]
+
+# The first days of a diary, each with the newest commit from then on.
+Days = List[Tuple[str, int]]
+
+
+def of_table(
+    found: Sequence[Answer], name: str, where: Sequence[Tuple[str, str]], days: Optional[Days] = None,
+) -> Table:
+    """All changes of rows with these values, each with the day of its commit where days are given."""
+    refuse_missing(found, name)
+    schema, store = found[-1].tables[name], behind(found)
+    wanted = [(schema.place(column), value) for column, value in where]
+    lines = {one.commits: one.place for one in found if not one.refusal and one.command.word in CHANGES}
+    entered = [] if days is None else [Column("entered", Kind.POINT)]
+    columns = unique([*ints("commit"), Column("place", Kind.TEXT), *entered, *CHANGE, *schema.columns])
+    records: List[List[Optional[str]]] = []
+    for commit, change in changes_of(schema, store.versions[name], wanted):
+        day = [] if days is None else [day_of(days, commit)]
+        records.append([str(commit), lines[commit], *day, *change])
+    return Table(columns, records)
+
+
+def refuse_missing(found: Sequence[Answer], name: str) -> None:
+    tables = found[-1].tables if found else {}
+    if name not in tables:
+        there = ", ".join(tables)
+        raise Misfit(f"{name}: no table that is there{f': {there}' if there else ''}")
+
+
+def days_in(found: Sequence[Answer], diary: str) -> Days:
+    """The days of a diary as the script's end has it."""
+    refuse_missing(found, diary)
+    return days_of(found[-1].tables[diary], open_rows(behind(found), diary))
+
+
+def changes_of(
+    schema: Schema, versions: Sequence[Version], wanted: Sequence[Tuple[int, str]],
+) -> Iterator[Tuple[int, List[str]]]:
+    """What each commit changed of the rows that have these values."""
+    before: Dict[int, List[Held]] = {}
+    after: Dict[int, List[Held]] = {}
+    for version in versions:
+        if all(version.row.values[place] == value for place, value in wanted):
+            held = version.row.start, version.row.end, version.row.values
+            after.setdefault(version.made, []).append(held)
+            if version.closed is not None:
+                before.setdefault(version.closed, []).append(held)
+    for commit in sorted({*before, *after}):
+        found = changes(before.get(commit, []), after.get(commit, []))
+        for change in sorted(found, key=order(list(schema.columns), False)):
+            yield commit, change
+
+
+def days_of(schema: Schema, rows: Iterable[Sequence[str]]) -> Days:
+    """The days of a diary, each with the newest commit from then on: the number in its first column.
+
+    Its rows are told by start, end and values.
+    """
+    if not schema.columns or schema.columns[0].kind is not Kind.INT:
+        raise Misfit(f"{schema.name}: a diary's first column is an int, the newest commit from a row's start on")
+    return sorted((start, int(newest)) for start, _, newest, *_ in rows)
+
+
+def doubts_of(table: Table, days: Optional[Days], newest: int) -> Iterator[str]:
+    """What may not be meant in a diary beside a table's changes."""
+    if days is None:
+        return
+    yield from strange_commits(days, newest)
+    without = dict.fromkeys(record[0] for record in table.records if record[ENTERED] is None)
+    if without:
+        told = ", ".join(str(commit) for commit in islice(without, COMMITS))
+        more = f" and {len(without) - COMMITS} more" if len(without) > COMMITS else ""
+        yield f"commits without a day, which --retroactive leaves out: {told}{more}"
+
+
+def strange_commits(days: Days, newest: int) -> Iterator[str]:
+    """Names a commit of a diary that isn't there."""
+    strange = [number for _, number in days if not 0 <= number <= newest]
+    if strange:
+        yield f"it names commit {strange[0]}, which isn't there: the newest is {newest}"
+
+
+def open_rows(store: Store, name: str) -> Iterator[List[str]]:
+    return ([one.row.start, one.row.end, *one.row.values] for one in store.open[name].by_id.values())
+
+
+def day_of(days: Sequence[Tuple[str, int]], commit: int) -> Optional[str]:
+    """The first day on which the commit was there."""
+    return next((day for day, newest in days if commit <= newest), None)
+
+
+def retroactive(table: Table) -> Table:
+    """Only what a commit changed of the time before its day, cut there."""
+    records = []
+    for record in table.records:
+        day, first, end = record[ENTERED], record[START], record[START + 1]
+        if day is not None and first is not None and end is not None and first < day:
+            records.append([*record[:START + 1], min(end, day), *record[START + 2:]])
+    return Table(table.columns, records)
+
+
+def of_commit(table: Table, commit: int) -> Table:
+    return Table(table.columns, [record for record in table.records if record[0] == str(commit)])

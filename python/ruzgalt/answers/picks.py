@@ -1,0 +1,89 @@
+"""Chooses answers by their number, by their line, or from the last one back, and gives them names."""
+import re
+from dataclasses import dataclass
+from typing import Dict, List, Sequence
+
+from ruzgalt.answers import Answer
+from ruzgalt.commands import called
+from ruzgalt.errors import Misfit
+from ruzgalt.script.records import short
+
+HELP = (
+    f"an answer: its NUMBER in `{called.ANSWERS} list`, @LINE of its command in the script, `last`, or `last-N` for "
+    "the N-th before that; with =NAME behind it, it gets that name"
+)
+FORM = re.compile(r"(?P<number>\d{1,9})|@(?P<line>\d{1,9})|last(-(?P<back>\d{1,9}))?", re.ASCII)
+# What these are answered is a number of a commit, and nothing that one would ask for.
+BARE = ("table", "load", "update", "delete", "together")
+
+
+@dataclass(frozen=True)
+class Pick:
+    name: str
+    answer: Answer
+
+
+def pick(
+    answers: Sequence[Answer], words: Sequence[str], asked: Sequence[Answer], names: Dict[int, str],
+) -> List[Pick]:
+    """The answers that the words tell, and those that are asked besides; where there is neither, all that are tables.
+
+    Names are those that answers of these numbers have already.
+    """
+    picks = [picked(answers, word, names) for word in words]
+    taken = {one.answer.number for one in picks}
+    others = [one for one in (asked if words or asked else answers) if one.number not in taken and is_asked(one)]
+    picks.extend(Pick(names.get(one.number, name_of(one)), one) for one in others)
+    refuse_twins(picks)
+    return picks
+
+
+def picked(answers: Sequence[Answer], word: str, names: Dict[int, str]) -> Pick:
+    """The answer that a word tells, under the name that stands behind it."""
+    which, mark, name = word.partition("=")
+    answer = find(answers, which)
+    if answer.refusal:
+        raise Misfit(f"{which}: {answer.place}: {short(answer.command.text)} was refused: {answer.refusal.name}")
+    if mark and not name:
+        raise Misfit(f"{word}: no name behind the =")
+    return Pick(name or names.get(answer.number, name_of(answer)), answer)
+
+
+def refuse_twins(picks: Sequence[Pick]) -> None:
+    """Two answers of one name would be one table, and SQLite and some file systems take capitals for small letters."""
+    before: Dict[str, Pick] = {}
+    for one in picks:
+        twin = before.setdefault(one.name.casefold(), one)
+        if twin is not one:
+            both = [f"{pick.answer.place}, {short(pick.answer.command.text)}, as {pick.name}" for pick in (twin, one)]
+            remedy = f"give each its own, as {one.answer.number}={one.name}_{one.answer.number}"
+            raise Misfit(f"two answers have one name, capitals or not: {' and '.join(both)}; {remedy}")
+
+
+def is_pick(word: str) -> bool:
+    return bool(FORM.fullmatch(word.partition("=")[0]))
+
+
+def is_asked(answer: Answer) -> bool:
+    return not answer.refusal and answer.command.word not in BARE
+
+
+def name_of(answer: Answer) -> str:
+    """A name that no other answer has: the command's word, its tables, and the answer's number."""
+    front = answer.command.front
+    tables = front[1:3] if front[0] in ("join", "anti") else front[1:2]
+    return "_".join([front[0], *tables, str(answer.number)])
+
+
+def find(answers: Sequence[Answer], which: str) -> Answer:
+    told = FORM.fullmatch(which)
+    if not told:
+        raise Misfit(f"{which}: neither a number, nor @LINE, nor last or last-N")
+    if told["line"]:
+        found = [answer for answer in answers if answer.line == int(told["line"])]
+    else:
+        place = int(told["number"]) - 1 if told["number"] else len(answers) - 1 - int(told["back"] or 0)
+        found = [answers[place]] if 0 <= place < len(answers) else []
+    if not found:
+        raise Misfit(f"{which}: no such answer; there are {len(answers)}, which `{called.ANSWERS} list` numbers")
+    return found[0]

@@ -1,0 +1,308 @@
+"""Reads a script beside its answers: of each answer the command, the record and its line, and what was answered."""
+from dataclasses import dataclass, field
+from itertools import islice
+from pathlib import Path
+from typing import Dict, Iterable, Iterator, List, Optional, Sequence, Union
+
+from ruzgalt.answers.lists import Checks
+from ruzgalt.commands import called
+from ruzgalt.commands.progress import Progress
+from ruzgalt.errors import Misfit
+from ruzgalt.script import commands, schemas
+from ruzgalt.script.commands import Command
+from ruzgalt.script.forms import is_count, is_printed, printed
+from ruzgalt.script.reader import PIECE, Block, Place, Reader, Row, Rows, Source
+from ruzgalt.script.records import Record, short
+from ruzgalt.script.schemas import Column, Schema, Table
+
+# Bytes, or the file that has them.
+Given = Union[bytes, str, Path]
+
+
+@dataclass(frozen=True)
+class Refusal:
+    """The name of a refusal, and the record that is at fault."""
+
+    name: str
+    record: Record
+
+
+@dataclass(frozen=True)
+class Answer:
+    """What a command was answered: a table, or a refusal. Commits are those that were there behind it."""
+
+    number: int
+    command: Command
+    commits: int
+    tables: Dict[str, Schema] = field(repr=False)
+    table: Table = field(default_factory=lambda: Table([]))
+    refusal: Optional[Refusal] = None
+
+    @property
+    def line(self) -> int:
+        return self.command.line
+
+    @property
+    def refused(self) -> Refusal:
+        """The refusal of one that has one."""
+        if self.refusal is None:
+            raise ValueError(f"{self.place}: no refusal")
+        return self.refusal
+
+    @property
+    def place(self) -> str:
+        return self.command.place
+
+    @property
+    def commit(self) -> int:
+        """The commit that a query reads."""
+        return self.commits if self.command.as_of is None else int(self.command.as_of)
+
+
+def of(script: Given, output: Given) -> List[Answer]:
+    """The answers in the output, which are those to the script. Raises Misfit where they can't be."""
+    return of_commands(commands.commands(Source(bytes_of(script))), bytes_of(output))
+
+
+def of_commands(script: Iterable[Command], output: bytes, is_own: bool = False) -> List[Answer]:
+    return list(Reading(Source(output), is_own).answers(script))
+
+
+def bytes_of(source: Given) -> bytes:
+    return source if isinstance(source, bytes) else Path(source).read_bytes()
+
+
+class Reading:
+    """The answers' records, of which some first ones are read, and the tables and commits of the store by then."""
+
+    def __init__(self, output: Source, is_own: bool):
+        """Of answers that the program gave just now the long lists are passed over."""
+        self.source, self.output, self.is_own = output, Reader(output), is_own
+        self.place = self.output.place
+        self.progress = Progress(called.ANSWERS_SAY)
+        self.tables: Dict[str, Schema] = {}
+        self.commits = 0
+        # The queries of a block read the commit that it began with, and its load is the next.
+        self.held: Optional[int] = None
+
+    def answers(self, script: Iterable[Command]) -> Iterator[Answer]:
+        try:
+            for number, command in enumerate(script, 1):
+                if not command.in_together:
+                    self.held = None
+                yield self.answer(number, command)
+        finally:
+            self.progress.end()
+        extra = self.output.next()
+        if extra is not None:
+            raise Misfit(f"the script has no command for the answer at line {extra.line}: {short(extra.text)}")
+
+    def answer(self, number: int, command: Command) -> Answer:
+        self.place = self.output.place
+        first = self.take(command, "an answer")
+        if first.word == "error":
+            shown = self.commits if self.held is None else self.held
+            return Answer(number, command, shown, self.tables, refusal=self.refusal(command, first))
+        table = self.table(command, first)
+        shown = self.commits if self.held is None or command.word == "load" else self.held
+        return Answer(number, command, shown, self.tables, table)
+
+    def table(self, command: Command, first: Record) -> Table:
+        """The answer that begins with this record, as a table."""
+        if command.word in CHANGES:
+            return self.accepted(command, first)
+        if command.word == "together":
+            return self.opened(command, first)
+        if command.word not in READERS or not command.is_ended or not self.has_commits(command):
+            raise misfit(command, "error,RECORD,NAME", first)
+        try:
+            columns = schemas.header(command, self.tables)
+        except (KeyError, IndexError, Misfit):
+            raise misfit(command, "error,RECORD,NAME, as its tables, columns or point aren't there", first) from None
+        return Table(columns, READERS[command.word](self, command, first, columns))
+
+    def has_commits(self, command: Command) -> bool:
+        """Whether the commits that a query tells are numbers, and that of its suffix is there."""
+        if command.as_of is not None:
+            newest = self.commits if self.held is None else self.held
+            return is_count(command.as_of) and int(command.as_of) <= newest
+        if command.word not in ("between", "fromto"):
+            return True
+        return len(command.front) == 4 and all(map(is_count, command.front[2:]))
+
+    def take(self, command: Command, wanted: str) -> Record:
+        record = self.output.next()
+        if record is None:
+            more = "; --answers is to have those to each --ask too" if command.record.is_asked else ""
+            raise Misfit(f"{command.place}: {short(command.text)}: the answers end before {wanted}{more}")
+        return record
+
+    def refusal(self, command: Command, record: Record) -> Refusal:
+        number = record.fields[1] if len(record.fields) == 3 else ""
+        at_fault = command.record_of(int(number)) if is_count(number) else None
+        if at_fault is None or not is_refusable(record.fields[2], at_fault, command, self.tables):
+            raise misfit(command, "a refusal that it can have", record)
+        return Refusal(record.fields[2], at_fault)
+
+    def accepted(self, command: Command, record: Record) -> Table:
+        if list(record.fields) != ["ok", str(self.commits + 1)] or not command.is_ended:
+            raise misfit(command, f"ok,{self.commits + 1}", record)
+        if not is_doable(command, self.tables):
+            raise misfit(command, "error,RECORD,NAME, as its form is wrong, or its table isn't there", record)
+        if command.word == "table":
+            self.tables = {**self.tables, command.record.fields[1]: Schema.read(command.record.fields)}
+        self.commits += 1
+        return Table(schemas.ints("commit"), [[record.fields[1]]])
+
+    def opened(self, command: Command, record: Record) -> Table:
+        is_right = command.is_ended and len(command.record.fields) == 1
+        if not is_right or list(record.fields) != ["together", str(self.commits)]:
+            raise misfit(command, f"together,{self.commits}", record)
+        self.held = self.commits
+        return Table(schemas.ints("commit"), [[record.fields[1]]])
+
+    def listed(self, command: Command, first: Record, columns: List[Column]) -> Sequence[Row]:
+        """The records of a list up to its end, which counts them. They are looked at, and read again where wanted."""
+        word = {"between": "version", "fromto": "version", "log": "commit"}.get(command.word, "row")
+        place, count, record = self.place, 0, first
+        if word == first.word and len(first.fields) == len(columns) + 1:
+            checks = Checks(command, columns, printed(command.front[2]) if command.word == "at" else None)
+            for piece in self.output.pieces(first, len(columns) + 1):
+                if not checks.pass_over(piece):
+                    raise checks.fault(Reader(self.source, place), first)
+                count += len(piece)
+                self.progress.tell(self.output.number)
+                behind = self.output.at_list_end(first) if self.is_own and len(piece) == PIECE else None
+                if behind:
+                    self.output, count = behind, behind.number - first.number
+                    break
+            record = self.take(command, "the list's end")
+        if list(record.fields) != ["end", str(count)]:
+            names = ",".join(column.name for column in columns)
+            raise misfit(command, f"{word},{names} or end,{count}", record)
+        return Listed(self.source, place, count, record.line)
+
+    def divided(self, command: Command, first: Record, columns: List[Column]) -> Sequence[Row]:
+        """A record for each row of each part, with the instant that all have."""
+        if first.word != "dip" or len(first.fields) != 4 or not all(map(is_count, first.fields[1:3])):
+            raise misfit(command, "dip,ROWS,PARTS,INSTANT", first)
+        if first.fields[3] != "-" if first.fields[1] == "0" else not is_printed(first.fields[3]):
+            raise misfit(command, "dip,ROWS,PARTS,INSTANT with a point, or - where there are no rows", first)
+        count, parts, instant = first.fields[1:]
+        place, found = self.output.place, 0
+        for part in range(int(parts)):
+            record = self.take(command, f"part,{part}")
+            if list(record.fields[:2]) != ["part", str(part)] or not all(map(is_count, record.fields[2:])):
+                raise misfit(command, f"part,{part} with ids", record)
+            found += len(record.fields) - 2
+        if found != int(count):
+            told = f"{count} rows are told, and {found} stand in parts"
+            raise Misfit(f"{command.place}: {short(command.text)}: {told}")
+        return Rows(found, lambda: parts_at(self.source, place, int(parts), instant))
+
+    def judged(self, command: Command, first: Record, columns: List[Column]) -> Sequence[Row]:
+        """A verdict, with its numbers under the names of what they count."""
+        fields = list(first.fields)
+        if fields == ["yes"]:
+            return [["yes", None, None, None, None, None]]
+        places = VERDICTS.get(fields[1]) if fields[0] == "no" and len(fields) > 2 else None
+        if places is None or len(fields) != 2 + len(places) or not all(map(is_count, fields[2:])):
+            raise misfit(command, "yes, or no and its reason", first)
+        numbers: List[Optional[str]] = [None] * 4
+        for place, number in zip(places, fields[2:]):
+            numbers[place] = number
+        return [["no", fields[1], *numbers]]
+
+
+# Where the numbers of a verdict stand among count, part, row_id and other_row_id.
+VERDICTS = {
+    "WrongCount": [0], "EmptyPart": [1], "Unknown": [2], "Twice": [2], "Missing": [2], "Overlap": [2, 3],
+    "NotCrowded": [0],
+}
+CHANGES = ("table", "load", "update", "delete")
+LISTS = ("rows", "at", "between", "fromto", "join", "anti", "agg", "log")
+READERS = {**{word: Reading.listed for word in LISTS}, "dip": Reading.divided, "check": Reading.judged}
+
+
+class Listed(Rows):
+    """The records of a list, without their first word."""
+
+    # So many bytes are printed at once.
+    STRIDE = 1 << 20
+
+    def __init__(self, source: Source, place: Place, count: int, end: int) -> None:
+        super().__init__(count, self.rows)
+        self.source, self.place, self.end = source, place, end
+
+    def rows(self) -> Iterator[Row]:
+        reader = Reader(self.source, self.place)
+        for fields in islice(filter(None, reader.fields), self.size):
+            row: List[Optional[str]] = [*fields[1:]]
+            if fields[0] == "version" and row[4] == "-":
+                row[4] = None
+            yield row
+
+    def lines(self) -> Iterator[bytes]:
+        """The records of rows as they stand in the answers, without their first word, where each is a line."""
+        data, byte, last = self.source.data, self.source.byte_of(self.place.line), self.source.byte_of(self.end)
+        while byte < last:
+            end = min(data.find(b"\n", byte + self.STRIDE) + 1 or last, last)
+            yield data[byte:end].replace(b"\nrow,", b"\n")[4:]
+            byte = end
+
+    @property
+    def has_lines(self) -> bool:
+        first, last = self.source.byte_of(self.place.line), self.source.byte_of(self.end)
+        is_plain = self.source.ends is None and not self.source.has_zero and self.source.data.startswith(b"row,", first)
+        return is_plain and self.source.data.count(b"\n", first, last) == self.size and b"\r" not in self.source.data
+
+
+def parts_at(source: Source, place: Place, parts: int, instant: str) -> Iterator[Row]:
+    for record in islice(Reader(source, place), parts):
+        yield from ([record.fields[1], row_id, instant] for row_id in record.fields[2:])
+
+
+OF_QUERIES = "BadCommand BadName BadNumber Future NoTable"
+OF_CHANGES = "BadCommand BadName BadPoint BadPeriod NoTable NoColumn BadNumber TooLong BadUtf8 Full"
+OF_VERSIONS = "BadCommand BadName BadNumber BadPeriod NoTable"
+OF_PARTS = {
+    "load": "BadCommand WrongWidth BadPoint BadPeriod BadNumber TooLong BadUtf8", "check": "BadCommand BadNumber",
+}
+# The names of refusals that each command can have, those of its records aside.
+NAMES = {
+    "table": "BadCommand BadName TooMany TwiceNamed NoColumn TableExists Full",
+    "load": "Unended BadCommand BadName NoTable Full KeyOverlap", "update": f"{OF_CHANGES} KeyOverlap",
+    "delete": OF_CHANGES, "rows": OF_QUERIES, "dip": OF_QUERIES, "at": f"{OF_QUERIES} BadPoint",
+    "between": OF_VERSIONS, "fromto": OF_VERSIONS, "check": f"{OF_QUERIES} Unended BadPoint",
+    "together": "BadCommand Unended",
+    **dict.fromkeys(("join", "anti", "agg"), f"{OF_QUERIES} NoColumn WrongKind"),
+}
+
+
+def is_refusable(name: str, record: Record, command: Command, there: Dict[str, Schema]) -> bool:
+    """Whether the refusal can be the command's, and the table is there by whose key or columns it is explained."""
+    if name == "NotInBlock":
+        return command.in_together and command.word in (*CHANGES, "log", "together")
+    told = NAMES if record is command.record else OF_PARTS
+    if (name == "Unended") is command.is_ended or name not in told.get(command.word, "BadCommand").split():
+        return False
+    if name == "KeyOverlap":
+        return command.word in ("load", "update") and is_doable(command, there)
+    return name != "WrongWidth" or command.word == "load" and [*command.record.fields, ""][1] in there
+
+
+def is_doable(command: Command, there: Dict[str, Schema]) -> bool:
+    """Whether a change that is answered by `ok` has the form that is needed to do it again."""
+    texts = command.record.fields
+    if command.word == "table":
+        return schemas.is_schema(texts)
+    if len(texts) < 2 or texts[1] not in there:
+        return False
+    if isinstance(command.block, Block):
+        return command.block.widths <= {3 + len(there[texts[1]].columns)}
+    return len(texts) > 3
+
+
+def misfit(command: Command, wanted: str, found: Record) -> Misfit:
+    told = f"the answer at line {found.line} is {short(found.text)}, and not {wanted}"
+    return Misfit(f"{command.place}: {short(command.text)}: {told}")

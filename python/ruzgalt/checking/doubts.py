@@ -1,0 +1,245 @@
+"""What may not be meant in a file that is loaded as it is: told once a column, with a count and a line."""
+from array import array
+from collections import Counter
+from itertools import chain
+from typing import Counter as Counts
+from typing import Dict, Iterator, List, NamedTuple, Optional, Sequence, Tuple
+
+from ruzgalt.loading.dates import is_far_off, is_month_end, shifted
+from ruzgalt.script.records import visible
+
+
+class Doubt(NamedTuple):
+    """What is told of a value, and the kind of doubt of which one is told a column."""
+
+    kind: str
+    told: str
+
+
+class Counted:
+    """How many rows have a doubt of one kind, and the first of them."""
+
+    def __init__(self, line: int, value: str, told: str) -> None:
+        self.line, self.value, self.told, self.count = line, value, told, 0
+
+
+class Notes:
+    """What is noted of a file, a column and a kind at a time."""
+
+    def __init__(self) -> None:
+        self.found: Dict[Tuple[str, str], Counted] = {}
+
+    def count(self, name: str, doubts: Dict[str, Doubt], lines: Sequence[int], values: Sequence[str]) -> None:
+        """Counts the rows of a piece that have a value with a doubt."""
+        if not doubts or doubts.keys().isdisjoint(values):
+            return
+        for line, value in zip(lines, values):
+            doubt = doubts.get(value)
+            if doubt:
+                self.found.setdefault((name, doubt.kind), Counted(line, value, doubt.told)).count += 1
+
+    def told(self) -> Iterator[str]:
+        for (name, _), one in self.found.items():
+            more = f", and {one.count - 1} more rows" if one.count > 1 else ""
+            yield f"{name} is '{visible(one.value)}', and is loaded so: {one.told} (line {one.line}{more})"
+
+
+class Days(Dict[str, str]):
+    """The days so many days behind others, found once of those that are alike; nothing for ends that aren't known."""
+
+    def __init__(self, distance: int) -> None:
+        super().__init__()
+        self.distance = distance
+
+    def __missing__(self, day: str) -> str:
+        found = self[day] = shifted(day, self.distance) if day < "9999" else ""
+        return found
+
+
+class Ends:
+    """Whether ends look like last days where they are taken for the days behind, or the other way round.
+
+    Of rows with one key some start on the end of another, and some on the day behind it; ends are last days of months
+    or first ones. What is kept of a row are numbers for its key and a point, since there may be a million, and they are
+    looked at when all are there.
+    """
+
+    def __init__(self, name: str, key: str, is_last_day: bool) -> None:
+        self.name, self.key, self.is_last_day = name, key, is_last_day
+        self.lines: List[Sequence[int]] = []
+        # Of each row the key with its start, with its end as the file has it, and with the day behind.
+        self.starts, self.same, self.behind = array("q"), array("q"), array("q")
+        # The days behind, or before, and how often each end is there, since days repeat.
+        self.days = Days(-1 if is_last_day else 1)
+        self.counts: Counts[str] = Counter()
+
+    def add(self, lines: Sequence[int], keys: Sequence[object], starts: Sequence[str], ends: Sequence[str]) -> None:
+        """Adds rows with their points as they are loaded."""
+        others = list(map(self.days.__getitem__, ends))
+        told, behind = (others, ends) if self.is_last_day else (ends, others)
+        # A row of one day doesn't meet itself.
+        met = ["" if start == end else end for start, end in zip(starts, told)] if self.is_last_day else told
+        self.lines.append(lines)
+        for numbers, points in ((self.starts, starts), (self.same, met), (self.behind, behind)):
+            numbers.extend(map(hash, zip(keys, points)))
+        self.counts.update(told)
+
+    def told(self) -> Iterator[str]:
+        starts = set(self.starts)
+        # How many rows another one of their key meets.
+        on_end, on_next = (sum(map(starts.__contains__, ends)) for ends in (self.same, self.behind))
+        if on_end or on_next:
+            is_odd = on_end >= on_next if self.is_last_day else on_next >= on_end
+            if is_odd or (on_end and on_next):
+                yield self.told_of_meetings(on_end, on_next, is_odd)
+                return
+        yield from self.told_of_months(on_next if self.is_last_day else on_end)
+
+    def told_of_meetings(self, on_end: int, on_next: int, is_odd: bool) -> str:
+        told = " and ".join(
+            f"{count} start on {where} ({self.example_of(ends)})"
+            for count, where, ends in ((on_next, "the day behind it", self.behind), (on_end, "it", self.same)) if count
+        )
+        remedy = self.remedy() if is_odd else "is it the last day in some rows, and the day behind it in others?"
+        other = f"one of the same {self.key}" if self.key else "another one"
+        return f"{self.name}: of rows that follow {other}, {told}: {remedy}"
+
+    def example_of(self, ends: "array[int]") -> str:
+        starts = dict(zip(self.starts, chain(*self.lines)))
+        line, end = next(pair for pair in zip(chain(*self.lines), ends) if pair[1] in starts)
+        return f"line {starts[end]} after line {line}"
+
+    def told_of_starts(self) -> Iterator[str]:
+        """Tells of updates of one key from one point on."""
+        pair = first_pair(self.starts, self.lines)
+        if pair:
+            told = f"updates the same {self.key} from the same point on as line {pair[1]}"
+            yield f"line {pair[0]} {told}, and the later one stands"
+
+    def remedy(self) -> str:
+        if self.is_last_day:
+            return "--last-day takes it for the last day of a row; without it, the day before is the last"
+        return "a row doesn't hold on that day any more; --last-day takes it for the last one"
+
+    def told_of_months(self, meeting: int) -> Iterator[str]:
+        """Tells where nearly all ends are days of a month that look otherwise, and few rows meet as they are told."""
+        known = [day for day in self.counts if day < "9999" and not is_far_off(day)]
+        last_days, first_days = [day for day in known if is_month_end(day)], [day for day in known if day[8:] == "01"]
+        ends, starts = (sum(map(self.counts.__getitem__, days)) for days in (last_days, first_days))
+        odd, others, days = (starts, ends, first_days) if self.is_last_day else (ends, starts, last_days)
+        if odd > 4 * others and odd > 10 * meeting:
+            of_all = f"{ends} ends are last days of a month, and {starts} first ones"
+            yield f"{self.name} is {days[0]}: {self.remedy()} ({of_all})"
+
+
+class Overwrites:
+    """Tells an update that takes back one before it: of the same key, from an earlier point on, and past its start."""
+
+    def __init__(self, key: str) -> None:
+        self.key = key
+        # Of each key the latest start so far, and its line.
+        self.latest: Dict[object, Tuple[str, int]] = {}
+        self.found: List[Tuple[int, int]] = []
+
+    def add(self, lines: Sequence[int], keys: Sequence[object], starts: Sequence[str], ends: Sequence[str]) -> None:
+        for line, key, start, end in zip(lines, keys, starts, ends):
+            latest, other = self.latest.setdefault(key, (start, line))
+            if start < latest < end:
+                self.found.append((line, other))
+            elif latest < start:
+                self.latest[key] = start, line
+
+    def told(self) -> Iterator[str]:
+        if self.found:
+            line, other = self.found[0]
+            more = f"; {len(self.found) - 1} more do so" if len(self.found) > 1 else ""
+            told = f"line {line} updates the same {self.key} from an earlier point on than line {other}"
+            yield f"{told}, and past its start, so it takes its place: are the file's lines out of order?{more}"
+
+
+class Repeats:
+    """Tells rows of equal values that hold at one time, which a key would forbid.
+
+    Only of rows whose values are those of another one more is looked at than a number.
+    """
+
+    def __init__(self) -> None:
+        self.lines: List[Sequence[int]] = []
+        self.values = array("q")
+        self.starts: List[Sequence[str]] = []
+        self.ends: List[Sequence[str]] = []
+
+    def add(self, lines: Sequence[int], columns: Sequence[Sequence[str]]) -> None:
+        """Adds rows by their columns, of which the first two are starts and ends."""
+        starts, ends, *values = columns
+        self.lines.append(lines)
+        self.starts.append(starts)
+        self.ends.append(ends)
+        self.values.extend(map(hash, zip(*values)))
+
+    def told(self) -> Iterator[str]:
+        """Where more than half of such rows overlap they are meant so, as of bookings that are counted."""
+        rows = self.repeated()
+        if not rows:
+            return
+        pairs = [pair for pair in map(overlapping, rows, rows[1:]) if pair]
+        if pairs and 2 * len(pairs) <= len(self.values):
+            line, other = pairs[0]
+            more = f"; {len(pairs) - 1} more rows do so" if len(pairs) > 1 else ""
+            told = f"line {line} has the values of line {other}, and both hold at one time"
+            yield f"{told}: is one of them too many?{more}"
+
+    def repeated(self) -> List["Repeat"]:
+        """The rows whose values are those of another row, by values and start."""
+        if len(set(self.values)) == len(self.values):
+            return []
+        counts = Counter(self.values)
+        rows = zip(self.values, chain(*self.starts), chain(*self.ends), chain(*self.lines))
+        return sorted(Repeat(*row) for row in rows if counts[row[0]] > 1)
+
+
+class Repeat(NamedTuple):
+    """A row with the number of its values, its period and its line."""
+
+    values: int
+    start: str
+    end: str
+    line: int
+
+
+def overlapping(row: Repeat, behind: Repeat) -> Optional[Tuple[int, int]]:
+    """The lines of two rows of one value that overlap, and aren't equal, by start."""
+    is_both = row.values == behind.values and behind.start < row.end and row[1:3] != behind[1:3]
+    return (max(row.line, behind.line), min(row.line, behind.line)) if is_both else None
+
+
+def first_pair(numbers: "array[int]", lines: Sequence[Sequence[int]]) -> Optional[Tuple[int, int]]:
+    """The lines of the first row that has another one's number, and of that one."""
+    if len(set(numbers)) == len(numbers):
+        return None
+    firsts: Dict[int, int] = {}
+    pairs = ((line, firsts.setdefault(number, line)) for line, number in zip(chain(*lines), numbers))
+    return next(pair for pair in pairs if pair[0] != pair[1])
+
+
+class Twins:
+    """Tells a row that is equal to one before it. Of a row a number is kept, which is looked at when all are there."""
+
+    def __init__(self) -> None:
+        self.lines: List[Sequence[int]] = []
+        self.rows = array("q")
+
+    def add(self, lines: Sequence[int], rows: Sequence[str]) -> None:
+        self.lines.append(lines)
+        self.rows.extend(map(hash, rows))
+
+    def told(self) -> Iterator[str]:
+        pair = first_pair(self.rows, self.lines)
+        if pair:
+            yield of_twins(f"line {pair[0]}", f"line {pair[1]}", len(self.rows) - len(set(self.rows)))
+
+
+def of_twins(one: str, other: str, count: int) -> str:
+    """That one row is the same as another, where so many rows are the same as one before them."""
+    more = f"; {count - 1} more rows are so" if count > 1 else ""
+    return f"{one} makes the same row as {other}, and both are loaded{more}"

@@ -1,0 +1,59 @@
+"""What may not be meant in the rows that all loads of a table bring: last days as ends, and texts that look alike."""
+from typing import Dict, Iterator, List
+
+from ruzgalt.answers import Answer
+from ruzgalt.checking import doubts, looks
+from ruzgalt.checking.replay import loaded
+from ruzgalt.script.reader import LOOKED_AT
+from ruzgalt.script.schemas import Kind, Schema
+
+
+# In so many loads at most rows are looked at, since each is looked for in the script.
+LOADS = 1_000
+
+
+class Ends(doubts.Ends):
+    """Whether ends of a script's rows look like last days."""
+
+    def remedy(self) -> str:
+        return "a row doesn't hold on that day any more; one that has it ends on the next"
+
+
+class Loads:
+    """The loads of a table. Whose fact a row is, its key tells, or else its first column."""
+
+    def __init__(self, schema: Schema) -> None:
+        self.places = list(schema.key) or list(range(len(schema.columns)))[:1]
+        names = [schema.names[place] for place in self.places]
+        self.ends = Ends("TO", ", ".join(names), False)
+        texts = [place for place in self.places if schema.columns[place].kind is Kind.TEXT]
+        self.alike = {place: looks.LookAlikes() for place in texts}
+        self.pairs: Dict[str, str] = {}
+        self.answers: List[Answer] = []
+        self.count = 0
+
+    @property
+    def are_few(self) -> bool:
+        return self.count <= LOOKED_AT and len(self.answers) < LOADS
+
+    def add(self, answer: Answer) -> None:
+        """Adds the rows of an accepted load, where the table's are so few that they are looked at."""
+        self.count += len(answer.command.rows)
+        if not self.are_few or answer.command.record.is_asked or not self.places:
+            return
+        self.answers.append(answer)
+        rows = list(loaded(answer.command))
+        keys = [tuple(row.values[place] for place in self.places) for row in rows]
+        self.ends.add([row.line for row in rows], keys, [row.start for row in rows], [row.end for row in rows])
+        for place, alike in self.alike.items():
+            for value in dict.fromkeys(row.values[place] for row in rows):
+                other = alike.other(value)
+                if other is not None:
+                    self.pairs[other] = value
+
+    def told(self) -> Iterator[str]:
+        if not self.are_few:
+            return
+        yield from self.ends.told()
+        if self.pairs:
+            yield looks.told_of(list(self.pairs.items()))

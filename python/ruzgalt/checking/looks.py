@@ -1,0 +1,142 @@
+"""What may not be meant in a text by itself, and texts that look alike."""
+import re
+import unicodedata
+from operator import eq
+from typing import Dict, Optional, Sequence, Tuple
+
+from ruzgalt.loading.decimals import SPACES, number_in
+from ruzgalt.script.records import visible
+
+# Marks of how a text runs, control characters, and ends of lines and paragraphs.
+UNSEEN = ("Cf", "Cc", "Zl", "Zp")
+NO_BREAK = re.compile(f"[{SPACES[1:]}]")
+# A text of ASCII that looks like itself: words with single spaces between them, and no formula.
+PLAIN = re.compile("[!-<>-~][!-~]*(?: [!-~]+)*")
+# Several texts, a line each, that begin or end with a letter, and so are no numbers, or whole numbers; without quotes.
+LINES = re.compile(r"(?:(?:[^\W\d_][ !#-~\w]*|[0-9][ !#-~\w]*(?<=[^\W\d_])|0|[1-9][0-9]*)\n)+")
+ENTITY = re.compile(r"&(?:#\d+|#x[0-9A-Fa-f]+|[A-Za-z]+\d*);")
+# What other programs write for no value.
+NO_VALUES = ("null", "none", "nan", "nat", "<na>", "n/a")
+WORDS = dict.fromkeys(NO_VALUES, "other programs write it for no value; it is a text")
+# The rows that sum up others are named so, some with a year or a colon.
+TOTAL = re.compile(
+    r"(?:(?:grand |sub-?)?totals?|sums?|(?:gesamt|zwischen)?summen?|(?:ins)?gesamt)[ :.]*(?:\d{4})?[ :.]*",
+    re.IGNORECASE,
+)
+TOTALS = re.compile(f"^{TOTAL.pattern}$", re.IGNORECASE | re.MULTILINE)
+# Quotes of other kinds than those of CSV, and those where a space stands before them.
+QUOTES = ("''", '""', "\u2018\u2019", "\u201c\u201d", "\u201e\u201c", "\u201e\u201d", "\u00ab\u00bb", "\u00bb\u00ab")
+# Characters that look like those of ASCII: quotes, dashes, and letters of Cyrillic and Greek.
+LIKE_ASCII = str.maketrans(
+    "\u2018\u2019\u201a\u201b\u02bc\u201c\u201d\u201e\u2010\u2011\u2012\u2013\u2014\u2212"
+    "\u0410\u0412\u0415\u041a\u041c\u041d\u041e\u0420\u0421\u0422\u0423\u0425\u0430\u0435\u043e\u0440\u0441\u0443\u0445"
+    "\u0391\u0392\u0395\u0396\u0397\u0399\u039a\u039c\u039d\u039f\u03a1\u03a4\u03a5\u03a7\u03bf",
+    "'''''\"\"\"------ABEKMHOPCTYXaeopcyxABEZHIKMNOPTYXo",
+)
+LOOKING = re.compile(f"[{''.join(map(chr, LIKE_ASCII))}]")
+# The bytes of a letter in UTF-8 as Windows-1252 has them.
+GARBLED = re.compile(
+    "[\u00c2-\u00f4][\u0080-\u00bf\u0152\u0153\u0160\u0161\u0178\u017d\u017e\u0192\u02c6\u02dc\u2013-\u2122]"
+)
+ROUNDED = re.compile(r"-?\d+(?:[.,]\d+)?[eE][+-]?\d+", re.ASCII)
+
+
+def are_plain(texts: Sequence[str]) -> bool:
+    """Whether all of the texts look like themselves, at once; some that do are left out."""
+    lines = "\n".join([*texts, ""])
+    is_right = lines.count("\n") == len(texts) and "  " not in lines and " \n" not in lines
+    if not is_right or not LINES.fullmatch(lines) or "&" in lines and ENTITY.search(lines):
+        return False
+    return lines.isascii() or unicodedata.is_normalized("NFKC", lines) and not GARBLED.search(lines)
+
+
+def doubt_of(value: str, mark: str) -> Optional[str]:
+    """What may not be meant in a text by itself."""
+    is_plain, last = PLAIN.fullmatch(value), value[-1:]
+    if value.lower() in WORDS:
+        return WORDS[value.lower()]
+    if TOTAL.fullmatch(value):
+        return "a row with a sum of others is loaded as they are"
+    if len(value) > 1 and value[0] + last in QUOTES:
+        return "quotes of this kind are a part of the text"
+    if last.isdigit() and ROUNDED.fullmatch(value):
+        return "digits are rounded off; save the column as text, or as a number without an exponent"
+    if value.startswith("="):
+        return "a formula of a spreadsheet stays a text; save its value"
+    if value.startswith("#"):
+        return "an error of a spreadsheet, or a comment, is a text here"
+    if value.startswith("'") and last.isdigit():
+        return "a spreadsheet's sign for a text is taken for a part of it"
+    if last.isdigit() and set(value) & set(".,") and number_in(value, mark) is not None:
+        example = "1.234,50" if mark == "," else "1,234.50"
+        return f"a number as {example}; --decimals COLUMN=DIGITS makes it whole"
+    if ENTITY.search(value):
+        return "a character is written as in a page of the web"
+    return None if is_plain else unseen_in(value)
+
+
+def unseen_in(value: str) -> Optional[str]:
+    if NO_BREAK.search(value):
+        return "a no-break space makes it another text; --plain-spaces takes a space for it"
+    if value != value.strip():
+        return "a space at an end makes it another text"
+    if not unicodedata.is_normalized("NFC", value):
+        return "a letter and its accent are two characters, and with one for both it is another text"
+    if not value.isprintable() and any(map(is_unseen, value)):
+        return "a character that can't be seen makes it another text"
+    if "\ufffd" in value:
+        return "another program has lost a character of it"
+    return "its letters were read in another encoding; save the file as UTF-8 anew" if is_garbled(value) else None
+
+
+def is_unseen(character: str) -> bool:
+    return character not in "\r\n" and unicodedata.category(character) in UNSEEN
+
+
+def is_garbled(value: str) -> bool:
+    """Whether its characters are the bytes of UTF-8, each as Windows-1252 has it."""
+    try:
+        return bool(GARBLED.search(value) and value.encode("cp1252").decode("utf-8"))
+    except UnicodeError:
+        return False
+
+
+def fold(value: str) -> str:
+    """What texts have in common that look alike: without capitals, accents of their own, spaces, zeros in front, or
+    the .0 that a float has behind."""
+    if value.isascii() and value[-1:].isalpha() and "  " not in value and value[0] != " ":
+        return value.lower()
+    if not value.isascii():
+        value = unicodedata.normalize("NFKC", value)
+        if not value.isprintable():
+            value = "".join(one for one in value if unicodedata.category(one) != "Cf")
+        value = value.translate(LIKE_ASCII)
+    value = " ".join(value.split()).casefold()
+    whole = value[:-2] if value.endswith(".0") else value
+    return whole.lstrip("0") or "0" if whole.isdigit() else value
+
+
+def told_of(pairs: Sequence[Tuple[str, str]]) -> str:
+    """Pairs of texts that look alike, for a person: the first, and how many there are."""
+    first, other = (repr(visible(text)) for text in pairs[0])
+    more = f" ({len(pairs)} such pairs)" if len(pairs) > 1 else ""
+    return f"{first} and {other} look alike, and are two texts{more}"
+
+
+class LookAlikes:
+    """Finds a text that looks like another one which it isn't."""
+
+    def __init__(self) -> None:
+        self.by_fold: Dict[str, str] = {}
+
+    def are_apart(self, values: Sequence[str]) -> bool:
+        """Whether of plain texts none looks like another one, or like one before."""
+        lines = "\n".join(values)
+        folds = (lines.translate(LIKE_ASCII) if LOOKING.search(lines) else lines).casefold().split("\n")
+        if TOTALS.search(lines):
+            return False
+        return WORDS.keys().isdisjoint(folds) and all(map(eq, map(self.by_fold.setdefault, folds, values), values))
+
+    def other(self, value: str) -> Optional[str]:
+        found = self.by_fold.setdefault(fold(value), value)
+        return None if found == value else found

@@ -1,0 +1,240 @@
+"""What may not be meant: changes of no row or of all, portions without a day, joins of nothing, rows held twice."""
+import re
+from collections import Counter, defaultdict
+from typing import Dict, Iterator, List, NamedTuple, Optional, Sequence, Set, Tuple
+
+from ruzgalt.answers import CHANGES, Answer
+from ruzgalt.checking import looks, quoting
+from ruzgalt.checking.loads import Loads
+from ruzgalt.checking.overlaps import pairs
+from ruzgalt.checking.replay import Beginnings, Store
+from ruzgalt.commands import called
+from ruzgalt.loading.dates import NO_END, is_month_end
+from ruzgalt.script.fields import where_places
+from ruzgalt.script.forms import printed
+from ruzgalt.script.reader import LOOKED_AT, Block
+from ruzgalt.script.schemas import Kind, Schema
+
+HOURS = re.compile(rb",\"?\d{4}-\d\d-\d\dT(?!00:00:00)\d\d:")
+LAST_SECOND = re.compile(rb"row,[^,\r\n]*,(?!9999)\d{4}-\d\d-\d\dT23:59:59")
+JOINS, PORTIONS = ("join", "anti"), ("update", "delete")
+Values = Set[Tuple[str, ...]]
+
+
+class Mark(NamedTuple):
+    answer: Answer
+    told: str
+
+
+def needs_store(found: Sequence[Answer]) -> bool:
+    """Whether some answer is looked at beside the rows that were there, or these are to be looked at themselves."""
+    words = {one.command.word for one in found if not one.refusal}
+    has_overlap = any(one.refusal and one.refusal.name == "KeyOverlap" for one in found)
+    return bool(words & {*JOINS, *PORTIONS}) or has_overlap or any(without_key(found))
+
+
+def without_key(found: Sequence[Answer]) -> Iterator[Schema]:
+    """The tables whose rows no key keeps apart, or one of all columns, where so few are loaded that they are looked at.
+
+    A key of all columns lets in two salaries of one person at a time, unless they are equal.
+    """
+    loads = [one.command for one in found if one.command.word == "load" and not one.refusal]
+    counts = Counter({name: 0 for name in (found[-1].tables if found else ())})
+    for load in loads:
+        counts[load.record.fields[1]] += len(load.rows)
+    tables = found[-1].tables.values() if found else ()
+    loose = (one for one in tables if one.columns and len(one.key) in (0, len(one.columns)))
+    return (one for one in loose if 1 < counts[one.name] <= LOOKED_AT)
+
+
+def walk(found: Sequence[Answer]) -> Iterator[Tuple[Answer, Store]]:
+    """Each answer with the store as it was before; without its rows where none is needed."""
+    store, is_needed = Store(), needs_store(found)
+    for answer in found:
+        yield answer, store
+        if is_needed:
+            store.do(answer)
+
+
+class Marks:
+    """What is marked of a script's answers, looked at one behind another."""
+
+    def __init__(self, found: Sequence[Answer]) -> None:
+        self.found = found
+        self.loads: Dict[Tuple[str, int], int] = {}
+        self.by_table: Dict[str, Loads] = {}
+        self.beginnings = Beginnings(found)
+        self.with_hours: Set[str] = set()
+        self.marks: List[Mark] = []
+
+    def look(self, answer: Answer, store: Store) -> None:
+        word = answer.command.word
+        if answer.number == 1 and is_answer(answer.command.record.fields):
+            self.add(answer, "these are answers, and no script: what they answer is to be given")
+        # Why a block has no end its refusal tells.
+        if answer.command.is_ended:
+            for told in quoting.doubts_of(answer.command, bool(answer.refusal)):
+                self.add(answer, told)
+        if answer.refusal:
+            self.add(answer, self.left_out(answer) if word == "load" else None)
+            return
+        for told in self.beginnings.told(answer):
+            self.add(answer, told)
+        if word == "load":
+            self.look_at_load(answer)
+        elif word in JOINS:
+            self.add(answer, of_join(answer, store))
+        elif word == "at":
+            self.add(answer, self.of_point(answer))
+        elif word in PORTIONS:
+            self.add(answer, of_portion(answer, store))
+
+    def add(self, answer: Answer, told: Optional[str]) -> None:
+        if told:
+            self.marks.append(Mark(answer, told))
+
+    def look_at_load(self, answer: Answer) -> None:
+        table, block = answer.command.record.fields[1], answer.command.block
+        data = block.bytes().rstrip(b"\r\n") if isinstance(block, Block) else b""
+        self.by_table.setdefault(table, Loads(answer.tables[table])).add(answer)
+        line = self.loads.setdefault((table, hash(data)), answer.line)
+        if line != answer.line and len(block) > 1:
+            self.add(answer, f"its rows are those of the load at line {line}, so each is there twice")
+        # Most loads have days alone, which is seen at once.
+        has_times = b":" in data
+        if has_times and HOURS.search(data):
+            self.with_hours.add(table)
+        last = LAST_SECOND.search(data) if has_times else None
+        if last:
+            self.add(answer, f"{last[0].decode()} doesn't hold in that second: a day ends at the next one's midnight")
+
+    def of_point(self, answer: Answer) -> Optional[str]:
+        _, table, point = answer.command.front
+        if len(point) == 10 and table in self.with_hours:
+            return f"{table} has times of day, and this is the midnight that begins the day: `rows` has the whole day"
+        return None
+
+    def left_out(self, answer: Answer) -> Optional[str]:
+        """How many rows of a refused load stand in no later one, where there is one."""
+        name, at_fault = answer.command.record.fields[1:2], answer.refused.record
+        if at_fault is answer.command.record or len(answer.command.rows) < 2:
+            return None
+        later = [one for one in self.found[answer.number:] if one.command.word == "load" and not one.refusal]
+        blocks = [one.command.rows for one in later if one.command.record.fields[1:2] == name]
+        if not blocks:
+            return None
+        loaded = {tuple(record.fields) for block in blocks for record in block}
+        rows = [tuple(record.fields) for record in answer.command.rows if record != at_fault]
+        count = sum(row not in loaded for row in rows)
+        return f"it was refused whole, and {count} of its other rows stand in no later load" if count else None
+
+    def end(self, store: Store) -> List[Mark]:
+        """All that is marked, by the answers' order; what changes touched is known now."""
+        ends = store.last_ends()
+        for answer in self.found:
+            if not answer.refusal and answer.command.word in PORTIONS:
+                self.add(answer, of_count(answer, store.closed.get(answer.commits, 0)))
+                self.add(answer, of_reach(answer, ends.get(answer.commits)))
+        for loads in self.by_table.values():
+            for told in loads.told():
+                self.add(loads.answers[-1], told)
+        for schema in without_key(self.found):
+            self.add(last_change_of(self.found, schema.name), of_overlap(schema, store))
+        return sorted(self.marks, key=lambda mark: mark.answer.number)
+
+
+def is_answer(fields: Sequence[str]) -> bool:
+    """Whether a script's first record is one with which answers begin, and no command."""
+    return fields[0] == "error" or list(fields) in (["ok", "1"], ["end", "0"], ["together", "0"])
+
+
+def of_portion(answer: Answer, store: Store) -> Optional[str]:
+    """Tells a portion's end that looks like a last day, where it cuts a row."""
+    end = answer.command.record.fields[3]
+    told = of_end(end)
+    return told if told and any(end < version.row.end for version in store.change(answer).closed) else None
+
+
+def of_end(end: str) -> Optional[str]:
+    """Tells a portion's end that looks like a last day, or a last second."""
+    if "T23:59" in end and not end.startswith("9999"):
+        return f"{end} isn't in it: a day ends at the next one's midnight"
+    if end < NO_END and is_month_end(end):
+        return f"{end} isn't in it: a portion ends before its TO, so one that has this day ends on the next"
+    return None
+
+
+def of_count(answer: Answer, count: int) -> Optional[str]:
+    return of_touched(answer.command.record.fields, count)
+
+
+def of_reach(answer: Answer, last: Optional[str]) -> Optional[str]:
+    """Tells an update up to a day that no row reaches which it changed: it may be meant to lengthen one."""
+    fields = answer.command.record.fields
+    if fields[0] == "update" and last is not None and last < printed(fields[3]) < "9999":
+        told = f"each row that it changed ends by {last}, before {fields[3]}"
+        return f"{told}: an update lengthens no row, and a load does"
+    return None
+
+
+def of_touched(fields: Sequence[str], count: int) -> Optional[str]:
+    """What an update or a delete touched, where that was nothing, or all that there was."""
+    has_where = bool(where_places(fields))
+    if not count:
+        has_what = "of that time has what its `where` tells" if has_where else "holds in that time"
+        return f"no row {has_what}, so nothing was changed"
+    if not has_where and count > 1:
+        return f"without a `where` it acts on all rows of that time: {count} were changed"
+    return None
+
+
+def last_change_of(found: Sequence[Answer], name: str) -> Answer:
+    changes = [one for one in found if not one.refusal and one.command.word in CHANGES]
+    return [one for one in changes if one.command.record.fields[1] == name][-1]
+
+
+def of_overlap(schema: Schema, store: Store) -> Optional[str]:
+    """Offers the question for rows of one thing that hold at one time: of equal texts, whatever their numbers are."""
+    texts = [place for place, column in enumerate(schema.columns) if column.kind is Kind.TEXT]
+    places = texts or range(len(schema.columns))
+    rows: Dict[Tuple[str, ...], List[Tuple[str, str, int]]] = defaultdict(list)
+    for version in store.open[schema.name].by_id.values():
+        values = tuple(version.row.values[place] for place in places)
+        rows[values].append((version.row.start, version.row.end, version.row_id))
+    found = next((pair for spans in rows.values() for pair in pairs(spans)), None)
+    if found is None:
+        return None
+    names = " ".join(schema.names[place] for place in places)
+    both = f"rows {found.first} and {found.second}, equal in {names.replace(' ', ', ')}, hold at one time"
+    question = f"`{called.ANSWERS} overlaps SCRIPT {names} --ask rows,{schema.name}` lists such rows"
+    return f"{schema.name} has {'a key of all columns' if schema.key else 'no key'}, and {both}; {question}"
+
+
+def of_join(answer: Answer, store: Store) -> Optional[str]:
+    front = answer.command.front
+    left, right = (
+        values_of(store, answer, name, columns) for name, columns in zip(front[1:3], (front[4::2], front[5::2]))
+    )
+    if len(front) > 3 and left and right and not left & right:
+        told = f"{front[1]} and {front[2]} have no value of these columns in common"
+        return f"{told}, so no row matches{like(left, right)}"
+    if front[0] == "anti" and left and not len(answer.table.records):
+        told = f"each row of {front[1]} is matched all the time"
+        return f"{told}; the rows of {front[2]} without one of {front[1]} are asked for by anti,{front[2]},{front[1]}"
+    told = like(left - right, right - left) if len(front) > 3 else ""
+    return f"some values don't match{told}" if told else None
+
+
+def values_of(store: Store, answer: Answer, name: str, columns: Sequence[str]) -> Values:
+    places = [answer.tables[name].place(column) for column in columns]
+    return {tuple(one.row.values[place] for place in places) for one in store.rows(name, answer.commit)}
+
+
+def like(left: Values, right: Values) -> str:
+    """Two values that look alike."""
+    folded = {tuple(map(looks.fold, values)): values for values in right}
+    found = ((values, folded.get(tuple(map(looks.fold, values)))) for values in sorted(left))
+    pairs = [(values, other) for values, other in found if other is not None]
+    if not pairs:
+        return ""
+    return f": {looks.told_of([(','.join(values), ','.join(other)) for values, other in pairs])}"

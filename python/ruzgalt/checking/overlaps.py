@@ -1,0 +1,124 @@
+"""Rows of one key that hold at one point: in an answer, or those for which a change was refused."""
+from collections import defaultdict
+from dataclasses import dataclass
+from itertools import islice
+from operator import itemgetter
+from typing import Dict, Generic, Iterable, Iterator, List, Sequence, Tuple, TypeVar, Union
+
+from ruzgalt.answers import Answer
+from ruzgalt.checking.replay import Change, Row as StoredRow, Store, Version
+from ruzgalt.errors import Misfit
+from ruzgalt.script.reader import Row
+from ruzgalt.script.records import to_record
+from ruzgalt.script.schemas import PERIOD, Column, Table, ints, unique
+
+Thing = TypeVar("Thing")
+# A row that would come, or one that is there.
+Held = Union[StoredRow, Version]
+# So many pairs of rows are told of one refusal.
+TOLD = 20
+
+
+@dataclass(frozen=True)
+class Pair(Generic[Thing]):
+    """Two that overlap, with the time that they share."""
+
+    first: Thing
+    second: Thing
+    start: str
+    end: str
+
+
+def pairs(rows: Iterable[Tuple[str, str, Thing]]) -> Iterator[Pair[Thing]]:
+    """The pairs of these rows, each with its start and end, that share a point."""
+    running: List[Tuple[str, str, Thing]] = []
+    for start, end, thing in sorted(rows, key=lambda row: row[0]):
+        running = [other for other in running if other[1] > start]
+        for _, other_end, other in running:
+            yield Pair(other, thing, start, min(end, other_end))
+        running.append((start, end, thing))
+
+
+Spans = List[Tuple[str, str, str]]
+
+
+def by_key(answer: Answer, key: Sequence[str]) -> Tuple[List[Column], Dict[Tuple[str, ...], Spans]]:
+    """The key's columns, and for each of its values the rows of the answer: start, end and id."""
+    if answer.command.word == "at":
+        raise Misfit(f"{answer.place}: {answer.command.text}: an `at` tells of its point alone: ask by `rows`")
+    if answer.command.word != "rows":
+        raise Misfit(f"{answer.place}: {answer.command.text}: no list of rows: ask by `rows`")
+    schema = answer.tables[answer.command.front[1]]
+    places = [3 + schema.place(name) for name in key]
+    found: Dict[Tuple[str, ...], Spans] = defaultdict(list)
+    for record in answer.table.texts():
+        found[tuple(record[place] for place in places)].append((record[1], record[2], record[0]))
+    return [schema.columns[place - 3] for place in places], found
+
+
+def in_answer(answer: Answer, key: Sequence[str]) -> Table:
+    """The pairs of rows of an answer that a key of these columns would forbid."""
+    columns, spans = by_key(answer, key)
+    found: List[Row] = [
+        [pair.first, pair.second, pair.start, pair.end, *values]
+        for values, rows in sorted(spans.items()) for pair in pairs(rows)
+    ]
+    return Table(unique([*ints("row_id", "other_row_id"), *PERIOD, *columns]), found)
+
+
+def gaps_in_answer(answer: Answer, key: Sequence[str]) -> Table:
+    """The times between rows of one key at which none of it holds."""
+    columns, spans = by_key(answer, key)
+    found: List[Row] = [[*gap, *values] for values, rows in sorted(spans.items()) for gap in gaps(rows)]
+    return Table(unique([*PERIOD, *columns]), found)
+
+
+def gaps(rows: Spans) -> Iterator[Tuple[str, str]]:
+    reached = ""
+    for start, end, _ in sorted(rows):
+        if reached and reached < start:
+            yield reached, start
+        reached = max(reached, end)
+
+
+def explained(store: Store, answer: Answer) -> List[str]:
+    """Which key, and which rows: lines for a person on a load or an update of this store, refused for a key."""
+    name = answer.command.record.fields[1]
+    schema = answer.tables[name]
+    found = collisions(store, name, store.change(answer), schema.key)
+    lines = []
+    for pair in islice(found, TOLD):
+        values = row_in(pair.first).values
+        key = ", ".join(f"{schema.names[place]} {to_record([values[place]])}" for place in schema.key)
+        lines.append(f"{key}: both hold from {pair.start} to {pair.end}")
+        lines.extend(f"  {told(one)}" for one in (pair.first, pair.second))
+    return lines + (["and more pairs of rows"] if next(found, None) else [])
+
+
+def collisions(store: Store, name: str, change: Change, key: Sequence[int]) -> Iterator[Pair[Held]]:
+    """The pairs of rows of one key that a change would leave, of which one at least is new."""
+    closed = {version.row_id for version in change.closed}
+    by_key: Dict[object, List[Held]] = defaultdict(list)
+    key_of = itemgetter(*key)
+    for row in change.added:
+        by_key[key_of(row.values)].append(row)
+    for row_id, version in store.open[name].by_id.items():
+        values = key_of(version.row.values)
+        if values in by_key and row_id not in closed:
+            by_key[values].append(version)
+    for things in by_key.values():
+        yield from pairs((row_in(thing).start, row_in(thing).end, thing) for thing in things)
+
+
+def row_in(thing: Held) -> StoredRow:
+    return thing.row if isinstance(thing, Version) else thing
+
+
+def told(thing: Held) -> str:
+    """A row that is there by its id and commit, and one that would come by its line."""
+    row = row_in(thing)
+    text = to_record([row.start, row.end, *row.values])
+    if isinstance(thing, Version):
+        return f"row {thing.row_id}, made by commit {thing.made}: {text}"
+    place = f" in place of row {row.in_place_of}" if row.in_place_of else ""
+    return f"{row.place}{place}: {text}"

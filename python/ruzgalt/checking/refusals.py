@@ -1,0 +1,205 @@
+"""Why a command was refused: the field that is at fault, and what is wrong with it, for a person."""
+from typing import Callable, Dict, List, Optional
+
+from ruzgalt.answers import Answer
+from ruzgalt.checking import reasons
+from ruzgalt.checking.reasons import kind_of
+from ruzgalt.commands import called
+from ruzgalt.script import forms
+from ruzgalt.script.commands import BLOCKS
+from ruzgalt.script.fields import Field, Role, fields_of
+from ruzgalt.script.records import Record, short, to_record, visible
+from ruzgalt.script.schemas import Kind
+
+
+def told(answer: Answer) -> str:
+    """Line, command, field and reason of a refusal, in one line."""
+    refusal = answer.refused
+    return f"{refusal.record.place}: {short(answer.command.text)}: {refusal.name}: {reason(answer)}"
+
+
+def reason(answer: Answer) -> str:
+    refusal = answer.refused
+    if refusal.name in OF_RECORDS:
+        return OF_RECORDS[refusal.name](answer)
+    field = at_fault(answer)
+    about = reasons.of_field(refusal.name, field, answer) if field else None
+    if field is None or about is None:
+        return reasons.REASONS.get(refusal.name, "see docs/LANGUAGE.md")
+    return f"{reasons.named(field)}, {about}"
+
+
+def key_overlap(answer: Answer) -> str:
+    schema = answer.tables[answer.command.record.fields[1]]
+    key = ", ".join(schema.names[place] for place in schema.key)
+    about = f"two rows that are equal in the key ({key}) would hold at one point"
+    return f"{about}: end the one before the other starts, or change it by an update"
+
+
+def wrong_width(answer: Answer) -> str:
+    record = answer.refused.record
+    wanted = ",".join(["row", "FROM", "TO", *answer.tables[answer.command.record.fields[1]].names])
+    count = f"{len(record.fields)} fields, and not the {wanted.count(',') + 1} of {wanted}"
+    return f"{visible(record.text)} has {count}; a text with a comma stands in double quotes, right between commas"
+
+
+def bad_command(answer: Answer) -> str:
+    record, command = answer.refused.record, answer.command
+    if record is not command.record:
+        wanted = "row" if command.word == "load" else "part"
+        remedy = "; its end is the one word end" if is_like_end(record) else f"; each begins with the word {wanted}"
+        remedy = "; is its end missing before it?" if record.word in reasons.FORMS else remedy
+        return f"a {command.word} has {wanted} records alone, and not {visible(record.text)}{remedy}"
+    if command.word == "end":
+        return "an end without a block"
+    if command.word == "table" and wrong_kinds(record):
+        place = wrong_kinds(record)[0]
+        return f"field {place + 1}, {visible(to_record([record.fields[place]]))}, is no KIND, int or text"
+    form = reasons.FORMS.get(command.word)
+    if command.word == "agg" and "by" in command.front[3:-2]:
+        return f"the form is {form}; behind `by` stands one column: load one that has the values of both"
+    return f"the form is {form}" if form else f"field 1, {visible(to_record([command.word]))}, {no_word(command.word)}"
+
+
+def no_word(word: str) -> str:
+    """Why a word is none of a command, and what is likely meant."""
+    plain = word.strip(" \ufeff").lower()
+    if word.startswith("\ufeff"):
+        return "begins with a byte order mark, which only a script's own beginning may have: `tail -c +4` leaves it out"
+    if word == "csv-to-load failed":
+        return f"stands in place of a load: {called.LOAD} has told why on standard error"
+    if plain in reasons.FORMS:
+        return f"is no command, but {plain} is"
+    if "\0" in word:
+        return "isn't UTF-8; `iconv -f UTF-16 -t UTF-8` makes it of a file from Windows"
+    mark = next((one for one in ";\t" if one in word), None)
+    if mark and word.partition(mark)[0] in reasons.FORMS:
+        return "is no command: commas part the fields"
+    if plain.startswith(("#", "--", "//")):
+        return "is no command: a script has no comments"
+    if plain.startswith("sep="):
+        return "is no command, but a spreadsheet's first line: leave it out"
+    other = next((told for words, told in OTHER_WORDS if plain.split(" ")[0] in words), None)
+    known = f"is no command: these are {', '.join(reasons.FORMS)}"
+    return f"{known}; {other or f'of a CSV file with a header {called.LOAD} makes a load'}"
+
+
+# Words of other languages, and what is done here.
+OTHER_WORDS = [
+    (("ok", "error", "version", "yes", "no"), "it is a word of answers, and a script is what they answer"),
+    (("select", "with", "from"), f"SQL is asked of answers, by `{called.ANSWERS} sqlite`"),
+    (("alter", "drop", "truncate", "rename"), "a table keeps its columns, and stays: a new one can have others"),
+    (("create",), "`table` makes a table"),
+    (("insert", "add", "row", "merge", "upsert"), "rows stand between `load,T` and `end`"),
+    (("set", "modify"), "`update` gives rows other values for a time"),
+    (("begin", "commit", "rollback"), "each change is a commit, and a block of questions begins with `together`"),
+]
+
+
+def wrong_kinds(table: Record) -> List[int]:
+    texts = table.fields
+    keys = [place for place in range(2, len(texts), 2) if texts[place] == "key"]
+    return [place for place in range(3, keys[0] if keys else len(texts), 2) if texts[place] not in ("int", "text")]
+
+
+def unended(answer: Answer) -> str:
+    like = next((record for record in answer.command.block if is_like_end(record)), None)
+    about = "the block has no end, so the rest of the script was skipped"
+    if like:
+        return f"{about}; {like.place}, {visible(to_record(like.fields))}, isn't the one word end"
+    broken = next((record for record in answer.command.block if any("\n" in field for field in record.fields)), None)
+    if broken:
+        return f"{about}; is a second quote missing in {broken.place}? A field there goes on to other lines"
+    if answer.command.word == "load" and len(answer.command.record.fields) > 2:
+        return f"{about}; the form is load,T and then rows, since no file is read"
+    has_inner = answer.command.word == "together" and any(record.word in BLOCKS for record in answer.command.block)
+    return f"{about}; a load or a check in it takes an end for itself" if has_inner else about
+
+
+def is_like_end(record: Record) -> bool:
+    """`END`, `end ` or `end,,`, as a spreadsheet writes it."""
+    return not record.is_end() and [field.strip().lower() for field in record.fields if field.strip()] == ["end"]
+
+
+def not_in_block(answer: Answer) -> str:
+    if answer.command.word == "load":
+        return "a second load between `together` and its `end`: put it behind, or its rows of one table into the first"
+    return f"{answer.command.word} isn't allowed between `together` and its `end`: put it before or behind"
+
+
+OF_RECORDS: Dict[str, Callable[[Answer], str]] = {
+    "BadCommand": bad_command, "KeyOverlap": key_overlap, "NotInBlock": not_in_block, "Unended": unended,
+    "WrongWidth": wrong_width,
+}
+
+
+def at_fault(answer: Answer) -> Optional[Field]:
+    """The field for which the record was refused, where it is a single one."""
+    fields = fields_of(answer.command, answer.refused.record, answer.tables)
+    find = TESTS.get(answer.refused.name)
+    return next((field for field in fields if find(answer, field, fields)), None) if find else None
+
+
+def is_bad_name(_: Answer, field: Field, __: List[Field]) -> bool:
+    return field.role in (Role.TABLE, Role.COLUMN, Role.KEY) and not forms.is_name(field.text)
+
+
+def is_bad_point(answer: Answer, field: Field, _: List[Field]) -> bool:
+    is_open = answer.command.word == "check" and field.text == "-"
+    return field.role is Role.POINT and not is_open and forms.read_point(field.text) is None
+
+
+def is_bad_number(_: Answer, field: Field, __: List[Field]) -> bool:
+    if field.role in (Role.COUNT, Role.SUFFIX):
+        return not forms.is_count(field.text)
+    return is_value(field, Kind.INT) and not forms.is_integer(field.text)
+
+
+def is_value(field: Field, kind: Kind) -> bool:
+    return field.role is Role.VALUE and field.column is not None and field.column.kind is kind
+
+
+def told_of_value(answer: Answer, field: Field) -> Optional[str]:
+    """Name and reason for which a value would be refused that is none of its column's kind."""
+    fault = next((name for name in ("BadNumber", "TooLong", "BadUtf8") if TESTS[name](answer, field, [field])), None)
+    return f"{fault}: {visible(to_record([field.text]))} {reasons.of_field(fault, field, answer)}" if fault else None
+
+
+def is_missing_table(answer: Answer, field: Field, _: List[Field]) -> bool:
+    return field.role is Role.TABLE and field.text not in answer.tables
+
+
+def is_missing_column(_: Answer, field: Field, __: List[Field]) -> bool:
+    return field.role in (Role.COLUMN, Role.KEY) and field.table is not None and field.text not in field.table.names
+
+
+def is_named_twice(_: Answer, field: Field, fields: List[Field]) -> bool:
+    before = [one.text for one in fields if one.place < field.place and one.role is field.role]
+    return field.role in (Role.COLUMN, Role.KEY) and field.text in before
+
+
+def is_wrong_kind(answer: Answer, field: Field, fields: List[Field]) -> bool:
+    """The function's column of an aggregate; of a join the second of the first pair with two kinds."""
+    if field.role is not Role.COLUMN:
+        return False
+    if answer.command.word == "agg":
+        return kind_of(field) is Kind.TEXT
+    other = [one for one in fields if one.place == field.place - 1 and one.role is Role.COLUMN]
+    return field.place % 2 == 1 and bool(other) and kind_of(field) is not kind_of(other[0])
+
+
+Test = Callable[[Answer, Field, List[Field]], bool]
+TESTS: Dict[str, Test] = {
+    "BadName": is_bad_name,
+    "BadPoint": is_bad_point,
+    "BadNumber": is_bad_number,
+    "BadPeriod": lambda _, field, __: field.role in (Role.POINT, Role.COUNT),
+    "TwiceNamed": is_named_twice,
+    "TableExists": lambda _, field, __: field.role is Role.TABLE,
+    "Future": lambda _, field, __: field.role is Role.SUFFIX,
+    "NoTable": is_missing_table,
+    "NoColumn": is_missing_column,
+    "WrongKind": is_wrong_kind,
+    "TooLong": lambda _, field, __: is_value(field, Kind.TEXT) and not forms.is_short(field.text),
+    "BadUtf8": lambda _, field, __: is_value(field, Kind.TEXT) and not forms.is_utf8(field.text),
+}

@@ -1,0 +1,13 @@
+"""The command lines: dipq-answers, dipq-load, and what they share. A module stands on those above it.
+
+    called              by what names the tools go
+    screen, shell       what a terminal is shown of a text; words as a shell takes them
+    progress, streams   a line that shows how far a tool is; standard input and output that are closed
+    files               files that are whole or not there
+    words               words that several tools take
+    given               the script and its answers that a tool is given
+    picture             the words of `picture`
+    answers_tool        the words of tools/answers
+    load_tool           the words of tools/csv-to-load
+    installed           the commands that a wheel installs
+"""

@@ -1,0 +1,388 @@
+"""The words of tools/answers: a subcommand for each thing that is done with a script and its answers."""
+import gc
+import sqlite3
+import sys
+import textwrap
+from argparse import ArgumentParser, Namespace
+from functools import partial
+from pathlib import Path
+from typing import Callable, Dict, Iterator, NamedTuple, Optional, Sequence
+
+from ruzgalt import answers, which
+from ruzgalt.answers import asking, changes, databases, export, front, history, picks, spreadsheets
+from ruzgalt.checking import fitting, marks, overlaps, queries, refusals, single
+from ruzgalt.checking.replay import Store
+from ruzgalt.commands import called, picture, streams
+from ruzgalt.commands.given import bytes_of, chosen, last, read, warn
+from ruzgalt.commands.words import Words, pair
+from ruzgalt.errors import Misfit
+from ruzgalt.page import contents, document, sources
+from ruzgalt.script import commands, records
+from ruzgalt.script.reader import Source
+from ruzgalt.script.schemas import Table
+
+NAME = called.ANSWERS
+# So many doubts are told of a script.
+MARKED = 20
+ABOUT = f"""Reads a script of dipq beside its answers, so that it knows of each answer its command and its columns.
+
+usage: {NAME} COMMAND SCRIPT ..
+
+SCRIPT is a file, or - for standard input. It is answered by {called.PROGRAM}, or the program that DIPQ names in the
+environment; or --answers names a file of its answers. A repository's ./dipq is proved and built at its first use.
+
+{textwrap.fill(f"PICK is {picks.HELP}.", 110)}
+
+"""
+
+
+def show(text: str) -> None:
+    """Prints records of CSV."""
+    streams.show_records([records.encode(text)])
+
+
+def do_list(options: Namespace) -> int:
+    """Tells all answers, refusals too. The status is 1 where there is one, as that of dipq is."""
+    own = read(options, shows_refusals=True)
+    found = own.answers
+    if not own.is_own:
+        fitting.refuse_unfit(found, found)
+    show(export.listing(found))
+    found_marks, store = marks.Marks(found), Store()
+    for answer, store in marks.walk(found):
+        found_marks.look(answer, store)
+    warn_of_marks(found_marks.end(store))
+    return 1 if any(answer.refusal for answer in found) and not options.go_on else 0
+
+
+def warn_of_marks(found: Sequence[marks.Mark]) -> None:
+    for answer, told in found[:MARKED]:
+        warn(f"{answer.place}: {records.short(answer.command.text)}: {told}")
+    if len(found) > MARKED:
+        warn(f"and {len(found) - MARKED} more of such kinds")
+
+
+def do_csv(options: Namespace) -> None:
+    if options.replace and not options.folder:
+        raise Misfit("--replace replaces files of a --folder, and none is given: what is printed replaces no file")
+    if options.german and not options.for_spreadsheet:
+        raise Misfit("--german is of a spreadsheet, and stands beside --for-spreadsheet")
+    found = read(options)
+    if options.folder:
+        picked = chosen(found, options.pick)
+        export.to_folder(picked, Path(options.folder), options.replace, partial(printed, options))
+        warn_of_formulas(options, [pick.answer.table for pick in picked])
+    else:
+        [answer] = last(found, options.pick, 1)
+        streams.show_records(printed(options, answer.table))
+        warn_of_formulas(options, [answer.table])
+
+
+def printed(options: Namespace, table: Table) -> Iterator[bytes]:
+    """The table as CSV, exactly or for a spreadsheet."""
+    return spreadsheets.to_csv(table, options.german) if options.for_spreadsheet else export.to_csv(table)
+
+
+def warn_of_formulas(options: Namespace, tables: Sequence[Table]) -> None:
+    """Reports once what a spreadsheet would run, where it isn't guarded."""
+    found = [] if options.for_spreadsheet else list(filter(None, map(spreadsheets.run_in, tables)))
+    if found:
+        count = sum(run.fields for run in found)
+        fields = f"{count} fields, the first" if count > 1 else "a field,"
+        warn(f"a spreadsheet would run {fields} {records.visible(found[0].first)}: --for-spreadsheet guards against it")
+
+
+def do_json(options: Namespace) -> None:
+    streams.show_text(export.to_json(chosen(read(options), options.pick)))
+
+
+def do_sqlite(options: Namespace) -> None:
+    wishes = databases.Wishes(options.replace, options.open_null, options.day)
+    databases.refuse_words(options.database, wishes, options.query)
+    found = chosen(read(options), options.pick)
+    with databases.opened(options.database) as database:
+        for column in databases.make_tables(found, database, wishes):
+            warn(f"{column} has sums past SQLite's integers, so it is a text there, and isn't in the order of numbers")
+        made = databases.made_of(found, database)
+        told = [asked(database, query, made, found) for query in options.query]
+    # What is printed may be read by a program that ends early, and by then all is kept.
+    show("".join(told) if options.query else databases.tables_told(found))
+    for pick in found:
+        if options.day is not None and not databases.has_period(pick):
+            warn(f"--day: {pick.name} has no period, so there is no view of it")
+
+
+def asked(database: sqlite3.Connection, query: str, made: queries.Made, found: Sequence[picks.Pick]) -> str:
+    for told in queries.doubts_of(query, made):
+        warn(f"--query: {told}")
+    answer = databases.ask(database, query, found)
+    for name in answer.twins():
+        warn(f"--query: several columns are called {records.visible(name)}: `as` gives each its own name")
+    return answer.text()
+
+
+def do_changed(options: Namespace) -> None:
+    before, after = last(read(options), options.pick, 2)
+    if before.commit > after.commit:
+        both = f"the first of the two reads commit {before.commit}, and the second {after.commit}"
+        warn(f"{both}: `-` is what the first has alone, which is later")
+    streams.show_records(export.to_csv(changes.between(before, after)))
+
+
+def do_overlaps(options: Namespace) -> None:
+    [answer] = last(read(options), options.of, 1)
+    streams.show_records(export.to_csv(overlaps.in_answer(answer, options.column)))
+
+
+def do_gaps(options: Namespace) -> None:
+    [answer] = last(read(options), options.of, 1)
+    streams.show_records(export.to_csv(overlaps.gaps_in_answer(answer, options.column)))
+
+
+def do_history(options: Namespace) -> None:
+    if options.retroactive and not options.diary:
+        raise Misfit("--retroactive: --diary tells the days of commits, and none is given")
+    found = read(options)
+    if not found.is_own:
+        fitting.refuse_unfit(found.answers, found.answers)
+    newest = max((answer.commits for answer in found.answers), default=0)
+    if options.commit is not None and not 1 <= options.commit <= newest:
+        raise Misfit(f"--commit {options.commit}: no commit that is there: the newest is {newest}")
+    days = history.days_in(found.answers, options.diary) if options.diary else None
+    table = history.of_table(found.answers, options.table, options.where, days)
+    for doubt in history.doubts_of(table, days, newest):
+        warn(f"--diary {options.diary}: {doubt}")
+    if options.where and not table.records:
+        warn(f"no row of {options.table} ever had what --where tells")
+    table = history.retroactive(table) if options.retroactive else table
+    streams.show_records(export.to_csv(table if options.commit is None else history.of_commit(table, options.commit)))
+
+
+def do_front(options: Namespace) -> int:
+    """Tells what differs. The status is 1 where something does."""
+    script, kept = bytes_of(options.script), bytes_of(options.kept)
+    if script and not kept:
+        warn(f"{options.kept} is empty, and so the front of any answers")
+    lines = list(front.edits(bytes_of(options.before), script)) if options.before else []
+    output = asking.output(options.program, script)
+    reading = answers.Reading(Source(output), True)
+    found, places = [], []
+    for answer in reading.answers(commands.commands(Source(script))):
+        found.append(answer)
+        places.append(reading.place.number)
+    lines.extend(front.told_of(kept, output, found, places))
+    streams.show_lines(lines)
+    return 1 if lines else 0
+
+
+def do_picture(options: Namespace) -> None:
+    found = read(options)
+    [answer] = last(found, [options.pick] if options.pick else [], 1)
+    streams.show_text(picture.drawn(found.answers, answer, options))
+
+
+def do_page(options: Namespace) -> int:
+    """Prints the page. The status is that of a list."""
+    told = sources.ask(options)
+    streams.write(document.pieces(contents.of(told, options.diary)))
+    return 1 if any(answer.refusal for answer in told.answers) and not options.go_on else 0
+
+
+def do_refusals(options: Namespace) -> int:
+    """Tells each refusal, and of one for a key the rows. The status is 1 where there is one."""
+    found = read(options, shows_refusals=True).answers
+    found_marks, store = marks.Marks(found), Store()
+    for answer, store in marks.walk(found):
+        found_marks.look(answer, store)
+        if answer.refusal:
+            streams.show_lines([refusals.told(answer)])
+            if answer.refusal.name == "KeyOverlap":
+                streams.show_lines(f"  {line}" for line in overlaps.explained(store, answer))
+    warn_of_marks(found_marks.end(store))
+    return 1 if any(answer.refusal for answer in found) else 0
+
+
+def do_only(options: Namespace) -> None:
+    found = read(options).answers
+    show(records.to_record(single.command_for(found, options.table, options.row_id, options.set)) + "\n")
+
+
+def do_faulty(options: Namespace) -> int:
+    """Tells the faulty rows, and that something else was refused. The status is 1 where there is either."""
+    script = bytes_of(options.script)
+    lines = asking.faulty(options.program, script)
+    streams.show_lines(lines)
+    others = asking.refused_otherwise(options.program, script)
+    if others:
+        more = f"{len(others)} refused for no row's fault; `{NAME} refusals` explains"
+        warn(f"{refusals.told(others[0])} ({more})")
+    return 1 if lines or others else 0
+
+
+def with_picks(parser: ArgumentParser, count: str = "*") -> None:
+    parser.add_argument("pick", nargs=count, metavar="PICK", default=[], help=picks.HELP)
+
+
+def words_of_csv(parser: ArgumentParser) -> None:
+    with_picks(parser)
+    parser.add_argument("--folder", metavar="FOLDER", help="a file NAME.csv for each answer there, and not one table")
+    parser.add_argument("--replace", action="store_true", help="replaces files of these names in the folder")
+    parser.add_argument(
+        "--for-spreadsheet", action="store_true",
+        help="puts an apostrophe before texts that a spreadsheet would run as formulas, and a byte order mark in front",
+    )
+    parser.add_argument("--german", action="store_true", help="beside --for-spreadsheet: semicolons between fields")
+
+
+def words_of_sqlite(parser: ArgumentParser) -> None:
+    parser.add_argument("database", metavar="DATABASE", help="a file, or :memory: for one that is gone afterwards")
+    with_picks(parser)
+    parser.add_argument(
+        "--query", action="append", default=[], metavar="SQL",
+        help="prints what the database answers, as CSV; without one the tables are told",
+    )
+    parser.add_argument("--replace", action="store_true", help="replaces tables of these names in the database")
+    parser.add_argument("--open-null", action="store_true", help="an end in the year 9999 is NULL in the tables")
+    parser.add_argument(
+        "--day", metavar="POINT", help="makes a view NAME_day of each table, with the records that hold at that point",
+    )
+
+
+def words_of_picture(parser: ArgumentParser) -> None:
+    with_picks(parser, "?")
+    picture.words_of_picture(parser)
+
+
+def words_of_page(parser: ArgumentParser) -> None:
+    parser.add_argument("--diary", metavar="TABLE", help="a table whose first column is the newest commit of a time")
+    parser.add_argument(
+        "--once", action="store_true", help="doesn't do the program's answers again, which the page then tells",
+    )
+
+
+def words_of_overlaps(parser: ArgumentParser) -> None:
+    parser.add_argument("column", nargs="+", metavar="COLUMN", help="a column of the key")
+    parser.add_argument("--of", action="append", default=[], metavar="PICK", help="the answer, where it isn't the last")
+
+
+def words_of_history(parser: ArgumentParser) -> None:
+    parser.add_argument("table", metavar="TABLE", help="a table of the script")
+    parser.add_argument(
+        "--where", type=pair, action="append", default=[], metavar="COLUMN=VALUE", help="only rows with this value",
+    )
+    parser.add_argument("--diary", metavar="TABLE", help="a table whose first column is the newest commit of a time")
+    parser.add_argument("--commit", type=int, metavar="N", help="only what this commit changed")
+    parser.add_argument("--retroactive", action="store_true", help="only the time before the day that the diary tells")
+
+
+def words_of_front(parser: ArgumentParser) -> None:
+    parser.add_argument("kept", metavar="KEPT", help="answers of an earlier time")
+    parser.add_argument("--before", metavar="SCRIPT", help="the script of that time: what was edited in it is told")
+
+
+def words_of_only(parser: ArgumentParser) -> None:
+    parser.add_argument("table", metavar="TABLE", help="a table of the script")
+    parser.add_argument("row_id", type=int, metavar="ID", help="the id of a row that is there at its end")
+    parser.add_argument(
+        "--set", type=pair, action="append", default=[], metavar="COLUMN=VALUE", help="an update, and no delete",
+    )
+
+
+class Tool(NamedTuple):
+    """A subcommand: what it does, what it is told beside the script, and whether it takes answers that are there.
+
+    More is told by its own help alone.
+    """
+
+    do: Callable[[Namespace], Optional[int]]
+    about: str
+    words: Callable[[ArgumentParser], None] = lambda _: None
+    has_answers: bool = True
+    more: str = ""
+
+
+OF_LIST = "A refusal's name stands in the place of an answer. The status is then 1, as dipq's, and with --go-on 0."
+OF_CHANGED = """The first of the two is what was before: `-` is what it has alone, `+` what the second has alone.
+Records are by their values, columns from the left and numbers by size, and then by start; those of aggregates by
+group and then by start, `-` first."""
+OF_PAGE = f"""It is one file that asks no network: `{called.ANSWERS} page SCRIPT > audit.html`. It has what was refused
+and what touched nothing, commits, questions with tables and pictures, what was said then beside what is said now, and
+what each table held. Each answer is done again, and where one differs no page is made. The status is that of `list`."""
+TOOLS: Dict[str, Tool] = {
+    "list": Tool(do_list, "tells of each answer its number, its line and its command", more=OF_LIST),
+    "csv": Tool(do_csv, "prints an answer (the last) as CSV with a header, or writes files", words_of_csv),
+    "sqlite": Tool(do_sqlite, "makes a table of each answer in an SQLite database", words_of_sqlite),
+    "json": Tool(do_json, "prints answers as JSON", with_picks),
+    "picture": Tool(do_picture, "draws a division, rows, an aggregate or versions, as text or SVG", words_of_picture),
+    "changed": Tool(
+        do_changed, "tells what really changed between two answers (the last two)", with_picks, more=OF_CHANGED,
+    ),
+    "overlaps": Tool(do_overlaps, "finds the rows that a key of the columns would forbid", words_of_overlaps),
+    "gaps": Tool(do_gaps, "finds the times between rows of one value without any", words_of_overlaps),
+    "history": Tool(do_history, "tells what each commit changed of a table, or of one fact", words_of_history),
+    "front": Tool(
+        do_front, "tells whether answers that were kept are still the front of the script's", words_of_front, False,
+    ),
+    "page": Tool(do_page, "prints one page of HTML with all answers, for a browser", words_of_page, more=OF_PAGE),
+    "refusals": Tool(do_refusals, "tells each refusal, its field and its reason; of keys, the rows"),
+    "only": Tool(do_only, "prints the command that deletes or updates the row of an id, and no other", words_of_only),
+    "faulty": Tool(do_faulty, "tells all faulty rows of all loads, where dipq tells the first", has_answers=False),
+}
+
+
+def parser_of(name: str, tool: Tool) -> ArgumentParser:
+    about = f"{tool.about[0].upper()}{tool.about[1:]}. {tool.more}".strip()
+    parser = Words(prog=f"{NAME} {name}", description=about)
+    parser.add_argument("script", metavar="SCRIPT", help="a file, or - for standard input")
+    tool.words(parser)
+    parser.add_argument(
+        "--program", default=which.program(), metavar="PROGRAM",
+        help=f"what answers the script, in place of {called.PROGRAM}",
+    )
+    if tool.has_answers:
+        parser.add_argument("--answers", metavar="FILE", help="the answers, or - for standard input; no program is run")
+        parser.add_argument(
+            "--ask", action="append", default=[], metavar="[NAME=]COMMAND",
+            help="puts a command behind the script; its answer is taken beside those that are picked; as NAME=COMMAND "
+            "it gets that name",
+        )
+        parser.add_argument("--go-on", action="store_true", help="goes on where commands were refused")
+    return parser
+
+
+def usage() -> str:
+    return ABOUT + "".join(f"  {name:10}{tool.about}\n" for name, tool in TOOLS.items()) + (
+        f"\n{NAME} COMMAND --help tells the words of each. The status is 2 where the words are wrong, and 1 where"
+        "\nsomething isn't understood, or a command was refused; with --go-on that is 1 only of `refusals`, or where"
+        "\nan --ask was refused, which `list` tells in its place.\n"
+    )
+
+
+def main(words: Sequence[str]) -> int:
+    streams.prepare(called.ANSWERS_SAY)
+    # What is read is kept to the end, so nothing is won by looking for what can be dropped.
+    gc.disable()
+    if not words or words[0] in ("-h", "--help"):
+        (sys.stdout if words else sys.stderr).write(usage())
+        return 0 if words else 2
+    command = Words(prog=NAME, usage=f"{NAME} COMMAND SCRIPT ..", add_help=False)
+    command.add_argument("command", choices=TOOLS, metavar="COMMAND")
+    tool = TOOLS[command.parse_args(words[:1]).command]
+    options = parser_of(words[0], tool).parse_intermixed_args(words[1:])
+    try:
+        return tool.do(options) or 0
+    except OSError as error:
+        told = error.strerror or str(error)
+        return fail(f"{error.filename}: {told}" if error.filename else told)
+    except (Misfit, sqlite3.Error, sqlite3.Warning) as error:
+        return fail(str(error))
+    except MemoryError:
+        return fail("out of memory")
+    except UnicodeEncodeError as error:
+        return fail(f"SQLite has UTF-8 alone, and none is {records.visible(error.object)}")
+
+
+def fail(told: str) -> int:
+    warn(told)
+    streams.drop_unwritable()
+    return 1

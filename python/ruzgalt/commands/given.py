@@ -1,0 +1,119 @@
+"""The script and its answers that a tool is given, and which of the answers are picked."""
+from argparse import Namespace
+from pathlib import Path
+from typing import Dict, List, NamedTuple, Optional, Sequence
+
+from ruzgalt import answers
+from ruzgalt.answers import Answer, asking, picks
+from ruzgalt.checking import fitting, refusals, replay
+from ruzgalt.commands import called, streams
+from ruzgalt.errors import Misfit
+from ruzgalt.script import questions, records
+
+
+EMPTY = "the script is empty: no command stands in it"
+
+
+class Found(NamedTuple):
+    """What was read: all answers, those to the questions put behind the script, and whether the program was asked."""
+
+    answers: List[Answer]
+    asked: List[Answer]
+    is_own: bool
+    # The names of those that were asked with one, by their answers' numbers.
+    names: Dict[int, str]
+    output: bytes
+
+
+def read(options: Namespace, shows_refusals: bool = False, script: Optional[bytes] = None) -> Found:
+    """The answers to the script, which is read where it isn't told. Ends where a command was refused, unless it is told
+    to go on.
+
+    A question that is asked just now isn't passed over, since another one's answer would stand in its place.
+    """
+    if options.script == options.answers == "-":
+        raise Misfit("standard input is the script, or its answers, and not both")
+    named = [questions.named(word) for word in options.ask]
+    options.ask = [question for _, question in named]
+    script = bytes_of(options.script) if script is None else script
+    text, own_lines = questions.put_behind(script, options.ask)
+    # The program works while the script is read.
+    running = asking.Running(options.program, text) if options.answers is None else None
+    try:
+        begun = questions.commands_of(text, options.ask, own_lines)
+    except Misfit:
+        if running:
+            running.stop()
+        raise
+    if all(command.record.is_asked for command in begun):
+        warn(EMPTY)
+    output = running.output() if running else bytes_of(options.answers)
+    found = answers.of_commands(begun, output, running is not None)
+    refused = [answer for answer in found if answer.refusal and not shows_refusals]
+    if refused and not options.go_on:
+        more = f"{len(refused)} refused; `{called.ANSWERS} refusals` explains, --go-on goes on"
+        raise Misfit(f"{refusals.told(refused[0])} ({more})")
+    for answer in refused:
+        if answer.command.record.is_asked:
+            raise Misfit(f"{refusals.told(answer)} (--go-on passes over no question that is asked)")
+    asked = [answer for answer in found if answer.command.record.is_asked]
+    names = names_of(asked, [name for name, _ in named], questions.lines_of(options.ask, own_lines or 0))
+    return Found(found, asked, options.answers is None, names, output)
+
+
+def names_of(asked: Sequence[Answer], names: Sequence[str], lines: Sequence[int]) -> Dict[int, str]:
+    """The names of questions by their answers' numbers. A word may have several commands, and a name is of one."""
+    begun, found, name = dict(zip(lines, names)), {}, ""
+    for answer in asked:
+        if name and answer.line not in begun:
+            text = records.short(answer.command.text)
+            raise Misfit(f"--ask {name}=..: a name is of one question, and {text} stands behind it")
+        name = begun.get(answer.line, "")
+        if name:
+            found[answer.number] = name
+    return found
+
+
+def bytes_of(name: str) -> bytes:
+    return streams.given() if name == "-" else Path(name).read_bytes()
+
+
+def chosen(found: Found, words: Sequence[str]) -> List[picks.Pick]:
+    """The answers that were picked and all that were asked, or where there is neither, all of the script."""
+    told = picked(found, words)
+    look_at(found, [pick.answer for pick in told])
+    if not told:
+        warn("none of the answers is more than an `ok`, so there is no table: ask by --ask, as --ask rows,T")
+    return told
+
+
+def picked(found: Found, words: Sequence[str]) -> List[picks.Pick]:
+    return picks.pick(found.answers, words, found.asked, found.names)
+
+
+def look_at(found: Found, told: Sequence[Answer]) -> None:
+    """Refuses answers that aren't to this script, unless the program has just been asked, and tells empty pasts."""
+    if not found.is_own:
+        fitting.refuse_unfit(found.answers, told)
+    beginnings = replay.Beginnings(found.answers)
+    for answer in told:
+        for past in beginnings.told(answer):
+            warn(f"{answer.place}: {records.short(answer.command.text)}: {past}")
+
+
+def last(found: Found, words: Sequence[str], count: int) -> List[Answer]:
+    """So many answers: those that were picked or asked, or else the last that are more than an `ok`."""
+    told = picked(found, words)
+    if len(told) < count and not words:
+        raise Misfit(f"{count} wanted, and {len(told)} of the answers more than an `ok`: ask by --ask, as --ask rows,T")
+    if len(told) != count and (words or found.asked):
+        several = ": `csv --folder`, `sqlite` and `json` take several" if count == 1 else ""
+        remedy = ": one more PICK or --ask is wanted" if len(told) < count else several
+        raise Misfit(f"{len(told)} answer{'s' * (len(told) != 1)}, and not {count}{remedy}")
+    taken = [pick.answer for pick in told[-count:]]
+    look_at(found, taken)
+    return taken
+
+
+def warn(told: str) -> None:
+    streams.report(f"{called.ANSWERS_SAY}: {told}")

@@ -1,0 +1,31 @@
+"""The commands that a wheel installs: dipq, dipq-answers, dipq-load."""
+import os
+import signal
+import sys
+
+from ruzgalt import which
+
+
+def dipq() -> int:
+    """Becomes the program that came with the package, so that its signals and its status are what the caller sees."""
+    program = which.own()
+    if program is None:
+        sys.exit("dipq: the package has no program: install its wheel, or call dipq by its path")
+    # Python ignores these, and what it becomes would do so too.
+    for ignored in (signal.SIGPIPE, signal.SIGXFSZ):
+        signal.signal(ignored, signal.SIG_DFL)
+    try:
+        os.execv(program, [program, *sys.argv[1:]])
+    except OSError as error:
+        sys.stderr.write(f"{program}: {error.strerror}\n")
+        return 3
+
+
+def answers() -> int:
+    from ruzgalt.commands.answers_tool import main
+    return main(sys.argv[1:])
+
+
+def load() -> int:
+    from ruzgalt.commands.load_tool import main
+    return main(sys.argv[1:])

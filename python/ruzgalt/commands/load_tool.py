@@ -1,0 +1,218 @@
+"""The words of tools/csv-to-load."""
+import gc
+import os
+import sys
+from argparse import ArgumentParser, ArgumentTypeError, Namespace
+from pathlib import Path
+from typing import List, Optional, Sequence, Tuple
+
+from ruzgalt.commands import called, streams
+from ruzgalt.commands.words import Words, decimals as digits_of
+from ruzgalt.errors import Misfit
+from ruzgalt.loading import claims, dates, decimals
+from ruzgalt.loading.loaded_table import fit, schema_of
+from ruzgalt.loading.making import Load
+from ruzgalt.loading.sheets import Sheet, composed
+from ruzgalt.script import records
+from ruzgalt.script.forms import is_name, read_point
+from ruzgalt.script.records import visible
+from ruzgalt.script.schemas import Schema
+
+ABOUT = """Turns a CSV file with a header into a load. FROM, TO and the COLUMNs are names of the file's header, in the
+order of a row's fields; other columns of the file are left out. The file is UTF-8; its fields are parted by commas,
+semicolons or tabs, whichever its header has most of. Values are taken as they are, unless an option tells of them.
+What may not be meant is told on standard error, and loaded. Where something is at fault, no load is printed but one
+record that the store refuses, so that a script of which it is a part has a refused command."""
+# What is printed in place of a load.
+FAILED = b"csv-to-load failed\n"
+
+
+def part(word: str) -> Tuple[int, int]:
+    """K/N, as a pair."""
+    number, _, parts = word.partition("/")
+    if not (number.isdigit() and parts.isdigit() and 1 <= int(number) <= int(parts)):
+        raise ArgumentTypeError(f"{word}: not K/N, as 1/2 and 2/2")
+    return int(number), int(parts)
+
+
+def unit(word: str) -> str:
+    if not decimals.UNIT.fullmatch(word):
+        raise ArgumentTypeError(f"{word}: no unit, as EUR, which has no digit, mark or space")
+    return word
+
+
+def words() -> ArgumentParser:
+    parser = Words(prog=called.LOAD, description=ABOUT)
+    parser.add_argument("table", metavar="TABLE", help="the table of the store")
+    parser.add_argument("start", metavar="FROM", help="the file's column with the start of a row")
+    parser.add_argument("end", metavar="TO", help="that with its end")
+    parser.add_argument("column", nargs="*", metavar="COLUMN", help="that with a value, in the order of the table's")
+    parser.add_argument("--file", metavar="FILE", help="the file, where it isn't standard input")
+    parser.add_argument(
+        "--check", metavar="INSTANT",
+        help="prints a check of a division: FROM is the column of a row's part, TO of its id",
+    )
+    words_of_table(parser)
+    words_of_values(parser)
+    parser.add_argument("--line-breaks", action="store_true", help="fields in quotes may have line breaks")
+    parser.add_argument("--part", type=part, metavar="K/N", help="only rows whose key is of part K of N, by a checksum")
+    return parser
+
+
+def words_of_table(parser: ArgumentParser) -> None:
+    parser.add_argument(
+        "--table", dest="record", metavar="RECORD",
+        help="the table's record, as table,pay,person,text, or a script that has it: what doesn't fit it is refused, "
+        "and its names are the COLUMNs where none is told",
+    )
+    parser.add_argument("--print-table", action="store_true", help="prints that record before the load")
+    parser.add_argument(
+        "--update", action="append", default=[], metavar="COLUMN",
+        help="prints updates of rows with this value, and no load: FROM and TO are the portion, others are set",
+    )
+
+
+def words_of_values(parser: ArgumentParser) -> None:
+    parser.add_argument("--german", action="store_true", help="dates may be as 31.12.2024, decimals are as 1.234,50")
+    parser.add_argument(
+        "--dates", choices=dates.names_of_forms(), metavar="FORM",
+        help=f"the last day of 2024 in the form of the file's dates: {', '.join(dates.names_of_forms())}; "
+        f"{dates.EXCEL} is Excel's number of a day",
+    )
+    parser.add_argument(
+        "--decimals", type=digits_of, action="append", default=[], metavar="COLUMN=DIGITS",
+        help="numbers with so many decimals at most, which become whole: with euros=2, 4800.5 is 480050 cents",
+    )
+    parser.add_argument("--decimal-mark", choices=(".", ","), help="tells how 7,500 is read, which could be both")
+    parser.add_argument(
+        "--unit", type=unit, action="append", default=[], metavar="UNIT",
+        help="numbers with decimals may have this before or behind them, as EUR or a sign of a currency",
+    )
+    parser.add_argument("--whole-seconds", action="store_true", help="parts of a second are left out of points")
+    parser.add_argument("--last-day", action="store_true", help="TO is the last day of a row, and not the next one")
+    parser.add_argument("--open", action="store_true", help=f"an empty TO is {dates.NO_END}")
+    parser.add_argument(
+        "--no-end", action="append", default=[], metavar="VALUE",
+        help=f"a TO of this value, as NULL, is {dates.NO_END}",
+    )
+    parser.add_argument("--plain-spaces", action="store_true", help="no-break spaces become spaces")
+
+
+def refuse_words(options: Namespace) -> None:
+    """Refuses names that are no COLUMNs, or that are told twice."""
+    columns: List[str] = options.column
+    for word, names in (("decimals", [name for name, _ in options.decimals]), ("update", options.update)):
+        for name in names:
+            if name not in columns:
+                raise Misfit(f"--{word} {name}: none of the columns {', '.join(columns)}")
+            if names.count(name) > 1:
+                raise Misfit(f"--{word} {name}: told twice")
+    twice = [name for name in columns if columns.count(name) > 1]
+    if twice:
+        raise Misfit(f"{twice[0]} is told twice, and a column of the file fills one of the table's")
+    if options.update and len(options.update) == len(columns):
+        raise Misfit("--update: no column is left that would be set")
+    if options.unit and not options.decimals:
+        raise Misfit("--unit: no column is given by --decimals, and others are taken as they are")
+    if options.print_table and not options.record:
+        raise Misfit("--print-table: --table tells no table")
+
+
+def given(options: Namespace) -> bytes:
+    return Path(options.file).read_bytes() if options.file else streams.given()
+
+
+def load_of(options: Namespace) -> Tuple[Load, Optional[Schema], List[str]]:
+    """The load, the table where it is given, and what is noted of how the file fits it."""
+    sheet = Sheet(given(options), options.line_breaks)
+    schema = fitted = schema_of(options)
+    notes: List[str] = []
+    if schema:
+        fitted, left_out = fit(options, schema, sheet.header)
+        names = ", ".join(left_out)
+        notes = [f"the file has no column {names}, so updates leave it as it is"] if left_out else []
+    refuse_words(options)
+    load = Load(sheet, options, fitted)
+    if options.part and options.update:
+        load.part_by(schema)
+    return load, schema, notes
+
+
+def claimed(options: Namespace) -> Tuple[bytes, List[str]]:
+    """The check of a division that the file tells, and what is noted of it."""
+    if options.column:
+        raise Misfit(f"--check: a division has a part and an id alone, and not {options.column[0]}")
+    if options.check != "-" and read_point(options.check) is None:
+        raise Misfit(f"--check {options.check}: no point, as 2024-01-05, and no - for a table without rows")
+    unused = [word for word in ("part", "update", "record", "decimals") if getattr(options, word)]
+    if unused:
+        raise Misfit(f"--check takes no --{unused[0].replace('record', 'table')}: it makes no load")
+    sheet = Sheet(given(options), options.line_breaks)
+    check, notes = claims.check_of(sheet, options.table, options.start, options.end, options.check)
+    return records.encode(check), notes
+
+
+def compose(options: Namespace) -> None:
+    """Gives the names one form of Unicode, as a header has it: an accented letter may be two characters elsewhere."""
+    options.start, options.end = composed(options.start), composed(options.end)
+    options.column, options.update = list(map(composed, options.column)), list(map(composed, options.update))
+    options.decimals = [(composed(name), digits) for name, digits in options.decimals]
+
+
+def made(options: Namespace) -> Tuple[List[bytes], List[str], List[str], int]:
+    """What is printed; what is at fault, or what is noted; and how many faults there are."""
+    compose(options)
+    if not is_name(options.table):
+        form = "small letters, digits and _, at most 32, a letter first"
+        raise Misfit(f"{visible(options.table)}: no name of a table: {form}")
+    if options.check is not None:
+        check, notes = claimed(options)
+        return [check], [], notes, 0
+    load, schema, notes = load_of(options)
+    head = records.encode(records.to_text([schema.fields])) if schema and options.print_table else b""
+    opening = b"" if options.update else records.encode(records.to_text([["load", options.table]]))
+    end = b"" if options.update else b"end\n"
+    try:
+        pieces = list(load.made())
+    except Misfit as error:
+        load.add_fault(str(error))
+        pieces = []
+    notes = [] if load.count_of_faults else [*notes, *load.noted()]
+    return [head, opening, *pieces, end], load.faults, notes, load.count_of_faults
+
+
+def tell(told: List[str], count: int) -> None:
+    more = [f"and {count - len(told)} more"] if count > len(told) else []
+    for one in [*told, *more]:
+        streams.report(f"{called.LOAD_SAYS}: {one}")
+
+
+def show(pieces: Sequence[bytes]) -> None:
+    try:
+        streams.show_records(pieces)
+    except OSError as error:
+        streams.report(f"{called.LOAD_SAYS}: {error.strerror}")
+        # What is left in the buffer isn't to be tried again at the end.
+        os._exit(1)
+
+
+def main(arguments: Sequence[str]) -> int:
+    streams.prepare(called.LOAD_SAYS)
+    # What is read is dropped when it is done with, or kept to the end.
+    gc.disable()
+    pieces: List[bytes] = []
+    try:
+        options = words().parse_intermixed_args(arguments)
+        pieces, faults, notes, count = made(options)
+    except SystemExit as ended:
+        sys.stdout.write(FAILED.decode() if ended.code else "")
+        raise
+    except Misfit as error:
+        faults, notes, count = [str(error)], [], 1
+    except OSError as error:
+        faults, notes, count = [f"{error.filename}: {error.strerror}"], [], 1
+    except MemoryError:
+        faults, notes, count = ["out of memory: --part 1/2 and --part 2/2 make two scripts of the file"], [], 1
+    tell(faults or notes, count)
+    show([FAILED] if count else pieces)
+    return 1 if count else 0

@@ -1,0 +1,54 @@
+"""The words of `picture` of tools/answers, and what is drawn by them."""
+import shutil
+import sys
+from argparse import ArgumentParser, ArgumentTypeError, Namespace
+from pathlib import Path
+from typing import Sequence
+
+from ruzgalt.answers import Answer
+from ruzgalt.commands.words import decimals, pair
+from ruzgalt.pictures import figures, svg, terminal
+from ruzgalt.pictures.amounts import Amounts
+
+
+def words_of_picture(parser: ArgumentParser) -> None:
+    parser.add_argument("--svg", action="store_true", help="prints SVG for a browser, and not text")
+    parser.add_argument("--by", metavar="COLUMN", help="a lane for each of its values (of the first column)")
+    parser.add_argument("--label", metavar="COLUMN", help="what stands in the bars")
+    parser.add_argument(
+        "--where", type=pair, action="append", default=[], metavar="COLUMN=VALUE", help="only records with this value",
+    )
+    parser.add_argument("--from", dest="start", metavar="POINT", help="the first point that is shown")
+    parser.add_argument("--to", dest="end", metavar="POINT", help="the end of what is shown")
+    parser.add_argument(
+        "--decimals", type=decimals, action="append", default=[], metavar="COLUMN=DIGITS",
+        help="numbers as csv-to-load made them whole: with cents=2, 123450 is shown as 1,234.50, and with cents=0 as "
+        "123,450",
+    )
+    parser.add_argument("--german", action="store_true", help="shows 1,234.50 as 1.234,50")
+    parser.add_argument(
+        "--width", type=pixels, help="how many columns of text (the terminal's, or 80), or pixels of SVG (up to 1,600)",
+    )
+    parser.add_argument("--height", type=pixels, help="how many pixels of SVG at most (4,000)")
+
+
+def pixels(word: str) -> int:
+    if not word.isdigit() or not 40 <= int(word) <= 100_000:
+        raise ArgumentTypeError(f"{word}: no number from 40 to 100000")
+    return int(word)
+
+
+def drawn(found: Sequence[Answer], answer: Answer, options: Namespace) -> str:
+    """The picture of an answer, as SVG or as text."""
+    amounts = Amounts(options.decimals, options.german)
+    name = "" if options.script == "-" else Path(options.script).name
+    wish = figures.Wish(options.by, options.label, options.where, options.start, options.end, amounts, name)
+    picture = figures.of(found, answer, wish)
+    if options.svg:
+        return svg.draw(picture, options.width, options.height)
+    return terminal.draw(picture, options.width or columns_of_terminal())
+
+
+def columns_of_terminal() -> int:
+    """The terminal's width, at least 40, or where there is none 80."""
+    return max(shutil.get_terminal_size((80, 24)).columns, 40) if sys.stdout.isatty() else 80

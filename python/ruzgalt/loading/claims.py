@@ -1,0 +1,36 @@
+"""Somebody's division, told as CSV with a header, as a `check` of the script."""
+from typing import Dict, Iterable, Iterator, List, Tuple
+
+from ruzgalt.checking.looks import LookAlikes
+from ruzgalt.errors import Misfit
+from ruzgalt.loading.sheets import Sheet
+from ruzgalt.script.forms import is_count
+from ruzgalt.script.records import to_text, visible
+
+
+def check_of(sheet: Sheet, table: str, part: str, row_id: str, instant: str) -> Tuple[str, List[str]]:
+    """The `check` of the parts, by their first rows: a row for each row of the table, with its part and its id.
+
+    Behind it stands what is noted of the parts' names.
+    """
+    unknown = [name for name in (part, row_id) if name not in sheet.header]
+    if unknown:
+        raise Misfit(f"not in the header: {visible(unknown[0])}; it has {', '.join(map(visible, sheet.header))}")
+    places = sheet.header.index(part), sheet.header.index(row_id)
+    parts: Dict[str, List[str]] = {}
+    for piece in sheet.pieces():
+        for line, record in zip(*piece):
+            if len(record) != len(sheet.header) or not is_count(record[places[1]].strip()):
+                raise Misfit(f"line {line}: {visible(','.join(record))}: no row with a part and an id")
+            parts.setdefault(record[places[0]].strip(), []).append(record[places[1]].strip())
+    opening = ["check", table, str(len(parts)), instant]
+    return to_text([opening, *(["part", *ids] for ids in parts.values()), ["end"]]), list(alike(part, parts))
+
+
+def alike(column: str, parts: Iterable[str]) -> Iterator[str]:
+    looks = LookAlikes()
+    for name in parts:
+        other = looks.other(name)
+        if other is not None:
+            told = f"is another part than '{visible(other)}', though they look alike"
+            yield f"{visible(column)} is '{visible(name)}', and {told}"

@@ -1,0 +1,174 @@
+"""The columns of a CSV file that is loaded: what each value becomes, what is wrong with it, what may not be meant."""
+import re
+from argparse import Namespace
+from typing import Callable, Dict, Optional, Sequence, Set
+
+from ruzgalt.checking.doubts import Doubt
+from ruzgalt.checking.looks import LookAlikes, are_plain, doubt_of
+from ruzgalt.errors import Misfit
+from ruzgalt.loading import dates
+from ruzgalt.loading.dates import NO_END
+from ruzgalt.loading.decimals import SPACES, Scale
+from ruzgalt.script.forms import TEXT_LIMIT, is_integer, is_short
+from ruzgalt.script.records import Printer, visible
+from ruzgalt.script.schemas import Kind
+
+TO_SPACE = str.maketrans(SPACES, " " * len(SPACES))
+
+
+# So few new values are made one by one.
+FEW = 8
+# What stands in quotes in a record.
+MARKED = re.compile('[,"\r\n]')
+# Whole numbers, a line each, that surely are some of the store.
+INTEGERS = re.compile(r"(?:(?:0|-?[1-9][0-9]{0,17})\n)+")
+
+
+class Column(Dict[str, Optional[str]]):
+    """The field that each value of a column becomes, found once of those that are alike; None where it is at fault."""
+
+    def __init__(self, name: str, convert: Callable[[str], str]) -> None:
+        super().__init__()
+        self.name, self.convert = name, convert
+        self.faults: Dict[str, str] = {}
+        self.doubts: Dict[str, Doubt] = {}
+        self.printer, self.is_varied = Printer(), False
+
+    def made(self, values: Sequence[str]) -> Sequence[Optional[str]]:
+        """The field of each value. New ones are made at once, where all are of a simple form, or else one by one."""
+        if self.is_varied:
+            # What is nearly always new isn't looked for, since that takes longer than to make it.
+            made = self.made_at_once(values)
+            if made:
+                return made
+        found = list(map(self.get, values))
+        if None not in found:
+            return found
+        new = [value for value in dict.fromkeys(values) if value not in self]
+        self.is_varied = len(new) > len(values) // 4
+        if len(new) > FEW:
+            self.update(zip(new, self.made_at_once(new)))
+        return list(map(self.__getitem__, values))
+
+    def made_at_once(self, values: Sequence[str]) -> Sequence[str]:
+        """What values become, if all are of a simple form; nothing else."""
+        made: Sequence[str] = self.convert.at_once(values) if isinstance(self.convert, Scale) else []
+        return made
+
+    def __missing__(self, value: str) -> Optional[str]:
+        made: Optional[str] = None
+        try:
+            made = self.convert(value)
+            made = self.printer.record([made]) if MARKED.search(made) else made
+        except Misfit as error:
+            self.faults[value] = str(error)
+        self[value] = made
+        return made
+
+
+class Start(Column):
+    def __init__(self, name: str, options: Namespace) -> None:
+        super().__init__(name, self.point)
+        self.form, self.is_cut = form_of(options), options.whole_seconds
+
+    def point(self, value: str) -> str:
+        made = dates.point(point_text(value, self.is_cut), self.form)
+        if dates.is_far_off(made) or dates.is_far_ahead(made):
+            self.doubts[value] = Doubt("far off", f"{made[:4]} is far off; is the year right?")
+        return made
+
+
+class End(Column):
+    def __init__(self, name: str, options: Namespace) -> None:
+        super().__init__(name, self.point)
+        self.form, self.is_cut = form_of(options), options.whole_seconds
+        self.is_open, self.is_last_day = options.open, options.last_day
+        self.no_ends = {*options.no_end, *([""] if options.open else [])}
+        self.met: Set[str] = set()
+
+    def point(self, value: str) -> str:
+        text = point_text(value, self.is_cut)
+        if text in self.no_ends:
+            self.met.add(text)
+            return NO_END
+        if text.lower() in dates.MISSING:
+            raise Misfit(self.remedy(text))
+        made = dates.point(text, self.form)
+        if dates.is_far_off(made):
+            told = f"a row ends there; where no end is known, --no-end '{text}' makes it {NO_END}"
+            self.doubts[value] = Doubt("far off", told)
+        if "T23:59" in made and not self.is_last_day:
+            told = "the row doesn't hold at its end: a day ends at the next one's midnight"
+            self.doubts[value] = Doubt("23:59", told)
+        return self.the_next_day(made) if self.is_last_day else made
+
+    def remedy(self, text: str) -> str:
+        if not text:
+            return f"no end; with --open it is {NO_END}, for no end that is known"
+        return f"no date; --no-end '{text}' takes it for no end that is known"
+
+    def the_next_day(self, text: str) -> str:
+        if text == NO_END:
+            if not self.is_open:
+                raise Misfit(f"no day is behind it; with --open it is {NO_END}, for no end that is known")
+            self.met.add("")
+            return NO_END
+        if len(text) != 10:
+            raise Misfit("a last day has no time")
+        return dates.shifted(text, 1)
+
+
+class Text(Column):
+    """A text, or a number that is taken as it is."""
+
+    def __init__(self, name: str, options: Namespace, kind: Optional[Kind], is_key: bool) -> None:
+        super().__init__(name, self.value)
+        self.has_plain_spaces, self.mark = options.plain_spaces, mark_of(options)
+        self.kind, self.is_key = kind, is_key
+        self.look_alikes = LookAlikes()
+
+    def made_at_once(self, values: Sequence[str]) -> Sequence[str]:
+        """Plain texts, none of which looks like another one, in quotes where they need them; or whole numbers."""
+        if self.kind is Kind.INT:
+            return values if INTEGERS.fullmatch("\n".join([*values, ""])) else []
+        if not are_plain(values) or max(map(len, values)) > TEXT_LIMIT // 2 or not self.look_alikes.are_apart(values):
+            return []
+        # Of what stands in quotes they have commas alone.
+        return [f'"{value}"' if "," in value else value for value in values]
+
+    def value(self, text: str) -> str:
+        made = text.translate(TO_SPACE) if self.has_plain_spaces else text
+        if self.kind is Kind.INT:
+            if not is_integer(made):
+                # Of a number with zeros in front cents are seldom meant.
+                digits = 0 if made.isdecimal() else 2
+                remedy = f"numbers are whole, as 5000; --decimals {self.name}={digits} makes them so of others"
+                raise Misfit(f"no number of the table; {remedy}")
+            return made
+        # No character has more than four bytes.
+        if len(made) > TEXT_LIMIT // 4 and not is_short(made):
+            raise Misfit("a text has 4,096 bytes at most")
+        told = doubt_of(made, self.mark)
+        other = self.look_alikes.other(made)
+        if told:
+            self.doubts[text] = Doubt(told, told)
+        elif other is not None:
+            self.doubts[text] = Doubt("alike", f"it is another text than '{visible(other)}', though they look alike")
+        elif self.is_key and not made:
+            self.doubts[text] = Doubt("empty", "it is empty, so all such rows are of one")
+        return made
+
+
+def point_text(value: str, is_cut: bool) -> str:
+    """What is read for a point. None has a space at its ends, so none is lost; a part of a second only by a word."""
+    text = value.strip(SPACES)
+    return dates.whole_seconds(text) if is_cut else text
+
+
+def form_of(options: Namespace) -> Optional[str]:
+    form: Optional[str] = options.dates or (dates.GERMAN if options.german else None)
+    return form
+
+
+def mark_of(options: Namespace) -> str:
+    return options.decimal_mark or ("," if options.german else ".")

@@ -1,0 +1,189 @@
+"""Numbers with decimals, made whole: with two of them, euros become cents."""
+import re
+import shlex
+from typing import List, NamedTuple, Optional, Sequence
+
+from ruzgalt.errors import Misfit
+from ruzgalt.script.forms import is_integer
+
+# Spreadsheets part thousands by these too: a space, a no-break space, and a narrow one; Swiss ones by apostrophes.
+SPACES, APOSTROPHES = " \u00a0\u202f", "'\u2019"
+# All numbers with fewer digits are some of the store's.
+LONGEST_NUMBER = 18
+# One mark, with three digits behind it, parts thousands as well as decimals.
+EITHER = re.compile(r"-?[1-9]\d{0,2}[.,]\d{3}", re.ASCII)
+
+
+def form_of(mark: str) -> "re.Pattern[str]":
+    """The sign, the whole digits and the decimals. Thousands don't begin with 0, as `0.500` would."""
+    parting = "[" + re.escape(",.".replace(mark, "")) + SPACES + APOSTROPHES + "]"
+    thousands = rf"[1-9]\d{{0,2}}(?P<parting>{parting})\d{{3}}(?:(?P=parting)\d{{3}})*"
+    return re.compile(rf"(?P<sign>-?)(?P<whole>{thousands}|\d+)(?:{re.escape(mark)}(?P<decimals>\d+))?", re.ASCII)
+
+
+FORMS = {mark: form_of(mark) for mark in ".,"}
+PARTING = re.compile(f"[.,{SPACES}{APOSTROPHES}]")
+OTHER = {".": ",", ",": "."}
+# What may stand before or behind a number as its unit: no digit, mark, sign or bracket of numbers, and no space; an
+# abbreviation has a point at its end.
+UNIT = re.compile(rf"[^\d.,+\-\u2212()\[\]\s{SPACES}{APOSTROPHES}\"]+\.?")
+WITH_UNIT = re.compile(
+    rf"-?(?P<before>{UNIT.pattern})[{SPACES}]?-?\d.*|-?\d.*?[{SPACES}]?(?P<behind>{UNIT.pattern})", re.DOTALL,
+)
+# What stands there for thousands and millions, or for a side of an account, is no unit that could be left off.
+NO_UNITS = ("k", "t", "m", "b", "bn", "mn", "mio", "mrd", "tsd", "keur", "teur", "k€", "t€", "m€", "cr", "dr", "s", "h")
+
+
+class Number(NamedTuple):
+    """The digits of a number before its mark, and behind it."""
+
+    sign: str
+    whole: str
+    decimals: str
+
+    def __str__(self) -> str:
+        return f"{self.sign}{self.whole}" + (f".{self.decimals}" if self.decimals else "")
+
+
+def number_in(text: str, mark: str) -> Optional[Number]:
+    found = FORMS[mark].fullmatch(text.strip(SPACES))
+    return Number(found["sign"], PARTING.sub("", found["whole"]), found["decimals"] or "") if found else None
+
+
+def unit_of(text: str) -> str:
+    """What stands before or behind the digits of a text as a unit does; nothing of others."""
+    found = WITH_UNIT.fullmatch(text.strip(SPACES))
+    unit = found["before"] or found["behind"] if found else ""
+    return unit if unit.isprintable() else ""
+
+
+def without(unit: str, text: str) -> str:
+    """The text without the unit that stands before or behind it."""
+    sign = "-" if text.startswith("-") else ""
+    if text.endswith(unit):
+        return text[:-len(unit)].rstrip(SPACES)
+    return sign + text[len(sign) + len(unit):].lstrip(SPACES) if text.startswith(sign + unit) else text
+
+
+class Marks:
+    """Which mark parts decimals in a file: whether a word says so, or its numbers tell that by themselves.
+
+    `either` is the first number, with its column, that could be read both ways.
+    """
+
+    def __init__(self, mark: str, is_given: bool) -> None:
+        self.mark, self.is_given, self.is_settled = mark, is_given, is_given
+        self.either: Optional["Either"] = None
+
+    def look_at(self, name: str, text: str, bare: str, is_faulty: bool) -> None:
+        if self.is_settled or not ("." in bare or "," in bare):
+            return
+        if not EITHER.fullmatch(bare):
+            self.is_settled = True
+        elif self.either is None and not is_faulty:
+            self.either = Either(name, text, bare)
+
+
+class Either(NamedTuple):
+    """A column, and a text of it whose number could be read both ways, as it stands there and without its unit."""
+
+    name: str
+    text: str
+    bare: str
+
+
+class Scale:
+    """A column of numbers with so many decimals at most, and how many they had."""
+
+    def __init__(self, name: str, digits: int, marks: Marks, units: Sequence[str] = ()) -> None:
+        self.name, self.digits, self.marks, self.units = name, digits, marks, units
+        self.longest = 0
+
+    def __call__(self, text: str) -> str:
+        whole, mark, decimals = text.partition(self.marks.mark)
+        count = len(decimals)
+        # Most numbers are as simple as this, and can't be read in two ways.
+        if count != 3 and count <= self.digits and (whole + decimals).isdigit() and whole and bool(mark) == bool(count):
+            if text.isascii() and len(whole) + self.digits <= LONGEST_NUMBER:
+                self.marks.is_settled = self.marks.is_settled or bool(mark)
+                self.longest = max(self.longest, count)
+                return (whole + decimals + "0" * (self.digits - count)).lstrip("0") or "0"
+        return self.read(text)
+
+    def at_once(self, texts: Sequence[str]) -> List[str]:
+        """What numbers become that all have just these decimals, and can't be read in two ways; nothing of others."""
+        form = rf"(?:\d{{1,12}}{re.escape(self.marks.mark)}\d{{{self.digits}}}\n)+"
+        lines = "\n".join([*texts, ""])
+        if self.digits in (0, 3) or self.digits > 6 or not re.fullmatch(form, lines, re.ASCII):
+            return []
+        self.marks.is_settled, self.longest = True, max(self.longest, self.digits)
+        digits = lines.replace(self.marks.mark, "")
+        has_zeros = digits.startswith("0") or "\n0" in digits
+        return list(map(str, map(int, digits.split()))) if has_zeros else digits.split()
+
+    def read(self, text: str) -> str:
+        bare = self.bare(text)
+        number = number_in(bare, self.marks.mark)
+        if number is None:
+            raise Misfit(f"no number as {self.example()}{self.remedy(text, bare)}")
+        fault = self.fault_of_decimals(number, bare)
+        self.marks.look_at(self.name, text, bare, bool(fault))
+        if fault:
+            raise Misfit(fault)
+        self.longest = max(self.longest, len(number.decimals))
+        whole = int(number.whole.lstrip("0") + number.decimals[:self.digits].ljust(self.digits, "0") or "0")
+        made = f"{number.sign if whole else ''}{whole}"
+        if not is_integer(made):
+            raise Misfit("the store's numbers are from -9223372036854775808 to 9223372036854775807")
+        return made
+
+    def bare(self, text: str) -> str:
+        """The number without a unit that a word takes off, and without spaces round it."""
+        stripped = text.strip(SPACES)
+        return next((bare for bare in (without(unit, stripped) for unit in self.units) if bare != stripped), stripped)
+
+    def fault_of_decimals(self, number: Number, bare: str) -> str:
+        """What is wrong with more decimals than there may be, but for zeros; and with three where fewer may be.
+
+        Behind a mark of thousands there are three digits, so these may be thousands of another country, whatever the
+        other numbers of the file are: a table is often put together from several.
+        """
+        if len(number.decimals.rstrip("0")) > self.digits:
+            return f"more than {self.digits} decimals{self.readings(bare, OTHER[self.marks.mark])}"
+        if len(number.decimals) == 3 and self.digits < 3 and not self.marks.is_given:
+            why = f"three digits stand behind its mark, as behind one of thousands, and it has {self.digits} decimals"
+            return f"{why} at most{self.readings(bare, '.,')}"
+        return ""
+
+    def readings(self, bare: str, marks: str) -> str:
+        """What the number is, by the mark that is taken for that of decimals."""
+        read = readings(bare, marks)
+        return f": {read}" if read and not self.marks.is_given else ""
+
+    def example(self) -> str:
+        return "1.234,50" if self.marks.mark == "," else "1,234.50"
+
+    def remedy(self, text: str, bare: str) -> str:
+        other = OTHER[self.marks.mark]
+        if number_in(bare, other):
+            word = "--german" if other == "," and not self.marks.is_given else f"--decimal-mark '{other}'"
+            return f"; with {word} it is one"
+        if re.fullmatch(r"\([^()]*\d[^()]*\)|[^-]*\d *[-\u2212]|[\u2212\u2013][^-]*\d.*", bare):
+            return "; a number below zero has a minus before it, as -5"
+        if re.fullmatch(r"[^eE]*\d[eE][+-]?\d+", bare):
+            return "; its digits are rounded off: save the column as a number without an exponent"
+        if bare.startswith("+"):
+            return "; without + it may be one"
+        unit = unit_of(text)
+        if unit and unit.casefold().strip(".") in NO_UNITS:
+            return f"; is {unit} a multiple, or a sign? the number is to be written without it"
+        if unit and any(number_in(without(unit, bare), mark) for mark in ".,"):
+            told = f"; with --unit {shlex.quote(unit)} it is one"
+            return f"{told}, of the same unit as those of {', '.join(self.units)}" if self.units else told
+        return ""
+
+
+def readings(bare: str, marks: str) -> str:
+    """What a number is that could be either, by the word for the mark that is taken for that of decimals."""
+    found = ((mark, number_in(bare, mark)) for mark in marks)
+    return ", ".join(f"--decimal-mark '{mark}' makes it {number}" for mark, number in found if number)

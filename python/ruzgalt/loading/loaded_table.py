@@ -1,0 +1,84 @@
+"""The table into which a file is loaded, where a record or a script has it, and which columns of the file are its."""
+from argparse import Namespace
+from pathlib import Path
+from typing import Dict, List, Optional, Sequence, Tuple
+
+from ruzgalt.errors import Misfit
+from ruzgalt.script import commands, records
+from ruzgalt.script.reader import Source
+from ruzgalt.script.records import visible
+from ruzgalt.script.schemas import Schema, is_schema
+
+
+def schema_of(options: Namespace) -> Optional[Schema]:
+    """The table that is given by its record, or by a script that has it."""
+    if options.record is None:
+        return None
+    is_file = not options.record.startswith("table,")
+    data = Path(options.record).read_bytes() if is_file else options.record.encode("utf-8", "surrogateescape")
+    tables = [one.record.fields for one in commands.commands(Source(data)) if one.word == "table"]
+    found = next((fields for fields in tables if fields[1:2] == [options.table]), None)
+    if found is None:
+        raise Misfit(f"--table: no `table` record of {options.table}")
+    if not is_schema(found):
+        raise Misfit(f"--table: {records.to_record(found)}: no table,T,COLUMN,KIND..[,key,COLUMN..]")
+    return Schema.read(found)
+
+
+def fit(options: Namespace, schema: Schema, header: Sequence[str]) -> Tuple[Schema, List[str]]:
+    """The table's columns in the order of the COLUMNs, and those that updates leave as they are for want of a column.
+
+    Fills the COLUMNs in where none is given. Refuses columns that aren't the table's, as far as names tell.
+    """
+    left_out: List[str] = []
+    if not options.column:
+        pairs = [(name, name_in(header, name)) for name in schema.names]
+        left_out = [name for name, found in pairs if options.update and found not in header]
+        options.column = [found for name, found in pairs if name not in left_out]
+    fitted = some_of(schema, options.column) if options.update else schema
+    if fitted is schema:
+        refuse_others(options.column, schema)
+    of_file = dict(zip(fitted.names, options.column))
+    options.update = [name_of(name, of_file) for name in options.update]
+    options.decimals = [(name_of(name, of_file), digits) for name, digits in options.decimals]
+    return fitted, left_out
+
+
+def plain(name: str) -> str:
+    return name.strip().lower()
+
+
+def name_in(header: Sequence[str], name: str) -> str:
+    """The name in the header that is one of the table's, but for capitals and spaces round it."""
+    alike = [one for one in header if plain(one) == name]
+    if len(alike) > 1 and name not in header:
+        told = " and ".join(f"'{visible(one)}'" for one in alike)
+        raise Misfit(f"{name} is in the header as {told}: the COLUMNs tell which is meant")
+    return name if name in header or not alike else alike[0]
+
+
+def name_of(name: str, of_file: Dict[str, str]) -> str:
+    """The name that the file has for a column, which may be given by the table's."""
+    return name if name in of_file.values() else of_file.get(plain(name), name)
+
+
+def some_of(schema: Schema, columns: Sequence[str]) -> Schema:
+    """The table's columns that these are by their names, for updates, which set some alone; the table where all are."""
+    if len(columns) >= len(schema.names):
+        return schema
+    unknown = [name for name in columns if plain(name) not in schema.names]
+    if unknown:
+        known = f"the file has the table's names, and {schema.name} has {', '.join(schema.names)}"
+        raise Misfit(f"{visible(unknown[0])}: where not all columns are set, {known}")
+    places = [schema.place(plain(name)) for name in columns]
+    kept = [places.index(place) for place in schema.key if place in places]
+    return Schema(schema.name, tuple(schema.columns[place] for place in places), tuple(kept))
+
+
+def refuse_others(columns: Sequence[str], schema: Schema) -> None:
+    if len(columns) != len(schema.names):
+        wanted = f"{schema.name} has {len(schema.names)}: {', '.join(schema.names)}"
+        raise Misfit(f"{len(columns)} columns are told, and {wanted}")
+    for place, name in enumerate(columns):
+        if plain(name) in schema.names and schema.names[place] != plain(name):
+            raise Misfit(f"{visible(name)} is told as column {place + 1}, which is {schema.names[place]} in the table")

@@ -1,0 +1,275 @@
+"""A load, or updates, made of a CSV file with a header, piece by piece."""
+from argparse import Namespace
+from itertools import compress, repeat
+from operator import ge
+from os.path import isfile
+from typing import Iterator, List, Optional, Sequence, Tuple, cast
+from zlib import crc32
+
+from ruzgalt.checking.doubts import Ends, Notes, Overwrites, Repeats, Twins
+from ruzgalt.commands import called
+from ruzgalt.commands.progress import Progress
+from ruzgalt.errors import Misfit
+from ruzgalt.loading.columns import Column, End, Start, Text, form_of, mark_of, point_text
+from ruzgalt.loading.dates import as_good_swapped, without_half
+from ruzgalt.loading.decimals import Marks, Scale, readings
+from ruzgalt.loading.sheets import Piece, Sheet
+from ruzgalt.script import records
+from ruzgalt.script.forms import is_name, read_point
+from ruzgalt.script.records import visible
+from ruzgalt.script.schemas import Schema
+
+# What a script and a table can have; from nine tenths on it is told.
+MOST_BYTES, MOST_ROWS = 67_108_864, 1_000_000
+TOLD = 20
+
+
+class Load:
+    """The records made of a sheet's rows, with the faults of rows and what is noted of columns."""
+
+    def __init__(self, sheet: Sheet, options: Namespace, schema: Optional[Schema]) -> None:
+        self.sheet, self.options, self.schema = sheet, options, schema
+        self.names = [options.start, options.end, *options.column]
+        refuse_header(sheet.header, self.names)
+        self.places = [sheet.header.index(name) for name in self.names]
+        self.marks = Marks(mark_of(options), bool(options.decimal_mark))
+        self.keys = self.parted_by = self.key_places()
+        self.columns = [Start(options.start, options), End(options.end, options), *self.value_columns()]
+        self.stored = self.names_in_store()
+        self.faults: List[str] = []
+        self.count_of_faults = self.rows = self.printed = self.bytes = 0
+        self.either_line: Optional[int] = None
+        self.notes, self.twins, self.repeats = Notes(), Twins(), Repeats()
+        self.left_out: Optional[str] = None
+        self.nameless = [place for place, name in enumerate(sheet.header) if not name.strip()]
+        key = ", ".join(options.column[place] for place in self.keys) or "table"
+        self.ends, self.overwrites = Ends(options.end, key, options.last_day), Overwrites(key)
+
+    def key_places(self) -> List[int]:
+        """The columns that tell whose fact a row is: those of the table's key, or else the first."""
+        if self.options.update:
+            return [self.options.column.index(name) for name in self.options.update]
+        if self.schema and self.schema.key:
+            return list(self.schema.key)
+        return [0] if self.options.column else []
+
+    def value_columns(self) -> Iterator[Column]:
+        digits = dict(self.options.decimals)
+        for place, name in enumerate(self.options.column):
+            kind = self.schema.columns[place].kind if self.schema else None
+            if name in digits:
+                yield Column(name, Scale(name, digits[name], self.marks, self.options.unit))
+            else:
+                yield Text(name, self.options, kind, place in self.keys)
+
+    def made(self) -> Iterator[bytes]:
+        """What the rows become, by pieces. Where something is at fault, the rest is read for its faults."""
+        progress = Progress(called.LOAD_SAYS)
+        try:
+            for piece in self.sheet.pieces():
+                yield self.made_of(self.whole(piece))
+                progress.tell(self.rows)
+        finally:
+            progress.end()
+        self.refuse_either()
+
+    def made_of(self, piece: Piece) -> bytes:
+        """The records made of a piece; none where something is at fault in it, or was before."""
+        fields: List[Sequence[str]] = list(zip(*piece.records)) or [()] * len(self.sheet.header)
+        values = [fields[place] for place in self.places]
+        found = [column.made(one) for column, one in zip(self.columns, values)]
+        self.look_at(piece.lines, values, found)
+        self.look_at_nameless(piece.lines, fields)
+        self.rows += len(piece.records)
+        if self.count_of_faults:
+            return b""
+        columns = cast(List[Sequence[str]], found)
+        texts = self.records_of(columns)
+        self.twins.add(piece.lines, texts)
+        self.repeats.add(piece.lines, columns)
+        if self.options.part:
+            texts = list(compress(texts, map(self.is_of_part, zip(*columns))))
+        self.printed += len(texts)
+        made = records.encode("\n".join([*texts, ""]))
+        self.bytes += len(made)
+        return made
+
+    def look_at_nameless(self, lines: Sequence[int], fields: List[Sequence[str]]) -> None:
+        """Notes the first value in a column without a name: it may be behind a mark of thousands, without quotes."""
+        for place in self.nameless:
+            found = next((row for row, text in enumerate(fields[place]) if text.strip()), None)
+            if found is not None and self.left_out is None:
+                text = visible(fields[place][found])
+                self.left_out = f"line {lines[found]}: '{text}' is left out: its column, {place + 1}, has no name"
+
+    def whole(self, piece: Piece) -> Piece:
+        """The records with as many fields as the header has, of this part of the file."""
+        width = len(self.sheet.header)
+        if {width}.issuperset(map(len, piece.records)):
+            return piece
+        lines: List[int] = []
+        records: List[List[str]] = []
+        for line, record in zip(*piece):
+            if len(record) != width:
+                quoted = "a field that has the parting character in it stands in quotes"
+                self.add_fault(f"line {line}: {len(record)} fields, and not the {width} of the header; {quoted}")
+            else:
+                lines.append(line)
+                records.append(record)
+        return Piece(lines, records)
+
+    def is_of_part(self, row: Sequence[str]) -> bool:
+        """Whether the row is of the part that is wanted, by a checksum of its key: equal keys are of one part."""
+        part, parts = cast(Tuple[int, int], self.options.part)
+        return crc32("\0".join(row[2 + place] for place in self.parted_by).encode()) % parts == part - 1
+
+    def part_by(self, schema: Optional[Schema]) -> None:
+        """Parts updates by the key by which a load is parted. Refuses updates that may be of rows of several parts."""
+        given = [schema.names[place] for place in schema.key] or schema.names[:1] if schema else self.stored[:1]
+        found = [self.stored.index(name) for name in given if name in self.stored]
+        if len(found) < len(given) or not set(found) <= set(self.keys):
+            wanted = f"{', '.join(given)}, as a load's are, so that is to be an --update column too"
+            raise Misfit(f"--part: rows are parted by {wanted}{'' if schema else '; --table tells the key'}")
+        self.parted_by = found
+
+    def look_at(
+        self, lines: Sequence[int], values: List[Sequence[str]], found: List[Sequence[Optional[str]]],
+    ) -> None:
+        # A column without faults has none in this piece.
+        looked = [made for column, made in zip(self.columns, found) if column.faults]
+        faulty = {row for made in looked for row, one in enumerate(made) if one is None}
+        for row in sorted(faulty):
+            for column, texts, made in zip(self.columns, values, found):
+                if made[row] is None:
+                    told = f"{column.name} is '{visible(texts[row])}': {column.faults[texts[row]]}"
+                    self.add_fault(f"line {lines[row]}: {told}")
+        for column, texts in zip(self.columns, values):
+            self.notes.count(column.name, column.doubts, lines, texts)
+        if self.marks.either and self.either_line is None:
+            name, text, _ = self.marks.either
+            self.either_line = lines[values[self.names.index(name)].index(text)]
+        if not faulty:
+            # None is at fault, so each is a text.
+            starts, ends, *others = cast(List[Sequence[str]], found)
+            self.refuse_empty_periods(lines, starts, ends)
+            keys = self.keys_of(others) or [""] * len(lines)
+            self.ends.add(lines, keys, starts, ends)
+            if self.options.update:
+                self.overwrites.add(lines, keys, starts, ends)
+
+    def refuse_empty_periods(self, lines: Sequence[int], starts: Sequence[str], ends: Sequence[str]) -> None:
+        # The texts of points are in the order of time.
+        if not any(map(ge, starts, ends)):
+            return
+        for line, start, end in zip(lines, starts, ends):
+            if start >= end:
+                more = "; where that is the last day, --last-day takes it so" if start == end and len(end) == 10 else ""
+                told = f"{self.options.start} is {start}, and isn't before {self.options.end}, {end}{more}"
+                self.add_fault(f"line {line}: {told}")
+
+    def keys_of(self, values: Sequence[Sequence[str]]) -> Sequence[object]:
+        if len(self.keys) == 1:
+            return values[self.keys[0]]
+        return list(zip(*(values[place] for place in self.keys)))
+
+    def refuse_either(self) -> None:
+        if self.marks.either and not self.marks.is_settled:
+            name, text, bare = self.marks.either
+            why = "its mark may part thousands or decimals, and no other number of the file tells"
+            self.add_fault(f"line {self.either_line}: {name} is '{visible(text)}': {why}: {readings(bare, '.,')}")
+
+    def add_fault(self, told: str) -> None:
+        self.count_of_faults += 1
+        if len(self.faults) < TOLD:
+            self.faults.append(told)
+
+    def names_in_store(self) -> List[str]:
+        """The names of the table's columns: those of the file, where no table is told and updates need them."""
+        if self.schema:
+            return self.schema.names
+        names: List[str] = self.options.column
+        wrong = [name for name in names if not is_name(name)]
+        if self.options.update and wrong:
+            raise Misfit(f"{visible(wrong[0])} is no name of a table's column: --table tells the table's")
+        return names
+
+    def records_of(self, columns: List[Sequence[str]]) -> List[str]:
+        """The records of a load, or else an update for each row. Fields stand in quotes already that need them."""
+        made = map(self.update_of, zip(*columns)) if self.options.update else zip(repeat("row"), *columns)
+        return list(map(",".join, made))
+
+    def update_of(self, row: Sequence[str]) -> Sequence[str]:
+        start, end, *values = row
+        pairs = list(zip(self.stored, values))
+        changed = [text for place, pair in enumerate(pairs) if place not in self.keys for text in pair]
+        known = [text for place in self.keys for text in pairs[place]]
+        return ["update", self.options.table, start, end, "set", *changed, "where", *known]
+
+    def noted(self) -> Iterator[str]:
+        """What may not be meant."""
+        if not self.rows:
+            yield "no row stands behind the header, so the load has none"
+        yield from [*self.notes.told(), *self.ends.told(), *self.twins.told(), *self.told_of_scales()]
+        if self.left_out:
+            yield self.left_out
+        if not self.options.update and self.options.column and not (self.schema and self.schema.key):
+            yield from self.repeats.told()
+        yield from self.told_of_points()
+        yield from self.told_of_words()
+        if self.options.update:
+            yield from [*self.ends.told_of_starts(), *self.overwrites.told()]
+        if self.rows > MOST_ROWS * 9 // 10 or self.bytes > MOST_BYTES * 9 // 10:
+            limits = f"a script has {MOST_BYTES:,} bytes at most, a table {MOST_ROWS:,} versions of rows"
+            told = f"{self.rows:,} rows in {self.bytes:,} bytes leave little room for corrections"
+            yield f"{told}: {limits}; --part 1/2 and --part 2/2 make two scripts of the file"
+
+    def told_of_words(self) -> Iterator[str]:
+        """What comes of words that may not be what was meant: an end that no row has, and a part alone."""
+        end = cast(End, self.columns[1])
+        for text in sorted(end.no_ends - end.met) if self.rows else []:
+            word, what = (f"--no-end '{visible(text)}'", f"'{visible(text)}'") if text else ("--open", "empty")
+            yield f"{word}: no row's {self.options.end} is {what}"
+        if self.options.part:
+            part, parts = self.options.part
+            told = f"part {part} of {parts} has {self.printed:,} of the file's {self.rows:,} rows"
+            yield f"{told}; only all {parts} parts together have each"
+
+    def told_of_points(self) -> Iterator[str]:
+        """Dates that are as good the other way round, and times of which some have AM or PM."""
+        texts = [point_text(text, False) for column in self.columns[:2] for text in column]
+        found = as_good_swapped(texts, form_of(self.options) or "")
+        if found:
+            months = f"of {found.wanted} months, and not of {found.found}"
+            both = f"of {found.found} months either way" if found.wanted == found.found else months
+            example = f"'{found.text}', of {found.dates}, is {found.read}, and would be {found.otherwise}"
+            told = f"--dates {found.other} reads all dates too, which are then {both}: which is meant? ({example})"
+            yield f"{self.options.start} and {self.options.end}: {told}"
+        plain = without_half(texts)
+        if plain:
+            told = f"'{visible(plain)}' has neither AM nor PM, which others have, and is taken by 24 hours"
+            yield f"{self.options.start} and {self.options.end}: {told}"
+
+    def told_of_scales(self) -> Iterator[str]:
+        for column in self.columns:
+            scale = column.convert
+            if isinstance(scale, Scale) and scale.digits > 2 and 0 < scale.longest < scale.digits:
+                told = f"its numbers have {scale.longest} decimals at most, and are told to have {scale.digits}"
+                yield f"{column.name}: {told}; --decimals {column.name}={scale.longest} takes them as they are"
+
+
+def refuse_header(header: List[str], names: List[str]) -> None:
+    if not header:
+        raise Misfit("no header, since the file has nothing but empty lines")
+    unknown = [name for name in names if name not in header]
+    if unknown:
+        shown = ", ".join(f"'{visible(name)}'" for name in header)
+        mark = next((mark for mark in "|:^~ " if mark in header[0]), "") if len(header) == 1 < len(names) else ""
+        remedy = f"; `(echo 'sep={mark}'; cat FILE)` says that '{mark}' parts its fields" if mark else ""
+        file = next((name for name in unknown if isfile(name)), None)
+        remedy = f"; {visible(file)} is a file, which --file or `<` gives" if file else remedy
+        raise Misfit(f"not in the header: {', '.join(map(visible, unknown))}; it has {shown}{remedy}")
+    if any(read_point(name) for name in names[:2]):
+        raise Misfit(f"the first line is to have names, and has a date: {visible(','.join(header))}")
+    twice = [name for name in names if header.count(name) > 1]
+    if twice:
+        raise Misfit(f"two columns of the header have the name {visible(twice[0])}")

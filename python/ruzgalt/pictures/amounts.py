@@ -1,0 +1,48 @@
+"""How pictures print numbers: thousands parted, and with the decimals that a column is told to have."""
+from dataclasses import dataclass
+from typing import Optional, Sequence, Tuple
+
+from ruzgalt.errors import Misfit
+from ruzgalt.script.schemas import Kind, Table
+
+# What a join and an aggregate put before the name of a column that they read.
+BEFORE = ("left_", "right_", "sum_", "min_", "max_")
+
+
+@dataclass(frozen=True)
+class Amounts:
+    """Which columns have decimals, and how many. In German 1,234.50 is 1.234,50."""
+
+    digits: Sequence[Tuple[str, int]] = ()
+    is_german: bool = False
+
+    def of(self, name: str) -> Optional[int]:
+        """The decimals of a column, by its own name or by that of the table's which it was made of."""
+        names = [name, *(name[len(word):] for word in BEFORE if name.startswith(word))]
+        return next((digits for told, digits in self.digits if told in names), None)
+
+    def refuse_strangers(self, table: Table) -> None:
+        """A name that no column of numbers has would be taken for used."""
+        known = [column.name for column in table.columns if column.kind is Kind.INT]
+        for name, _ in self.digits:
+            if not any(Amounts([(name, 0)]).of(one) == 0 for one in known):
+                raise Misfit(f"--decimals {name}: no column of numbers, but {', '.join(known) or 'none is one'}")
+
+    def parted(self, number: int, digits: int) -> str:
+        """A whole number of the smallest unit: with two digits, 123450 is 1,234.50."""
+        whole, rest = divmod(abs(number), 10 ** digits)
+        text = f"{'-' if number < 0 else ''}{whole:,}" + (f".{rest:0{digits}}" if digits else "")
+        return text.translate(str.maketrans(",.", ".,")) if self.is_german else text
+
+    def printed(self, name: str, text: str) -> str:
+        """A record's field: parted where its column is told to have decimals, or none; else as it is."""
+        digits = self.of(name)
+        return text if digits is None or not text.lstrip("-").isdigit() else self.parted(int(text), digits)
+
+    def levels(self, name: str, numbers: Sequence[int]) -> Sequence[str]:
+        """Numbers of a scale, without decimals where each is whole."""
+        digits = self.of(name) or 0
+        unit = 10 ** digits
+        if all(number % unit == 0 for number in numbers):
+            return [self.parted(number // unit, 0) for number in numbers]
+        return [self.parted(number, digits) for number in numbers]

@@ -1,0 +1,92 @@
+"""What is told beside an answer of which a picture is made, and which of its records that leaves."""
+from dataclasses import dataclass, field
+from typing import Dict, Iterable, List, Optional, Sequence, Tuple
+
+from ruzgalt.answers import Answer
+from ruzgalt.answers.lists import FORMS
+from ruzgalt.errors import Misfit
+from ruzgalt.pictures.amounts import Amounts
+from ruzgalt.pictures.shapes import Bar
+from ruzgalt.pictures.timeline import Span, span_of
+from ruzgalt.script.forms import printed, read_point, seconds
+from ruzgalt.script.records import visible
+from ruzgalt.script.schemas import Kind, Table
+
+Record = Dict[str, str]
+
+
+@dataclass(frozen=True)
+class Wish:
+    """The columns of lanes and labels, the rows and the time that are shown, numbers' forms, the script's name."""
+
+    by: Optional[str] = None
+    label: Optional[str] = None
+    where: Sequence[Tuple[str, str]] = ()
+    start: Optional[str] = None
+    end: Optional[str] = None
+    amounts: Amounts = field(default_factory=Amounts)
+    script: str = ""
+
+    def limits(self) -> Tuple[Optional[int], Optional[int]]:
+        """The seconds of the first point that is shown, and of the end."""
+        for point in (self.start, self.end):
+            if point is not None and read_point(point) is None:
+                raise Misfit(f"{point}: no point, as 2024-01-05 or 2024-01-05T08:30:00")
+        start, end = (None if point is None else seconds(point) for point in (self.start, self.end))
+        if start is not None and end is not None and end <= start:
+            raise Misfit(f"{self.start} isn't before {self.end}")
+        return start, end
+
+    def span(self, periods: Iterable[Tuple[int, int]]) -> Span:
+        return span_of(periods, *self.limits())
+
+    def title(self, answer: Answer, shown: str) -> str:
+        """The script, its command, what is shown of it, of which records, and that their numbers have decimals."""
+        script = f"{self.script}: " if self.script else ""
+        where = " and ".join(f"{name} is {visible(value) or 'empty'}" for name, value in self.where)
+        told = f"{script}{' '.join(answer.command.text.split())}: {shown}" + (f", where {where}" if where else "")
+        return told + "".join(f"; {name} with {digits} decimals" for name, digits in self.amounts.digits if digits)
+
+    def wants(self, record: Record) -> bool:
+        start, end = printed(self.start or ""), printed(self.end or "")
+        is_shown = start < record["valid_to"] and (not end or record["valid_from"] < end)
+        return is_shown and all(record[name] == value for name, value in self.where)
+
+    def wanted(self, table: Table) -> List[Record]:
+        """The records as fields by their names, those that are asked for."""
+        self.refuse_values(table)
+        records = (dict(zip(table.names, record)) for record in table.texts())
+        return [record for record in records if self.wants(record)]
+
+    def refuse_values(self, table: Table) -> None:
+        """A value that no record of its column can have would be taken for one that none has."""
+        for name, value in self.where:
+            place = table.place(name)
+            kind = table.columns[place].kind
+            has_form = FORMS.get(kind)
+            # The end of a version that is open is empty.
+            if has_form and not has_form(value) and (value or name != "sys_to"):
+                raise Misfit(f"--where {name}={visible(value)}: {NO_VALUE[kind]}")
+
+    def labelled(self, record: Record, names: Sequence[str]) -> str:
+        """The record's values of these columns."""
+        missing = [name for name in names if name not in record]
+        if missing:
+            raise Misfit(f"there is no column {missing[0]}, but {', '.join(record)}")
+        return " ".join(" ".join(self.amounts.printed(name, record[name]).split()) for name in names)
+
+
+# What is told of a value that is none of its column's kind.
+NO_VALUE = {
+    Kind.INT: "no whole number in digits alone, as 480050 for cents, or -8",
+    Kind.POINT: "no point as it is printed, as 2024-01-05 or 2024-01-05T08:30:00; that of a midnight is its date",
+}
+
+
+def bar_of(record: Record, lane: int, label: str) -> Bar:
+    return Bar(lane, seconds(record["valid_from"]), seconds(record["valid_to"]), label, told(record))
+
+
+def told(record: Record) -> str:
+    """The record as the answer has it."""
+    return ", ".join(f"{name}: {' '.join(value.split())}" for name, value in record.items() if value)

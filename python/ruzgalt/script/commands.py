@@ -1,0 +1,95 @@
+"""Takes a script apart into its commands, as docs/LANGUAGE.md tells where each ends."""
+from dataclasses import dataclass, replace
+from typing import Iterator, List, Optional, Sequence, Tuple
+
+from ruzgalt.script.reader import Block, Reader, Skipped, Source
+from ruzgalt.script.records import Record
+
+# Words whose records run to the next `end`, whatever their other fields are.
+BLOCKS = ("load", "check")
+# Those that may have the suffix `asof,N`.
+OF_A_COMMIT = ("rows", "at", "dip", "join", "anti", "agg", "check")
+
+
+@dataclass(frozen=True)
+class Command:
+    """A command that has one answer: its first record, those of its block, and whether the block has its end."""
+
+    record: Record
+    block: Sequence[Record]
+    is_ended: bool = True
+    in_together: bool = False
+
+    @property
+    def word(self) -> str:
+        return self.record.word
+
+    @property
+    def line(self) -> int:
+        return self.record.line
+
+    @property
+    def place(self) -> str:
+        return self.record.place
+
+    @property
+    def text(self) -> str:
+        return self.record.text
+
+    @property
+    def as_of(self) -> Optional[str]:
+        """The number in its suffix `asof,N`, where it has one."""
+        fields = self.record.fields
+        has_suffix = self.word in OF_A_COMMIT and len(fields) > 2 and fields[-2] == "asof"
+        return fields[-1] if has_suffix else None
+
+    @property
+    def front(self) -> List[str]:
+        """Its fields without the suffix."""
+        return list(self.record.fields[:-2] if self.as_of is not None else self.record.fields)
+
+    def record_of(self, number: int) -> Optional[Record]:
+        """The record of that number, where it is one of this command's."""
+        place = number - self.record.number
+        if place == 0:
+            return self.record
+        return self.block[place - 1] if 0 < place <= len(self.block) else None
+
+    @property
+    def rows(self) -> Sequence[Record]:
+        """The records of its block without the `end`, where that is there."""
+        return self.block[:-1] if self.is_ended else self.block
+
+
+def commands(source: Source) -> Iterator[Command]:
+    """The commands of a script, in the order of their answers; those of a block of commands come behind its first."""
+    reader = Reader(source)
+    for record in reader:
+        if record.word == "together":
+            place = reader.place
+            inner, is_ended = commands_within(reader)
+            skipped = Skipped(reader.number - place.number, is_ended, set())
+            yield Command(record, Block(source, place, skipped, reader.line), is_ended)
+            if is_ended and len(record.fields) == 1:
+                yield from inner
+        else:
+            yield command_of(record, reader)
+
+
+def commands_within(reader: Reader) -> Tuple[List[Command], bool]:
+    """The commands of a block from its second record on, and whether it has its `end`."""
+    inner: List[Command] = []
+    for record in reader:
+        if record.is_end():
+            return inner, True
+        inner.append(replace(command_of(record, reader), in_together=True))
+    return inner, False
+
+
+def command_of(opening: Record, reader: Reader) -> Command:
+    """The command that begins with this record, with its block where it is a load or a check."""
+    if opening.word not in BLOCKS:
+        return Command(opening, [])
+    place = reader.place
+    skipped = reader.skip_block()
+    return Command(opening, Block(reader.source, place, skipped, reader.line), skipped.is_ended)

@@ -1,0 +1,128 @@
+"""What each field of a record is to be, so that the one is found for which a record was refused."""
+from dataclasses import dataclass
+from enum import Enum, auto
+from typing import Dict, Iterator, List, Optional, Sequence
+
+from ruzgalt.script.commands import Command
+from ruzgalt.script.records import Record
+from ruzgalt.script.schemas import Column, Kind, Schema
+
+
+class Role(Enum):
+    TABLE = auto()
+    COLUMN = auto()
+    KEY = auto()
+    POINT = auto()
+    COUNT = auto()
+    SUFFIX = auto()
+    VALUE = auto()
+
+
+@dataclass(frozen=True)
+class Field:
+    """A field's place from 0 on, its text, what it is to be, and its table and column where these are known."""
+
+    place: int
+    text: str
+    role: Role
+    table: Optional[Schema] = None
+    column: Optional[Column] = None
+
+
+Tables = Dict[str, Schema]
+
+
+def fields_of(command: Command, record: Record, tables: Tables) -> List[Field]:
+    """The fields of the command's first record, or of one of its block."""
+    texts = record.fields
+    if record is not command.record:
+        return list(of_part(texts) if record.word == "part" else of_row(texts, tables.get(second(command))))
+    front = command.front
+    reader = BY_WORD.get(command.word, of_query)
+    found = list(reader(front, tables))
+    if command.as_of is not None:
+        found.append(Field(len(texts) - 1, texts[-1], Role.SUFFIX))
+    return found
+
+
+def second(command: Command) -> str:
+    return (*command.record.fields, "")[1]
+
+
+def of_part(texts: Sequence[str]) -> Iterator[Field]:
+    return (Field(place, text, Role.COUNT) for place, text in enumerate(texts) if place)
+
+
+def of_row(texts: Sequence[str], table: Optional[Schema]) -> Iterator[Field]:
+    yield from (Field(place, texts[place], Role.POINT) for place in (1, 2) if place < len(texts))
+    for place, column in enumerate(table.columns if table else (), 3):
+        if place < len(texts):
+            yield Field(place, texts[place], Role.VALUE, table, column)
+
+
+def of_query(texts: Sequence[str], tables: Tables) -> Iterator[Field]:
+    """The table, and behind it points, or numbers."""
+    roles = {"at": [Role.POINT], "check": [Role.COUNT, Role.POINT]}
+    behind = roles.get(texts[0], [Role.COUNT] * 2 if texts[0] in ("between", "fromto") else [])
+    for place, role in enumerate([Role.TABLE, *behind], 1):
+        if place < len(texts):
+            yield Field(place, texts[place], role, tables.get(texts[place]))
+
+
+def of_table(texts: Sequence[str], _: Tables) -> Iterator[Field]:
+    """The name, those of the columns, and those of the key, which are to be among the columns."""
+    keys = [place for place in range(2, len(texts), 2) if texts[place] == "key"]
+    end = keys[0] if keys else len(texts)
+    columns = tuple(Column(name, Kind.TEXT) for name in texts[2:end:2])
+    made = Schema(texts[1] if len(texts) > 1 else "", columns)
+    yield from (Field(1, text, Role.TABLE, made) for text in texts[1:2])
+    yield from (Field(place, texts[place], Role.COLUMN, made) for place in range(2, end, 2))
+    yield from (Field(place, texts[place], Role.KEY, made) for place in range(end + 1, len(texts)))
+
+
+def of_change(texts: Sequence[str], tables: Tables) -> Iterator[Field]:
+    """The table, the portion, and pairs of a column and a value, without the words `set` and `where`."""
+    table = tables.get((*texts, "")[1])
+    roles = [Role.TABLE, Role.POINT, Role.POINT]
+    yield from (Field(place, texts[place], role, table) for place, role in enumerate(roles, 1) if place < len(texts))
+    for place in [*set_places(texts), *where_places(texts)]:
+        columns = [one for one in (table.columns if table else ()) if one.name == texts[place]]
+        yield Field(place, texts[place], Role.COLUMN, table)
+        yield Field(place + 1, texts[place + 1], Role.VALUE, table, *columns)
+
+
+def where_place(texts: Sequence[str]) -> int:
+    """Where the word `where` stands in an update or a delete: at the place of a column, with pairs behind it."""
+    places = range(5, len(texts) - 1, 2) if texts[0] == "update" else range(4, min(5, len(texts)))
+    return next((place for place in places if texts[place] == "where"), len(texts))
+
+
+def set_places(texts: Sequence[str]) -> range:
+    """The places of the columns that an update sets."""
+    return range(5, where_place(texts) - 1, 2) if texts[0] == "update" else range(0)
+
+
+def where_places(texts: Sequence[str]) -> range:
+    """The places of the columns whose values a row is to have."""
+    return range(where_place(texts) + 1, len(texts) - 1, 2)
+
+
+def of_join(texts: Sequence[str], tables: Tables) -> Iterator[Field]:
+    sides = [tables.get(text) for text in texts[1:3]]
+    yield from (Field(place, text, Role.TABLE, tables.get(text)) for place, text in enumerate(texts[1:3], 1))
+    for place in range(4, len(texts)):
+        yield Field(place, texts[place], Role.COLUMN, sides[place % 2])
+
+
+def of_aggregate(texts: Sequence[str], tables: Tables) -> Iterator[Field]:
+    table = tables.get((*texts, "")[1])
+    yield from (Field(1, text, Role.TABLE, table) for text in texts[1:2])
+    is_count = texts[2:3] == ["count"]
+    places = ([] if is_count else [3]) + ([len(texts) - 1] if "by" in texts[3:-1] else [])
+    yield from (Field(place, texts[place], Role.COLUMN, table) for place in places if place < len(texts))
+
+
+BY_WORD = {
+    "table": of_table, "update": of_change, "delete": of_change, "join": of_join, "anti": of_join,
+    "agg": of_aggregate,
+}

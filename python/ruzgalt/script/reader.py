@@ -1,0 +1,256 @@
+"""Reads the records of a text one behind another, and keeps of many only where they stand.
+
+Bytes that are no UTF-8 stay as they are in texts (`surrogateescape`), so what is read and printed again is the same.
+"""
+import csv
+import io
+import re
+from bisect import bisect_left
+from itertools import accumulate
+from typing import Callable, Iterator, List, NamedTuple, Optional, Sequence, Set, Tuple, Union, overload
+
+from ruzgalt.script.records import Record
+
+csv.field_size_limit(1 << 27)
+
+END = ["end"]
+# Records of one form are looked at by so many at once.
+PIECE = 1 << 13
+# Of so many rows at most what may not be meant is looked for row by row.
+LOOKED_AT = 100_000
+LIST_END = re.compile(rb"\nend,(\d{1,9})\n")
+BYTE_ORDER_MARK = b"\xef\xbb\xbf"
+# Python 3.9's csv takes no zero byte, so one is put in its place that no decoded text has.
+ZERO, STAND_IN = "\0", "\ud800"
+
+
+class Place(NamedTuple):
+    """Where a record begins, or empty lines before it: in which line, and with which number."""
+
+    line: int
+    number: int
+
+
+class Source:
+    """The bytes of a script or of answers. Records behind so many lines of its own are asked."""
+
+    # So many bytes are counted at once, where a line is looked for.
+    STRIDE = 1 << 16
+
+    def __init__(self, data: bytes, own_lines: Optional[int] = None) -> None:
+        self.data, self.own_lines = data, own_lines
+        self.has_zero = b"\0" in data
+        # Lines end with LF, or with CR and LF; if also with CR alone, each of their places is kept.
+        has_others = data.count(b"\r") != data.count(b"\r\n")
+        self.ends = [found.end() for found in re.finditer(b"\r\n|\r|\n", data)] if has_others else None
+        self.counts: List[int] = []
+
+    def byte_of(self, line: int) -> int:
+        """Where a line begins."""
+        if line == 1:
+            return len(BYTE_ORDER_MARK) if self.data.startswith(BYTE_ORDER_MARK) else 0
+        if self.ends is not None:
+            return self.ends[line - 2] if line - 2 < len(self.ends) else len(self.data)
+        if not self.counts:
+            starts = range(0, len(self.data), self.STRIDE)
+            self.counts = list(accumulate(self.data.count(b"\n", start, start + self.STRIDE) for start in starts))
+        stride = bisect_left(self.counts, line - 1)
+        byte = stride * self.STRIDE - 1
+        for _ in range(line - 1 - (self.counts[stride - 1] if stride else 0)):
+            byte = self.data.find(b"\n", byte + 1)
+            if byte < 0:
+                # The last line has no end.
+                return len(self.data)
+        return byte + 1
+
+    def bytes_between(self, first: int, last: int) -> bytes:
+        """The lines from the first on and before the last."""
+        return self.data[self.byte_of(first):self.byte_of(last)]
+
+    def lines_from(self, line: int) -> Iterator[str]:
+        buffer = io.BytesIO(self.data)
+        buffer.seek(self.byte_of(line))
+        return io.TextIOWrapper(buffer, "utf-8", "surrogateescape", newline="")
+
+
+class Skipped(NamedTuple):
+    """Records of a block that were passed over: how many, whether `end` is the last, how many fields others have."""
+
+    size: int
+    is_ended: bool
+    widths: Set[int]
+
+
+class Reader:
+    """The records of a source from a place on. Empty lines give none, and have no number."""
+
+    def __init__(self, source: Source, place: Optional[Place] = None) -> None:
+        self.source = source
+        self.line, self.number = place or Place(1, 1)
+        lines = source.lines_from(self.line)
+        self.csv = csv.reader(map(without_zeros, lines) if source.has_zero else lines)
+        self.fields: Iterator[List[str]] = map(with_zeros, self.csv) if source.has_zero else self.csv
+        self.first_line = self.line
+        self.held: Optional[Record] = None
+
+    @property
+    def place(self) -> Place:
+        """Where the next record begins."""
+        return Place(self.line, self.number)
+
+    def __iter__(self) -> Iterator[Record]:
+        record = self.next()
+        while record is not None:
+            yield record
+            record = self.next()
+
+    def next(self) -> Optional[Record]:
+        if self.held is not None:
+            record, self.held = self.held, None
+            return record
+        for fields in self.fields:
+            begun, self.line = self.line, self.first_line + self.csv.line_num
+            if fields:
+                return self.made(begun, fields)
+        return None
+
+    def numbered(self) -> Iterator[Tuple[int, List[str]]]:
+        """The fields of each record, with the line on which it begins."""
+        for fields in self.fields:
+            begun, self.line = self.line, self.first_line + self.csv.line_num
+            if fields:
+                yield begun, fields
+
+    def made(self, line: int, fields: List[str]) -> Record:
+        own_lines = self.source.own_lines
+        self.number += 1
+        return Record(self.number - 1, line, fields, own_lines is not None and line > own_lines)
+
+    def skip_block(self) -> Skipped:
+        """Passes over the records up to the one that is just `end`, or to the last."""
+        count, is_ended, widths = 0, False, set()
+        for fields in self.fields:
+            if fields:
+                count += 1
+                if fields == END:
+                    is_ended = True
+                    break
+                widths.add(len(fields))
+        self.line = self.first_line + self.csv.line_num
+        self.number += count
+        return Skipped(count, is_ended, widths)
+
+    def pieces(self, first: Record, width: int) -> Iterator[List[List[str]]]:
+        """The fields of the first record and of those behind it with its word and so many fields, by pieces."""
+        word, piece, count = first.word, [list(first.fields)], 0
+        for fields in self.fields:
+            if len(fields) == width and fields[0] == word:
+                piece.append(fields)
+                if len(piece) == PIECE:
+                    count += PIECE
+                    yield piece
+                    piece = []
+            elif fields:
+                self.line = self.first_line + self.csv.line_num
+                self.number += count + len(piece) - 1
+                self.held = self.made(self.line - 1 - sum(map(breaks_in, fields)), fields)
+                break
+        else:
+            self.number += count + len(piece) - 1
+        if piece:
+            yield piece
+
+    def at_list_end(self, first: Record) -> Optional["Reader"]:
+        """A reader at the `end,N` of a list as dipq prints it, of which pieces were read; None where there is none.
+
+        Where an even number of quotes stands before it, it stands in no field.
+        """
+        data, begun = self.source.data, self.source.byte_of(self.first_line + self.csv.line_num)
+        for found in LIST_END.finditer(data, begun - 1):
+            byte = found.start() + 1
+            if data.count(b'"', begun, byte) % 2 == 0:
+                ends = [data.count(end, begun, byte) for end in (b"\n", b"\r", b"\r\n")]
+                line = self.first_line + self.csv.line_num + ends[0] + ends[1] - ends[2]
+                return Reader(self.source, Place(line, first.number + int(found[1])))
+        return None
+
+
+def breaks_in(field: str) -> int:
+    """The line ends in it: LF, CR, or both of them."""
+    return field.count("\n") + field.count("\r") - field.count("\r\n")
+
+
+def without_zeros(line: str) -> str:
+    return line.replace(ZERO, STAND_IN)
+
+
+def with_zeros(fields: List[str]) -> List[str]:
+    return [field.replace(STAND_IN, ZERO) for field in fields]
+
+
+class Block(Sequence[Record]):
+    """The records of a block, read again where they are asked for."""
+
+    def __init__(self, source: Source, place: Place, skipped: Skipped, end: int) -> None:
+        self.source, self.place, self.end, self.skipped = source, place, end, skipped
+        self.size = skipped.size
+
+    @property
+    def widths(self) -> Set[int]:
+        """How many fields its records have, but for an `end`."""
+        return self.skipped.widths
+
+    def bytes(self) -> bytes:
+        """The lines on which its records stand, and an `end`."""
+        return self.source.bytes_between(self.place.line, self.end)
+
+    def __len__(self) -> int:
+        return self.size
+
+    def __iter__(self) -> Iterator[Record]:
+        reader = Reader(self.source, self.place)
+        for _ in range(self.size):
+            record = reader.next()
+            if record is not None:
+                yield record
+
+    @overload
+    def __getitem__(self, place: int) -> Record: ...
+
+    @overload
+    def __getitem__(self, place: slice) -> Sequence[Record]: ...
+
+    def __getitem__(self, place: Union[int, slice]) -> Union[Record, Sequence[Record]]:
+        if isinstance(place, slice):
+            start, stop, step = place.indices(self.size)
+            if (start, step) == (0, 1):
+                return Block(self.source, self.place, self.skipped._replace(size=stop), self.end)
+        return list(self)[place]
+
+
+Row = Sequence[Optional[str]]
+
+
+class Rows(Sequence[Row]):
+    """The records of a table, made again where they are asked for."""
+
+    def __init__(self, size: int, read: Callable[[], Iterator[Row]]) -> None:
+        self.size, self.read = size, read
+
+    def __len__(self) -> int:
+        return self.size
+
+    def __iter__(self) -> Iterator[Row]:
+        return self.read()
+
+    @overload
+    def __getitem__(self, place: int) -> Row: ...
+
+    @overload
+    def __getitem__(self, place: slice) -> Sequence[Row]: ...
+
+    def __getitem__(self, place: Union[int, slice]) -> Union[Row, Sequence[Row]]:
+        return list(self)[place]
+
+    def __eq__(self, other: object) -> bool:
+        return isinstance(other, Sequence) and list(self) == list(other)

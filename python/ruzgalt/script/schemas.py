@@ -1,0 +1,151 @@
+"""Which columns a table of the store has, and which the answer to each command."""
+from dataclasses import dataclass, field
+from enum import Enum
+from typing import Dict, Iterable, Iterator, List, Optional, Sequence, Tuple, Union
+
+from ruzgalt.errors import Misfit
+from ruzgalt.script import naming
+from ruzgalt.script.commands import Command
+from ruzgalt.script.forms import is_name, read_point
+
+
+class Kind(Enum):
+    INT = "int"
+    TEXT = "text"
+    POINT = "point"
+
+
+@dataclass(frozen=True)
+class Column:
+    name: str
+    kind: Kind
+
+
+@dataclass(frozen=True)
+class Schema:
+    """A table of the store: its name, its columns, and the places of those of its key."""
+
+    name: str
+    columns: Tuple[Column, ...]
+    key: Tuple[int, ...] = ()
+
+    @property
+    def names(self) -> List[str]:
+        return [column.name for column in self.columns]
+
+    @property
+    def fields(self) -> List[str]:
+        """The record that makes the table."""
+        columns = [text for column in self.columns for text in (column.name, column.kind.value)]
+        key = ["key", *(self.names[place] for place in self.key)] if self.key else []
+        return ["table", self.name, *columns, *key]
+
+    def place(self, name: str) -> int:
+        if name not in self.names:
+            raise Misfit(f"the table {self.name} has no column {name}, but {', '.join(self.names) or 'none'}")
+        return self.names.index(name)
+
+    @staticmethod
+    def read(fields: Sequence[str]) -> "Schema":
+        """The table that a `table` record makes which was accepted."""
+        ends = [place for place in range(2, len(fields), 2) if fields[place] == "key"]
+        end = ends[0] if ends else len(fields)
+        columns = tuple(Column(name, Kind(kind)) for name, kind in zip(fields[2:end:2], fields[3:end:2]))
+        names = [column.name for column in columns]
+        return Schema(fields[1], columns, tuple(names.index(name) for name in fields[end + 1:]))
+
+
+def is_schema(fields: Sequence[str]) -> bool:
+    """Whether a `table` record has a name, a kind for each column, and a key of its columns."""
+    try:
+        made = Schema.read(fields)
+        return all(map(is_name, [made.name, *made.names]))
+    except (IndexError, ValueError):
+        return False
+
+
+Value = Union[int, str, None]
+
+
+@dataclass(frozen=True)
+class Table:
+    """An answer as a table. A field that isn't told, as the end of a version that is open, is None."""
+
+    columns: List[Column]
+    records: Sequence[Sequence[Optional[str]]] = field(default_factory=list)
+
+    @property
+    def names(self) -> List[str]:
+        return [column.name for column in self.columns]
+
+    def values(self) -> Iterator[List[Value]]:
+        """The records with numbers as numbers."""
+        is_int = [column.kind is Kind.INT for column in self.columns]
+        return (
+            [int(text) if number and text is not None else text for number, text in zip(is_int, record)]
+            for record in self.records
+        )
+
+    def texts(self) -> Iterator[List[str]]:
+        return (["" if text is None else text for text in record] for record in self.records)
+
+    def place(self, name: str) -> int:
+        if name not in self.names:
+            raise Misfit(f"the answer has no column {name}, but {', '.join(self.names)}")
+        return self.names.index(name)
+
+
+def ints(*names: str) -> List[Column]:
+    return [Column(name, Kind.INT) for name in names]
+
+
+PERIOD = [Column("valid_from", Kind.POINT), Column("valid_to", Kind.POINT)]
+COMMIT = [*ints("number", "caller"), Column("kind", Kind.TEXT), Column("of_table", Kind.TEXT), *ints("added", "closed")]
+VERDICT = [Column("verdict", Kind.TEXT), Column("reason", Kind.TEXT), *ints("count", "part", "row_id", "other_row_id")]
+DIVISION = [*ints("part", "row_id"), Column("instant", Kind.POINT)]
+
+
+def header(command: Command, tables: Dict[str, Schema]) -> List[Column]:
+    """The columns of the answer to a command that wasn't refused. Raises KeyError where its table or point is none."""
+    word, front = command.word, command.front
+    for name in front[1:{"join": 3, "anti": 3, "log": 1}.get(word, 2)]:
+        if name not in tables:
+            raise KeyError(name)
+    if word == "at" and (len(front) != 3 or read_point(front[2]) is None):
+        raise KeyError(word)
+    if word in ("rows", "at", "anti"):
+        return unique([*ints("row_id"), *PERIOD, *tables[front[1]].columns])
+    if word in ("between", "fromto"):
+        return unique([*ints("row_id"), *PERIOD, *ints("sys_from", "sys_to"), *tables[front[1]].columns])
+    if word == "join":
+        left, right = tables[front[1]].columns, tables[front[2]].columns
+        sides = [*prefixed("left", left), *prefixed("right", right)]
+        return unique([*PERIOD, *ints("left_id", "right_id"), *sides])
+    if word == "agg":
+        return aggregate_header(front, tables[front[1]])
+    return {"log": COMMIT, "dip": DIVISION, "check": VERDICT}.get(word, ints("commit"))
+
+
+def aggregate_header(front: Sequence[str], table: Schema) -> List[Column]:
+    """The group's column under its own name, the period, and the value under that of what it is."""
+    named = front[2] if front[2] == "count" else "_".join(front[2:4])
+    group = [table.columns[table.place(front[-1])]] if group_of(front) else []
+    # The period keeps its names, by which it is found, whatever the group's is.
+    start, end, *others = unique([*PERIOD, *group, *ints(named)])
+    return [*others[:-1], start, end, others[-1]]
+
+
+def group_of(front: Sequence[str]) -> Optional[str]:
+    """The column behind `by`, where an aggregate has one."""
+    return front[-1] if len(front) in (5, 6) and front[-2] == "by" else None
+
+
+def prefixed(side: str, columns: Iterable[Column]) -> List[Column]:
+    return [Column(f"{side}_{column.name}", column.kind) for column in columns]
+
+
+def unique(columns: Iterable[Column]) -> List[Column]:
+    """The columns, each under a name of its own."""
+    told = list(columns)
+    names = naming.apart([column.name for column in told])
+    return [Column(name, column.kind) for name, column in zip(names, told)]
