@@ -178,7 +178,7 @@ class Contents(ToolCase):
 
     def test_it_says_which_tool_made_it(self) -> None:
         for is_installed in (False, True):
-            with mock.patch("ruzgalt.called.IS_INSTALLED", is_installed):
+            with mock.patch("ruzgalt.commands.called.IS_INSTALLED", is_installed):
                 self.assertEqual(data_of(example("pay"))["data"]["isInstalled"], is_installed)
 
     def test_refusals_have_their_reasons_and_of_a_key_the_rows(self) -> None:

@@ -7,7 +7,7 @@ from typing import Dict, Iterable, Iterator, List, Optional, Sequence, Tuple
 
 from ruzgalt.answers import CHANGES, Answer
 from ruzgalt.answers.changes import Held, changes, order
-from ruzgalt.checking.replay import Store, Version, behind
+from ruzgalt.checking.replay import Replay, Version, behind
 from ruzgalt.errors import Misfit
 from ruzgalt.script.schemas import PERIOD, Column, Kind, Schema, Table, ints, unique
 
@@ -26,13 +26,13 @@ def of_table(
 ) -> Table:
     """All changes of rows with these values, each with the day of its commit where days are given."""
     refuse_missing(found, name)
-    schema, store = found[-1].tables[name], behind(found)
+    schema, replay = found[-1].tables[name], behind(found)
     wanted = [(schema.place(column), value) for column, value in where]
     lines = {one.commits: one.place for one in found if not one.refusal and one.command.word in CHANGES}
     entered = [] if days is None else [Column("entered", Kind.POINT)]
     columns = unique([*ints("commit"), Column("place", Kind.TEXT), *entered, *CHANGE, *schema.columns])
     records: List[List[Optional[str]]] = []
-    for commit, change in changes_of(schema, store.versions[name], wanted):
+    for commit, change in changes_of(schema, replay.versions[name], wanted):
         day = [] if days is None else [day_of(days, commit)]
         records.append([str(commit), lines[commit], *day, *change])
     return Table(columns, records)
@@ -98,8 +98,8 @@ def strange_commits(days: Days, newest: int) -> Iterator[str]:
         yield f"it names commit {strange[0]}, which isn't there: the newest is {newest}"
 
 
-def open_rows(store: Store, name: str) -> Iterator[List[str]]:
-    return ([one.row.start, one.row.end, *one.row.values] for one in store.open[name].by_id.values())
+def open_rows(replay: Replay, name: str) -> Iterator[List[str]]:
+    return ([one.row.start, one.row.end, *one.row.values] for one in replay.open[name].by_id.values())
 
 
 def day_of(days: Sequence[Tuple[str, int]], commit: int) -> Optional[str]:

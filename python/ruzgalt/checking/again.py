@@ -1,4 +1,4 @@
-"""What queries answer, found again from the store's versions by other ways than those of dipq.
+"""What queries answer, found again from the versions of rows, by other ways than those of dipq.
 
 Of a join only its number of records is: they are looked at one by one.
 """
@@ -8,7 +8,7 @@ from heapq import heappop, heappush
 from typing import Callable, Dict, Iterable, Iterator, List, Optional, Sequence, Tuple, Union
 
 from ruzgalt.answers import CHANGES, Answer
-from ruzgalt.checking.replay import Store, Version
+from ruzgalt.checking.replay import Replay, Version
 from ruzgalt.script.forms import printed
 from ruzgalt.script.schemas import Kind, group_of
 
@@ -19,11 +19,11 @@ Keyed = Dict[Tuple[str, ...], List[Version]]
 Numbered = Tuple[str, str, int]
 
 
-def logged(found: Sequence[Answer], store: Store) -> Iterator[Texts]:
+def logged(found: Sequence[Answer], replay: Replay) -> Iterator[Texts]:
     """What each commit of these answers did."""
     added: Dict[Tuple[str, Optional[int]], int] = defaultdict(int)
     closed: Dict[Tuple[str, Optional[int]], int] = defaultdict(int)
-    for name, made in store.versions.items():
+    for name, made in replay.versions.items():
         for version in made:
             added[name, version.made] += 1
             closed[name, version.closed] += 1
@@ -38,33 +38,33 @@ def texts_of(version: Version) -> Texts:
     return [str(version.row_id), version.row.start, version.row.end, *version.row.values]
 
 
-def listed(store: Store, answer: Answer) -> Iterator[Texts]:
+def listed(replay: Replay, answer: Answer) -> Iterator[Texts]:
     """The rows of the answer's commit, of an `at` those that hold at its point."""
     front = answer.command.front
     point = printed(front[2]) if front[0] == "at" else None
-    for version in store.rows(front[1], answer.commit):
+    for version in replay.rows(front[1], answer.commit):
         # The texts of points are in the order of time.
         if point is None or version.row.start <= point < version.row.end:
             yield texts_of(version)
 
 
-def versions(store: Store, answer: Answer) -> Iterator[Texts]:
+def versions(replay: Replay, answer: Answer) -> Iterator[Texts]:
     """The versions that some commit shows of those that are asked for, as they were when it was asked."""
     word, name, low, high = answer.command.front
     last = int(high) - (word == "fromto")
-    for version in store.versions[name]:
+    for version in replay.versions[name]:
         closed = version.closed if version.closed is not None and version.closed <= answer.commits else None
         if version.made <= min(last, answer.commits) and (closed is None or int(low) < closed):
             row_id, start, end, *values = texts_of(version)
             yield [row_id, start, end, str(version.made), "" if closed is None else str(closed), *values]
 
 
-def divided(store: Store, answer: Answer) -> Iterator[Texts]:
+def divided(replay: Replay, answer: Answer) -> Iterator[Texts]:
     """Each row goes into the part that has ended first, or where none has into a new one; its start is the instant."""
     parts: List[List[str]] = []
     free: List[Tuple[str, int]] = []
     instant = "-"
-    for version in in_order(store.rows(answer.command.front[1], answer.commit)):
+    for version in in_order(replay.rows(answer.command.front[1], answer.commit)):
         if free and free[0][0] <= version.row.start:
             _, part = heappop(free)
         else:
@@ -80,10 +80,10 @@ def in_order(versions: Iterable[Version]) -> List[Version]:
     return sorted(versions, key=lambda version: (version.row.start, version.row.end, version.row_id))
 
 
-def judged(store: Store, answer: Answer) -> Iterator[Texts]:
+def judged(replay: Replay, answer: Answer) -> Iterator[Texts]:
     """The verdict on a division, with its numbers where they stand in the answer's table."""
     _, name, count, instant = answer.command.front
-    rows = {str(version.row_id): version for version in store.rows(name, answer.commit)}
+    rows = {str(version.row_id): version for version in replay.rows(name, answer.commit)}
     claimed = [list(record.fields[1:]) for record in answer.command.rows]
     point = printed(instant)
     crowd = sum(one.row.start <= point < one.row.end for one in rows.values()) if instant != "-" else 0
@@ -117,13 +117,13 @@ def fault_of_parts(claimed: List[List[str]], rows: Dict[str, Version], count: in
     return None
 
 
-def sides_of(store: Store, answer: Answer) -> Tuple[Keyed, Keyed]:
+def sides_of(replay: Replay, answer: Answer) -> Tuple[Keyed, Keyed]:
     """The rows of both tables of a join by the values that are to be equal."""
     front, found = answer.command.front, []
     for name, columns in zip(front[1:3], (front[4::2], front[5::2])):
         places = [answer.tables[name].place(column) for column in columns]
         keyed: Keyed = defaultdict(list)
-        for version in store.rows(name, answer.commit):
+        for version in replay.rows(name, answer.commit):
             keyed[tuple(version.row.values[place] for place in places)].append(version)
         found.append(keyed)
     return found[0], found[1]
@@ -135,12 +135,12 @@ def shared_times(left: List[Version], right: List[Version]) -> int:
     return sum(bisect_left(starts, one.row.end) - bisect_right(ends, one.row.start) for one in left)
 
 
-def uncovered(store: Store, answer: Answer) -> Iterator[Texts]:
+def uncovered(replay: Replay, answer: Answer) -> Iterator[Texts]:
     """The times of each left row at which no right one holds that matches."""
-    left, right = sides_of(store, answer)
+    left, right = sides_of(replay, answer)
     key_of = {version.row_id: key for key, versions in left.items() for version in versions}
     covered = {key: joined((one.row.start, one.row.end) for one in versions) for key, versions in right.items()}
-    for version in store.rows(answer.command.front[1], answer.commit):
+    for version in replay.rows(answer.command.front[1], answer.commit):
         row_id, start, last, *values = texts_of(version)
         for gap in gaps(start, last, covered.get(key_of[version.row_id], [])):
             yield [row_id, *gap, *values]
@@ -171,12 +171,12 @@ def joined(periods: Iterable[Tuple[str, str]]) -> List[Tuple[str, str]]:
     return found
 
 
-def aggregated(store: Store, answer: Answer) -> Iterator[Texts]:
+def aggregated(replay: Replay, answer: Answer) -> Iterator[Texts]:
     """The number of each group for each time in which it stays the same."""
     front, table = answer.command.front, answer.tables[answer.command.front[1]]
     group, function = group_of(front), front[2]
     rows: Dict[Union[int, str], List[Numbered]] = defaultdict(list)
-    for row in (version.row for version in store.rows(front[1], answer.commit)):
+    for row in (version.row for version in replay.rows(front[1], answer.commit)):
         number = 1 if function == "count" else int(row.values[table.place(front[3])])
         of_group = row.values[table.place(group)] if group else ""
         is_int = group is not None and table.columns[table.place(group)].kind is Kind.INT
@@ -215,7 +215,7 @@ def over_time(rows: Sequence[Numbered], function: str) -> List[Numbered]:
 
 
 # What each query but a join answers, as the records of its table.
-RECORDS: Dict[str, Callable[[Store, Answer], Iterator[Texts]]] = {
+RECORDS: Dict[str, Callable[[Replay, Answer], Iterator[Texts]]] = {
     "rows": listed, "at": listed, "between": versions, "fromto": versions, "dip": divided, "check": judged,
     "anti": uncovered, "agg": aggregated,
 }

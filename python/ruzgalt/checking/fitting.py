@@ -6,7 +6,7 @@ from typing import Dict, Iterable, Optional, Sequence, Tuple
 
 from ruzgalt.answers import Answer
 from ruzgalt.checking.again import RECORDS, Keyed, Texts, logged, shared_times, sides_of
-from ruzgalt.checking.replay import Row, Store, behind
+from ruzgalt.checking.replay import Row, Replay, behind
 from ruzgalt.errors import Misfit
 from ruzgalt.script.records import short, to_record
 
@@ -17,21 +17,21 @@ def refuse_unfit(found: Sequence[Answer], chosen: Sequence[Answer]) -> None:
     """Raises Misfit where one of the chosen answers can't be what the changes before it give."""
     if not chosen:
         return
-    store = behind(found)
+    replay = behind(found)
     for answer in chosen:
-        told = None if answer.refusal else fault(found, store, answer)
+        told = None if answer.refusal else fault(found, replay, answer)
         if told:
             raise Misfit(f"{answer.place}: {short(answer.command.text)}: {told}; {REMEDY}")
 
 
-def fault(found: Sequence[Answer], store: Store, answer: Answer) -> Optional[str]:
+def fault(found: Sequence[Answer], replay: Replay, answer: Answer) -> Optional[str]:
     """What the answer says, and what the changes give, where these differ."""
     word = answer.command.word
     if word == "log":
-        return first_difference(answer.table.texts(), logged(found[:answer.number - 1], store))
+        return first_difference(answer.table.texts(), logged(found[:answer.number - 1], replay))
     if word == "join":
-        return of_join(store, answer)
-    return first_difference(answer.table.texts(), RECORDS[word](store, answer)) if word in RECORDS else None
+        return of_join(replay, answer)
+    return first_difference(answer.table.texts(), RECORDS[word](replay, answer)) if word in RECORDS else None
 
 
 def first_difference(told: Iterable[Texts], wanted: Iterable[Texts]) -> Optional[str]:
@@ -47,8 +47,8 @@ def first_difference(told: Iterable[Texts], wanted: Iterable[Texts]) -> Optional
     return None
 
 
-def of_join(store: Store, answer: Answer) -> Optional[str]:
-    left, right = sides_of(store, answer)
+def of_join(replay: Replay, answer: Answer) -> Optional[str]:
+    left, right = sides_of(replay, answer)
     ones, others = keys_by_id(left), keys_by_id(right)
     for start, end, one, other, *values in answer.table.texts():
         if one not in ones or other not in others or ones[one][0] != others[other][0]:

@@ -7,7 +7,7 @@ from ruzgalt.answers import CHANGES, Answer
 from ruzgalt.checking import looks, quoting
 from ruzgalt.checking.loads import Loads
 from ruzgalt.checking.overlaps import pairs
-from ruzgalt.checking.replay import Beginnings, Store
+from ruzgalt.checking.replay import Beginnings, Replay
 from ruzgalt.commands import called
 from ruzgalt.loading.dates import NO_END, is_month_end
 from ruzgalt.script.fields import where_places
@@ -26,7 +26,7 @@ class Mark(NamedTuple):
     told: str
 
 
-def needs_store(found: Sequence[Answer]) -> bool:
+def needs_replay(found: Sequence[Answer]) -> bool:
     """Whether some answer is looked at beside the rows that were there, or these are to be looked at themselves."""
     words = {one.command.word for one in found if not one.refusal}
     has_overlap = any(one.refusal and one.refusal.name == "KeyOverlap" for one in found)
@@ -47,13 +47,13 @@ def without_key(found: Sequence[Answer]) -> Iterator[Schema]:
     return (one for one in loose if 1 < counts[one.name] <= LOOKED_AT)
 
 
-def walk(found: Sequence[Answer]) -> Iterator[Tuple[Answer, Store]]:
-    """Each answer with the store as it was before; without its rows where none is needed."""
-    store, is_needed = Store(), needs_store(found)
+def walk(found: Sequence[Answer]) -> Iterator[Tuple[Answer, Replay]]:
+    """Each answer with the changes before it, done again; with none where none is looked at."""
+    replay, is_needed = Replay(), needs_replay(found)
     for answer in found:
-        yield answer, store
+        yield answer, replay
         if is_needed:
-            store.do(answer)
+            replay.do(answer)
 
 
 class Marks:
@@ -67,7 +67,7 @@ class Marks:
         self.with_hours: Set[str] = set()
         self.marks: List[Mark] = []
 
-    def look(self, answer: Answer, store: Store) -> None:
+    def look(self, answer: Answer, replay: Replay) -> None:
         word = answer.command.word
         if answer.number == 1 and is_answer(answer.command.record.fields):
             self.add(answer, "these are answers, and no script: what they answer is to be given")
@@ -83,11 +83,11 @@ class Marks:
         if word == "load":
             self.look_at_load(answer)
         elif word in JOINS:
-            self.add(answer, of_join(answer, store))
+            self.add(answer, of_join(answer, replay))
         elif word == "at":
             self.add(answer, self.of_point(answer))
         elif word in PORTIONS:
-            self.add(answer, of_portion(answer, store))
+            self.add(answer, of_portion(answer, replay))
 
     def add(self, answer: Answer, told: Optional[str]) -> None:
         if told:
@@ -128,18 +128,18 @@ class Marks:
         count = sum(row not in loaded for row in rows)
         return f"it was refused whole, and {count} of its other rows stand in no later load" if count else None
 
-    def end(self, store: Store) -> List[Mark]:
+    def end(self, replay: Replay) -> List[Mark]:
         """All that is marked, by the answers' order; what changes touched is known now."""
-        ends = store.last_ends()
+        ends = replay.last_ends()
         for answer in self.found:
             if not answer.refusal and answer.command.word in PORTIONS:
-                self.add(answer, of_count(answer, store.closed.get(answer.commits, 0)))
+                self.add(answer, of_count(answer, replay.closed.get(answer.commits, 0)))
                 self.add(answer, of_reach(answer, ends.get(answer.commits)))
         for loads in self.by_table.values():
             for told in loads.told():
                 self.add(loads.answers[-1], told)
         for schema in without_key(self.found):
-            self.add(last_change_of(self.found, schema.name), of_overlap(schema, store))
+            self.add(last_change_of(self.found, schema.name), of_overlap(schema, replay))
         return sorted(self.marks, key=lambda mark: mark.answer.number)
 
 
@@ -148,11 +148,11 @@ def is_answer(fields: Sequence[str]) -> bool:
     return fields[0] == "error" or list(fields) in (["ok", "1"], ["end", "0"], ["together", "0"])
 
 
-def of_portion(answer: Answer, store: Store) -> Optional[str]:
+def of_portion(answer: Answer, replay: Replay) -> Optional[str]:
     """Tells a portion's end that looks like a last day, where it cuts a row."""
     end = answer.command.record.fields[3]
     told = of_end(end)
-    return told if told and any(end < version.row.end for version in store.change(answer).closed) else None
+    return told if told and any(end < version.row.end for version in replay.change(answer).closed) else None
 
 
 def of_end(end: str) -> Optional[str]:
@@ -193,12 +193,12 @@ def last_change_of(found: Sequence[Answer], name: str) -> Answer:
     return [one for one in changes if one.command.record.fields[1] == name][-1]
 
 
-def of_overlap(schema: Schema, store: Store) -> Optional[str]:
+def of_overlap(schema: Schema, replay: Replay) -> Optional[str]:
     """Offers the question for rows of one thing that hold at one time: of equal texts, whatever their numbers are."""
     texts = [place for place, column in enumerate(schema.columns) if column.kind is Kind.TEXT]
     places = texts or range(len(schema.columns))
     rows: Dict[Tuple[str, ...], List[Tuple[str, str, int]]] = defaultdict(list)
-    for version in store.open[schema.name].by_id.values():
+    for version in replay.open[schema.name].by_id.values():
         values = tuple(version.row.values[place] for place in places)
         rows[values].append((version.row.start, version.row.end, version.row_id))
     found = next((pair for spans in rows.values() for pair in pairs(spans)), None)
@@ -210,10 +210,10 @@ def of_overlap(schema: Schema, store: Store) -> Optional[str]:
     return f"{schema.name} has {'a key of all columns' if schema.key else 'no key'}, and {both}; {question}"
 
 
-def of_join(answer: Answer, store: Store) -> Optional[str]:
+def of_join(answer: Answer, replay: Replay) -> Optional[str]:
     front = answer.command.front
     left, right = (
-        values_of(store, answer, name, columns) for name, columns in zip(front[1:3], (front[4::2], front[5::2]))
+        values_of(replay, answer, name, columns) for name, columns in zip(front[1:3], (front[4::2], front[5::2]))
     )
     if len(front) > 3 and left and right and not left & right:
         told = f"{front[1]} and {front[2]} have no value of these columns in common"
@@ -225,9 +225,9 @@ def of_join(answer: Answer, store: Store) -> Optional[str]:
     return f"some values don't match{told}" if told else None
 
 
-def values_of(store: Store, answer: Answer, name: str, columns: Sequence[str]) -> Values:
+def values_of(replay: Replay, answer: Answer, name: str, columns: Sequence[str]) -> Values:
     places = [answer.tables[name].place(column) for column in columns]
-    return {tuple(one.row.values[place] for place in places) for one in store.rows(name, answer.commit)}
+    return {tuple(one.row.values[place] for place in places) for one in replay.rows(name, answer.commit)}
 
 
 def like(left: Values, right: Values) -> str:

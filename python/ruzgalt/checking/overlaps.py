@@ -6,7 +6,7 @@ from operator import itemgetter
 from typing import Dict, Generic, Iterable, Iterator, List, Sequence, Tuple, TypeVar, Union
 
 from ruzgalt.answers import Answer
-from ruzgalt.checking.replay import Change, Row as StoredRow, Store, Version
+from ruzgalt.checking.replay import Change, Row as StoredRow, Replay, Version
 from ruzgalt.errors import Misfit
 from ruzgalt.script.reader import Row
 from ruzgalt.script.records import to_record
@@ -81,11 +81,11 @@ def gaps(rows: Spans) -> Iterator[Tuple[str, str]]:
         reached = max(reached, end)
 
 
-def explained(store: Store, answer: Answer) -> List[str]:
-    """Which key, and which rows: lines for a person on a load or an update of this store, refused for a key."""
+def explained(replay: Replay, answer: Answer) -> List[str]:
+    """Which key, and which rows: lines for a person on a load or an update behind these changes, refused for a key."""
     name = answer.command.record.fields[1]
     schema = answer.tables[name]
-    found = collisions(store, name, store.change(answer), schema.key)
+    found = collisions(replay, name, replay.change(answer), schema.key)
     lines = []
     for pair in islice(found, TOLD):
         values = row_in(pair.first).values
@@ -95,14 +95,14 @@ def explained(store: Store, answer: Answer) -> List[str]:
     return lines + (["and more pairs of rows"] if next(found, None) else [])
 
 
-def collisions(store: Store, name: str, change: Change, key: Sequence[int]) -> Iterator[Pair[Held]]:
+def collisions(replay: Replay, name: str, change: Change, key: Sequence[int]) -> Iterator[Pair[Held]]:
     """The pairs of rows of one key that a change would leave, of which one at least is new."""
     closed = {version.row_id for version in change.closed}
     by_key: Dict[object, List[Held]] = defaultdict(list)
     key_of = itemgetter(*key)
     for row in change.added:
         by_key[key_of(row.values)].append(row)
-    for row_id, version in store.open[name].by_id.items():
+    for row_id, version in replay.open[name].by_id.items():
         values = key_of(version.row.values)
         if values in by_key and row_id not in closed:
             by_key[values].append(version)

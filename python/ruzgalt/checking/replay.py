@@ -89,8 +89,8 @@ class OpenRows:
         return [version for version in found if all(version.row.values[place] == value for place, value in others)]
 
 
-class Store:
-    """The versions of each table."""
+class Replay:
+    """Changes that were done again: the versions of each table behind the last of them."""
 
     def __init__(self) -> None:
         self.versions: Dict[str, List[Version]] = {}
@@ -175,12 +175,12 @@ def parts(version: Version, portion: Tuple[str, str], set_to: Optional[Pairs], l
         yield Row(end, row.end, row.values, line, version.row_id)
 
 
-def behind(answers: Iterable[Answer]) -> Store:
-    """The store as it stands behind these answers."""
-    store = Store()
+def behind(answers: Iterable[Answer]) -> Replay:
+    """The changes of these answers, done again."""
+    replay = Replay()
     for answer in answers:
-        store.do(answer)
-    return store
+        replay.do(answer)
+    return replay
 
 
 class Beginnings:

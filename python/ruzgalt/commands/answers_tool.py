@@ -11,7 +11,7 @@ from typing import Callable, Dict, Iterator, NamedTuple, Optional, Sequence
 from ruzgalt import answers, which
 from ruzgalt.answers import asking, changes, databases, export, front, history, picks, spreadsheets
 from ruzgalt.checking import fitting, marks, overlaps, queries, refusals, single
-from ruzgalt.checking.replay import Store
+from ruzgalt.checking.replay import Replay
 from ruzgalt.commands import called, picture, streams
 from ruzgalt.commands.given import bytes_of, chosen, last, read, warn
 from ruzgalt.commands.words import Words, pair
@@ -48,10 +48,10 @@ def do_list(options: Namespace) -> int:
     if not own.is_own:
         fitting.refuse_unfit(found, found)
     show(export.listing(found))
-    found_marks, store = marks.Marks(found), Store()
-    for answer, store in marks.walk(found):
-        found_marks.look(answer, store)
-    warn_of_marks(found_marks.end(store))
+    found_marks, replay = marks.Marks(found), Replay()
+    for answer, replay in marks.walk(found):
+        found_marks.look(answer, replay)
+    warn_of_marks(found_marks.end(replay))
     return 1 if any(answer.refusal for answer in found) and not options.go_on else 0
 
 
@@ -191,14 +191,14 @@ def do_page(options: Namespace) -> int:
 def do_refusals(options: Namespace) -> int:
     """Tells each refusal, and of one for a key the rows. The status is 1 where there is one."""
     found = read(options, shows_refusals=True).answers
-    found_marks, store = marks.Marks(found), Store()
-    for answer, store in marks.walk(found):
-        found_marks.look(answer, store)
+    found_marks, replay = marks.Marks(found), Replay()
+    for answer, replay in marks.walk(found):
+        found_marks.look(answer, replay)
         if answer.refusal:
             streams.show_lines([refusals.told(answer)])
             if answer.refusal.name == "KeyOverlap":
-                streams.show_lines(f"  {line}" for line in overlaps.explained(store, answer))
-    warn_of_marks(found_marks.end(store))
+                streams.show_lines(f"  {line}" for line in overlaps.explained(replay, answer))
+    warn_of_marks(found_marks.end(replay))
     return 1 if any(answer.refusal for answer in found) else 0
 
 

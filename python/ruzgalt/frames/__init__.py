@@ -15,7 +15,7 @@ A module stands on those above it:
     arrow                   columns in types of pyarrow
     points, values          columns as seconds, numbers and texts, and back
     sides, script           rows on their way; a script in pieces
-    program, output         a run; its answers as columns
+    running, output         a run; its answers as columns
     ask, split              a question's run; rows past the limits in parts
     options, answer         what may be given to a call; the columns of an answer, and their names
     doubts                  what may not be meant

@@ -20,7 +20,7 @@ from ruzgalt.frames.values import Values
 
 # So many texts of a column are looked at, and so many rows.
 MOST_TEXTS, MOST_ROWS = 20_000, 4_000
-# Ends from the one on and before the other are those that files are doubted for (ruzgalt.dates.is_far_off).
+# Ends from the one on and before the other are those that files are doubted for (loading/dates.is_far_off).
 FAR, FARTHEST = map(instants.second_of, ("2099-01-01", "9999-01-01"))
 REMEDY = (
     "but for spaces, capitals, zeros in front, or .0 behind they are equal: "

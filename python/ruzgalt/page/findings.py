@@ -4,7 +4,7 @@ from typing import Iterator, List, NamedTuple, Optional, Sequence, Tuple
 from ruzgalt.answers import CHANGES, Answer
 from ruzgalt.checking import marks, overlaps, refusals
 from ruzgalt.checking.looks import fold
-from ruzgalt.checking.replay import Store
+from ruzgalt.checking.replay import Replay
 from ruzgalt.page.sources import CLOSED, MADE, VALUES, Sources, Tally
 from ruzgalt.script.fields import where_places
 from ruzgalt.script.records import short, to_record, visible
@@ -49,16 +49,16 @@ def finding(answer: Answer, name: str, reason: str, more: Sequence[str] = ()) ->
 
 def refused_and_doubtful(found: Sequence[Answer]) -> Tuple[List[Finding], List[Finding]]:
     """What was refused, a key's refusal with the rows; and what is marked, but for changes that touched nothing."""
-    seen, store = marks.Marks(found), Store()
+    seen, replay = marks.Marks(found), Replay()
     refused: List[Finding] = []
-    for answer, store in marks.walk(found):
-        seen.look(answer, store)
+    for answer, replay in marks.walk(found):
+        seen.look(answer, replay)
         if answer.refusal:
             is_explained = answer.refusal.name == "KeyOverlap" and len(refused) < LOOKED_AT
-            more = overlaps.explained(store, answer) if is_explained else []
+            more = overlaps.explained(replay, answer) if is_explained else []
             one = finding(answer, answer.refusal.name, refusals.reason(answer), more)
             refused.append(one._replace(place=answer.refusal.record.place))
-    others = [mark for mark in seen.end(store) if mark.told != marks.of_count(mark.answer, 0)]
+    others = [mark for mark in seen.end(replay) if mark.told != marks.of_count(mark.answer, 0)]
     return refused, [finding(mark.answer, "", mark.told) for mark in others]
 
 

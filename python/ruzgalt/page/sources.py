@@ -9,7 +9,7 @@ from typing import Dict, List, NamedTuple, Optional, Sequence
 from ruzgalt.answers import Answer
 from ruzgalt.checking import fitting
 from ruzgalt.checking.again import texts_of
-from ruzgalt.checking.replay import Store, behind
+from ruzgalt.checking.replay import Replay, behind
 from ruzgalt.commands import called, shell
 from ruzgalt.commands.given import Found, bytes_of, read
 from ruzgalt.errors import Misfit
@@ -99,13 +99,13 @@ def ask(options: Namespace) -> Sources:
     found = read(options, shows_refusals=True, script=script)
     files = files_of(options.program) if found.is_own else [marked(options.answers, found.output)]
     is_done_again = not found.is_own or not options.once
-    store = behind(found.answers)
+    replay = behind(found.answers)
     if is_done_again:
-        refuse_others(found, store)
+        refuse_others(found, replay)
     own = found.answers[:len(found.answers) - len(versions)]
     printed = {one.command.front[1]: one.table for one in found.answers[len(own):] if not one.refusal}
     tables = own[-1].tables if own else {}
-    made = {name: printed[name] if name in printed else done_again(store, tables[name]) for name in tables}
+    made = {name: printed[name] if name in printed else done_again(replay, tables[name]) for name in tables}
     word, command = shell.quoted(word_of(options.script)), command_of(options, words)
     mark = marked(options.script, script)
     return Sources(mark, word, command, own, files, found.is_own, is_done_again, made, bool(printed), found.names)
@@ -125,21 +125,21 @@ def word_of(file: str) -> str:
     return f"./{name}" if name.startswith("-") and file != "-" else name
 
 
-def refuse_others(found: Found, store: Store) -> None:
+def refuse_others(found: Found, replay: Replay) -> None:
     if not found.is_own:
         fitting.refuse_unfit(found.answers, found.answers)
         return
     for answer in found.answers:
-        told = None if answer.refusal else fitting.fault(found.answers, store, answer)
+        told = None if answer.refusal else fitting.fault(found.answers, replay, answer)
         if told:
             text = short(answer.command.text)
             raise Misfit(f"{answer.place}: {text}: {told}: the program answers otherwise than the changes, done again")
 
 
-def done_again(store: Store, schema: Schema) -> Table:
+def done_again(replay: Replay, schema: Schema) -> Table:
     """The versions of a table, as `between` prints them."""
     records: List[List[Optional[str]]] = []
-    for version in store.versions[schema.name]:
+    for version in replay.versions[schema.name]:
         row_id, start, end, *values = texts_of(version)
         closed = None if version.closed is None else str(version.closed)
         records.append([row_id, start, end, str(version.made), closed, *values])
