@@ -25,7 +25,8 @@ class WithoutPandas(unittest.TestCase):
         return ran.stdout.decode(), ran.stderr.decode()
 
     def test_modules_of_the_tools_are_imported(self):
-        self.assertEqual(self.run_lines("from ruzgalt import answers; from ruzgalt.commands import answers_tool; print('yes')"), ("yes\n", ""))
+        lines = "from ruzgalt import answers; from ruzgalt.commands import answers_tool; print('yes')"
+        self.assertEqual(self.run_lines(lines), ("yes\n", ""))
 
     def test_frames_say_what_is_to_be_installed(self):
         for name in ("join", "anti", "agg", "dip", "Store", "Changed", "Verdict", "Refused", "Stopped", "Doubt"):
