@@ -10,6 +10,7 @@
 Python 3.9 and its library are all that is needed, but for frames. A folder stands on those above it:
 
     errors, version     the one way in which tools end early; which version this is
+    periods             periods in whole numbers: united, between, overlapping, by the calendar
     which               which program answers, for frames too
     script              a script as text: its records, its commands, the columns of its tables
     answers             the answers of a script: as tables, CSV, JSON and SQLite, and what changed

@@ -6,10 +6,10 @@ from typing import Dict, Iterator, List, NamedTuple, Optional, Sequence, Set, Tu
 from ruzgalt.answers import CHANGES, Answer
 from ruzgalt.checking import looks, quoting
 from ruzgalt.checking.loads import Loads
-from ruzgalt.checking.overlaps import pairs
 from ruzgalt.checking.replay import Beginnings, Replay
 from ruzgalt.commands import called
 from ruzgalt.loading.dates import NO_END, is_month_end
+from ruzgalt.periods.spans import overlapping
 from ruzgalt.script.fields import where_places
 from ruzgalt.script.forms import printed
 from ruzgalt.script.reader import LOOKED_AT, Block
@@ -201,7 +201,7 @@ def of_overlap(schema: Schema, replay: Replay) -> Optional[str]:
     for version in replay.open[schema.name].by_id.values():
         values = tuple(version.row.values[place] for place in places)
         rows[values].append((version.row.start, version.row.end, version.row_id))
-    found = next((pair for spans in rows.values() for pair in pairs(spans)), None)
+    found = next((pair for spans in rows.values() for pair in overlapping(spans)), None)
     if found is None:
         return None
     names = " ".join(schema.names[place] for place in places)

@@ -1,44 +1,21 @@
 """Rows of one key that hold at one point: in an answer, or those for which a change was refused."""
 from collections import defaultdict
-from dataclasses import dataclass
 from itertools import islice
 from operator import itemgetter
-from typing import Dict, Generic, Iterable, Iterator, List, Sequence, Tuple, TypeVar, Union
+from typing import Dict, Iterator, List, Sequence, Tuple, Union
 
 from ruzgalt.answers import Answer
 from ruzgalt.checking.replay import Change, Row as StoredRow, Replay, Version
 from ruzgalt.errors import Misfit
+from ruzgalt.periods.spans import Pair, gaps, overlapping
 from ruzgalt.script.reader import Row
 from ruzgalt.script.records import to_record
 from ruzgalt.script.schemas import PERIOD, Column, Table, ints, unique
 
-Thing = TypeVar("Thing")
 # A row that would come, or one that is there.
 Held = Union[StoredRow, Version]
 # So many pairs of rows are told of one refusal.
 TOLD = 20
-
-
-@dataclass(frozen=True)
-class Pair(Generic[Thing]):
-    """Two that overlap, with the time that they share."""
-
-    first: Thing
-    second: Thing
-    start: str
-    end: str
-
-
-def pairs(rows: Iterable[Tuple[str, str, Thing]]) -> Iterator[Pair[Thing]]:
-    """The pairs of these rows, each with its start and end, that share a point."""
-    running: List[Tuple[str, str, Thing]] = []
-    for start, end, thing in sorted(rows, key=lambda row: row[0]):
-        running = [other for other in running if other[1] > start]
-        for _, other_end, other in running:
-            yield Pair(other, thing, start, min(end, other_end))
-        running.append((start, end, thing))
-
-
 Spans = List[Tuple[str, str, str]]
 
 
@@ -61,7 +38,7 @@ def in_answer(answer: Answer, key: Sequence[str]) -> Table:
     columns, spans = by_key(answer, key)
     found: List[Row] = [
         [pair.first, pair.second, pair.start, pair.end, *values]
-        for values, rows in sorted(spans.items()) for pair in pairs(rows)
+        for values, rows in sorted(spans.items()) for pair in overlapping(rows)
     ]
     return Table(unique([*ints("row_id", "other_row_id"), *PERIOD, *columns]), found)
 
@@ -69,16 +46,10 @@ def in_answer(answer: Answer, key: Sequence[str]) -> Table:
 def gaps_in_answer(answer: Answer, key: Sequence[str]) -> Table:
     """The times between rows of one key at which none of it holds."""
     columns, spans = by_key(answer, key)
-    found: List[Row] = [[*gap, *values] for values, rows in sorted(spans.items()) for gap in gaps(rows)]
+    found: List[Row] = [
+        [*gap, *values] for values, rows in sorted(spans.items()) for gap in gaps((row[0], row[1]) for row in rows)
+    ]
     return Table(unique([*PERIOD, *columns]), found)
-
-
-def gaps(rows: Spans) -> Iterator[Tuple[str, str]]:
-    reached = ""
-    for start, end, _ in sorted(rows):
-        if reached and reached < start:
-            yield reached, start
-        reached = max(reached, end)
 
 
 def explained(replay: Replay, answer: Answer) -> List[str]:
@@ -95,7 +66,7 @@ def explained(replay: Replay, answer: Answer) -> List[str]:
     return lines + (["and more pairs of rows"] if next(found, None) else [])
 
 
-def collisions(replay: Replay, name: str, change: Change, key: Sequence[int]) -> Iterator[Pair[Held]]:
+def collisions(replay: Replay, name: str, change: Change, key: Sequence[int]) -> Iterator[Pair[str, Held]]:
     """The pairs of rows of one key that a change would leave, of which one at least is new."""
     closed = {version.row_id for version in change.closed}
     by_key: Dict[object, List[Held]] = defaultdict(list)
@@ -107,7 +78,7 @@ def collisions(replay: Replay, name: str, change: Change, key: Sequence[int]) ->
         if values in by_key and row_id not in closed:
             by_key[values].append(version)
     for things in by_key.values():
-        yield from pairs((row_in(thing).start, row_in(thing).end, thing) for thing in things)
+        yield from overlapping((row_in(thing).start, row_in(thing).end, thing) for thing in things)
 
 
 def row_in(thing: Held) -> StoredRow:

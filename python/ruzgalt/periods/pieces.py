@@ -1,0 +1,72 @@
+"""Pieces of the calendar: months, quarters, years, and weeks from Monday on.
+
+Points are seconds from the first one that there is, 0001-01-01, a Monday. Pieces of a kind are numbered from 0 on; each
+ends where the next one starts, so that the last one of the year 9999 ends behind all points.
+"""
+from datetime import date
+from functools import lru_cache
+from typing import Iterator, Protocol, Tuple
+
+DAY = 86_400
+MONTHS = {"month": 1, "quarter": 3, "year": 12}
+EACH = (*MONTHS, "week")
+
+
+class Calendar(Protocol):
+    """Time cut into pieces."""
+
+    def number_of(self, second: int) -> int:
+        """The number of the piece that has this second."""
+
+    def start_of(self, number: int) -> int:
+        """The first second of a piece."""
+
+
+class Weeks:
+    LENGTH = 7 * DAY
+
+    def number_of(self, second: int) -> int:
+        return second // self.LENGTH
+
+    def start_of(self, number: int) -> int:
+        return number * self.LENGTH
+
+
+class Months:
+    """Pieces of so many months, of which the first of each year begins in January."""
+
+    def __init__(self, length: int) -> None:
+        self.length = length
+
+    def number_of(self, second: int) -> int:
+        return month_of(second // DAY) // self.length
+
+    def start_of(self, number: int) -> int:
+        return DAY * first_day_of(number * self.length)
+
+
+@lru_cache(1 << 16)
+def month_of(day: int) -> int:
+    """The month of a day, both counted from 0 on."""
+    found = date.fromordinal(day + 1)
+    return found.year * 12 + found.month - 13
+
+
+@lru_cache(1 << 16)
+def first_day_of(month: int) -> int:
+    """The first day of a month, both counted from 0 on."""
+    years, months = divmod(month, 12)
+    return date(years + 1, months + 1, 1).toordinal() - 1 if years < date.max.year else date.max.toordinal()
+
+
+def calendar(each: str) -> Calendar:
+    """The calendar of a word of EACH."""
+    if each == "week":
+        return Weeks()
+    return Months(MONTHS[each])
+
+
+def touched(start: int, end: int, pieces: Calendar) -> Iterator[Tuple[int, int]]:
+    """The starts and ends of the pieces that a period touches."""
+    for number in range(pieces.number_of(start), pieces.number_of(end - 1) + 1):
+        yield pieces.start_of(number), pieces.start_of(number + 1)
