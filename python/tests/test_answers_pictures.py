@@ -4,6 +4,7 @@ import subprocess
 import tempfile
 import unittest
 import xml.etree.ElementTree
+from hashlib import sha256
 from pathlib import Path
 from typing import List, Tuple
 
@@ -180,7 +181,10 @@ class Documents(unittest.TestCase):
         with tempfile.TemporaryDirectory() as folder:
             subprocess.run([str(TOP / "tools" / "draw-pictures"), folder], check=True)
             drawn = {file.name: file.read_bytes() for file in Path(folder).iterdir()}
+        page = drawn.pop("audit-page.html")
         self.assertEqual(drawn, {file.name: file.read_bytes() for file in (TOP / "docs").glob("*.svg")})
+        # The photograph carries the checksum of the page that it was taken of.
+        self.assertIn(sha256(page).hexdigest().encode(), (TOP / "docs" / "audit-page.png").read_bytes())
 
 
 if __name__ == "__main__":
