@@ -1,5 +1,5 @@
 -- Rows that lie by columns.
-use Rattle.std.specs.Prelude.{◌≡◌, ◌≤◌, Bool, ℕ, suc, pos, List, [], ◌∷◌, All, get_or, length, map, take}
+use Rattle.std.specs.Prelude.{◌≡◌, ◌⊎◌, ◌≤◌, Bool, ℕ, suc, pos, List, [], ◌∷◌, All, get_or, length, map, take}
 use Rattle.std.specs.Cmp.Lexicographic.{pointwise}
 use Rattle.period_core.specs.declared.period.Period.{Period}
 use Rattle.row_core.specs.Value.{same_kind}
@@ -54,3 +54,7 @@ kinds_fit columns kinds = pointwise (λ column kind. same_kind column.kind kind)
 pub record AlikeRows : Type 0 where
   pub kinds : List Kind
   pub rows : List Draft
+
+-- rows of these kinds can lie behind those in columns: there are none yet, or they are of the same kinds
+abbrev pub Takes : AlikeRows → List Kind → Type 0
+Takes columns kinds = (columns.rows ≡ []) ⊎ (kinds ≡ columns.kinds)

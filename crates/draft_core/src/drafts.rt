@@ -1,8 +1,9 @@
 //! Rows that are to be loaded.
 
-ghost use Rattle.std.specs.Prelude.{◌≡◌, ◌<◌, ◌==◌, ◌++◌, ◌∷◌, [], get_or, length, map, option_map, slice_get, IfOk, MatchOption, OnErr, OnOk, Some};
+ghost use Rattle.std.specs.Prelude.{◌≡◌, ◌↔◌, ◌⊎◌, ◌<◌, ◌==◌, ◌++◌, ◌∷◌, [], get_or, length, map, option_map, slice_get, IfOk, IsNone, MatchOption, OnErr, OnOk, Some};
 ghost use Rattle.std.specs.List.{list_all};
-ghost use Rattle.draft_core.specs.Drafts.{drafts_in};
+ghost use Rattle.draft_core.specs.Columns.{Takes};
+ghost use Rattle.draft_core.specs.Drafts.{AreAlike, CanFollow, TakesRow, TakesRows, drafts_in};
 ghost use Rattle.draft_core.specs.Lent.{lent_draft, no_draft};
 ghost use Rattle.row_core.specs.Lent.{lent_value};
 ghost use Rattle.row_core.specs.Schema.{fits};
@@ -34,7 +35,8 @@ pub struct Drafts {
 
 impl Model for Drafts {
     ghost use Rattle.std.specs.Prelude.{List};
-    ghost use Rattle.draft_core.specs.Drafts.{drafts_in};
+    ghost use Rattle.draft_core.specs.Columns.{Takes};
+ghost use Rattle.draft_core.specs.Drafts.{AreAlike, CanFollow, TakesRow, TakesRows, drafts_in};
     ghost use Rattle.row_core.specs.declared.draft.Draft.{Draft};
 
     ghost Value = { List Draft };
@@ -100,7 +102,12 @@ impl Drafts {
         }
     }
 
-    /// Adds a draft at the end. On `NoMemory` there are none more, and the draft is dropped.
+    /// Adds a draft at the end.
+    ///
+    /// # Errors
+    ///
+    /// `NoMemory` where a growth is refused, or where the texts of a column would have 2^32 bytes or more,
+    /// which those of 1,000,000 rows never have. Then there are none more, and the draft is dropped.
     pub fn push(&mut self, draft: Draft) -> Result<(), NoMemory>
         ensures ok { OnOk result (self.new ≡ self.old ++ draft ∷ []) }
         ensures err { OnErr result (self.new ≡ self.old) }
@@ -108,7 +115,11 @@ impl Drafts {
         self.push_row(draft.period, draft.values.as_slice())
     }
 
-    /// Adds a draft of the period, with copies of the values, at the end. On `NoMemory` there are none more.
+    /// Adds a draft of the period, with copies of the values, at the end.
+    ///
+    /// # Errors
+    ///
+    /// `NoMemory` as of `push`: there are none more.
     pub fn push_row(&mut self, period: Period, values: &[Value]) -> Result<(), NoMemory>
         ensures ok { OnOk result
             (self.new ≡ self.old ++ record { period = period; values = values.now } ∷ []) }
@@ -117,7 +128,11 @@ impl Drafts {
         push_row(self.alloc, &mut self.form, period, values)
     }
 
-    /// Puts more drafts behind these. On `NoMemory` there are none more.
+    /// Puts more drafts behind these.
+    ///
+    /// # Errors
+    ///
+    /// `NoMemory` as of `push`: there are none more.
     pub fn append(&mut self, more: Drafts) -> Result<(), NoMemory>
         ensures ok { OnOk result (self.new ≡ self.old ++ more) }
         ensures err { OnErr result (self.new ≡ self.old) }
@@ -202,11 +217,19 @@ impl Drafts {
 
 impl DeepCopy for Drafts {
     fn copy(&self, alloc: Global) -> Result<Drafts, NoMemory> {
-        let form = match &self.form {
-            Form::Alike(columns) => Form::Alike(columns.copy(alloc)?),
-            Form::Apart(drafts) => Form::Apart(copy_each(alloc, drafts)?),
-        };
+        let form = copy_form(alloc, &self.form)?;
         Ok(Drafts { alloc, form })
+    }
+}
+
+/// Rows equal to those, which lie as they do.
+fn copy_form(alloc: Global, form: &Form) -> Result<Form, NoMemory>
+    ensures rows { IfOk result (λ copy. drafts_in copy ≡ drafts_in form.now) }
+    ensures alike { IfOk result (λ copy. AreAlike copy ↔ AreAlike form.now) }
+{
+    match form {
+        Form::Alike(columns) => Ok(Form::Alike(columns.copy(alloc)?)),
+        Form::Apart(drafts) => Ok(Form::Apart(copy_each(alloc, drafts)?)),
     }
 }
 
@@ -248,6 +271,7 @@ fn push_row(
 ) -> Result<(), NoMemory>
     ensures ok { OnOk result (drafts_in form.new
         ≡ drafts_in form.old ++ record { period = period; values = values.now } ∷ []) }
+    ensures alike { OnOk result (AreAlike form.new ↔ TakesRow form.old (map kind_of values.now)) }
     ensures err { OnErr result (drafts_in form.new ≡ drafts_in form.old) }
 {
     let apart = match form {
@@ -289,6 +313,8 @@ fn push_alike(
         ++ record { period = period; values = values.now } ∷ [])
         (λ drafts. drafts.items
         ≡ columns.old.rows ++ record { period = period; values = values.now } ∷ [])) }
+    ensures alike { IfOk result (λ apart. IsNone apart
+        ↔ Takes columns.old (map kind_of values.now)) }
     ensures err { OnErr result (columns.new.rows ≡ columns.old.rows) }
 {
     if columns.is_empty() {
@@ -317,6 +343,7 @@ fn kinds_of(alloc: Global, values: &[Value]) -> Result<Vec<Kind>, NoMemory>
 /// Puts more drafts behind those. On refusal there are none more.
 fn append(alloc: Global, form: &mut Form, more: Form) -> Result<(), NoMemory>
     ensures ok { OnOk result (drafts_in form.new ≡ drafts_in form.old ++ drafts_in more) }
+    ensures alike { OnOk result (AreAlike form.new ↔ TakesRows form.old more) }
     ensures err { OnErr result (drafts_in form.new ≡ drafts_in form.old) }
 {
     let apart = match form {
@@ -352,6 +379,7 @@ fn append_alike(
     ensures ok { IfOk result (λ apart. MatchOption apart
         (columns.new.rows ≡ columns.old.rows ++ drafts_in more)
         (λ drafts. drafts.items ≡ columns.old.rows ++ drafts_in more)) }
+    ensures alike { IfOk result (λ apart. IsNone apart ↔ CanFollow columns.old more) }
     ensures err { OnErr result (columns.new.rows ≡ columns.old.rows) }
 {
     match more {
@@ -370,6 +398,8 @@ fn append_columns(
     ensures ok { IfOk result (λ apart. MatchOption apart
         (columns.new.rows ≡ columns.old.rows ++ more.rows)
         (λ drafts. drafts.items ≡ columns.old.rows ++ more.rows)) }
+    ensures alike { IfOk result (λ apart. IsNone apart
+        ↔ ((more.rows ≡ []) ⊎ Takes columns.old more.kinds)) }
     ensures err { OnErr result (columns.new.rows ≡ columns.old.rows) }
 {
     if more.is_empty() {

@@ -46,7 +46,8 @@ impl<'a> RowReader<'a> {
     }
 
     /// Reads one more row: two points, and one field for each column. Want of memory is answered
-    /// only where no field is refused.
+    /// only where no field is refused; so are texts of a column that would have 2^32 bytes or more, which those
+    /// of 1,000,000 rows never have.
     pub fn read<F: AsSlice<u8>>(self, fields: &[F]) -> Result<Self, Failure<RowRefused>>
         ensures { IsAnswer
             (map_ok (λ row. record self.entry { rows = self.entry.rows ++ row ∷ [] })

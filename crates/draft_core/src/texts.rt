@@ -10,7 +10,8 @@ use std::fmt;
 use std::marker::Model;
 
 /// Texts one behind another: the bytes of all, and where each ends among them. A table has so few
-/// texts, and these are so short, that 32 bits hold such a place. Contracts see the list of the texts.
+/// texts, and these are so short, that 32 bits hold such a place; rows that no table may take can have more.
+/// Contracts see the list of the texts.
 #[derive(Drop)]
 pub(crate) struct Texts {
     bytes: Vec<u8>,

@@ -7,6 +7,10 @@ use Rattle.row_core.specs.declared.row.Row.{Row}
 abbrev pub row_of : ℕ → Draft → Row
 row_of id draft = record { id = id; period = draft.period; values = draft.values }
 
+-- a row without its id
+abbrev pub unnumbered : Row → Draft
+unnumbered row = record { period = row.period; values = row.values }
+
 -- drafts as rows, with the ids that follow the used ones
 abbrev pub numbered : ℕ → List Draft → List Row
 numbered used [] = []

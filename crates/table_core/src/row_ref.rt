@@ -4,7 +4,7 @@ ghost use Rattle.std.specs.Prelude.{◌≡◌, ◌+◌, ◌<◌, ◌^◌, length
 ghost use Rattle.draft_core.specs.Lent.{lent_draft};
 ghost use Rattle.row_core.specs.Lent.{lent_value};
 ghost use Rattle.table_core.specs.Lent.{lent_row};
-ghost use Rattle.table_core.specs.Numbered.{row_of};
+ghost use Rattle.table_core.specs.Numbered.{row_of, unnumbered};
 
 use crate::NoMemory;
 use draft_core::DraftRef;
@@ -50,7 +50,7 @@ impl<'a> RowRef<'a> {
     /// The row without its id.
     #[inline(always)]
     pub fn draft(self) -> DraftRef<'a>
-        ensures { row_of (lent_row self.entry).id (lent_draft result) ≡ lent_row self.entry }
+        ensures { lent_draft result ≡ unnumbered (lent_row self.entry) }
     {
         self.draft
     }

@@ -81,7 +81,7 @@ impl SharedRows {
     ///
     /// # Errors
     ///
-    /// `NoMemory` where a growth is refused.
+    /// `NoMemory` where a growth is refused, or one that holds lies behind 2^32 others, as no table has.
     pub fn holding(&self, alloc: Global, point: Point) -> Result<SharedRows, NoMemory>
         ensures { IfOk result (λ rows. rows ≡ filter (λ row. holds_at point row.period) self.now) }
     {
@@ -154,11 +154,11 @@ fn holds_at(row: RowRef<'_>, point: Point) -> bool
     row.period().holds(point)
 }
 
-/// The place in 32 bits. No table has more rows than these count.
+/// The place in 32 bits. No table has more rows than these count; a list that a caller made may.
 ///
 /// # Errors
 ///
-/// `NoMemory` where it is past them.
+/// `NoMemory` where it is past them: no growth is refused then.
 pub fn as_place(place: usize) -> Result<u32, NoMemory>
     ensures { IfOk result (λ p. p ≡ place) }
 {
