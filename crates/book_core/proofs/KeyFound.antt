@@ -7,7 +7,8 @@ use Rattle.row_core.specs.Schema.{key_of}
 use Rattle.row_core.specs.declared.row.Row.{Row}
 use Rattle.version_core.specs.Keys.{overlap_after, rows_left, break_key}
 use Rattle.version_core.specs.OpenVersions.{current}
-use Rattle.version_core.specs.Rows.{drafts_of, unnumbered}
+use Rattle.version_core.specs.Rows.{drafts_of}
+use Rattle.table_core.specs.Numbered.{unnumbered}
 use Rattle.version_core.specs.declared.change.Change.{Change}
 use Rattle.version_core.specs.declared.change.Change.TheVariants.{Make, Load, Update, Delete}
 use Rattle.version_core.proofs.Unbroken.{delete-unbroken, make-unbroken}

@@ -10,8 +10,8 @@ use Rattle.row_core.specs.declared.draft.Draft.{Draft}
 use Rattle.key_core.specs.Keys.{have_collision}
 use Rattle.key_core.proofs.Meaning.{without_overlaps}
 use Rattle.key_core.proofs.Replaced.{append-all}
-use Rattle.table_core.specs.Numbered.{numbered}
-use Rattle.version_core.specs.Rows.{Pair, drafts_of, removes, unnumbered}
+use Rattle.table_core.specs.Numbered.{numbered, unnumbered}
+use Rattle.version_core.specs.Rows.{Pair, drafts_of, removes}
 use Rattle.version_core.specs.Keys.{break_key, rows_left}
 use Rattle.version_core.specs.declared.change.Change.{Change}
 use Rattle.version_core.specs.declared.change.Change.TheVariants.{Make, Load, Update, Delete}

@@ -12,8 +12,8 @@ use Rattle.row_core.specs.declared.schema.Column.{Column}
 use Rattle.key_core.specs.Keys.{AreWithoutOverlaps}
 use Rattle.version_core.specs.Limits.{version_limit}
 use Rattle.book_core.specs.Limits.{commit_limit, table_limit}
-use Rattle.table_core.specs.Numbered.{numbered}
-use Rattle.version_core.specs.Rows.{Pair, removes, drafts_of, unnumbered}
+use Rattle.table_core.specs.Numbered.{numbered, unnumbered}
+use Rattle.version_core.specs.Rows.{Pair, removes, drafts_of}
 use Rattle.version_core.specs.Keys.{break_key}
 use Rattle.version_core.specs.declared.change.Change.{Change}
 use Rattle.version_core.specs.declared.change.Change.TheVariants.{Make, Load, Update, Delete}

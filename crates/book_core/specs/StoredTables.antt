@@ -4,8 +4,8 @@ use Rattle.std.specs.List.{AllByRecursion}
 use Rattle.row_core.specs.Schema.{fits, key_of}
 use Rattle.row_core.specs.declared.schema.Column.{Column}
 use Rattle.version_core.specs.Limits.{version_limit}
-use Rattle.table_core.specs.Numbered.{numbered}
-use Rattle.version_core.specs.Rows.{drafts_of, removes, unnumbered}
+use Rattle.table_core.specs.Numbered.{numbered, unnumbered}
+use Rattle.version_core.specs.Rows.{drafts_of, removes}
 use Rattle.version_core.specs.Shown.{shown}
 use Rattle.version_core.specs.Made.{made}
 use Rattle.version_core.specs.OpenVersions.{closed, current}

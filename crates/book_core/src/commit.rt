@@ -40,8 +40,8 @@ impl Commits {
     }
 
     /// These, and another one behind them.
-    pub fn followed_by(&self, _commit: &Commit) -> Commits
-        ensures { result.all ≡ self.now.all ++ _commit.now ∷ [] }
+    pub fn followed_by(&self, commit: &Commit) -> Commits
+        ensures { result.all ≡ self.now.all ++ commit.now ∷ [] }
     {
         Commits {}
     }

@@ -1,11 +1,10 @@
 -- Indexes by the values of a column.
-use Rattle.std.proofs.Common.{◌≡◌, ℕ, ℤ, ◌+◌, ◌*◌, ◌%◌, ◌<◌, ◌==◌, List, [], ◌∷◌, ◌++◌, Bool, true, false, ◌&&◌, cond, Option, Some, None, ◌⊎◌, length, map, take, get_or, set, refl, ap, sym, ◌∙◌, arith, inl, inr}
-use Rattle.std.specs.Prelude.{slice_get, filter, position, unwrap_or, option_map, option_and_then, fold, unsigned_abs, All, IfSome}
+use Rattle.std.proofs.Common.{◌≡◌, ℕ, ℤ, ◌+◌, ◌*◌, ◌%◌, ◌<◌, ◌==◌, List, [], ◌∷◌, ◌++◌, Bool, true, false, ◌&&◌, cond, Option, Some, None, ◌⊎◌, length, map, take, get_or, set, refl, ap, sym, subst, ◌∙◌, arith, inl, inr}
+use Rattle.std.specs.Prelude.{slice_get, filter, find, unwrap_or, option_map, option_and_then, fold, unsigned_abs, All, IfSome, IsSome}
 use Rattle.std.specs.List.{list_all}
 use Rattle.std.proofs.lemmas.Bool.{cases_eq, and_right, eq-eqb, eqb-true, ne_eqb}
 use Rattle.std.proofs.lemmas.List.{get_or_default, get_or-set_other, get_or-set_same, length-set, length-take-le, take_more}
-use Rattle.std.proofs.lemmas.List.Elements.{All-get_or, All-weaker}
-use Rattle.std.proofs.lemmas.List.Quantifiers.{position-Some}
+use Rattle.std.proofs.lemmas.List.Elements.{All-get_or, All-head, All-push, All-tail, All-weaker}
 use Rattle.std.proofs.lemmas.List.Recursion.{and_at}
 use Rattle.std.proofs.lemmas.List.Sums.{fold-append}
 use Rattle.row_core.specs.Schema.{column_of}
@@ -15,7 +14,7 @@ use Rattle.row_core.specs.declared.schema.Column.{Column}
 use Rattle.row_core.specs.declared.value.Value.{Value}
 use Rattle.row_core.specs.declared.value.Value.TheVariants.{Int, Text}
 use Rattle.row_core.proofs.ValueLemmas.{same_value_is}
-use Rattle.version_core.specs.Finding.{AreCandidates, AreFound, IsIndex, IsLookupOf, ListsOpen, any_row, bucket_in, bucket_of, bucket_of_bytes, falls_into, passes}
+use Rattle.version_core.specs.Finding.{AreCandidates, AreFound, AreNoMore, IsIndex, IsLookupOf, ListsOpen, any_row, bucket_at, bucket_in, bucket_of, bucket_of_bytes, falls_into, led_to, lookup_in, lookup_of, passes}
 use Rattle.version_core.specs.OpenVersions.{closed, is_open}
 use Rattle.version_core.specs.Rows.{Pair, is_equal_at}
 use Rattle.version_core.specs.Limits.{bucket_count}
@@ -178,33 +177,102 @@ lookup-of_all schema conds i pair (Some lookup) inside e h =
     ∙ and_at (list_all (is_equal_at schema row.values)) (is_equal_at schema row.values) refl
     (λ x xs. refl) conds i pair inside all)
 
--- what holds of both keys holds of the better one
-pub lookup-better : (P : Lookup → Type 0) (one other best : Option Lookup) → (best ≡ one) ⊎ (best ≡ other)
-    → IfSome one P → IfSome other P → IfSome best P
-lookup-better P one other best (inl e) h k = rw e h
-lookup-better P one other best (inr e) h k = rw e k
+-- and those of its lookup fall into its bucket
+pub lookup_of-covers : (schema : List Column) (pair : Pair)
+    → IfSome (lookup_of schema pair)
+    (λ lookup. (row : Row) → is_equal_at schema row.values pair ≡ true
+    → falls_into lookup.column lookup.bucket row ≡ true)
+lookup_of-covers schema pair = at (column_of schema pair.0) refl
+  where
+    at : (o : Option ℕ) → column_of schema pair.0 ≡ o
+        → IfSome (option_map (lookup_in pair.1) o)
+        (λ lookup. (row : Row) → is_equal_at schema row.values pair ≡ true
+        → falls_into lookup.column lookup.bucket row ≡ true)
+    at None e = tt
+    at (Some column) e = λ row equal. lookup-covers schema pair column (bucket_of pair.1) row e refl equal
 
-pub candidates-all : (c : Change) (schema : List Column) (vs : List Version) (places : List ℕ) (indexes : List Index)
+-- what holds of both lookups holds of the better one
+pub lookup-better : (P : Lookup → Type 0) (Q : Type 0) (one other best : Option Lookup)
+    → (best ≡ one) ⊎ ((best ≡ other) × Q) → IfSome one P → IfSome other P → IfSome best P
+lookup-better P Q one other best (inl e) h k = rw e h
+lookup-better P Q one other best (inr (e, q)) h k = rw e k
+
+-- and that it leads somewhere, where it leads there as the first or was chosen before it
+pub lookup-leads : (indexes : List Index) (one other best : Option Lookup)
+    → (best ≡ one) ⊎ ((best ≡ other) × IsSome (led_to indexes other))
+    → IfSome one (λ lookup. IsSome (bucket_at indexes lookup)) → IfSome best (λ lookup. IsSome (bucket_at indexes lookup))
+lookup-leads indexes one other best (inl e) h = rw e h
+lookup-leads indexes one None best (inr (e, q)) h = rw e tt
+lookup-leads indexes one (Some other) best (inr (e, q)) h = rw e q
+
+AreNoMore-chain : (a b c : Option (List ℕ)) → AreNoMore a b → AreNoMore b c → AreNoMore a c
+AreNoMore-chain a b None h k = tt
+AreNoMore-chain a None (Some c) h k = absurd k
+AreNoMore-chain None (Some b) (Some c) h k = absurd h
+AreNoMore-chain (Some a) (Some b) (Some c) h k = omega (arith, h, k)
+
+-- a lookup that leads to no more than another, and than one condition more
+pub lookup-shortest : (indexes : List Index) (schema : List Column) (conds : List Pair) (i : ℕ) (pair : Pair)
+    (one best : Option Lookup) → i < length conds → pair ≡ get_or conds i pair
+    → AreNoMore (led_to indexes best) (led_to indexes one)
+    → AreNoMore (led_to indexes best) (led_to indexes (lookup_of schema pair))
+    → All (λ p. AreNoMore (led_to indexes one) (led_to indexes (lookup_of schema p))) (take i conds)
+    → All (λ p. AreNoMore (led_to indexes best) (led_to indexes (lookup_of schema p))) (take (i + 1) conds)
+lookup-shortest indexes schema conds i pair one best inside e no_more there before =
+    let Shortest : Option Lookup → Pair → Type 0 =
+    λ lookup p. AreNoMore (led_to indexes lookup) (led_to indexes (lookup_of schema p)) in
+    let grown : take (i + 1) conds ≡ take i conds ++ pair ∷ [] =
+    take_more conds i pair inside ∙ ap (λ u. take i conds ++ u ∷ []) (sym e) in
+    rw grown (All-push (Shortest best) (take i conds) pair
+    (All-weaker (Shortest one) (Shortest best)
+    (λ p h. AreNoMore-chain (led_to indexes best) (led_to indexes one) (led_to indexes (lookup_of schema p)) no_more h)
+    (take i conds) before) there)
+
+-- the index that is found
+pub found-index : (P : Index → Type 0) (test : Index → Bool) (indexes : List Index) → All P indexes
+    → IfSome (find test indexes) (λ index. P index × (test index ≡ true))
+found-index P test [] all = tt
+found-index P test (x ∷ xs) all = by_test (test x) refl (found-index P test xs (All-tail P x xs all))
+  where
+    by_test : (b : Bool) → test x ≡ b → IfSome (find test xs) (λ index. P index × (test index ≡ true))
+        → IfSome (cond b (Some x) (find test xs)) (λ index. P index × (test index ≡ true))
+    by_test true e rest = (All-head P x xs all, e)
+    by_test false e rest = rest
+
+-- it has all buckets, where all have
+pub found-whole : (indexes : List Index) (column : ℕ) (index : Index)
+    → All (λ (index : Index). length index.buckets.items ≡ bucket_count) indexes
+    → find (λ (index : Index). index.column == column) indexes ≡ Some index
+    → length index.buckets.items ≡ bucket_count
+found-whole indexes column index all found =
+    let Whole : Index → Type 0 = λ index. length index.buckets.items ≡ bucket_count in
+    let test = λ (index : Index). index.column == column in
+    (subst (λ o. IfSome o (λ index. Whole index × (test index ≡ true))) found (found-index Whole test indexes all)).0
+
+candidates-all : (c : Change) (schema : List Column) (vs : List Version) (places : List ℕ) (indexes : List Index)
     → AreFound vs places indexes → AreCandidates c schema vs places
 candidates-all c schema vs places indexes h = candidates-listed c schema vs any_row places h.all (λ row e. refl)
 
-pub candidates-bucket : (c : Change) (schema : List Column) (vs : List Version) (places read : List ℕ)
-    (indexes : List Index) (lookup : Lookup) (i : ℕ) (index : Index) → AreFound vs places indexes
-    → position (λ (index : Index). index.column == lookup.column) indexes ≡ Some i → index ≡ get_or indexes i index
-    → read ≡ get_or (get_or indexes i index).buckets.items lookup.bucket read → lookup.bucket < bucket_count
-    → IsLookupOf c schema lookup → AreCandidates c schema vs read
-candidates-bucket c schema vs places read indexes lookup i index h found e r small covers =
-    let at = position-Some (λ (index : Index). index.column == lookup.column) indexes i index found in
-    let is = h.by_value i index at.0 in
-    let whole = is.whole in
-    let named : (get_or indexes i index).column ≡ lookup.column =
-    eqb-true (get_or indexes i index).column lookup.column at.1 in
-    let here : get_or (get_or indexes i index).buckets.items lookup.bucket [] ≡ read =
-    get_or_default (get_or indexes i index).buckets.items lookup.bucket [] read (omega (arith, whole, small))
-    ∙ sym r in
-    candidates-listed c schema vs (falls_into (get_or indexes i index).column lookup.bucket) read
-    (rw here at (is.each lookup.bucket small))
-    (λ row goes. ap (λ column. falls_into column lookup.bucket row) named ∙ covers row goes)
+-- the places to which a lookup leads suffice
+pub candidates-led : (c : Change) (schema : List Column) (vs : List Version) (places : List ℕ) (indexes : List Index)
+    (lookup : Option Lookup) → AreFound vs places indexes → IfSome lookup (λ lookup. lookup.bucket < bucket_count)
+    → IfSome lookup (IsLookupOf c schema) → AreCandidates c schema vs (unwrap_or (led_to indexes lookup) places)
+candidates-led c schema vs places indexes None found few covers = candidates-all c schema vs places indexes found
+candidates-led c schema vs places indexes (Some lookup) found few covers =
+    at (find (λ (index : Index). index.column == lookup.column) indexes)
+    (found-index (IsIndex vs) (λ (index : Index). index.column == lookup.column) indexes found.by_value)
+  where
+    at : (o : Option Index)
+        → IfSome o (λ (index : Index). IsIndex vs index × ((index.column == lookup.column) ≡ true))
+        → AreCandidates c schema vs
+        (unwrap_or (option_map (λ (index : Index). get_or index.buckets.items lookup.bucket []) o) places)
+    at None h = candidates-all c schema vs places indexes found
+    at (Some index) h =
+        candidates-listed c schema vs (falls_into index.column lookup.bucket)
+        (get_or index.buckets.items lookup.bucket [])
+        (h.0.each lookup.bucket few)
+        (λ row goes. ap (λ column. falls_into column lookup.bucket row) (eqb-true index.column lookup.column h.1)
+        ∙ covers row goes)
 
 -- an index that is read and written
 

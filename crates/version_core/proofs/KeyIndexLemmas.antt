@@ -33,7 +33,8 @@ use Rattle.version_core.specs.KeyIndex.{IsKeyIndex, IsLastNear, entry_cmp, entry
 use Rattle.version_core.specs.Keys.{collides_left, is_left}
 use Rattle.version_core.specs.Made.{draft_of}
 use Rattle.version_core.specs.OpenVersions.{closed, current, is_open}
-use Rattle.version_core.specs.Rows.{removes, unnumbered}
+use Rattle.version_core.specs.Rows.{removes}
+use Rattle.table_core.specs.Numbered.{unnumbered}
 use Rattle.version_core.specs.declared.change.Change.{Change}
 use Rattle.version_core.specs.declared.key_index.Entry.{Entry}
 use Rattle.version_core.specs.declared.key_index.KeyIndex.{KeyIndex}

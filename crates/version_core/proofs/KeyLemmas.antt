@@ -18,8 +18,8 @@ use Rattle.version_core.specs.Keys.{collides_left, is_left, rows_left, break_key
 use Rattle.version_core.specs.Finding.{ListsOpen, any_row, passes}
 use Rattle.version_core.specs.Made.{draft_of}
 use Rattle.version_core.specs.OpenVersions.{current, is_open}
-use Rattle.table_core.specs.Numbered.{numbered}
-use Rattle.version_core.specs.Rows.{removes, unnumbered}
+use Rattle.table_core.specs.Numbered.{numbered, unnumbered}
+use Rattle.version_core.specs.Rows.{removes}
 use Rattle.version_core.specs.declared.change.Change.{Change}
 use Rattle.version_core.specs.declared.version.Version.{Version}
 use Rattle.version_core.proofs.FindingLemmas.{filter-listed, places_from-agree}

@@ -19,7 +19,8 @@ use Rattle.key_core.specs.Keys.{collide, have_collision, same_key}
 use Rattle.key_core.proofs.Collisions.{collide-flips, shared, shares}
 use Rattle.key_core.proofs.Replaced.{AreApart, IsPartOf, Misses, append-all, apart-from_none, apart-replaced, none-from_apart}
 use Rattle.version_core.specs.Keys.{is_column_of, rows_left, sets_key, break_key}
-use Rattle.version_core.specs.Rows.{Pair, drafts_of, part, parts_of_all, parts_of, removes, set_at, unnumbered}
+use Rattle.version_core.specs.Rows.{Pair, drafts_of, part, parts_of_all, parts_of, removes, set_at}
+use Rattle.table_core.specs.Numbered.{unnumbered}
 use Rattle.version_core.specs.declared.change.Change.{Change}
 use Rattle.version_core.specs.declared.change.Change.TheVariants.{Make, Update, Delete}
 

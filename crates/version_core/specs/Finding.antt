@@ -1,5 +1,5 @@
 -- Lists of places, by which a change finds the versions that it closes.
-use Rattle.std.specs.Prelude.{◌≡◌, ℕ, ◌+◌, ◌<◌, List, [], length, filter, Bool, ◌&&◌, if◌then◌else◌, option_map, slice_get, unwrap_or, Option, ◌*◌, ◌%◌, ◌≤◌, get_or, fold, All, true, false, Some, None, ◌==◌, unsigned_abs, is_some, IfSome}
+use Rattle.std.specs.Prelude.{◌≡◌, ℕ, ◌+◌, ◌<◌, List, [], length, filter, find, Bool, ◌&&◌, if◌then◌else◌, option_and_then, option_map, slice_get, unwrap_or, Option, ◌*◌, ◌%◌, ◌≤◌, get_or, fold, All, true, false, Some, None, ◌==◌, unsigned_abs, is_some, IfSome}
 use Rattle.period_core.specs.Period.{meet}
 use Rattle.period_core.specs.declared.period.Period.{Period}
 use Rattle.row_core.specs.Schema.{column_of}
@@ -68,6 +68,29 @@ pub record IsIndex (vs : List Version) (index : Index) : Type 0 where
 pub record AreFound (vs : List Version) (places : List ℕ) (indexes : List Index) : Type 0 where
   pub all : ListsOpen vs any_row places
   pub by_value : All (IsIndex vs) indexes
+
+-- the places in a lookup's bucket, where its column has an index
+abbrev pub bucket_at : List Index → Lookup → Option (List ℕ)
+bucket_at indexes lookup = option_map (λ (index : Index). get_or index.buckets.items lookup.bucket [])
+    (find (λ (index : Index). index.column == lookup.column) indexes)
+
+-- the places to which a lookup leads, where there is one and its column has an index
+abbrev pub led_to : List Index → Option Lookup → Option (List ℕ)
+led_to indexes lookup = option_and_then (bucket_at indexes) lookup
+
+-- the lookup of a value in a column: its bucket
+abbrev pub lookup_in : Value → ℕ → Lookup
+lookup_in value column = record { column = column; bucket = bucket_of value }
+
+-- the lookup of a condition: that of its value in the column of its name
+abbrev pub lookup_of : List Column → Pair → Option Lookup
+lookup_of schema pair = option_map (lookup_in pair.1) (column_of schema pair.0)
+
+-- where other places are led to, so are these, and they are no more
+abbrev pub AreNoMore : Option (List ℕ) → Option (List ℕ) → Type 0
+AreNoMore places None = Unit {0}
+AreNoMore None (Some others) = ⊥
+AreNoMore (Some places) (Some others) = length places ≤ length others
 
 -- what is kept beside versions: what finds the open ones
 pub record AreBeside

@@ -7,7 +7,8 @@ use Rattle.row_core.specs.declared.draft.Draft.{Draft}
 use Rattle.row_core.specs.declared.row.Row.{Row}
 use Rattle.row_core.specs.declared.schema.Column.{Column}
 use Rattle.key_core.specs.Keys.{have_collision, collide}
-use Rattle.version_core.specs.Rows.{Pair, removes, drafts_of, unnumbered}
+use Rattle.version_core.specs.Rows.{Pair, removes, drafts_of}
+use Rattle.table_core.specs.Numbered.{unnumbered}
 use Rattle.version_core.specs.OpenVersions.{current, is_open}
 use Rattle.version_core.specs.Made.{draft_of}
 use Rattle.version_core.specs.declared.change.Change.{Change}

@@ -2,7 +2,7 @@
 use Rattle.std.specs.Prelude.{ℕ, List, map, None}
 use Rattle.row_core.specs.declared.row.Row.{Row}
 use Rattle.row_core.specs.declared.draft.Draft.{Draft}
-use Rattle.version_core.specs.Rows.{unnumbered}
+use Rattle.table_core.specs.Numbered.{unnumbered}
 use Rattle.version_core.specs.declared.version.Version.{Version}
 
 -- new versions, made by commit n

@@ -66,10 +66,6 @@ abbrev pub with_parts : Change → List Draft → List Draft
 with_parts (Load table drafts) parts = drafts
 with_parts c parts = parts
 
--- a row without its id
-abbrev pub unnumbered : Row → Draft
-unnumbered row = record { period = row.period; values = row.values }
-
 -- the conditions of a change
 abbrev pub conds_of : Change → List Pair
 conds_of (Make table schema) = []

@@ -1,17 +1,15 @@
 //! Indexes of open versions by the values of a column, and what a change of a portion looks at.
 
-ghost use Rattle.std.specs.Prelude.{◌≡◌, ◌==◌, ◌+◌, ◌<◌, ◌≤◌, List, [], true, length, position, take, All, IfOk, IfSome, OnOk, ◌⊎◌};
+ghost use Rattle.std.specs.Prelude.{◌≡◌, ◌==◌, ◌+◌, ◌<◌, ◌≤◌, [], true, false, find, length, position, take, unwrap_or, All, IfOk, IfSome, IsSome, OnOk, ◌⊎◌};
 ghost use Rattle.std.specs.List.{list_all};
+ghost use Rattle.std.specs.Option.{option_copied};
 ghost use Rattle.row_core.specs.Lent.{lent_value};
 ghost use Rattle.row_core.specs.declared.row.Row.{Row};
-ghost use Rattle.row_core.specs.declared.schema.Column.{Column};
 ghost use Rattle.table_core.specs.Lent.{lent_row};
-ghost use Rattle.version_core.specs.Finding.{AreCandidates, AreFound, IsIndex, IsLookupOf, bucket_in, bucket_of, bucket_of_bytes, falls_into};
+ghost use Rattle.version_core.specs.Finding.{AreNoMore, IsIndex, IsLookupOf, bucket_at, bucket_in, bucket_of, bucket_of_bytes, falls_into, led_to, lookup_of};
 ghost use Rattle.version_core.specs.Limits.{bucket_count, version_limit};
 ghost use Rattle.version_core.specs.Rows.{conds_of, is_equal_at};
 ghost use Rattle.version_core.specs.Stored.{version_of};
-ghost use Rattle.version_core.specs.declared.change.Change.{Change};
-ghost use Rattle.version_core.specs.declared.version.Version.{Version};
 
 use crate::change::Change;
 use crate::places::Places;
@@ -161,6 +159,9 @@ pub(crate) fn lookup_of(indexes: &[Index], schema: &Schema, change: &Change) -> 
     requires { All (λ index. length index.buckets.items ≡ bucket_count) indexes.now }
     ensures few { IfSome result (λ lookup. lookup.bucket < bucket_count) }
     ensures lookup { IfSome result (IsLookupOf change.now schema.now) }
+    ensures indexed { IfSome result (λ lookup. IsSome (bucket_at indexes.now lookup)) }
+    ensures shortest { All (λ pair. AreNoMore (led_to indexes.now result)
+        (led_to indexes.now (lookup_of schema.now pair))) (conds_of change.now) }
 {
     best_lookup(indexes, schema, conds_of(change))
 }
@@ -177,13 +178,17 @@ fn conds_of(change: &Change) -> &[(Name, Value)]
     }
 }
 
-/// Where the rows are that meet all conditions.
+/// Where the rows are that meet all conditions: of the buckets of conditions whose columns have indexes, the
+/// shortest.
 fn best_lookup(indexes: &[Index], schema: &Schema, conds: &[(Name, Value)]) -> Option<Lookup>
     requires { All (λ index. length index.buckets.items ≡ bucket_count) indexes.now }
     ensures few { IfSome result (λ lookup. lookup.bucket < bucket_count) }
     ensures lookup { IfSome result (λ lookup. (row : Row)
         → list_all (is_equal_at schema.now row.values) conds.now ≡ true
         → falls_into lookup.column lookup.bucket row ≡ true) }
+    ensures indexed { IfSome result (λ lookup. IsSome (bucket_at indexes.now lookup)) }
+    ensures shortest { All (λ pair. AreNoMore (led_to indexes.now result)
+        (led_to indexes.now (lookup_of schema.now pair))) conds.now }
 {
     let mut best = None;
     for pair in conds {
@@ -192,46 +197,78 @@ fn best_lookup(indexes: &[Index], schema: &Schema, conds: &[(Name, Value)]) -> O
     best
 }
 
-/// The lookup that leads to fewer places.
+/// The lookup that leads to fewer places: the first, unless the other does.
 fn better_lookup(indexes: &[Index], one: Option<Lookup>, other: Option<Lookup>) -> Option<Lookup>
     requires buckets { All (λ index. length index.buckets.items ≡ bucket_count) indexes.now }
     requires one { IfSome one (λ lookup. lookup.bucket < bucket_count) }
     requires other { IfSome other (λ lookup. lookup.bucket < bucket_count) }
-    ensures { (result ≡ one) ⊎ (result ≡ other) }
+    ensures either { (result ≡ one) ⊎ ((result ≡ other) × IsSome (led_to indexes.now other)) }
+    ensures one { AreNoMore (led_to indexes.now result) (led_to indexes.now one) }
+    ensures other { AreNoMore (led_to indexes.now result) (led_to indexes.now other) }
 {
-    if places_at(indexes, other) < places_at(indexes, one) {
+    if are_fewer(led_to(indexes, other), led_to(indexes, one)) {
         other
     } else {
         one
     }
 }
 
-/// To how many places the lookup leads: without an index, to more than there are.
-fn places_at(indexes: &[Index], lookup: Option<Lookup>) -> usize
+/// Whether places are led to, and to fewer than to the others.
+fn are_fewer(places: Option<&[u32]>, others: Option<&[u32]>) -> bool
+    ensures yes { result ≡ true → (IsSome (option_copied places.entry))
+        × (AreNoMore (option_copied places.entry) (option_copied others.entry)) }
+    ensures no { result ≡ false → AreNoMore (option_copied others.entry) (option_copied places.entry) }
+{
+    match places {
+        None => false,
+        Some(places) => match others {
+            None => true,
+            Some(others) => places.len() < others.len(),
+        },
+    }
+}
+
+/// The places to which the lookup leads, where there is one and its column has an index.
+fn led_to<'a>(indexes: &'a [Index], lookup: Option<Lookup>) -> Option<&'a [u32]>
     requires buckets { All (λ index. length index.buckets.items ≡ bucket_count) indexes.now }
     requires lookup { IfSome lookup (λ lookup. lookup.bucket < bucket_count) }
+    ensures { option_copied result ≡ led_to indexes.now lookup }
 {
-    let Some(lookup) = lookup else {
-        return usize::MAX;
-    };
-    match place_of_index(indexes, lookup.column) {
-        Some(i) => indexes[i].buckets[lookup.bucket].len(),
-        None => usize::MAX,
+    match lookup {
+        Some(lookup) => bucket_at(indexes, lookup),
+        None => None,
+    }
+}
+
+/// The places in the lookup's bucket, where its column has an index.
+fn bucket_at<'a>(indexes: &'a [Index], lookup: Lookup) -> Option<&'a [u32]>
+    requires buckets { All (λ index. length index.buckets.items ≡ bucket_count) indexes.now }
+    requires lookup { lookup.bucket < bucket_count }
+    ensures { option_copied result ≡ bucket_at indexes.now lookup }
+{
+    match index_of(indexes, lookup.column) {
+        Some(index) => Some(index.buckets[lookup.bucket].as_slice()),
+        None => None,
     }
 }
 
 /// Where the rows are that meet a condition.
 fn lookup_of_pair(schema: &Schema, pair: &(Name, Value)) -> Option<Lookup>
+    ensures lookup { result ≡ lookup_of schema.now pair.now }
     ensures few { IfSome result (λ lookup. lookup.bucket < bucket_count) }
-    ensures lookup { IfSome result (λ lookup. (row : Row)
-        → is_equal_at schema.now row.values pair.now ≡ true
-        → falls_into lookup.column lookup.bucket row ≡ true) }
 {
     let column = schema.column(pair.0)?;
     Some(Lookup {
         column,
         bucket: bucket_of(ValueRef::from(&pair.1)),
     })
+}
+
+/// The column's index.
+fn index_of(indexes: &[Index], column: u32) -> Option<&Index>
+    ensures { option_copied result ≡ find (λ index. index.column == column) indexes.now }
+{
+    indexes.iter().find(|index| index.column == column)
 }
 
 /// The place of the column's index.
@@ -249,15 +286,10 @@ pub(crate) fn candidates<'a>(
 ) -> &'a [u32]
     requires buckets { All (λ index. length index.buckets.items ≡ bucket_count) indexes.now }
     requires lookup { IfSome lookup (λ lookup. lookup.bucket < bucket_count) }
-    ensures { (vs : List Version) (change : Change) (columns : List Column)
-        → AreFound vs open_at.now indexes.now → IfSome lookup (IsLookupOf change columns)
-        → AreCandidates change columns vs result.now }
+    ensures { result.now ≡ unwrap_or (led_to indexes.now lookup) open_at.now }
 {
-    let Some(lookup) = lookup else {
-        return open_at;
-    };
-    match place_of_index(indexes, lookup.column) {
-        Some(i) => indexes[i].buckets[lookup.bucket].as_slice(),
+    match led_to(indexes, lookup) {
+        Some(places) => places,
         None => open_at,
     }
 }
@@ -290,7 +322,7 @@ fn make_index(alloc: Global, indexes: &mut Vec<Index>, versions: &StoredVersions
     requires before { All (IsIndex versions.now) indexes.old.items }
     ensures { All (IsIndex versions.now) indexes.new.items }
 {
-    if place_of_index(indexes, column).is_some() {
+    if index_of(indexes, column).is_some() {
         return;
     }
     if let Ok(index) = Index::of(alloc, versions, column) {

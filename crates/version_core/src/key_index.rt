@@ -1,6 +1,6 @@
 //! The index of open versions by key and time, by which the key of a new row is tested.
 
-ghost use Rattle.std.specs.Prelude.{◌≡◌, ◌+◌, ◌≤◌, ◌<◌, ◌≤ℤ◌, true, false, length, map, take, IfOk, OnOk};
+ghost use Rattle.std.specs.Prelude.{◌≡◌, ◌≢◌, ◌↔◌, ◌+◌, ◌≤◌, ◌<◌, ◌≤ℤ◌, true, false, Some, length, map, take, IfOk, IfSome, IsTrue, MatchOption, OnOk};
 ghost use Rattle.std.specs.List.{list_any};
 ghost use Rattle.key_core.specs.Keys.{collide, have_collision, same_key};
 ghost use Rattle.draft_core.specs.Lent.{lent_draft};
@@ -9,7 +9,7 @@ ghost use Rattle.table_core.specs.Lent.{lent_row};
 ghost use Rattle.version_core.specs.KeyIndex.{IsKeyIndex, IsLastNear, entry_of, key_number, mixed, number_in, number_of, number_of_bytes};
 ghost use Rattle.version_core.specs.Keys.{rows_left};
 ghost use Rattle.version_core.specs.OpenVersions.{current, is_open};
-ghost use Rattle.version_core.specs.Rows.{unnumbered};
+ghost use Rattle.table_core.specs.Numbered.{unnumbered};
 ghost use Rattle.version_core.specs.Lent.{lent_version};
 ghost use Rattle.version_core.specs.declared.version.Version.{Version};
 
@@ -65,7 +65,7 @@ impl KeyIndex {
 
     /// Whether it is one by the key of those columns.
     pub(crate) fn is_by(&self, key: &[u32]) -> bool
-        ensures { result ≡ true → self.now.columns.items ≡ key.now }
+        ensures { IsTrue result ↔ (self.now.columns.items ≡ key.now) }
     {
         self.columns.as_slice() == key
     }
@@ -151,6 +151,17 @@ impl KeyIndex {
             }
         }
         false
+    }
+}
+
+/// The index, where it is there and by the key of those columns.
+pub(crate) fn index_by<'a>(index: &'a Option<KeyIndex>, key: &[u32]) -> Option<&'a KeyIndex>
+    ensures { MatchOption result (IfSome index.now (λ index. index.columns.items ≢ key.now))
+        (λ found. (index.now ≡ Some found.now) × (found.now.columns.items ≡ key.now)) }
+{
+    match index {
+        Some(index) => { if index.is_by(key) { Some(index) } else { None } }
+        None => None,
     }
 }
 

@@ -8,7 +8,8 @@ ghost use Rattle.row_core.specs.Schema.{key_of};
 ghost use Rattle.version_core.specs.Finding.{ListsOpen, any_row, AreSought, passes};
 ghost use Rattle.version_core.specs.Keys.{collides_left, is_column_of, is_left, overlap_after, rows_left, sets_key, break_key};
 ghost use Rattle.version_core.specs.OpenVersions.{current};
-ghost use Rattle.version_core.specs.Rows.{conds_of, unnumbered};
+ghost use Rattle.version_core.specs.Rows.{conds_of};
+ghost use Rattle.table_core.specs.Numbered.{unnumbered};
 ghost use Rattle.version_core.specs.Lent.{lent_version};
 ghost use Rattle.version_core.specs.declared.version.Version.{Version};
 

@@ -1,6 +1,6 @@
 //! The versions of a table as they are kept: their rows, and beside each the commits that show it.
 
-ghost use Rattle.std.specs.Prelude.{◌≡◌, ◌<◌, ◌++◌, [], All, length, get_or, map, option_map, replicate, slice_get, IfOk, OnErr, OnOk, None};
+ghost use Rattle.std.specs.Prelude.{◌≡◌, ◌<◌, ◌++◌, [], All, length, map, option_map, replicate, slice_get, IfOk, OnErr, OnOk, None, Some};
 ghost use Rattle.table_core.specs.Numbered.{numbered};
 ghost use Rattle.table_core.specs.Places.{at_places};
 ghost use Rattle.version_core.specs.Made.{made};
@@ -68,7 +68,7 @@ impl StoredVersions {
     /// The version at that place.
     pub(crate) fn at(&self, place: usize) -> VersionRef<'_>
         requires { place < length self.now }
-        ensures { lent_version result ≡ get_or self.now place (lent_version result) }
+        ensures { slice_get self.now place ≡ Some (lent_version result) }
     {
         match self.get(place) {
             Some(version) => version,

@@ -9,7 +9,7 @@ ghost use Rattle.row_core.specs.declared.failure.Failure.TheVariants.{NoMemory};
 ghost use Rattle.row_core.specs.declared.row.Row.{Row as AnyRow};
 ghost use Rattle.row_core.specs.declared.schema.Column.{Column};
 ghost use Rattle.table_core.specs.Lent.{lent_row};
-ghost use Rattle.table_core.specs.Numbered.{numbered};
+ghost use Rattle.table_core.specs.Numbered.{numbered, unnumbered};
 ghost use Rattle.version_core.specs.Finding.{AreCandidates, IsIndex, IsLookupOf, AreSought, is_reached, passes};
 ghost use Rattle.version_core.specs.KeyIndex.{IsKeyIndex};
 ghost use Rattle.version_core.specs.Keys.{overlap_after, rows_left, break_key};
@@ -17,7 +17,7 @@ ghost use Rattle.version_core.specs.Limits.{bucket_count, version_limit};
 ghost use Rattle.version_core.specs.Made.{made};
 ghost use Rattle.version_core.specs.OpenVersions.{closed_at, current, is_taken, places_from, versions_after};
 ghost use Rattle.version_core.specs.Plans.{IsPlanOf, parts_at};
-ghost use Rattle.version_core.specs.Rows.{conds_of, drafts_of, parts_of_all, removes, unnumbered, with_parts};
+ghost use Rattle.version_core.specs.Rows.{conds_of, drafts_of, parts_of_all, removes, with_parts};
 ghost use Rattle.version_core.specs.Shown.{shown, versions_as_of};
 ghost use Rattle.version_core.specs.Stored.{version_of};
 ghost use Rattle.version_core.specs.declared.change.Change.{Change};
@@ -28,7 +28,7 @@ use crate::index::{
     Index, Lookup, candidates, drop_closed_at, extend_indexes, lookup_of, make_indexes,
     sweep_indexes,
 };
-use crate::key_index::KeyIndex;
+use crate::key_index::{KeyIndex, index_by};
 use crate::keys::{KeyOverlap, collide_among, collide_among_all, may_overlap};
 use crate::places::Places;
 use crate::portion::{
@@ -243,19 +243,8 @@ impl Versions {
         let new = rows_made(change, &plan.parts);
         if !is_small(new, &plan.taken, self.items.len()) {
             self.key_index = None;
-        } else if self.key_index_by(key).is_none() && may_overlap(schema, change, key) {
+        } else if index_by(&self.key_index, key).is_none() && may_overlap(schema, change, key) {
             self.key_index = KeyIndex::of(alloc, &self.items, key).ok();
-        }
-    }
-
-    /// The index by the key of those columns, where it is there.
-    fn key_index_by(&self, key: &[u32]) -> Option<&KeyIndex>
-        ensures index { IfSome result (λ index. IsKeyIndex self.now index.now) }
-        ensures key { IfSome result (λ index. index.now.columns.items ≡ key.now) }
-    {
-        match &self.key_index {
-            Some(index) => { if index.is_by(key) { Some(index) } else { None } }
-            None => None,
         }
     }
 
@@ -341,7 +330,7 @@ impl Versions {
         ensures { IfOk result (λ overlap. overlap ≡ have_collision columns.now
             (rows_left change.now schema.now (current self.now) ++ new.now)) }
     {
-        match self.key_index_by(columns) {
+        match index_by(&self.key_index, columns) {
             Some(index) => {
                 let among_new = collide_among(alloc, columns, new)?;
                 Ok(among_new || self.any_meets(schema, change, index, new))

@@ -1,8 +1,8 @@
-use Rattle.std.proofs.Common.{◌≡◌, ◌<◌, true}
-use Rattle.std.specs.Prelude.{IfSome}
+use Rattle.std.proofs.Common.{◌≡◌, ◌<◌, take, true}
+use Rattle.std.specs.Prelude.{All, IfSome, IsSome}
 use Rattle.std.specs.List.{list_all}
 use Rattle.row_core.specs.declared.row.Row.{Row}
-use Rattle.version_core.specs.Finding.{falls_into}
+use Rattle.version_core.specs.Finding.{AreNoMore, bucket_at, falls_into, led_to, lookup_of}
 use Rattle.version_core.specs.Rows.{is_equal_at}
 use Rattle.version_core.specs.Limits.{bucket_count}
 use Rattle.version_core.proofs.index.best_lookup.Given as goal
@@ -14,4 +14,7 @@ invariant-loop-pair l = record {
   lookup : IfSome l.best
       (λ lookup. (row : Row) → list_all (is_equal_at l.schema row.values) l.conds ≡ true
       → falls_into lookup.column lookup.bucket row ≡ true);
+  indexed : IfSome l.best (λ lookup. IsSome (bucket_at l.indexes lookup));
+  shortest : All (λ pair. AreNoMore (led_to l.indexes l.best) (led_to l.indexes (lookup_of l.schema pair)))
+      (take l.pair-index l.conds);
 }

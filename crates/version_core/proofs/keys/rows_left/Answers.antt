@@ -1,10 +1,10 @@
 use Rattle.std.proofs.Common.{◌<◌, sym, ◌∙◌, ap, map, get_or, length}
 use Rattle.std.specs.Prelude.{filter}
 use Rattle.std.proofs.lemmas.List.{take_all}
+use Rattle.std.proofs.lemmas.Option.{get_or_from_slice_get}
 use Rattle.draft_core.specs.Lent.{lent_draft}
 use Rattle.version_core.specs.Finding.{passes}
 use Rattle.version_core.specs.Keys.{is_left}
-use Rattle.version_core.specs.Rows.{unnumbered}
 use Rattle.version_core.specs.Lent.{lent_version}
 use Rattle.version_core.proofs.KeyLemmas.{drafts_at, left-listed, left-no, left-yes}
 use Rattle.version_core.proofs.keys.rows_left.Goals as goal
@@ -21,16 +21,17 @@ loop-place-preserved c =
     let version = (lent_version c.at-version.result) in
     let left = is_left c.args.change.now c.args.schema.now in
     let inside : get_or places i 0 < length vs = c.requires.inside i 0 c.loop-place-test.true in
+    let here = sym (get_or_from_slice_get vs (get_or places i 0) version version c.at-version.ensures) in
     elim c.if-is_left.branch [
       | then-is_left+in_default w ↦
           ap (λ rows. map lent_draft rows.items) w.rows-is ∙ ap (map lent_draft) w.in_default.ensures.items
           ∙ left-yes vs left places i version c.loop-place.rows.items w.draft.result c.loop-place-test.true inside
-          c.at-version.ensures
-          (sym c.is_left.ensures ∙ w.if-is_left.true) (ap unnumbered w.draft.ensures) c.loop-place.invariant
+          here
+          (sym c.is_left.ensures ∙ w.if-is_left.true) w.draft.ensures c.loop-place.invariant
       | else-is_left w ↦
           ap (λ rows. map lent_draft rows.items) w.rows-is
           ∙ left-no vs left places i version c.loop-place.rows.items c.loop-place-test.true inside
-          c.at-version.ensures (sym c.is_left.ensures ∙ w.if-is_left.false) c.loop-place.invariant
+          here (sym c.is_left.ensures ∙ w.if-is_left.false) c.loop-place.invariant
     ]
 
 pub returns : goal.returns

@@ -1,7 +1,7 @@
 use Rattle.std.proofs.Common.{◌∙◌, ◌++◌, ap}
 use Rattle.std.specs.Prelude.{fold}
 use Rattle.period_core.specs.Period.{after as later, before, meet}
-use Rattle.row_core.specs.declared.row.Row.{Row}
+use Rattle.row_core.specs.declared.draft.Draft.{Draft}
 use Rattle.table_core.specs.Lent.{lent_row}
 use Rattle.version_core.specs.Rows.{part, set_at}
 use Rattle.version_core.proofs.PartLemmas.{part-added, two-added}
@@ -18,7 +18,7 @@ returns c =
     let three = c.push_part-3.new.new in
     let inside = part (meet row.period portion) set in
     let after = part (later row.period portion) row.values in
-    let values = c.in_ok-values.ensures ∙ ap (λ (r : Row). r.values) c.draft.ensures in
+    let values = c.in_ok-values.ensures ∙ ap (λ (d : Draft). d.values) c.draft.ensures in
     two-added old one three (part (before row.period portion) row.values) (inside ++ after)
     (part-added old one _ _ c.deref-2.result.now row.values c.in_ok-push_part.ensures
     (c.minus-earlier.ensures.before_ends ∙ ap (λ p. before p portion) c.period-period.ensures)

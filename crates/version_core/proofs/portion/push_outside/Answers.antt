@@ -1,6 +1,6 @@
 use Rattle.std.proofs.Common.{◌∙◌, ap}
 use Rattle.period_core.specs.Period.{after as later, before}
-use Rattle.row_core.specs.declared.row.Row.{Row}
+use Rattle.row_core.specs.declared.draft.Draft.{Draft}
 use Rattle.table_core.specs.Lent.{lent_row}
 use Rattle.version_core.specs.Rows.{part}
 use Rattle.version_core.proofs.PartLemmas.{part-added, two-added}
@@ -13,7 +13,7 @@ returns c =
     let old = c.args.new.now in
     let one = c.push_part.new.new in
     let two = c.push_part-2.new.new in
-    let values = c.in_ok-values.ensures ∙ ap (λ (r : Row). r.values) c.draft.ensures in
+    let values = c.in_ok-values.ensures ∙ ap (λ (d : Draft). d.values) c.draft.ensures in
     two-added old one two (part (before row.period portion) row.values) (part (later row.period portion) row.values)
     (part-added old one _ _ c.deref.result.now row.values c.in_ok-push_part.ensures
     (c.minus-before.ensures.before_ends ∙ ap (λ p. before p portion) c.period-period.ensures)

@@ -1,9 +1,17 @@
-use Rattle.version_core.specs.Finding.{AreFound}
+use Rattle.std.proofs.Common.{subst, sym}
+use Rattle.version_core.specs.Finding.{AreCandidates, AreFound}
+use Rattle.version_core.proofs.IndexLemmas.{candidates-led}
 use Rattle.version_core.proofs.versions.Versions.count_parts.Goals as goal
 
 pub count_parts-requires-clause-places : goal.count_parts-requires-clause-places
 count_parts-requires-clause-places c =
-    let found : AreFound c.self.inside.items c.as_slice.result.now c.deref-2.result.now =
+    let vs = c.self.inside.items in
+    let change = c.args.change.now in
+    let schema = c.args.schema.now in
+    let places = c.as_slice.result.now in
+    let indexes = c.deref-2.result.now in
+    let found : AreFound vs places indexes =
     rw (c.as_slice.ensures, c.deref-2.ensures.value) c.self.invariant.found in
-    c.candidates-places.ensures c.self.inside.items c.args.change.now c.args.schema.now found
-    c.lookup_of-lookup.ensures.lookup
+    subst (AreCandidates change schema vs) (sym c.candidates-places.ensures)
+    (candidates-led change schema vs places indexes c.lookup_of-lookup.result found
+    c.lookup_of-lookup.ensures.few c.lookup_of-lookup.ensures.lookup)

@@ -8,7 +8,7 @@ use Rattle.version_core.proofs.KeyLemmas.{left-apart}
 use Rattle.version_core.proofs.versions.Versions.find_overlap.Goals as goal
 
 pub any_meets-requires-clause-unbroken : goal.any_meets-requires-clause-unbroken
-any_meets-requires-clause-unbroken c = rw c.in-Some.ensures.key c.requires.unbroken
+any_meets-requires-clause-unbroken c = rw c.in-Some.ensures.1 c.requires.unbroken
 
 pub returns-then-among_new : goal.returns-then-among_new
 returns-then-among_new c =
@@ -22,7 +22,7 @@ returns-then-among_new c =
 
 pub returns-else-among_new : goal.returns-else-among_new
 returns-else-among_new c =
-    rw c.in-Some.ensures.key at c.any_meets.ensures
+    rw c.in-Some.ensures.1 at c.any_meets.ensures
     ∙ ap (λ t. t || have_meeting (collide c.args.columns.now)
     (rows_left c.args.change.now c.args.schema.now (current c.args.self.now)) c.args.new.now)
     (sym (sym c.in_ok-among_new-in-Some.ensures ∙ c.if-among_new.false))

@@ -4,7 +4,8 @@ use Rattle.row_core.specs.Schema.{key_of}
 use Rattle.key_core.specs.Keys.{have_collision}
 use Rattle.version_core.specs.Keys.{rows_left}
 use Rattle.version_core.specs.OpenVersions.{current}
-use Rattle.version_core.specs.Rows.{drafts_of, unnumbered}
+use Rattle.version_core.specs.Rows.{drafts_of}
+use Rattle.table_core.specs.Numbered.{unnumbered}
 use Rattle.version_core.proofs.KeyLemmas.{keyed-breaks}
 use Rattle.version_core.proofs.OpenLemmas.{newly}
 use Rattle.version_core.proofs.versions.Versions.leaves_overlap.Goals as goal

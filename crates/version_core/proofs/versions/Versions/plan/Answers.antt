@@ -1,8 +1,16 @@
-use Rattle.version_core.specs.Finding.{AreFound}
+use Rattle.std.proofs.Common.{subst, sym}
+use Rattle.version_core.specs.Finding.{AreCandidates, AreFound}
+use Rattle.version_core.proofs.IndexLemmas.{candidates-led}
 use Rattle.version_core.proofs.versions.Versions.plan.Goals as goal
 
 pub plan_change-requires : goal.plan_change-requires
 plan_change-requires c =
-    let found : AreFound c.self.inside.items c.as_slice.result.now c.deref.result.now =
+    let vs = c.self.inside.items in
+    let change = c.args.change.now in
+    let schema = c.args.schema.now in
+    let places = c.as_slice.result.now in
+    let indexes = c.deref.result.now in
+    let found : AreFound vs places indexes =
     rw (c.as_slice.ensures, c.deref.ensures.value) c.self.invariant.found in
-    c.candidates-places.ensures c.self.inside.items c.args.change.now c.args.schema.now found c.requires.lookup
+    subst (AreCandidates change schema vs) (sym c.candidates-places.ensures)
+    (candidates-led change schema vs places indexes c.args.lookup found c.requires.bucket c.requires.lookup)
