@@ -24,7 +24,9 @@ use list_core::DeepCopy;
 use row_core::{Failure, Name, NoMemory, Schema, Value};
 use std::alloc::Global;
 use std::sync::Arc;
-use version_core::{Change, CommitNumber, KeyOverlap, VERSION_LIMIT, VersionCounts, Versions};
+use version_core::{
+    Change, CommitNumber, KeyOverlap, TableColumns, VERSION_LIMIT, VersionCounts, Versions,
+};
 
 /// The most commits of a book.
 pub(crate) const COMMIT_LIMIT: usize = 1_000_000;
@@ -34,47 +36,47 @@ pub(crate) fn refusal_in(table: &Table, commits: usize, change: &Change) -> Opti
     requires { IsWellKept commits table.now }
     ensures { result ≡ first_of (tests_of commits change.now (table_at commits table.now)) }
 {
-    let versions = table.versions();
     match change {
         Change::Make { .. } => None,
         Change::Load { rows, .. } => {
-            if !rows.all_fit(&table.schema) {
+            if !rows.all_fit(table.schema()) {
                 Some(BookRefused::WrongKind)
-            } else if is_full(commits, versions.len(), rows.len()) {
+            } else if is_full(commits, table.versions().len(), rows.len()) {
                 Some(BookRefused::Full)
             } else {
                 None
             }
         }
         Change::Update { sets, conds, .. } => {
-            match pairs_refusal(&table.schema, sets.as_slice()) {
-                Some(refused) => Some(refused),
-                None => portion_refusal(&table.schema, versions, commits, change, conds.as_slice()),
-            }
+            portion_refusal(table, commits, change, sets.as_slice(), conds.as_slice())
         }
         Change::Delete { conds, .. } => {
-            portion_refusal(&table.schema, versions, commits, change, conds.as_slice())
+            portion_refusal(table, commits, change, &[], conds.as_slice())
         }
     }
 }
 
-/// What refuses a change of a portion, once its settings are allowed.
+/// What refuses a change of a portion with these settings and conditions.
 fn portion_refusal(
-    schema: &Schema,
-    versions: &Versions,
+    table: &Table,
     commits: usize,
     change: &Change,
+    sets: &[(Name, Value)],
     conds: &[(Name, Value)],
 ) -> Option<BookRefused>
-    requires { AllByRecursion (IsTimely commits) versions.now }
-    ensures { result ≡ first_of (flat_map (pair_tests schema.now) conds.now
-        ++ full_tests commits (length versions.now
-        + length (parts_of_all change.now schema.now (shown commits versions.now)))) }
+    requires { AllByRecursion (IsTimely commits) table.now.versions }
+    ensures { result ≡ first_of (flat_map (pair_tests table.now.schema) (sets.now ++ conds.now)
+        ++ full_tests commits (length table.now.versions + length
+        (parts_of_all change.now table.now.schema (shown commits table.now.versions)))) }
 {
+    let schema = table.schema();
+    if let Some(refused) = pairs_refusal(schema, sets) {
+        return Some(refused);
+    }
     if let Some(refused) = pairs_refusal(schema, conds) {
         return Some(refused);
     }
-    if is_full_by_parts(schema, versions, commits, change) {
+    if is_full_by_parts(schema, table.versions(), commits, change) {
         Some(BookRefused::Full)
     } else {
         None
@@ -152,11 +154,11 @@ fn add_table(
     ensures counts { IfOk result (λ counts. (counts.added ≡ 0) × (counts.closed ≡ 0)) }
     ensures err { OnErr result (tables.new.items ≡ tables.old.items) }
 {
-    let schema = schema.copy(alloc)?;
+    let columns = TableColumns::of(alloc, schema)?;
     let versions = Arc::new(alloc, Versions::new(alloc)?)?;
     tables.push(Table {
         name,
-        schema,
+        columns,
         versions,
     })?;
     Ok(VersionCounts {
@@ -198,7 +200,7 @@ fn change_table(
     };
     let table = &mut tables[at];
     let commit = next_commit(commits);
-    change_versions(alloc, &mut table.versions, &table.schema, commit, change)
+    change_versions(alloc, &mut table.versions, &table.columns, commit, change)
 }
 
 /// The number of the commit that follows so many.
@@ -217,7 +219,7 @@ fn next_commit(commits: u64) -> CommitNumber
 fn change_versions(
     alloc: Global,
     shared: &mut Arc<Versions>,
-    schema: &Schema,
+    schema: &TableColumns,
     commit: CommitNumber,
     change: Change,
 ) -> Result<VersionCounts, Failure<KeyOverlap>>

@@ -183,7 +183,7 @@ impl Book {
         ensures absent { OnErr result (schema_in self.now name ≡ None) }
     {
         match self.table(name) {
-            Some(table) => Ok(&table.schema),
+            Some(table) => Ok(table.schema()),
             None => Err(NoTable),
         }
     }

@@ -9,13 +9,13 @@ use row_core::{Name, NoMemory, Schema};
 use std::alloc::Global;
 use std::marker::Model;
 use std::sync::Arc;
-use version_core::Versions;
+use version_core::{TableColumns, Versions};
 
 /// A table with all versions of its rows, which copies share until one of them is changed.
 #[derive(Drop)]
 pub(crate) struct Table {
     pub name: Name,
-    pub schema: Schema,
+    pub columns: TableColumns,
     pub versions: Arc<Versions>,
 }
 
@@ -25,10 +25,17 @@ impl Model for Table {
 
     ghost Value = { StoredTable };
 
-    ghost view = { λ t. record { name = t.name; schema = t.schema; versions = arc_value t.versions } };
+    ghost view = { λ t. record { name = t.name; schema = t.columns; versions = arc_value t.versions } };
 }
 
 impl Table {
+    /// Its columns.
+    pub fn schema(&self) -> &Schema
+        ensures { result.now ≡ self.now.schema }
+    {
+        self.columns.schema()
+    }
+
     /// All versions of its rows.
     pub fn versions(&self) -> &Versions
         ensures { result.now ≡ self.now.versions }
@@ -62,7 +69,7 @@ impl DeepCopy for Table {
     fn copy(&self, alloc: Global) -> Result<Table, NoMemory> {
         Ok(Table {
             name: self.name,
-            schema: self.schema.copy(alloc)?,
+            columns: self.columns.copy(alloc)?,
             versions: Arc::try_clone(&self.versions)?,
         })
     }

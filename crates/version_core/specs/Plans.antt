@@ -7,7 +7,7 @@ use Rattle.version_core.specs.OpenVersions.{current, is_taken, places_from}
 use Rattle.version_core.specs.Rows.{parts_of, parts_of_all}
 use Rattle.version_core.specs.declared.change.Change.{Change}
 use Rattle.version_core.specs.declared.version.Version.{Version}
-use Rattle.version_core.specs.declared.versions.Plan.{Plan}
+use Rattle.version_core.specs.declared.planning.Plan.{Plan}
 
 -- the versions at places
 abbrev pub picked : List Version → List ℕ → List Version

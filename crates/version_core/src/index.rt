@@ -1,21 +1,21 @@
 //! Indexes of open versions by the values of a column, and what a change of a portion looks at.
 
-ghost use Rattle.std.specs.Prelude.{◌≡◌, ◌==◌, ◌+◌, ◌<◌, ◌≤◌, [], true, false, find, length, position, take, unwrap_or, All, IfOk, IfSome, IsSome, OnOk, ◌⊎◌};
+ghost use Rattle.std.specs.Prelude.{◌≡◌, ◌==◌, ◌+◌, ◌<◌, ◌≤◌, [], true, false, find, length, option_map, position, take, unwrap_or, All, IfOk, IfSome, IsSome, OnOk, ◌⊎◌};
 ghost use Rattle.std.specs.List.{list_all};
 ghost use Rattle.std.specs.Option.{option_copied};
 ghost use Rattle.row_core.specs.Lent.{lent_value};
 ghost use Rattle.row_core.specs.declared.row.Row.{Row};
 ghost use Rattle.table_core.specs.Lent.{lent_row};
-ghost use Rattle.version_core.specs.Finding.{AreNoMore, IsIndex, IsLookupOf, bucket_at, bucket_in, bucket_of, bucket_of_bytes, falls_into, led_to, lookup_of};
+ghost use Rattle.version_core.specs.Finding.{AreNoMore, IsIndex, IsLookupOf, bucket_at, bucket_in, bucket_of, bucket_of_bytes, falls_into, led_to, lookup_in, lookup_of};
 ghost use Rattle.version_core.specs.Limits.{bucket_count, version_limit};
 ghost use Rattle.version_core.specs.Rows.{conds_of, is_equal_at};
 ghost use Rattle.version_core.specs.Stored.{version_of};
 
-use crate::change::Change;
 use crate::places::Places;
+use crate::seeker::Seeker;
 use crate::span::Span;
 use crate::stored::StoredVersions;
-use row_core::{Name, NoMemory, Schema, Value, ValueRef};
+use row_core::{NoMemory, Value, ValueRef};
 use std::alloc::Global;
 use table_core::RowRef;
 
@@ -155,44 +155,36 @@ fn bucket_of_bytes(bytes: &[u8]) -> usize
 }
 
 /// Where the rows are that the change takes out: the condition with the shortest bucket says so.
-pub(crate) fn lookup_of(indexes: &[Index], schema: &Schema, change: &Change) -> Option<Lookup>
+pub(crate) fn lookup_of(indexes: &[Index], seeker: &Seeker<'_>) -> Option<Lookup>
     requires { All (λ index. length index.buckets.items ≡ bucket_count) indexes.now }
     ensures few { IfSome result (λ lookup. lookup.bucket < bucket_count) }
-    ensures lookup { IfSome result (IsLookupOf change.now schema.now) }
+    ensures lookup { IfSome result (IsLookupOf seeker.now.change.now seeker.now.schema.now) }
     ensures indexed { IfSome result (λ lookup. IsSome (bucket_at indexes.now lookup)) }
     ensures shortest { All (λ pair. AreNoMore (led_to indexes.now result)
-        (led_to indexes.now (lookup_of schema.now pair))) (conds_of change.now) }
+        (led_to indexes.now (lookup_of seeker.now.schema.now pair)))
+        (conds_of seeker.now.change.now) }
 {
-    best_lookup(indexes, schema, conds_of(change))
-}
-
-/// The conditions of a change.
-fn conds_of(change: &Change) -> &[(Name, Value)]
-    ensures { result.now ≡ conds_of change.now }
-{
-    match change {
-        Change::Make { .. } => &[],
-        Change::Load { .. } => &[],
-        Change::Update { conds, .. } => conds.as_slice(),
-        Change::Delete { conds, .. } => conds.as_slice(),
-    }
+    best_lookup(indexes, seeker)
 }
 
 /// Where the rows are that meet all conditions: of the buckets of conditions whose columns have indexes, the
 /// shortest.
-fn best_lookup(indexes: &[Index], schema: &Schema, conds: &[(Name, Value)]) -> Option<Lookup>
+fn best_lookup(indexes: &[Index], seeker: &Seeker<'_>) -> Option<Lookup>
     requires { All (λ index. length index.buckets.items ≡ bucket_count) indexes.now }
     ensures few { IfSome result (λ lookup. lookup.bucket < bucket_count) }
     ensures lookup { IfSome result (λ lookup. (row : Row)
-        → list_all (is_equal_at schema.now row.values) conds.now ≡ true
+        → list_all (is_equal_at seeker.now.schema.now row.values) (conds_of seeker.now.change.now) ≡ true
         → falls_into lookup.column lookup.bucket row ≡ true) }
     ensures indexed { IfSome result (λ lookup. IsSome (bucket_at indexes.now lookup)) }
     ensures shortest { All (λ pair. AreNoMore (led_to indexes.now result)
-        (led_to indexes.now (lookup_of schema.now pair))) conds.now }
+        (led_to indexes.now (lookup_of seeker.now.schema.now pair)))
+        (conds_of seeker.now.change.now) }
 {
     let mut best = None;
-    for pair in conds {
-        best = better_lookup(indexes, best, lookup_of_pair(schema, pair));
+    let conds = seeker.conds();
+    for i in 0..conds.len() {
+        let lookup = lookup_in(seeker.column(i), &conds[i].1);
+        best = better_lookup(indexes, best, lookup);
     }
     best
 }
@@ -252,16 +244,18 @@ fn bucket_at<'a>(indexes: &'a [Index], lookup: Lookup) -> Option<&'a [u32]>
     }
 }
 
-/// Where the rows are that meet a condition.
-fn lookup_of_pair(schema: &Schema, pair: &(Name, Value)) -> Option<Lookup>
-    ensures lookup { result ≡ lookup_of schema.now pair.now }
+/// Where the rows are that have the value in a column, if one is given.
+fn lookup_in(column: Option<u32>, value: &Value) -> Option<Lookup>
+    ensures lookup { result ≡ option_map (lookup_in value.now) column }
     ensures few { IfSome result (λ lookup. lookup.bucket < bucket_count) }
 {
-    let column = schema.column(pair.0)?;
-    Some(Lookup {
-        column,
-        bucket: bucket_of(ValueRef::from(&pair.1)),
-    })
+    match column {
+        Some(column) => Some(Lookup {
+            column,
+            bucket: bucket_of(ValueRef::from(value)),
+        }),
+        None => None,
+    }
 }
 
 /// The column's index.
@@ -299,8 +293,7 @@ pub(crate) fn make_indexes(
     alloc: Global,
     indexes: &mut Vec<Index>,
     versions: &StoredVersions,
-    schema: &Schema,
-    change: &Change,
+    seeker: &Seeker<'_>,
 )
     requires few { length versions.now ≤ version_limit }
     requires before { All (IsIndex versions.now) indexes.old.items }
@@ -309,8 +302,8 @@ pub(crate) fn make_indexes(
     if versions.len() < FEW {
         return;
     }
-    for pair in conds_of(change) {
-        if let Some(column) = schema.column(pair.0) {
+    for i in 0..seeker.conds().len() {
+        if let Some(column) = seeker.column(i) {
             make_index(alloc, indexes, versions, column);
         }
     }

@@ -5,16 +5,15 @@ ghost use Rattle.std.specs.List.{list_any};
 ghost use Rattle.key_core.specs.Keys.{collide, have_collision};
 ghost use Rattle.draft_core.specs.Lent.{lent_draft};
 ghost use Rattle.row_core.specs.Schema.{key_of};
-ghost use Rattle.version_core.specs.Finding.{ListsOpen, any_row, AreSought, passes};
-ghost use Rattle.version_core.specs.Keys.{collides_left, is_column_of, is_left, overlap_after, rows_left, sets_key, break_key};
+ghost use Rattle.version_core.specs.Finding.{ListsOpen, any_row, passes};
+ghost use Rattle.version_core.specs.Keys.{collides_left, is_column_of, overlap_after, rows_left, sets_key, break_key};
 ghost use Rattle.version_core.specs.OpenVersions.{current};
-ghost use Rattle.version_core.specs.Rows.{conds_of};
 ghost use Rattle.table_core.specs.Numbered.{unnumbered};
 ghost use Rattle.version_core.specs.Lent.{lent_version};
 ghost use Rattle.version_core.specs.declared.version.Version.{Version};
 
 use crate::change::Change;
-use crate::portion::{SOUGHT_LIMIT, columns_sought, is_removed};
+use crate::seeker::Seeker;
 use crate::stored::StoredVersions;
 use crate::version_ref::VersionRef;
 use draft_core::{DraftRef, Drafts};
@@ -76,8 +75,7 @@ fn is_column_of(key: &[u32], column: u32) -> bool
 /// Whether two of the rows that a change leaves and makes collide, where all open ones are gone through.
 pub(crate) fn collide_among_all(
     alloc: Global,
-    schema: &Schema,
-    change: &Change,
+    seeker: &Seeker<'_>,
     key: &[u32],
     versions: &StoredVersions,
     open_at: &[u32],
@@ -85,9 +83,9 @@ pub(crate) fn collide_among_all(
 ) -> Result<bool, NoMemory>
     requires { ListsOpen versions.now any_row open_at.now }
     ensures { IfOk result (λ overlap. overlap ≡ have_collision key.now
-        (rows_left change.now schema.now (current versions.now) ++ new.now)) }
+        (rows_left seeker.now.change.now seeker.now.schema.now (current versions.now) ++ new.now)) }
 {
-    let mut rows = rows_left(alloc, schema, change, versions, open_at)?;
+    let mut rows = rows_left(alloc, seeker, versions, open_at)?;
     push_rows(&mut rows, new)?;
     Ok(have_collision(key, &mut rows))
 }
@@ -104,39 +102,24 @@ pub(crate) fn collide_among(alloc: Global, key: &[u32], new: &Drafts) -> Result<
 /// The rows of open versions that the change leaves.
 fn rows_left<'a>(
     alloc: Global,
-    schema: &Schema,
-    change: &Change,
+    seeker: &Seeker<'_>,
     versions: &'a StoredVersions,
     open_at: &[u32],
 ) -> Result<Vec<DraftRef<'a>>, NoMemory>
     requires { ListsOpen versions.now any_row open_at.now }
     ensures { IfOk result (λ rows. map lent_draft rows.items
-        ≡ rows_left change.now schema.now (current versions.now)) }
+        ≡ rows_left seeker.now.change.now seeker.now.schema.now (current versions.now)) }
 {
     let mut rows = Vec::new(alloc);
-    let columns = columns_sought(schema, change);
     for place in open_at {
         let version = versions.at(*place as usize);
-        if is_left(schema, change, &columns, &version) {
+        if seeker.leaves(&version) {
             if let Err(_) = rows.push(version.row.draft()) {
                 return Err(AllocError);
             }
         }
     }
     Ok(rows)
-}
-
-/// Whether the version is open, and the change leaves its row.
-fn is_left(
-    schema: &Schema,
-    change: &Change,
-    columns: &[Option<u32>; SOUGHT_LIMIT],
-    version: &VersionRef<'_>,
-) -> bool
-    requires { AreSought schema.now (conds_of change.now) columns.now }
-    ensures { result ≡ is_left change.now schema.now (lent_version version.now) }
-{
-    version.span.is_open() && !is_removed(schema, change, columns, version.row)
 }
 
 /// Adds the rows.
@@ -155,36 +138,30 @@ fn push_rows<'a>(rows: &mut Vec<DraftRef<'a>>, new: &'a Drafts) -> Result<(), No
 /// Whether an open version has that place, the change leaves its row, and that collides with the new
 /// one.
 pub(crate) fn collides_at(
-    schema: &Schema,
-    change: &Change,
-    columns: &[Option<u32>; SOUGHT_LIMIT],
+    seeker: &Seeker<'_>,
     key: &[u32],
     versions: &StoredVersions,
     place: usize,
     new: DraftRef<'_>,
 ) -> bool
-    requires { AreSought schema.now (conds_of change.now) columns.now }
-    ensures { result ≡ passes versions.now
-        (collides_left change.now schema.now key.now (lent_draft new.entry)) place }
+    ensures { result ≡ passes versions.now (collides_left seeker.now.change.now
+        seeker.now.schema.now key.now (lent_draft new.entry)) place }
 {
     match versions.get(place) {
-        Some(version) => collides_left(schema, change, columns, key, &version, new),
+        Some(version) => collides_left(seeker, key, &version, new),
         None => false,
     }
 }
 
 /// Whether the version is open, the change leaves its row, and that collides with the new one.
 fn collides_left(
-    schema: &Schema,
-    change: &Change,
-    columns: &[Option<u32>; SOUGHT_LIMIT],
+    seeker: &Seeker<'_>,
     key: &[u32],
     version: &VersionRef<'_>,
     new: DraftRef<'_>,
 ) -> bool
-    requires { AreSought schema.now (conds_of change.now) columns.now }
-    ensures { result ≡ collides_left change.now schema.now key.now (lent_draft new.entry)
-        (lent_version version.now) }
+    ensures { result ≡ collides_left seeker.now.change.now seeker.now.schema.now key.now
+        (lent_draft new.entry) (lent_version version.now) }
 {
-    is_left(schema, change, columns, version) && collide(key, version.row.draft(), new)
+    seeker.leaves(version) && collide(key, version.row.draft(), new)
 }

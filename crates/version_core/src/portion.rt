@@ -185,6 +185,18 @@ fn columns_named(schema: &Schema, pairs: &[(Name, Value)]) -> [Option<u32>; SOUG
     columns
 }
 
+/// The conditions of a change.
+pub(crate) fn conds_of(change: &Change) -> &[(Name, Value)]
+    ensures { result.now ≡ conds_of change.now }
+{
+    match change {
+        Change::Make { .. } => &[],
+        Change::Load { .. } => &[],
+        Change::Update { conds, .. } => conds.as_slice(),
+        Change::Delete { conds, .. } => conds.as_slice(),
+    }
+}
+
 /// The portion of a change of one.
 pub(crate) fn portion_of(change: &Change) -> Option<Period>
     ensures { result ≡ portion_of change.now }
@@ -272,7 +284,7 @@ fn meets_all(
 
 /// The place of the column that the condition at place i names.
 #[inline(always)]
-fn column_at(
+pub(crate) fn column_at(
     schema: &Schema,
     conds: &[(Name, Value)],
     columns: &[Option<u32>; SOUGHT_LIMIT],

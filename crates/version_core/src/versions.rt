@@ -8,18 +8,16 @@ ghost use Rattle.row_core.specs.Schema.{key_of};
 ghost use Rattle.row_core.specs.declared.failure.Failure.TheVariants.{NoMemory};
 ghost use Rattle.row_core.specs.declared.row.Row.{Row as AnyRow};
 ghost use Rattle.row_core.specs.declared.schema.Column.{Column};
-ghost use Rattle.table_core.specs.Lent.{lent_row};
 ghost use Rattle.table_core.specs.Numbered.{numbered, unnumbered};
-ghost use Rattle.version_core.specs.Finding.{AreCandidates, IsIndex, IsLookupOf, AreSought, is_reached, passes};
+ghost use Rattle.version_core.specs.Finding.{IsIndex, IsLookupOf};
 ghost use Rattle.version_core.specs.KeyIndex.{IsKeyIndex};
 ghost use Rattle.version_core.specs.Keys.{overlap_after, rows_left, break_key};
 ghost use Rattle.version_core.specs.Limits.{bucket_count, version_limit};
 ghost use Rattle.version_core.specs.Made.{made};
-ghost use Rattle.version_core.specs.OpenVersions.{closed_at, current, is_taken, places_from, versions_after};
-ghost use Rattle.version_core.specs.Plans.{IsPlanOf, parts_at};
-ghost use Rattle.version_core.specs.Rows.{conds_of, drafts_of, parts_of_all, removes, with_parts};
+ghost use Rattle.version_core.specs.OpenVersions.{closed_at, current, versions_after};
+ghost use Rattle.version_core.specs.Plans.{IsPlanOf};
+ghost use Rattle.version_core.specs.Rows.{drafts_of, parts_of_all, removes};
 ghost use Rattle.version_core.specs.Shown.{shown, versions_as_of};
-ghost use Rattle.version_core.specs.Stored.{version_of};
 ghost use Rattle.version_core.specs.declared.change.Change.{Change};
 
 use crate::change::Change;
@@ -31,20 +29,19 @@ use crate::index::{
 use crate::key_index::{KeyIndex, index_by};
 use crate::keys::{KeyOverlap, collide_among, collide_among_all, may_overlap};
 use crate::places::Places;
-use crate::portion::{
-    SOUGHT_LIMIT, columns_sought, count_of, is_removed, portion_of, push_parts, reaches,
-};
+use crate::planning::{Plan, count_parts, is_small, new_rows, plan_change, rows_made};
+use crate::seeker::Seeker;
 use crate::shared_versions::SharedVersions;
-use crate::span::Span;
 use crate::stored::StoredVersions;
+use crate::table_columns::TableColumns;
 use crate::version::{rows_holding, rows_shown, versions_seen};
 use draft_core::Drafts;
 use list_core::DeepCopy;
-use period_core::{Period, Point};
+use period_core::Point;
 use row_core::{Failure, NoMemory, Schema};
 use std::alloc::Global;
 use std::marker::Model;
-use table_core::{RowRef, SharedRows};
+use table_core::SharedRows;
 
 /// The most versions of a table.
 pub const VERSION_LIMIT: usize = 1_000_000;
@@ -159,9 +156,10 @@ impl Versions {
         requires { length self.now ≤ version_limit }
         ensures { result ≡ length (parts_of_all change.now schema.now (current self.now)) }
     {
-        let lookup = lookup_of(&self.indexes, schema, change);
+        let seeker = Seeker::of(schema, change);
+        let lookup = lookup_of(&self.indexes, &seeker);
         let places = candidates(self.open_at.as_slice(), &self.indexes, lookup);
-        count_parts(schema, &self.items, places, change)
+        count_parts(&seeker, &self.items, places)
     }
 
     /// Closes the versions whose rows the change takes out, and adds those that it makes, unless rows of
@@ -169,7 +167,7 @@ impl Versions {
     pub fn apply(
         &mut self,
         alloc: Global,
-        schema: &Schema,
+        schema: &TableColumns,
         commit: CommitNumber,
         change: Change,
     ) -> Result<VersionCounts, Failure<KeyOverlap>>
@@ -185,13 +183,36 @@ impl Versions {
             → overlap_after change schema.now self.old ≡ true) }
         ensures err { OnErr result (self.new ≡ self.old) }
     {
-        let key = schema.key_places(alloc)?;
-        make_indexes(alloc, &mut self.indexes, &self.items, schema, &change);
-        let lookup = lookup_of(&self.indexes, schema, &change);
+        let plan = self.plan(alloc, schema, &change)?;
+        Ok(self.carry_out(alloc, schema, commit, change, plan)?)
+    }
+
+    /// Works out the change, unless it would leave an overlap. Indexes are made that help to find rows.
+    fn plan(
+        &mut self,
+        alloc: Global,
+        schema: &TableColumns,
+        change: &Change,
+    ) -> Result<Plan, Failure<KeyOverlap>>
+        requires few { length self.old ≤ version_limit }
+        requires unbroken { break_key (key_of schema.now) (map unnumbered (current self.old)) ≡ false }
+        ensures same { self.new ≡ self.old }
+        ensures plan { IfOk result (IsPlanOf change.now schema.now self.old) }
+        ensures apart { OnOk result (overlap_after change.now schema.now self.old ≡ false) }
+        ensures overlap { IfErr result (λ failure. failure ≢ NoMemory
+            → overlap_after change.now schema.now self.old ≡ true) }
+    {
+        let seeker = Seeker::of(schema.schema(), change);
+        let key = schema.key();
+        make_indexes(alloc, &mut self.indexes, &self.items, &seeker);
+        let lookup = lookup_of(&self.indexes, &seeker);
         self.drop_closed(lookup);
-        let plan = self.plan(alloc, schema, &change, lookup)?;
-        self.prepare_key_index(alloc, schema, &change, &key, &plan);
-        self.carry_out(alloc, schema, &key, commit, change, plan)
+        let plan = self.find_rows(alloc, &seeker, lookup)?;
+        self.prepare_key_index(alloc, &seeker, key, &plan);
+        if self.leaves_overlap(alloc, &seeker, key, &plan.parts)? {
+            return Err(Failure::Refused(KeyOverlap));
+        }
+        Ok(plan)
     }
 
     /// Drops places of closed versions where a change with that lookup looks: in its bucket, or, where many
@@ -213,68 +234,53 @@ impl Versions {
     }
 
     /// Works out the change by the places where the lookup finds rows.
-    fn plan(
+    fn find_rows(
         &self,
         alloc: Global,
-        schema: &Schema,
-        change: &Change,
+        seeker: &Seeker<'_>,
         lookup: Option<Lookup>,
     ) -> Result<Plan, NoMemory>
         requires bucket { IfSome lookup (λ lookup. lookup.bucket < bucket_count) }
-        requires lookup { IfSome lookup (IsLookupOf change.now schema.now) }
-        ensures { IfOk result (IsPlanOf change.now schema.now self.now) }
+        requires lookup { IfSome lookup (IsLookupOf seeker.now.change.now seeker.now.schema.now) }
+        ensures { IfOk result (IsPlanOf seeker.now.change.now seeker.now.schema.now self.now) }
     {
         let places = candidates(self.open_at.as_slice(), &self.indexes, lookup);
-        plan_change(alloc, schema, &self.items, places, change)
+        plan_change(alloc, seeker, &self.items, places)
     }
 
     /// Makes the index of the key where it helps to test the plan, and drops it where that isn't small.
-    fn prepare_key_index(
-        &mut self,
-        alloc: Global,
-        schema: &Schema,
-        change: &Change,
-        key: &[u32],
-        plan: &Plan,
-    )
-        requires { key.now ≡ key_of schema.now }
+    fn prepare_key_index(&mut self, alloc: Global, seeker: &Seeker<'_>, key: &[u32], plan: &Plan)
+        requires { key.now ≡ key_of seeker.now.schema.now }
         ensures { self.new ≡ self.old }
     {
-        let new = rows_made(change, &plan.parts);
+        let new = rows_made(seeker.change, &plan.parts);
         if !is_small(new, &plan.taken, self.items.len()) {
             self.key_index = None;
-        } else if index_by(&self.key_index, key).is_none() && may_overlap(schema, change, key) {
+        } else if index_by(&self.key_index, key).is_none()
+            && may_overlap(seeker.schema, seeker.change, key)
+        {
             self.key_index = KeyIndex::of(alloc, &self.items, key).ok();
         }
     }
 
-    /// Carries out the change as it was planned, unless it would leave an overlap.
+    /// Carries out the change as it was planned.
     fn carry_out(
         &mut self,
         alloc: Global,
-        schema: &Schema,
-        key: &[u32],
+        schema: &TableColumns,
         commit: CommitNumber,
         change: Change,
         plan: Plan,
-    ) -> Result<VersionCounts, Failure<KeyOverlap>>
-        requires key { key.now ≡ key_of schema.now }
+    ) -> Result<VersionCounts, NoMemory>
         requires room { length self.old
             + length (drafts_of change schema.now (current self.old)) ≤ version_limit }
-        requires unbroken { break_key (key_of schema.now) (map unnumbered (current self.old)) ≡ false }
         requires plan { IsPlanOf change schema.now self.old plan }
         ensures ok { OnOk result (self.new ≡ versions_after commit change schema.now self.old) }
         ensures counts { IfOk result (λ counts.
             (counts.added ≡ length (drafts_of change schema.now (current self.old)))
             × (counts.closed ≡ count_by (removes change schema.now) (current self.old))) }
-        ensures apart { OnOk result (overlap_after change schema.now self.old ≡ false) }
-        ensures overlap { IfErr result (λ failure. failure ≢ NoMemory
-            → overlap_after change schema.now self.old ≡ true) }
         ensures err { OnErr result (self.new ≡ self.old) }
     {
-        if self.leaves_overlap(alloc, schema, key, &change, &plan.parts)? {
-            return Err(Failure::Refused(KeyOverlap));
-        }
         let before = self.items.len();
         let Plan { parts, taken } = plan;
         let new = new_rows(change, parts);
@@ -299,18 +305,20 @@ impl Versions {
     fn leaves_overlap(
         &self,
         alloc: Global,
-        schema: &Schema,
-        columns: &[u32],
-        change: &Change,
+        seeker: &Seeker<'_>,
+        key: &[u32],
         parts: &Drafts,
     ) -> Result<bool, NoMemory>
-        requires columns { columns.now ≡ key_of schema.now }
-        requires unbroken { break_key (key_of schema.now) (map unnumbered (current self.now)) ≡ false }
-        requires parts { parts.now ≡ parts_of_all change.now schema.now (current self.now) }
-        ensures { IfOk result (λ overlap. overlap ≡ overlap_after change.now schema.now self.now) }
+        requires key { key.now ≡ key_of seeker.now.schema.now }
+        requires unbroken { break_key (key_of seeker.now.schema.now)
+            (map unnumbered (current self.now)) ≡ false }
+        requires parts { parts.now
+            ≡ parts_of_all seeker.now.change.now seeker.now.schema.now (current self.now) }
+        ensures { IfOk result (λ overlap. overlap
+            ≡ overlap_after seeker.now.change.now seeker.now.schema.now self.now) }
     {
-        if may_overlap(schema, change, columns) {
-            self.find_overlap(alloc, schema, columns, change, rows_made(change, parts))
+        if may_overlap(seeker.schema, seeker.change, key) {
+            self.find_overlap(alloc, seeker, key, rows_made(seeker.change, parts))
         } else {
             Ok(false)
         }
@@ -321,224 +329,47 @@ impl Versions {
     fn find_overlap(
         &self,
         alloc: Global,
-        schema: &Schema,
-        columns: &[u32],
-        change: &Change,
+        seeker: &Seeker<'_>,
+        key: &[u32],
         new: &Drafts,
     ) -> Result<bool, NoMemory>
-        requires unbroken { have_collision columns.now (map unnumbered (current self.now)) ≡ false }
-        ensures { IfOk result (λ overlap. overlap ≡ have_collision columns.now
-            (rows_left change.now schema.now (current self.now) ++ new.now)) }
+        requires unbroken { have_collision key.now (map unnumbered (current self.now)) ≡ false }
+        ensures { IfOk result (λ overlap. overlap ≡ have_collision key.now
+            (rows_left seeker.now.change.now seeker.now.schema.now (current self.now) ++ new.now)) }
     {
-        match index_by(&self.key_index, columns) {
+        match index_by(&self.key_index, key) {
             Some(index) => {
-                let among_new = collide_among(alloc, columns, new)?;
-                Ok(among_new || self.any_meets(schema, change, index, new))
+                let among_new = collide_among(alloc, key, new)?;
+                Ok(among_new || self.any_meets(seeker, index, new))
             }
             None => {
-                let open_at = self.open_at.as_slice();
-                collide_among_all(alloc, schema, change, columns, &self.items, open_at, new)
+                collide_among_all(
+                    alloc,
+                    seeker,
+                    key,
+                    &self.items,
+                    self.open_at.as_slice(),
+                    new,
+                )
             }
         }
     }
 
     /// Whether a new row collides with one that the change leaves.
-    fn any_meets(&self, schema: &Schema, change: &Change, index: &KeyIndex, new: &Drafts) -> bool
+    fn any_meets(&self, seeker: &Seeker<'_>, index: &KeyIndex, new: &Drafts) -> bool
         requires index { IsKeyIndex self.now index.now }
         requires unbroken { have_collision index.now.columns.items
             (map unnumbered (current self.now)) ≡ false }
         ensures { result ≡ list_any (λ other. list_any
             (λ left. collide index.now.columns.items left other)
-            (rows_left change.now schema.now (current self.now))) new.now }
+            (rows_left seeker.now.change.now seeker.now.schema.now (current self.now))) new.now }
     {
         for i in 0..new.len() {
-            if index.any_collides(schema, change, &self.items, new.at(i)) {
+            if index.any_collides(seeker, &self.items, new.at(i)) {
                 return true;
             }
         }
         false
-    }
-}
-
-/// What a change of a portion does to versions: what comes in the place of the rows that it takes out,
-/// and the places of these.
-#[derive(Drop)]
-struct Plan {
-    parts: Drafts,
-    taken: Vec<u32>,
-}
-
-/// Among so many versions of a table a small change adds or closes one.
-const VERSIONS_FOR_ONE: usize = 8;
-
-/// Whether a change is small beside that many versions of its table. The key of a small one is tested by
-/// the index, and its versions are added there and taken out, each in a time that grows as the logarithm
-/// of the open ones. A larger one is done sooner where all open rows are put in order, and no index is
-/// kept; and it costs so much itself that the index may be made anew behind it.
-fn is_small(new: &Drafts, taken: &[u32], versions: usize) -> bool {
-    new.len().saturating_add(taken.len()) <= versions / VERSIONS_FOR_ONE
-}
-
-/// All new rows of a change whose parts of rows are these.
-fn rows_made<'a>(change: &'a Change, parts: &'a Drafts) -> &'a Drafts
-    ensures { result.now ≡ with_parts change.entry.now parts.entry.now }
-{
-    match change {
-        Change::Load { rows, .. } => rows,
-        Change::Make { .. } => parts,
-        Change::Update { .. } => parts,
-        Change::Delete { .. } => parts,
-    }
-}
-
-/// The same, taken out of the change.
-fn new_rows(change: Change, parts: Drafts) -> Drafts
-    ensures { result ≡ with_parts change parts }
-{
-    match change {
-        Change::Load { table: _, rows } => rows,
-        Change::Make { .. } => parts,
-        Change::Update { .. } => parts,
-        Change::Delete { .. } => parts,
-    }
-}
-
-/// How many places a change looks at before it branches. For most blocks of so many rows one branch tells
-/// that the change reaches none; of the few that it reaches, it goes over more rows the larger they are.
-const BLOCK: usize = 32;
-
-/// Works out a change without making it, so that a refusal leaves all as it was. Only blocks of places are
-/// looked into where its portion reaches a row.
-fn plan_change(
-    alloc: Global,
-    schema: &Schema,
-    versions: &StoredVersions,
-    places: &[u32],
-    change: &Change,
-) -> Result<Plan, NoMemory>
-    requires { AreCandidates change.now schema.now versions.now places.now }
-    ensures { IfOk result (IsPlanOf change.now schema.now versions.now) }
-{
-    let mut plan = Plan::empty(alloc);
-    let Some(portion) = portion_of(change) else {
-        return Ok(plan);
-    };
-    let seeker = Seeker::of(schema, change);
-    let (rows, _) = versions.rows_and_spans();
-    for block in places.chunks(BLOCK) {
-        if any_reached(rows, &portion, block) {
-            plan_block(alloc, &mut plan, &seeker, versions, block)?;
-        }
-    }
-    Ok(plan)
-}
-
-impl Plan {
-    /// The plan that takes out no row.
-    fn empty(alloc: Global) -> Self
-        ensures parts { result.parts ≡ [] }
-        ensures taken { result.taken.items ≡ [] }
-    {
-        Plan {
-            parts: Drafts::new(alloc),
-            taken: Vec::new(alloc),
-        }
-    }
-}
-
-/// Whether the portion shares an instant with a row at one of the places. This writes nothing and doesn't
-/// branch at a row, so that it takes the same short time wherever the periods lie.
-fn any_reached(rows: &Drafts, portion: &Period, places: &[u32]) -> bool
-    requires { All (λ place. place < length rows.now) places.now }
-    ensures { result ≡ list_any (is_reached portion.now rows.now) places.now }
-{
-    let mut any = false;
-    for place in places {
-        any |= rows.at(*place as usize).period().overlaps(*portion);
-    }
-    any
-}
-
-/// Adds to the plan what the change does at those places.
-fn plan_block(
-    alloc: Global,
-    plan: &mut Plan,
-    seeker: &Seeker<'_>,
-    versions: &StoredVersions,
-    places: &[u32],
-) -> Result<(), NoMemory>
-    requires inside { All (λ place. place < length versions.now) places.now }
-    requires sought { AreSought seeker.now.schema.now (conds_of seeker.now.change.now)
-        seeker.now.columns }
-    requires parts { plan.old.parts
-        ≡ parts_at seeker.now.change.now seeker.now.schema.now versions.now plan.old.taken.items }
-    ensures parts { OnOk result (plan.new.parts
-        ≡ parts_at seeker.now.change.now seeker.now.schema.now versions.now plan.new.taken.items) }
-    ensures taken { OnOk result (plan.new.taken.items ≡ plan.old.taken.items ++ filter
-        (passes versions.now (is_taken seeker.now.change.now seeker.now.schema.now)) places.now) }
-{
-    let (drafts, spans) = versions.rows_and_spans();
-    for place in places {
-        let row = RowRef::of_draft(*place as usize, drafts.at(*place as usize));
-        if seeker.takes(row, &spans[*place as usize]) {
-            push_parts(alloc, &mut plan.parts, seeker.schema, seeker.change, row)?;
-            plan.taken.push(*place)?;
-        }
-    }
-    Ok(())
-}
-
-/// How many rows come in the place of those that the change takes out.
-fn count_parts(schema: &Schema, versions: &StoredVersions, places: &[u32], change: &Change) -> usize
-    requires few { length versions.now ≤ version_limit }
-    requires places { AreCandidates change.now schema.now versions.now places.now }
-    ensures { result ≡ length (parts_of_all change.now schema.now (current versions.now)) }
-{
-    let mut count = 0;
-    let seeker = Seeker::of(schema, change);
-    let (drafts, spans) = versions.rows_and_spans();
-    for place in places {
-        let row = RowRef::of_draft(*place as usize, drafts.at(*place as usize));
-        if seeker.takes(row, &spans[*place as usize]) {
-            count += count_of(change, row);
-        }
-    }
-    count
-}
-
-/// A change, and the places of the columns that its conditions name.
-#[derive(Clone, Copy)]
-struct Seeker<'a> {
-    schema: &'a Schema,
-    change: &'a Change,
-    columns: [Option<u32>; SOUGHT_LIMIT],
-}
-
-impl<'a> Seeker<'a> {
-    /// What seeks the rows of that change.
-    fn of(schema: &'a Schema, change: &'a Change) -> Self
-        ensures schema { result.schema.now ≡ schema.entry.now }
-        ensures change { result.change.now ≡ change.entry.now }
-        ensures sought { AreSought result.schema.now (conds_of result.change.now) result.columns }
-    {
-        Seeker {
-            schema,
-            change,
-            columns: columns_sought(schema, change),
-        }
-    }
-
-    /// Whether a version is open, and the change takes out its row. The period is tested first: it tells
-    /// of most versions that they stay, and of those no commits are read.
-    #[inline(always)]
-    fn takes(&self, row: RowRef<'_>, span: &Span) -> bool
-        requires { AreSought self.now.schema.now (conds_of self.now.change.now) self.now.columns }
-        ensures { result ≡ is_taken self.now.change.now self.now.schema.now
-            (version_of (lent_row row.entry) span.now) }
-    {
-        reaches(self.change, &row.period())
-            && span.is_open()
-            && is_removed(self.schema, self.change, &self.columns, row)
     }
 }
 

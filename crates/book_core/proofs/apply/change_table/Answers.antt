@@ -55,7 +55,7 @@ module _ (c : goal.After-tables-1) where
   found = find-place c.args.name c.args.tables.now.items c.in-Some.at c.index_mut-table.result.now at
       c.index_mut-table.ensures.value
 
-  overlap : overlap_after c.args.change c.table.inside.schema (arc_value c.table.inside.versions) ≡ overlap_in c.args.commits
+  overlap : overlap_after c.args.change c.table.inside.columns (arc_value c.table.inside.versions) ≡ overlap_in c.args.commits
       c.args.change (kept_table c.args.name c.args.tables.now.items)
   overlap =
       ap (λ (t : StoredTable). overlap_after c.args.change t.schema t.versions) c.table.view_is
@@ -96,8 +96,8 @@ returns-clause-ok c =
     (kept_table_after c.args.commits change) c.args.tables.now.items c.in-Some.at c.index_mut-table.result.now _
     (at c) c.index_mut-table.ensures.value
     (ap (λ vs. with_versions
-    (record { name = c.table.inside.name; schema = c.table.inside.schema; versions = arc_value c.table.inside.versions }) vs)
-    (e ∙ ap (λ n. versions_after n change c.table.inside.schema (arc_value c.table.inside.versions))
+    (record { name = c.table.inside.name; schema = c.table.inside.columns; versions = arc_value c.table.inside.versions }) vs)
+    (e ∙ ap (λ n. versions_after n change c.table.inside.columns (arc_value c.table.inside.versions))
     c.next_commit-commit.ensures)
     ∙ ap (λ t. with_versions t (versions_after (c.args.commits + 1) change t.schema t.versions)) c.table.view_is
     ∙ versions_after-kept c.args.commits change c.index_mut-table.result.now (well c)))

@@ -11,9 +11,6 @@ use Rattle.version_core.proofs.KeyIndexLemmas.{kept-closed}
 use Rattle.version_core.proofs.OpenLemmas.{length-fresh, length-taken, newly, places_from-bounded, versions_after-by}
 use Rattle.version_core.proofs.versions.Versions.carry_out.Goals as goal
 
-pub leaves_overlap-requires-clause-parts : goal.leaves_overlap-requires-clause-parts
-leaves_overlap-requires-clause-parts c = c.requires.plan.parts
-
 pub add_versions-requires : goal.add_versions-requires
 add_versions-requires c =
     let added = ap length (newly c.args.change c.args.schema.now c.args.self.now c.args.plan.parts

@@ -6,8 +6,8 @@ use Rattle.version_core.proofs.versions.Versions.count_parts.Goals as goal
 pub count_parts-requires-clause-places : goal.count_parts-requires-clause-places
 count_parts-requires-clause-places c =
     let vs = c.self.inside.items in
-    let change = c.args.change.now in
-    let schema = c.args.schema.now in
+    let change = c.of-seeker.result.change.now in
+    let schema = c.of-seeker.result.schema.now in
     let places = c.as_slice.result.now in
     let indexes = c.deref-2.result.now in
     let found : AreFound vs places indexes =

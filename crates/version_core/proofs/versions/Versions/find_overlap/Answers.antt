@@ -13,31 +13,31 @@ any_meets-requires-clause-unbroken c = rw c.in-Some.ensures.1 c.requires.unbroke
 pub returns-then-among_new : goal.returns-then-among_new
 returns-then-among_new c =
     c.if-among_new.true
-    ∙ ap (λ t. t || have_meeting (collide c.args.columns.now)
-    (rows_left c.args.change.now c.args.schema.now (current c.args.self.now)) c.args.new.now)
+    ∙ ap (λ t. t || have_meeting (collide c.args.key.now)
+    (rows_left c.args.seeker.now.change.now c.args.seeker.now.schema.now (current c.args.self.now)) c.args.new.now)
     (sym (sym c.in_ok-among_new-in-Some.ensures ∙ c.if-among_new.true))
-    ∙ pairs-added (collide c.args.columns.now)
-    (rows_left c.args.change.now c.args.schema.now (current c.args.self.now)) c.args.new.now
-    (left-apart c.args.change.now c.args.schema.now c.args.columns.now (current c.args.self.now) c.requires.unbroken)
+    ∙ pairs-added (collide c.args.key.now)
+    (rows_left c.args.seeker.now.change.now c.args.seeker.now.schema.now (current c.args.self.now)) c.args.new.now
+    (left-apart c.args.seeker.now.change.now c.args.seeker.now.schema.now c.args.key.now (current c.args.self.now) c.requires.unbroken)
 
 pub returns-else-among_new : goal.returns-else-among_new
 returns-else-among_new c =
     rw c.in-Some.ensures.1 at c.any_meets.ensures
-    ∙ ap (λ t. t || have_meeting (collide c.args.columns.now)
-    (rows_left c.args.change.now c.args.schema.now (current c.args.self.now)) c.args.new.now)
+    ∙ ap (λ t. t || have_meeting (collide c.args.key.now)
+    (rows_left c.args.seeker.now.change.now c.args.seeker.now.schema.now (current c.args.self.now)) c.args.new.now)
     (sym (sym c.in_ok-among_new-in-Some.ensures ∙ c.if-among_new.false))
-    ∙ pairs-added (collide c.args.columns.now)
-    (rows_left c.args.change.now c.args.schema.now (current c.args.self.now)) c.args.new.now
-    (left-apart c.args.change.now c.args.schema.now c.args.columns.now (current c.args.self.now) c.requires.unbroken)
+    ∙ pairs-added (collide c.args.key.now)
+    (rows_left c.args.seeker.now.change.now c.args.seeker.now.schema.now (current c.args.self.now)) c.args.new.now
+    (left-apart c.args.seeker.now.change.now c.args.seeker.now.schema.now c.args.key.now (current c.args.self.now) c.requires.unbroken)
 
 pub collide_among_all-requires : goal.collide_among_all-requires
-collide_among_all-requires c = rw c.as_slice-open_at.ensures c.self.invariant.found.all
+collide_among_all-requires c = rw c.as_slice.ensures c.self.invariant.found.all
 
 pub returns-in-None : goal.returns-in-None
 returns-in-None c =
     IfOk-weaker c.collide_among_all.result _ _
     (λ overlap e. e
-    ∙ ap (λ vs. have_collision c.args.columns.now
-    (rows_left c.args.change.now c.args.schema.now (current vs) ++ c.args.new.now))
+    ∙ ap (λ vs. have_collision c.args.key.now
+    (rows_left c.args.seeker.now.change.now c.args.seeker.now.schema.now (current vs) ++ c.args.new.now))
     c.self.view_is)
     c.collide_among_all.ensures

@@ -9,8 +9,8 @@ use Rattle.version_core.specs.Stored.{version_of}
 use Rattle.version_core.specs.Plans.{parts_at}
 use Rattle.version_core.proofs.StoredLemmas.{version-at}
 use Rattle.version_core.proofs.OpenLemmas.{made-push, place-no, place-yes}
-use Rattle.version_core.proofs.versions.plan_block.Goals as goal
-use Rattle.version_core.proofs.versions.plan_block.Goals.{then-takes+in_ok-push_parts+in_ok-push, else-takes}
+use Rattle.version_core.proofs.planning.plan_block.Goals as goal
+use Rattle.version_core.proofs.planning.plan_block.Goals.{then-takes+in_ok-push_parts+in_ok-push, else-takes}
 
 pub at-requires : goal.at-requires
 at-requires c =

@@ -1,13 +1,13 @@
 use Rattle.std.proofs.Common.{subst, sym}
 use Rattle.version_core.specs.Finding.{AreCandidates, AreFound}
 use Rattle.version_core.proofs.IndexLemmas.{candidates-led}
-use Rattle.version_core.proofs.versions.Versions.plan.Goals as goal
+use Rattle.version_core.proofs.versions.Versions.find_rows.Goals as goal
 
 pub plan_change-requires : goal.plan_change-requires
 plan_change-requires c =
     let vs = c.self.inside.items in
-    let change = c.args.change.now in
-    let schema = c.args.schema.now in
+    let change = c.args.seeker.now.change.now in
+    let schema = c.args.seeker.now.schema.now in
     let places = c.as_slice.result.now in
     let indexes = c.deref.result.now in
     let found : AreFound vs places indexes =

@@ -10,8 +10,8 @@ use Rattle.version_core.specs.Stored.{version_of}
 use Rattle.version_core.proofs.StoredLemmas.{version-at}
 use Rattle.version_core.specs.Plans.{parts_at}
 use Rattle.version_core.proofs.OpenLemmas.{parts_at-push, parts_at-taken, place-no, place-yes}
-use Rattle.version_core.proofs.versions.count_parts.Goals as goal
-use Rattle.version_core.proofs.versions.count_parts.Goals.{then-takes, else-takes}
+use Rattle.version_core.proofs.planning.count_parts.Goals as goal
+use Rattle.version_core.proofs.planning.count_parts.Goals.{then-takes, else-takes}
 
 pub at-requires : goal.at-requires
 at-requires c =
@@ -31,7 +31,7 @@ loop-place-preserved c =
     let span = c.index-spans-place.result in
     let row = lent_row c.of_draft-row.result in
     let version = version_of row span in
-    let taken = is_taken c.args.change.now c.args.schema.now in
+    let taken = is_taken c.args.seeker.now.change.now c.args.seeker.now.schema.now in
     let so_far = filter (passes vs taken) (take i places) in
     let inside : get_or places i 0 < length vs = c.requires.places.inside i 0 c.loop-place-test.true in
     let beside : get_or places i 0 < length c.rows_and_spans.result.1.now =
@@ -45,15 +45,15 @@ loop-place-preserved c =
     elim c.if-takes.branch [
       | then-takes w ↦
           let test : taken version ≡ true =
-          rw (← c.of-seeker.ensures.change, ← c.of-seeker.ensures.schema) (sym c.takes.ensures ∙ w.if-takes.true) in
+          (sym c.takes.ensures ∙ w.if-takes.true) in
           let more = place-yes vs taken places i version so_far
           (so_far ++ get_or places i 0 ∷ []) c.loop-place-test.true inside found test refl refl
           in
           let grown = ap length
-          (ap (parts_at c.args.change.now c.args.schema.now vs) (sym more)
-          ∙ parts_at-push c.args.change.now c.args.schema.now vs so_far
+          (ap (parts_at c.args.seeker.now.change.now c.args.seeker.now.schema.now vs) (sym more)
+          ∙ parts_at-push c.args.seeker.now.change.now c.args.seeker.now.schema.now vs so_far
           (get_or places i 0) version inside found) in
-          let parts = w.count_of-count.ensures.parts c.args.schema.now in
+          let parts = w.count_of-count.ensures.parts c.args.seeker.now.schema.now in
           let three = w.count_of-count.ensures.few in
           let sum = w.count-is in
           record {
@@ -64,19 +64,19 @@ loop-place-preserved c =
               parts,
               sum,
               length-append
-                  (parts_at c.args.change.now c.args.schema.now vs so_far)
-                  (parts_of c.args.change.now c.args.schema.now version.row),
+                  (parts_at c.args.seeker.now.change.now c.args.seeker.now.schema.now vs so_far)
+                  (parts_of c.args.seeker.now.change.now c.args.seeker.now.schema.now version.row),
             );
             few = omega (arith, few, three, sum);
           }
       | else-takes w ↦
           let test : taken version ≡ false =
-          rw (← c.of-seeker.ensures.change, ← c.of-seeker.ensures.schema) (sym c.takes.ensures ∙ w.if-takes.false) in
+          (sym c.takes.ensures ∙ w.if-takes.false) in
           let same = place-no vs taken places i version so_far so_far c.loop-place-test.true inside
           found test refl refl in
           let kept = w.count-is in
           record {
-            counted = kept ∙ counted ∙ ap (λ l. length (parts_at c.args.change.now c.args.schema.now vs l)) same;
+            counted = kept ∙ counted ∙ ap (λ l. length (parts_at c.args.seeker.now.change.now c.args.seeker.now.schema.now vs l)) same;
             few = omega (arith, few, kept);
           }
     ]
@@ -84,6 +84,6 @@ loop-place-preserved c =
 pub returns : goal.returns
 returns c =
     c.loop-place.invariant.counted
-    ∙ ap length (parts_at-taken c.args.change.now c.args.schema.now c.args.versions.now _
-    (ap (filter (passes c.args.versions.now (is_taken c.args.change.now c.args.schema.now)))
+    ∙ ap length (parts_at-taken c.args.seeker.now.change.now c.args.seeker.now.schema.now c.args.versions.now _
+    (ap (filter (passes c.args.versions.now (is_taken c.args.seeker.now.change.now c.args.seeker.now.schema.now)))
     (take_all c.loop-place.place-index c.args.places.now (omega arith)) ∙ c.requires.places.taken))

@@ -7,29 +7,29 @@ use Rattle.version_core.specs.OpenVersions.{is_taken}
 use Rattle.version_core.specs.Plans.{parts_at}
 use Rattle.version_core.proofs.FindingLemmas.{block-inside, block-taken, no-portion, none-reached}
 use Rattle.version_core.proofs.OpenLemmas.{parts_at-taken}
-use Rattle.version_core.proofs.versions.plan_change.Goals as goal
+use Rattle.version_core.proofs.planning.plan_change.Goals as goal
 
 pub returns-in_default : goal.returns-in_default
 returns-in_default c =
-    let schema = c.args.schema.now in
+    let schema = c.args.seeker.now.schema.now in
     let vs = c.args.versions.now in
-    let none = no-portion c.args.change.now schema vs (sym c.portion_of.ensures ∙ c.in_default.is) in
+    let none = no-portion c.args.seeker.now.change.now schema vs (sym c.portion_of.ensures ∙ c.in_default.is) in
     record {
-      parts = c.empty-plan.ensures.parts ∙ parts_at-taken c.args.change.now schema vs [] (sym none);
+      parts = c.empty-plan.ensures.parts ∙ parts_at-taken c.args.seeker.now.change.now schema vs [] (sym none);
       taken = c.empty-plan.ensures.taken ∙ sym none;
     }
 
 pub loop-block-init : goal.loop-block-init
 loop-block-init c =
     let vs = c.args.versions.now in
-    let test = passes vs (is_taken c.args.change.now c.args.schema.now) in
+    let test = passes vs (is_taken c.args.seeker.now.change.now c.args.seeker.now.schema.now) in
     let rest = ap chunks_rest c.into_iter-block-iterator.ensures.into_iter_gives ∙ c.chunks-block-items.ensures.rest in
     record {
       can_next = search rules;
       is_finite = tt;
       inside = subst (All (λ place. place < length vs)) (sym rest) c.requires.inside;
       made = c.empty-plan.ensures.parts
-          ∙ sym (ap (parts_at c.args.change.now c.args.schema.now vs) c.empty-plan.ensures.taken);
+          ∙ sym (ap (parts_at c.args.seeker.now.change.now c.args.seeker.now.schema.now vs) c.empty-plan.ensures.taken);
       taken = ap (λ l. l ++ filter test (chunks_rest c.into_iter-block-iterator.result)) c.empty-plan.ensures.taken
           ∙ ap (filter test) rest;
     }
@@ -48,7 +48,7 @@ plan_block-requires-clause-inside c =
 
 pub plan_block-requires-clause-parts : goal.plan_block-requires-clause-parts
 plan_block-requires-clause-parts c =
-    rw (c.of-seeker.ensures.change, c.of-seeker.ensures.schema) c.loop-block.invariant.made
+    c.loop-block.invariant.made
 
 pub loop-block-preserved-in-Continue-1 : goal.loop-block-preserved-in-Continue-1
 loop-block-preserved-in-Continue-1 c =
@@ -58,17 +58,17 @@ loop-block-preserved-in-Continue-1 c =
     let block = c.in-Some-block.block.now in
     let rest = chunks_rest c.next.new.self in
     let made : c.plan_block.new.plan.parts
-    ≡ parts_at c.args.change.now c.args.schema.now vs c.plan_block.new.plan.taken.items =
-    rw (← c.of-seeker.ensures.change, ← c.of-seeker.ensures.schema) c.in_ok-plan_block.ensures.parts in
+    ≡ parts_at c.args.seeker.now.change.now c.args.seeker.now.schema.now vs c.plan_block.new.plan.taken.items =
+    c.in_ok-plan_block.ensures.parts in
     let grown : c.plan_block.new.plan.taken.items ≡ c.loop-block.plan.taken.items
-    ++ filter (passes vs (is_taken c.args.change.now c.args.schema.now)) block =
-    rw (← c.of-seeker.ensures.change, ← c.of-seeker.ensures.schema) c.in_ok-plan_block.ensures.taken in
+    ++ filter (passes vs (is_taken c.args.seeker.now.change.now c.args.seeker.now.schema.now)) block =
+    c.in_ok-plan_block.ensures.taken in
     record {
       can_next = search rules;
       is_finite = tt;
       inside = (block-inside vs left block rest steps.1.0 c.loop-block.invariant.inside).1;
       made = made;
-      taken = block-taken (passes vs (is_taken c.args.change.now c.args.schema.now)) c.args.places.now left block rest
+      taken = block-taken (passes vs (is_taken c.args.seeker.now.change.now c.args.seeker.now.schema.now)) c.args.places.now left block rest
           c.loop-block.plan.taken.items c.plan_block.new.plan.taken.items steps.1.0 grown c.loop-block.invariant.taken;
     }
 
@@ -80,7 +80,7 @@ loop-block-preserved c =
     let block = c.in-Some-block.block.now in
     let rest = chunks_rest c.next.new.self in
     let taken = c.loop-block.plan.taken.items in
-    let none = none-reached c.args.change.now c.args.schema.now c.in-Some.portion c.rows_and_spans.result.0.now
+    let none = none-reached c.args.seeker.now.change.now c.args.seeker.now.schema.now c.in-Some.portion c.rows_and_spans.result.0.now
     c.rows_and_spans.result.1.now vs block (sym c.portion_of.ensures ∙ c.in-Some.is) c.rows_and_spans.ensures.versions
     (sym c.any_reached.ensures ∙ c.if-any_reached.false) in
     record {
@@ -88,7 +88,7 @@ loop-block-preserved c =
       is_finite = tt;
       inside = (block-inside vs left block rest steps.1.0 c.loop-block.invariant.inside).1;
       made = c.loop-block.invariant.made;
-      taken = block-taken (passes vs (is_taken c.args.change.now c.args.schema.now)) c.args.places.now left block rest
+      taken = block-taken (passes vs (is_taken c.args.seeker.now.change.now c.args.seeker.now.schema.now)) c.args.places.now left block rest
           taken taken steps.1.0 (sym (append-nil taken) ∙ ap (λ l. taken ++ l) (sym none))
           c.loop-block.invariant.taken;
     }
@@ -96,13 +96,13 @@ loop-block-preserved c =
 pub returns : goal.returns
 returns c =
     let vs = c.args.versions.now in
-    let test = passes vs (is_taken c.args.change.now c.args.schema.now) in
+    let test = passes vs (is_taken c.args.seeker.now.change.now c.args.seeker.now.schema.now) in
     let none = nil_from_length (chunks_rest c.loop-block.block-iterator) c.in-None.ensures.steps.1.0 in
     let all = sym (append-nil c.loop-block.plan.taken.items)
     ∙ ap (λ l. c.loop-block.plan.taken.items ++ filter test l) (sym none)
     ∙ c.loop-block.invariant.taken ∙ c.requires.taken in
     record {
       parts = c.loop-block.invariant.made
-          ∙ parts_at-taken c.args.change.now c.args.schema.now vs c.loop-block.plan.taken.items all;
+          ∙ parts_at-taken c.args.seeker.now.change.now c.args.seeker.now.schema.now vs c.loop-block.plan.taken.items all;
       taken = all;
     }

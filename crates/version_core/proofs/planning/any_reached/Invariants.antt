@@ -1,7 +1,7 @@
 use Rattle.std.proofs.Common.{◌≡◌, take}
 use Rattle.std.specs.List.{list_any}
 use Rattle.version_core.specs.Finding.{is_reached}
-use Rattle.version_core.proofs.versions.any_reached.Given as goal
+use Rattle.version_core.proofs.planning.any_reached.Given as goal
 
 -- whether one of the places so far is reached
 abbrev pub invariant-loop-place : goal.invariant-loop-place

@@ -4,7 +4,7 @@ use Rattle.std.specs.Slice.Iter.{chunks_rest}
 use Rattle.version_core.specs.Finding.{passes}
 use Rattle.version_core.specs.OpenVersions.{is_taken}
 use Rattle.version_core.specs.Plans.{parts_at}
-use Rattle.version_core.proofs.versions.plan_change.Given as goal
+use Rattle.version_core.proofs.planning.plan_change.Given as goal
 
 -- with what is taken at the places that are left, all is
 abbrev pub invariant-loop-block : goal.invariant-loop-block
@@ -12,7 +12,7 @@ invariant-loop-block l = record {
   can_next : goal.iterator-loop-block.can_next l.block-iterator;
   is_finite : goal.iterator-loop-block.is_finite l.block-iterator;
   inside : All (λ place. place < length l.versions) (chunks_rest l.block-iterator);
-  made : l.plan.parts ≡ parts_at l.change l.schema l.versions l.plan.taken.items;
-  taken : l.plan.taken.items ++ filter (passes l.versions (is_taken l.change l.schema)) (chunks_rest l.block-iterator)
-      ≡ filter (passes l.versions (is_taken l.change l.schema)) l.places;
+  made : l.plan.parts ≡ parts_at l.seeker.change.now l.seeker.schema.now l.versions l.plan.taken.items;
+  taken : l.plan.taken.items ++ filter (passes l.versions (is_taken l.seeker.change.now l.seeker.schema.now)) (chunks_rest l.block-iterator)
+      ≡ filter (passes l.versions (is_taken l.seeker.change.now l.seeker.schema.now)) l.places;
 }

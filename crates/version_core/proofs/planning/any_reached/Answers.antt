@@ -6,7 +6,7 @@ use Rattle.std.proofs.lemmas.List.Folds.{list_any_more}
 use Rattle.period_core.specs.Period.{meet}
 use Rattle.row_core.specs.declared.draft.Draft.{Draft}
 use Rattle.version_core.specs.Finding.{is_reached}
-use Rattle.version_core.proofs.versions.any_reached.Goals as goal
+use Rattle.version_core.proofs.planning.any_reached.Goals as goal
 
 pub at-requires : goal.at-requires
 at-requires c = c.requires c.loop-place.place-index 0 c.loop-place-test.true

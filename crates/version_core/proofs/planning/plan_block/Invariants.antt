@@ -3,7 +3,7 @@ use Rattle.std.specs.Prelude.{filter}
 use Rattle.version_core.specs.Finding.{passes}
 use Rattle.version_core.specs.OpenVersions.{is_taken}
 use Rattle.version_core.specs.Plans.{parts_at}
-use Rattle.version_core.proofs.versions.plan_block.Given as goal
+use Rattle.version_core.proofs.planning.plan_block.Given as goal
 
 -- what is taken at the places so far, and made for it
 abbrev pub invariant-loop-place : goal.invariant-loop-place
