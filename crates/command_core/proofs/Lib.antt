@@ -1,4 +1,5 @@
-pub mod BehindLemmas
+pub mod BatchLemmas
+mod BehindLemmas
 pub mod Blocks
 pub mod Cuts
 pub mod Cutting

@@ -22,7 +22,7 @@ use Rattle.command_core.proofs.Shrinking.{at_most_one, work_left}
 -- the parts that a list is cut into
 
 -- have as much of anything as it
-sum_by-cut : {X : Type 0} (f : X → ℕ) (from : ℕ) (ends : List ℕ) (xs : List X) → EndsAt from ends (length xs)
+pub sum_by-cut : {X : Type 0} (f : X → ℕ) (from : ℕ) (ends : List ℕ) (xs : List X) → EndsAt from ends (length xs)
     → sum_by (sum_by f) (cut from ends xs) ≡ sum_by f (drop from xs)
 sum_by-cut f from [] xs h = ap (sum_by f) (sym (drop_all from xs (omega (arith, h))))
 sum_by-cut f from (end ∷ ends) xs (h, more) =
@@ -135,26 +135,25 @@ strip_bom-le (a ∷ b ∷ c ∷ rest) =
       | false ↦ omega arith
     ]
 
--- fields that were read and those of one record more: 32 bits hold the number of their bytes, and theirs
-read-few : (script ends left : List ℕ) (fields row : Record) (t : State) → length script < 2 ^ 31
-    → EndsAt 0 ends (length fields)
-    → Reached default_config st.StartRecord (strip_bom script) (cut 0 ends fields ++ row ∷ []) t left
-    → (size_of fields + size_of row < 2 ^ 32) × (length fields + length row < 2 ^ 32)
-read-few script ends left fields row t few at reached =
+-- records that were read and one more: 32 bits hold how many bytes their fields have, and how many fields there are
+read-few : (script left : List ℕ) (records : List Record) (row : Record) (t : State) → length script < 2 ^ 31
+    → Reached default_config st.StartRecord (strip_bom script) (records ++ row ∷ []) t left
+    → (sum_by size_of records + size_of row < 2 ^ 32) × (sum_by length records + length row < 2 ^ 32)
+read-few script left records row t few reached =
     let short = strip_bom-le script in
-    let taken = Reached-takes default_config st.StartRecord t (strip_bom script) left (cut 0 ends fields ++ row ∷ [])
-    reached in (
-      omega (arith, few, short, taken.0, sum_by_push size_of (cut 0 ends fields) row, sum_by-cut length 0 ends fields at),
-      omega (arith, few, short, taken.1, sum_by_push length (cut 0 ends fields) row, lengths-cut 0 ends fields at),
+    let taken = Reached-takes default_config st.StartRecord t (strip_bom script) left (records ++ row ∷ []) reached in (
+      omega (arith, few, short, taken.0, sum_by_push size_of records row),
+      omega (arith, few, short, taken.1, sum_by_push length records row),
     )
 
--- the same where a reader has read the fields, and reads the record
-pub next-few : {R : Type 0} (rem : R → Option (List ℕ)) (a b : Reader R) (script ends left : List ℕ)
-    (fields row : Record) → length script < 2 ^ 31 → EndsAt 0 ends (length fields) → a.config ≡ default_config
+-- the same where a reader has read the records, and reads one more
+pub next-few : {R : Type 0} (rem : R → Option (List ℕ)) (a b : Reader R) (script left : List ℕ)
+    (records : List Record) (row : Record) → length script < 2 ^ 31 → a.config ≡ default_config
     → source_of rem a ≡ Some left
-    → Reached default_config st.StartRecord (strip_bom script) (cut 0 ends fields) a.state left
-    → ReadRecord rem a b true row → (size_of fields + size_of row < 2 ^ 32) × (length fields + length row < 2 ^ 32)
-next-few rem a b script ends left fields row few at config source reached read =
-    let more = rows-more rem a b row default_config st.StartRecord (strip_bom script) left (cut 0 ends fields) config
-    source reached read in
-    read-few script ends more.0 fields row b.state few at more.2
+    → Reached default_config st.StartRecord (strip_bom script) records a.state left
+    → ReadRecord rem a b true row
+    → (sum_by size_of records + size_of row < 2 ^ 32) × (sum_by length records + length row < 2 ^ 32)
+next-few rem a b script left records row few config source reached read =
+    let more = rows-more rem a b row default_config st.StartRecord (strip_bom script) left records config source
+    reached read in
+    read-few script more.0 records row b.state few more.2

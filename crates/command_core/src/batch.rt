@@ -1,21 +1,25 @@
-//! The records of a piece of a script, kept flat: all their fields one behind another, and where
-//! each record ends among them.
-ghost use Rattle.std.specs.Prelude.{◌≡◌, ◌↔◌, ◌<◌, ◌^◌, length, slice_get, IfOk, IsTrue, Some, true};
-ghost use Rattle.csv.specs.Reading.{error_kind, stops_reader};
+//! Records of a script, kept flat: all their fields one behind another, and where each record ends among them.
+ghost use Rattle.std.specs.Prelude.{◌≡◌, ◌+◌, ◌<◌, ◌^◌, ◌++◌, ◌∷◌, [], length, option_map, slice_get, sum_by, IfOk, OnOk, Some};
+ghost use Rattle.csv.specs.Records.{IsRecord, fields_of};
 ghost use Rattle.list_core.specs.Cut.{cut, EndsAt};
+ghost use Rattle.command_core.specs.Flat.{size_of};
 ghost use Rattle.command_core.specs.Lines.{fields_in};
-ghost use Rattle.command_core.specs.Records.{AreScriptRecords};
 
 use crate::flat_fields::FlatFields;
 use crate::line::Line;
-use crate::seams::ends_line;
-use csv::{ByteRecord, Error, ErrorKind, ReaderBuilder};
+use csv::ByteRecord;
 use list_core::start_of;
 use period_core::NoMemory;
-use std::alloc::{AllocError, Global};
+use std::alloc::Global;
 use std::marker::Model;
 
-/// The records of a piece, first to last. Contracts see the list of them, each the list of its
+/// The room that a large batch is begun with: so much is given back at once.
+pub(crate) const BYTES_OF_BATCH: usize = 4_194_304;
+
+/// A batch with more bytes may have no room for one more record.
+const FULL: usize = BYTES_OF_BATCH - 65_536;
+
+/// Records one after another, first to last. Contracts see the list of them, each the list of its
 /// fields' bytes.
 #[derive(Drop)]
 pub(crate) struct Batch {
@@ -35,7 +39,17 @@ impl Model for Batch {
 }
 
 impl Batch {
-    ghost use Rattle.command_core.specs.Seams.{EndsInField};
+    ghost use Rattle.command_core.specs.Seams.{joined, last};
+
+    /// No records, with room for so many bytes.
+    pub(crate) fn with_capacity(alloc: Global, bytes: usize) -> Result<Batch, NoMemory>
+        ensures { IfOk result (λ batch. batch ≡ []) }
+    {
+        Ok(Batch {
+            fields: FlatFields::with_capacity(alloc, bytes)?,
+            ends: Vec::new(alloc),
+        })
+    }
 
     /// How many there are.
     pub(crate) fn len(&self) -> usize
@@ -52,15 +66,50 @@ impl Batch {
         line_at(&self.fields, &self.ends, place)
     }
 
-    /// Whether the last field doesn't end with a line feed.
-    pub(crate) fn end_in_field(&self) -> bool
-        ensures { IsTrue result ↔ EndsInField self.now }
+    /// The last field of all, if there are any.
+    pub(crate) fn last_field(&self) -> Option<&[u8]>
+        ensures { option_map (λ s. s.now) result ≡ last (joined self.now) }
     {
-        match self.fields.last() {
-            Some(field) => !ends_line(field),
-            None => true,
-        }
+        self.fields.last()
     }
+
+    /// Whether one more record may call for more room.
+    pub(crate) fn is_full(&self) -> bool {
+        self.fields.size() > FULL
+    }
+
+    /// Adds a record. On refusal there are none more.
+    pub(crate) fn push(&mut self, row: &ByteRecord) -> Result<(), NoMemory>
+        requires whole { IsRecord row.now }
+        requires bytes { sum_by size_of self.old + size_of (fields_of row.now) < 2 ^ 32 }
+        requires fields { sum_by length self.old + length (fields_of row.now) < 2 ^ 32 }
+        ensures { OnOk result (self.new ≡ self.old ++ fields_of row.now ∷ []) }
+    {
+        push_record(&mut self.fields, &mut self.ends, row)
+    }
+}
+
+/// Adds the fields of a record, and where it ends. On refusal there are none more.
+fn push_record(
+    fields: &mut FlatFields,
+    ends: &mut Vec<u32>,
+    row: &ByteRecord,
+) -> Result<(), NoMemory>
+    requires whole { IsRecord row.now }
+    requires ends { EndsAt 0 ends.old.items (length fields.old) }
+    requires bytes { size_of fields.old + size_of (fields_of row.now) < 2 ^ 32 }
+    requires fields { length fields.old + length (fields_of row.now) < 2 ^ 32 }
+    ensures ends { EndsAt 0 ends.new.items (length fields.new) }
+    ensures ok { OnOk result (cut 0 ends.new.items fields.new
+        ≡ cut 0 ends.old.items fields.old ++ fields_of row.now ∷ []) }
+{
+    let count = ends.len();
+    ends.push((fields.len() + row.len()) as u32)?;
+    if let Err(error) = fields.append(row) {
+        ends.truncate(count);
+        return Err(error);
+    }
+    Ok(())
 }
 
 /// The record at a place.
@@ -70,45 +119,4 @@ fn line_at<'a>(fields: &'a FlatFields, ends: &[u32], place: usize) -> Line<'a>
     ensures { slice_get (cut 0 ends.now fields.entry.now) place ≡ Some (fields_in result) }
 {
     Line::new(fields, start_of(ends, place), ends[place] as usize)
-}
-
-/// Why bytes in memory are not read: memory is refused. No record is refused for its length, nor
-/// for its text.
-fn not_read(fault: Error) -> NoMemory
-    requires { stops_reader (error_kind fault) ≡ true }
-{
-    match fault.into_kind() {
-        ErrorKind::OutOfMemory => AllocError,
-        ErrorKind::Io(_) => AllocError,
-        _ => unreachable!(),
-    }
-}
-
-/// The records of a piece, which `csv` reads as if it were a script, without a header and of any
-/// length. The bytes are in memory, so what fails is memory.
-///
-/// # Errors
-///
-/// `NoMemory` where a growth is refused.
-pub(crate) fn read_batch(alloc: Global, piece: &[u8]) -> Result<Batch, NoMemory>
-    requires { length piece.now < 2 ^ 31 }
-    ensures { IfOk result (AreScriptRecords piece.now) }
-{
-    let mut reader = ReaderBuilder::new()
-        .has_headers(false)
-        .flexible(true)
-        .from_reader(alloc, piece);
-    let mut row = ByteRecord::new(alloc);
-    let mut fields = FlatFields::with_capacity(alloc, piece.len())?;
-    let mut ends = Vec::new(alloc);
-    loop {
-        match reader.read_byte_record(&mut row) {
-            Ok(true) => {
-                fields.append(&row)?;
-                ends.push(fields.len() as u32)?;
-            }
-            Ok(false) => return Ok(Batch { fields, ends }),
-            Err(fault) => return Err(not_read(fault)),
-        }
-    }
 }

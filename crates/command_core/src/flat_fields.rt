@@ -48,6 +48,13 @@ impl FlatFields {
         self.ends.len()
     }
 
+    /// How many bytes they have.
+    pub(crate) fn size(&self) -> usize
+        ensures { result ≡ size_of self.now }
+    {
+        self.bytes.len()
+    }
+
     /// The field at that place, from 0.
     pub fn get(&self, place: usize) -> Option<&[u8]>
         ensures { option_map (λ s. s.now) result ≡ slice_get self.now place }

@@ -10,6 +10,7 @@ mod laws;
 mod line;
 mod lines;
 mod pairs;
+mod piece;
 mod portions;
 mod queries;
 mod reading;

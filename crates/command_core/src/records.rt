@@ -1,11 +1,12 @@
 //! The records of a script, which workers read by pieces.
-ghost use Rattle.std.specs.Prelude.{◌≡◌, ◌<◌, ◌^◌, [], length, get_or, map, slice_get, IfOk, Some};
+ghost use Rattle.std.specs.Prelude.{◌≡◌, ◌<◌, ◌≤◌, ◌^◌, [], drop, length, get_or, map, slice_get, IfOk, Some};
 ghost use Rattle.command_core.specs.Lines.{fields_in};
 ghost use Rattle.command_core.specs.Records.{AreScriptRecords};
 ghost use Rattle.command_core.specs.Seams.{AreRead, joined};
 
-use crate::batch::{Batch, read_batch};
+use crate::batch::Batch;
 use crate::line::Line;
+use crate::piece::{PieceRecords, read_piece};
 use crate::seams::{are_seams, pieces_of};
 use period_core::NoMemory;
 use share_core::all_found;
@@ -14,23 +15,27 @@ use std::marker::Model;
 use std::thread;
 use std::thread::Threads;
 
-/// The records of a script, first to last. Contracts see the list of them, each the list of its
-/// fields' bytes.
+/// Records of a script, first to last. Contracts see the list of those that weren't passed, each the
+/// list of its fields' bytes.
 #[derive(Drop)]
 pub struct Records {
     batches: Vec<Batch>,
+    /// How many of the batches' records were passed, which are the first.
+    passed: usize,
+    /// How many the batches have.
     count: usize,
 }
 
 impl Model for Records {
-    ghost use Rattle.std.specs.Prelude.{ℕ, List, length, ◌≡◌};
+    ghost use Rattle.std.specs.Prelude.{ℕ, List, length, drop, ◌≡◌, ◌≤◌, ◌<◌, ◌^◌};
     ghost use Rattle.command_core.specs.Seams.{joined};
 
     ghost Value = { List (List (List ℕ)) };
 
-    ghost view = { λ r. joined r.batches.items };
+    ghost view = { λ r. drop r.passed (joined r.batches.items) };
 
-    ghost invariant = { λ r. r.count ≡ length (joined r.batches.items) };
+    ghost invariant = { λ r. (r.count ≡ length (joined r.batches.items)) × (r.passed ≤ r.count)
+        × (r.count < 2 ^ 64) };
 }
 
 impl Records {
@@ -38,7 +43,7 @@ impl Records {
     pub fn len(&self) -> usize
         ensures { result ≡ length self.now }
     {
-        self.count
+        self.count - self.passed
     }
 
     /// The record at that place, from 0.
@@ -46,8 +51,36 @@ impl Records {
         requires { place < length self.now }
         ensures { slice_get self.now place ≡ Some (fields_in result) }
     {
-        line_in(&self.batches, place)
+        line_in(&self.batches, self.passed + place)
     }
+
+    /// Passes so many records. Memory of batches that have none but passed ones is given back.
+    pub fn advance(&mut self, count: usize)
+        requires { count ≤ length self.old }
+        ensures { self.new ≡ drop count self.old }
+    {
+        self.passed += count;
+        let gone = give_back(&mut self.batches, self.passed);
+        self.passed -= gone;
+        self.count -= gone;
+    }
+}
+
+/// Gives back the first batches that have no record behind so many. Answers how many they had.
+fn give_back(batches: &mut Vec<Batch>, passed: usize) -> usize
+    ensures within { result ≤ passed }
+    ensures left { joined batches.new.items ≡ drop result (joined batches.old.items) }
+{
+    let mut gone = 0;
+    while let Some(first) = batches.first() {
+        let len = first.len();
+        if passed - gone < len {
+            return gone;
+        }
+        batches.remove(0);
+        gone += len;
+    }
+    gone
 }
 
 /// The record at that place of all batches.
@@ -108,13 +141,29 @@ fn read_pieces<R: Threads + Sync>(
     requires whole { joined (map (λ p. p.now) pieces.now) ≡ script.now }
     ensures { IfOk result (AreScriptRecords script.now) }
 {
-    let mut batches = read_each(rt, alloc, pieces)?;
-    if !are_seams(pieces, &batches) {
-        batches.clear();
-        batches.push(read_batch(alloc, script)?)?;
+    let mut read = read_each(rt, alloc, pieces)?;
+    if !are_seams(pieces, &read) {
+        read.clear();
+        read.push(read_piece(alloc, script)?)?;
     }
+    let batches = batches_of(alloc, read)?;
     let count = count_of(&batches);
-    Ok(Records { batches, count })
+    Ok(Records {
+        batches,
+        passed: 0,
+        count,
+    })
+}
+
+/// The batches of pieces that were read, one behind another.
+fn batches_of(alloc: Global, pieces: Vec<PieceRecords>) -> Result<Vec<Batch>, NoMemory>
+    ensures { IfOk result (λ batches. joined batches.items ≡ joined pieces.items) }
+{
+    let mut batches = Vec::new(alloc);
+    for piece in pieces {
+        piece.move_behind(&mut batches)?;
+    }
+    Ok(batches)
 }
 
 /// The records of each piece, which is read on a thread of its own where one can be started.
@@ -122,20 +171,20 @@ fn read_each<R: Threads + Sync>(
     rt: &R,
     alloc: Global,
     pieces: &[&[u8]],
-) -> Result<Vec<Batch>, NoMemory>
+) -> Result<Vec<PieceRecords>, NoMemory>
     requires { length (joined (map (λ p. p.now) pieces.now)) < 2 ^ 31 }
-    ensures { IfOk result (λ batches. AreRead (map (λ p. p.now) pieces.now) batches.items) }
+    ensures { IfOk result (λ lists. AreRead (map (λ p. p.now) pieces.now) lists.items) }
 {
     let read = thread::map_indices(
         rt,
         alloc,
         pieces.len(),
-        &|number: usize| -> Result<Batch, NoMemory>
+        &|number: usize| -> Result<PieceRecords, NoMemory>
             requires { (number < length pieces.now)
                 × (length (joined (map (λ p. p.now) pieces.now)) < 2 ^ 31) }
-            ensures { IfOk result (λ batch. AreScriptRecords
-                (get_or (map (λ p. p.now) pieces.entry.now) number []) batch) }
-        { read_batch(alloc, pieces[number]) },
+            ensures { IfOk result (λ records. AreScriptRecords
+                (get_or (map (λ p. p.now) pieces.entry.now) number []) records) }
+        { read_piece(alloc, pieces[number]) },
     )?;
     all_found(alloc, read)
 }

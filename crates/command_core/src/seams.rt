@@ -5,7 +5,7 @@ ghost use Rattle.csv.specs.Machine.{line_feed};
 ghost use Rattle.csv.specs.Reading.{strip_bom};
 ghost use Rattle.command_core.specs.Seams.{AreSeams, IsSeam, joined, last};
 
-use crate::batch::Batch;
+use crate::piece::PieceRecords;
 use period_core::NoMemory;
 use std::alloc::Global;
 
@@ -49,12 +49,12 @@ fn behind_line(text: &[u8], from: usize) -> Option<usize>
 
 /// Whether each piece is read alone as it is among the others: behind each but the last, which has
 /// these records, another begins.
-pub(crate) fn are_seams(pieces: &[&[u8]], batches: &[Batch]) -> bool
-    requires { length pieces.now ≡ length batches.now }
-    ensures { IsTrue result ↔ AreSeams (map (λ p. p.now) pieces.now) batches.now }
+pub(crate) fn are_seams(pieces: &[&[u8]], lists: &[PieceRecords]) -> bool
+    requires { length pieces.now ≡ length lists.now }
+    ensures { IsTrue result ↔ AreSeams (map (λ p. p.now) pieces.now) lists.now }
 {
     for place in 1..pieces.len() {
-        if !is_seam(pieces[place - 1], &batches[place - 1], pieces[place]) {
+        if !is_seam(pieces[place - 1], &lists[place - 1], pieces[place]) {
             return false;
         }
     }
@@ -62,7 +62,7 @@ pub(crate) fn are_seams(pieces: &[&[u8]], batches: &[Batch]) -> bool
 }
 
 /// Whether a record begins behind a piece with these records.
-fn is_seam(piece: &[u8], records: &Batch, behind: &[u8]) -> bool
+fn is_seam(piece: &[u8], records: &PieceRecords, behind: &[u8]) -> bool
     ensures { IsTrue result ↔ IsSeam piece.now records.now behind.now }
 {
     ends_line(piece) && records.end_in_field() && !is_marked(behind)

@@ -59,59 +59,61 @@ fn answer_statement<T: Threads + Wait + Sync>(
     }
 }
 
-/// Answers the statement that begins at a place, and prints its answer; tells what of it is told, and how many records
-/// it takes.
+/// Answers the first statement of some records, the first of them of this number, and prints its answer; tells what of
+/// it is told, and how many records it takes.
 fn answer_next<T: Threads + Wait + Sync>(
     crew: &Crew<'_, T, OpenGate>,
     ledger: &mut Ledger,
+    number: u64,
     lines: Lines<'_>,
-    at: usize,
     printer: &mut AnswerWriter,
 ) -> Result<(Outcome, usize), NoMemory>
-    requires below { at < length (lines_in lines) }
+    requires some { 0 < length (lines_in lines) }
+    requires numbers { number + length (lines_in lines) ≤ 2 ^ 64 }
     requires left { 2 ≤ left_in ledger.old }
-    ensures printed { IfOk result (λ told. PrintsNext (drop at (lines_in lines.entry)) (at + 1)
+    ensures printed { IfOk result (λ told. PrintsNext (lines_in lines.entry) number
         (ledger_history ledger.old)
         (ledger_history ledger.new) printer.old printer.new told.0 told.1) }
     ensures few { IfOk result (λ told. told.0.errors ≤ told.0.commands) }
     ensures left { left_in ledger.old ≤ left_in ledger.new + 2 }
 {
-    let number = at as u64 + 1;
-    let rest = lines.range(at, lines.len());
-    let StatementCut { statement, taken } = next_statement(crew.alloc, rest, number)?;
+    let StatementCut { statement, taken } = next_statement(crew.alloc, lines, number)?;
     let told = answer_statement(crew, ledger, number, statement, printer)?;
     Ok((told, taken))
 }
 
 /// Answers the statements of some records, the first of them on an empty ledger, and writes each
-/// answer whole.
+/// answer whole. What a statement's records took is given back before its answer is written.
 fn answer_each<T: Threads + Wait + Sync, W: Write>(
     crew: &Crew<'_, T, OpenGate>,
     mut ledger: Ledger,
-    records: &Records,
+    mut records: Records,
     writer: &mut Counted<W>,
     patience: &mut Patience,
 ) -> Result<Outcome, RunFault>
     requires begun { ledger_history ledger ≡ [] }
-    requires left { 2 * length records.now ≤ left_in ledger }
+    requires left { 2 * length records ≤ left_in ledger }
     ensures ok { IfOk result
-        (AnswersAll records.now (sink_of W.contents writer.old) (sink_of W.contents writer.new)) }
+        (AnswersAll records (sink_of W.contents writer.old) (sink_of W.contents writer.new)) }
     ensures fault { IfErr result
-        (ExplainsAnswering records.now (sink_of W.contents writer.old)
+        (ExplainsAnswering records (sink_of W.contents writer.old)
         (sink_of W.contents writer.new)) }
     ensures counts { failures_of writer.old ≤ failures_of writer.new }
     ensures tries { failures_of writer.new + patience.new.left
         ≤ failures_of writer.old + patience.old.left + last_failures result }
 {
     let mut printer = AnswerWriter::new(crew.alloc);
-    let lines = Lines::all(records);
     let mut outcome = Outcome {
         commands: 0,
         errors: 0,
     };
+    let count = records.len();
     let mut at = 0;
-    while at < lines.len() {
-        let (told, taken) = answer_next(crew, &mut ledger, lines, at, &mut printer)?;
+    while at < count {
+        let number = at as u64 + 1;
+        let lines = Lines::all(&records);
+        let (told, taken) = answer_next(crew, &mut ledger, number, lines, &mut printer)?;
+        records.advance(taken);
         printer.write_to(writer, patience)?;
         outcome.commands += told.commands;
         outcome.errors += told.errors;
@@ -181,5 +183,5 @@ pub fn run<T: Threads + Wait + Sync, R: Read, W: Write>(
         read_records(rt, alloc, script.as_slice(), workers)?
     };
     let crew = Crew::new(rt, alloc, workers, &OpenGate);
-    answer_each(&crew, ledger, &records, writer, &mut patience)
+    answer_each(&crew, ledger, records, writer, &mut patience)
 }

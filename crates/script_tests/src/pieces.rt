@@ -1,11 +1,12 @@
 //! Large scripts, which workers read by pieces: their records are those that one worker reads,
-//! wherever the pieces end.
+//! wherever the pieces end, and those that aren't passed stay.
 
 use command_core::{Line, Records, read_records};
 use rand::RngExt;
 use rand_core::SeedableRng;
 use rand_pcg::Pcg32;
 use std::alloc::Global;
+use std::fmt::Write;
 use std::process::Abort;
 use std::thread::Threads;
 
@@ -105,4 +106,47 @@ fn a_field_may_have_the_whole_script(rt: HostRuntime) {
             .expect(&rt, "memory");
     }
     check(&rt, &script);
+}
+
+// So many bytes are kept in several batches, by one worker too.
+const ROWS: u64 = 600_000;
+
+// A script of rows that differ.
+fn numbered_rows(rt: &(impl Abort + Alloc<A = Global>)) -> String {
+    let mut script = String::new(rt.alloc());
+    for row in 0..ROWS {
+        write!(script, "row,2024-01-01,{row}\n").expect(rt, "memory");
+    }
+    script
+}
+
+// Passes records a few and many at a time, and looks at the first and the last of those behind them.
+fn check_passing(rt: &(impl Abort + Alloc<A = Global>), whole: &Records, mut rest: Records) {
+    let mut passed = 0;
+    for count in [0, 1, 99_999, 3, 250_000, 0, 249_996] {
+        rest.advance(count);
+        passed += count;
+        assert!(rt; rest.len() == whole.len() - passed, "{passed} are passed");
+        let last = rest.len() - 1;
+        assert!(rt;
+            is_same_line(rest.line(0), whole.line(passed)),
+            "{passed} are passed"
+        );
+        assert!(rt;
+            is_same_line(rest.line(last), whole.line(passed + last)),
+            "{passed} are passed"
+        );
+    }
+    rest.advance(rest.len());
+    assert!(rt; rest.len() == 0, "all are passed");
+}
+
+#[test]
+fn records_that_are_not_passed_stay(rt: HostRuntime) {
+    let script = numbered_rows(&rt);
+    let whole = read_records(&rt, rt.alloc(), script.as_bytes(), 1).expect(&rt, "memory");
+    for workers in [1, 3] {
+        let rest = read_records(&rt, rt.alloc(), script.as_bytes(), workers).expect(&rt, "memory");
+        check_passing(&rt, &whole, rest);
+    }
 }

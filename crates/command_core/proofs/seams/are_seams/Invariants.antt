@@ -5,5 +5,5 @@ use Rattle.command_core.proofs.seams.are_seams.Given as goal
 -- there are seams so far
 abbrev pub invariant-loop-place : goal.invariant-loop-place
 invariant-loop-place l = (i : ℕ) → suc i < l.place
-    → IsSeam (get_or (map (λ p. p.now) l.pieces) i []) (get_or l.batches i [])
+    → IsSeam (get_or (map (λ p. p.now) l.pieces) i []) (get_or l.lists i [])
     (get_or (map (λ p. p.now) l.pieces) (suc i) [])

@@ -1,4 +1,4 @@
-use Rattle.std.proofs.Common.{◌≡◌, ◌<◌, ◌+◌, ◌++◌, ◌∙◌, [], ap, subst, arith, drop, length, take, length-drop, length-take, List, ℕ}
+use Rattle.std.proofs.Common.{◌≡◌, ◌<◌, ◌+◌, ◌++◌, ◌∙◌, [], ap, subst, arith, drop, drop-drop, length, take, length-drop, length-take, List, ℕ}
 use Rattle.std.proofs.lemmas.Result.{err_from_is_err_and}
 use Rattle.std.specs.Io.KnownBytes.{Appends}
 use Rattle.stream_core.specs.Counted.{inner_of}
@@ -12,14 +12,14 @@ text_is old new bytes fresh adds = adds ∙ ap (λ t. t ++ bytes) fresh
 
 pub returns-in_err-told-clause-fault : goal.returns-in_err-told-clause-fault
 returns-in_err-told-clause-fault g c =
-    let below : c.loop-at.at < length c.args.records.now =
-    omega (arith, c.loop-at-test.true, c.len.ensures, ap length c.all-lines.ensures) in
+    let below : c.loop-at.at < length c.args.records =
+    omega (arith, c.loop-at-test.true, c.len-count.ensures) in
     let p = err_from_is_err_and c.from_residual.result c.from_residual.ensures.1 in
     rw (p.1, p.2) (progress-begun _ _ _ _ c.loop-at.at c.loop-at.outcome below c.loop-at.invariant.progress)
 
 pub returns-in_err-write_to-clause-fault : goal.returns-in_err-write_to-clause-fault
 returns-in_err-write_to-clause-fault g c =
-    let next = rw c.all-lines.ensures at c.in_ok-told.ensures.printed in
+    let next = rw (c.all-lines.ensures, c.loop-at.invariant.rest) at c.in_ok-told.ensures.printed in
     let text = text_is c.loop-at.printer c.answer_next.new.printer
     (bytes_of next.prints.answer) c.loop-at.invariant.begins next.prints.printed in
     let why = rw text at c.in_err-write_to.ensures in
@@ -31,11 +31,10 @@ returns-in_err-write_to-clause-fault g c =
 
 pub overflow_add-outcome : goal.overflow_add-outcome
 overflow_add-outcome g c =
-    let records = c.args.records.now in
+    let records = c.args.records in
     let at = c.loop-at.at in
     let taken = c.in_ok-told.taken in
-    let next = rw c.all-lines.ensures at c.in_ok-told.ensures.printed in
-    let all : c.len.result ≡ length records = c.len.ensures ∙ ap length c.all-lines.ensures in
+    let next = rw (c.all-lines.ensures, c.loop-at.invariant.rest) at c.in_ok-told.ensures.printed in
     omega (
       arith,
       next.within,
@@ -43,18 +42,18 @@ overflow_add-outcome g c =
       commands-few (at + 1) (take taken (drop at records)) _ next.statement next.states,
       length-take taken (drop at records),
       length-drop at records,
-      all,
-      c.len.type_inv,
+      c.len-count.ensures,
+      c.len-count.type_inv,
       c.loop-at.invariant.few,
       c.loop-at.invariant.within,
     )
 
 pub loop-at-preserved : goal.loop-at-preserved
 loop-at-preserved g c =
-    let records = c.args.records.now in
+    let records = c.args.records in
     let at = c.loop-at.at in
     let taken = c.in_ok-told.taken in
-    let next = rw c.all-lines.ensures at c.in_ok-told.ensures.printed in
+    let next = rw (c.all-lines.ensures, c.loop-at.invariant.rest) at c.in_ok-told.ensures.printed in
     let text = text_is c.loop-at.printer c.answer_next.new.printer
     (bytes_of next.prints.answer) c.loop-at.invariant.begins next.prints.printed in
     let wrote = subst
@@ -62,6 +61,7 @@ loop-at-preserved g c =
     (g.W.Write.contents (inner_of c.write_to.new.writer))) text c.in_ok-write_to.ensures.ok in
     record {
       within = omega (arith, next.within, length-drop at records);
+      rest = c.advance.ensures ∙ ap (drop taken) c.loop-at.invariant.rest ∙ drop-drop taken at records;
       few = omega (
         arith,
         next.within,

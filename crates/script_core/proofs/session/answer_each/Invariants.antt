@@ -1,5 +1,5 @@
 -- The commands before `at` are done, and their answers are written.
-use Rattle.std.proofs.Common.{◌≡◌, ◌+◌, ◌*◌, ◌≤◌, ◌-◌, [], length}
+use Rattle.std.proofs.Common.{◌≡◌, ◌+◌, ◌*◌, ◌≤◌, ◌-◌, [], drop, length}
 use Rattle.stream_core.specs.Counted.{failures_of, inner_of}
 use Rattle.script_core.specs.Ledgers.{ledger_history, left_in}
 use Rattle.script_core.proofs.Progress.{Progress}
@@ -7,16 +7,17 @@ use Rattle.script_core.proofs.session.answer_each.Given as goal
 
 abbrev pub invariant-loop-at : goal.invariant-loop-at
 invariant-loop-at g l = record {
-  within : l.at ≤ length l.records;
+  within : l.at ≤ length l.fn.records;
+  rest : l.records ≡ drop l.at l.fn.records;
   few : l.outcome.commands ≤ l.at;
   fewer : l.outcome.errors ≤ l.outcome.commands;
   counts : failures_of l.fn.writer ≤ failures_of l.writer;
   tries : failures_of l.writer + l.patience.left ≤ failures_of l.fn.writer + l.fn.patience.left;
   begins : l.printer ≡ [];
-  progress : Progress l.records (g.W.Write.contents (inner_of l.fn.writer))
+  progress : Progress l.fn.records (g.W.Write.contents (inner_of l.fn.writer))
       (g.W.Write.contents (inner_of l.writer)) (ledger_history l.ledger) l.at l.outcome;
-  left : 2 * length l.records ≤ left_in l.ledger + 2 * l.at;
+  left : 2 * length l.fn.records ≤ left_in l.ledger + 2 * l.at;
 }
 
 abbrev pub decreases-loop-at : goal.decreases-loop-at
-decreases-loop-at g l = length l.records - l.at
+decreases-loop-at g l = length l.fn.records - l.at

@@ -3,8 +3,8 @@ use denote.Ref.{Bor}
 use Rattle.command_core.proofs.SeamLemmas.{piece-le}
 use Rattle.command_core.proofs.records.fn.read_each.map_indices.Goals as goal
 
-pub read_batch-requires : goal.read_batch-requires
-read_batch-requires c =
+pub read_piece-requires : goal.read_piece-requires
+read_piece-requires c =
     omega (
       arith,
       c.requires,

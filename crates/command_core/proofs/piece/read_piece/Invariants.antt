@@ -5,22 +5,19 @@ use Rattle.csv.specs.Machine.{ends_at_end}
 use Rattle.csv.specs.Reading.{Reached, Ready, default_config, is_flexible, reader_trim, source_of, strip_bom}
 use Rattle.csv.specs.declared.parser.State.TheVariants as st
 use Rattle.csv.specs.declared.reader.Trim.TheVariants as trim
-use Rattle.list_core.specs.Cut.{cut, EndsAt}
-use Rattle.command_core.proofs.batch.read_batch.Given as goal
+use Rattle.command_core.proofs.piece.read_piece.Given as goal
 
-abbrev pub invariant-loop-fields : goal.invariant-loop-fields
-invariant-loop-fields l = record {
+abbrev pub invariant-loop-records : goal.invariant-loop-records
+invariant-loop-records l = record {
   plain : reader_trim l.reader ≡ trim.None;
   ready : Ready l.reader;
   flexible : is_flexible l.reader ≡ true;
   config : l.reader.config ≡ default_config;
-  ends : EndsAt 0 l.ends.items (length l.fields);
   left : List ℕ;
   source : source_of (λ s. Some s.now) l.reader ≡ Some left;
-  reached : Reached default_config st.StartRecord (strip_bom l.fn.piece)
-      (cut 0 l.ends.items l.fields) l.reader.state left;
+  reached : Reached default_config st.StartRecord (strip_bom l.fn.piece) l.records l.reader.state left;
 }
 
-abbrev pub decreases-loop-fields : goal.decreases-loop-fields
-decreases-loop-fields l =
+abbrev pub decreases-loop-records : goal.decreases-loop-records
+decreases-loop-records l =
     2 * unwrap_or (option_map length (source_of (λ s. Some s.now) l.reader)) 0 + cond (ends_at_end l.reader.state) 1 0
