@@ -1,39 +1,113 @@
--- Cells that are made of the rows of one side.
-use Rattle.std.proofs.Common.{◌≡◌, ℕ, ◌+◌, ◌-◌, ◌<◌, ◌≤◌, Bool, true, false, not, ◌&&◌, List, [], ◌∷◌, ◌++◌, append-nil, length, get_or, Option, Some, None, Result, Ok, inl, inr, refl, sym, subst, ap, ◌∙◌, arith}
+-- Cells that are made of the rows of one side, and put in order.
+use Rattle.std.proofs.Common.{◌≡◌, ℕ, zero, suc, ◌+◌, ◌-◌, ◌<◌, ◌≤◌, Bool, true, false, not, ◌&&◌, cond, List, [], ◌∷◌, ◌++◌, append_assoc, append-nil, length, get_or, map, filter, take, drop, Option, Some, None, Result, Ok, inl, inr, refl, sym, subst, ap, ◌∙◌, arith}
 use Rattle.std.specs.Cmp.{IsTotalOrder}
 use Rattle.std.specs.declared.cmp.Ordering.{Ordering}
-use Rattle.std.specs.Prelude.{All, IsPermutation, IsSorted, slice_get}
-use Rattle.std.proofs.lemmas.List.{length-append, get_or_append_left, get_or-append_right}
+use Rattle.std.specs.Ordering.{nat_cmp}
+use Rattle.std.specs.Prelude.{All, Contains, IsPermutation, IsSorted, slice_get}
+use Rattle.std.proofs.lemmas.List.{length-append, get_or_append_left, get_or-append_right, map-append}
 use Rattle.std.proofs.lemmas.Bool.{cases_lt}
-use Rattle.std.proofs.lemmas.List.Elements.{All-append, All-push, Contains-append_left, Contains-append_right, Contains-push}
-use Rattle.std.proofs.lemmas.List.Sorted.{All-permutation, Contains-permutation}
+use Rattle.std.proofs.lemmas.List.Elements.{All-append, All-push, filter_agree, filter_more, filter_passes}
+use Rattle.std.proofs.lemmas.List.Sorted.{All-permutation, Contains-permutation, IsPermutation-append, IsPermutation-cons, IsPermutation-map, IsPermutation-middle, IsPermutation-refl, IsPermutation-sym, IsPermutation-trans}
 use Rattle.std.specs.Global.{Vec}
 use Rattle.std.specs.declared.alloc.AllocError.{AllocError}
 use Rattle.list_core.specs.Chunks.{all_in}
+use Rattle.list_core.proofs.RisingLemmas.{Contains-cons, Contains-head}
+use Rattle.share_core.specs.Pieces.{piece}
 use Rattle.share_core.specs.Ranges.{has, has_begun, is_from, range}
 use Rattle.share_core.specs.Shares.{Gives, GivesFrom}
 use Rattle.share_core.specs.declared.range.Range.{Range}
 use Rattle.share_core.specs.declared.shares.Cut.{Cut}
-use Rattle.share_core.proofs.RangeLemmas.{begun_on}
+use Rattle.share_core.proofs.PieceLemmas.{piece_cut}
+use Rattle.share_core.proofs.RangeLemmas.{high_has, low_has}
 use Rattle.share_core.proofs.ShareLemmas.{all_come}
-use Rattle.row_core.specs.declared.value.Kind.{Kind}
 use Rattle.row_core.specs.declared.value.Value.{Value}
 use Rattle.match_core.specs.declared.cells.Cell.{Cell}
-use Rattle.match_core.specs.Cells.{AreCells, AreSorted, AreSortedIn, HasPlace, IsCellAt, cell_cmp, is_before}
-use Rattle.match_core.specs.Compared.{Compares}
-use Rattle.match_core.proofs.CellOrder.{SameCell, before-trans, cell_total, has-same}
-use Rattle.match_core.proofs.CellValues.{cells_same, one_value}
+use Rattle.match_core.specs.declared.row_items.ClassedPlace.{ClassedPlace}
+use Rattle.match_core.specs.Cells.{AreCellsAt, AreInOrder, AreSorted, HasPlace, IsCellAt, cell_cmp, cells_in, is_before, spot_of}
+use Rattle.match_core.specs.ClassedPlaces.{placed_from}
+use Rattle.match_core.proofs.CellOrder.{before-trans, cell_total}
+use Rattle.match_core.proofs.PartLemmas.{none_yet, one_more}
+
+-- ---- the cells of some rows
+
+-- there are as many places as classes
+pub length-placed_from : (place : ℕ) (classes : List ℕ) → length (placed_from place classes) ≡ length classes
+length-placed_from place [] = refl
+length-placed_from place (c ∷ classes) = ap suc (length-placed_from (suc place) classes)
+
+-- what stands among them
+pub slice_get-placed_from : (place : ℕ) (classes : List ℕ) (i at : ℕ) → i < length classes → at ≡ place + i
+    → slice_get (placed_from place classes) i ≡ Some (record { class = get_or classes i 0; place = at })
+slice_get-placed_from place [] i at inside is = absurd (omega (arith, inside))
+slice_get-placed_from place (c ∷ classes) zero at inside is =
+    let same : place ≡ at = omega (arith, is) in
+    ap (λ (n : ℕ). Some (record { class = c; place = n })) same
+slice_get-placed_from place (c ∷ classes) (suc i) at inside is =
+    slice_get-placed_from (suc place) classes i at (omega (arith, inside)) (omega (arith, is))
+
+module _ {V : Type 0} (IsOf : Value → V → Type 0) (classes : List ℕ) (column : List (Option Value)) where
+  -- none of no rows
+  pub no_cells : (start : ℕ) (cells : List (Cell V)) → start ≤ length classes → cells ≡ []
+      → AreCellsAt IsOf classes column (drop start (take start (placed_from 0 classes))) cells
+  no_cells start cells within none =
+      let places = placed_from 0 classes in
+      let len = length-placed_from 0 classes in
+      let nothing : drop start (take start places) ≡ [] = none_yet start places (omega (arith, within, len)) in
+      subst (AreCellsAt IsOf classes column (drop start (take start places))) (sym none)
+      (record { own = λ k d lt. absurd (omega (arith, lt)); spots = sym nothing })
+
+  -- one more
+  pub cells_more : (start i : ℕ) (cell : Cell V) (cells new : List (Cell V)) → start ≤ i → i < length classes
+      → IsCellAt IsOf classes column i cell → new ≡ cells ++ cell ∷ []
+      → AreCellsAt IsOf classes column (drop start (take i (placed_from 0 classes))) cells
+      → AreCellsAt IsOf classes column (drop start (take (i + 1) (placed_from 0 classes))) new
+  cells_more start i cell cells new from inside at put was =
+      let places = placed_from 0 classes in
+      let spot : spot_of cell ≡ record { class = get_or classes i 0; place = i } =
+      ap (λ (n : ℕ). record { class = n; place = cell.place }) at.made.class_is
+      ∙ ap (λ (n : ℕ). record { class = get_or classes i 0; place = n }) at.made.place_is in
+      let there : slice_get places i ≡ Some (spot_of cell) =
+      slice_get-placed_from 0 classes i i inside (omega arith) ∙ ap Some (sym spot) in
+      subst (AreCellsAt IsOf classes column (drop start (take (i + 1) places))) (sym put) (record {
+        own = All-push (λ (c : Cell V). IsCellAt IsOf classes column c.place c) cells cell was.own
+            (subst (λ n. IsCellAt IsOf classes column n cell) (sym at.made.place_is) at);
+        spots = map-append spot_of cells (cell ∷ [])
+            ∙ ap (λ l. l ++ spot_of cell ∷ []) was.spots
+            ∙ sym (one_more start i places (spot_of cell) from there);
+      })
+
+  -- those of two pieces
+  cells-append : (low high : List ClassedPlace) (cells more : List (Cell V))
+      → AreCellsAt IsOf classes column low cells → AreCellsAt IsOf classes column high more
+      → AreCellsAt IsOf classes column (low ++ high) (cells ++ more)
+  cells-append low high cells more lows highs = record {
+    own = All-append (λ (c : Cell V). IsCellAt IsOf classes column c.place c) cells more lows.own highs.own;
+    spots = map-append spot_of cells more
+        ∙ ap (λ l. l ++ map spot_of more) lows.spots
+        ∙ ap (λ l. low ++ l) highs.spots;
+  }
+
+  -- those of all pieces
+  pub pieces_made : (post : Range ℕ → ℕ → Result (Vec (Cell V)) AllocError → Type 0) (cuts : List (Cut ℕ))
+      (lists : List (Vec (Cell V)))
+      → ((places : Range ℕ) (n : ℕ) (cells : Vec (Cell V)) → post places n (Ok cells)
+      → AreCellsAt IsOf classes column (piece places (placed_from 0 classes)) cells.items)
+      → GivesFrom nat_cmp (Gives post) None cuts lists
+      → AreCellsAt IsOf classes column (placed_from 0 classes) (all_in lists)
+  pieces_made post cuts lists told given =
+      let all = placed_from 0 classes in
+      all_come nat_cmp (Gives post)
+      (λ (places : Range ℕ) (some : List (Vec (Cell V))). AreCellsAt IsOf classes column (piece places all) (all_in some))
+      (λ places cells own.
+      subst (AreCellsAt IsOf classes column (piece places all)) (sym (append-nil cells.items))
+      (told places own.0 cells own.1))
+      (λ from at cells more begun one others.
+      subst (λ l. AreCellsAt IsOf classes column l (cells.items ++ all_in more)) (sym (piece_cut from at all begun))
+      (cells-append (piece (range from (Some at)) all) (piece (range (Some at) None) all) cells.items (all_in more)
+      (told (range from (Some at)) one.0 cells one.1) others))
+      None cuts lists given
 
 -- ---- the cells of a range
-
--- the cells of a range, of the first rows
-pub record Listed {V : Type 0} (cmp : V → V → Ordering) (IsOf : Value → V → Type 0)
-    (range : Range (Cell V)) (classes : List ℕ) (column : List (Option Value)) (i : ℕ) (cells : List (Cell V))
-    : Type 0 where
-  pub own : All (λ (cell : Cell V). IsCellAt IsOf classes column cell.place cell) cells
-  pub within : All (λ (cell : Cell V). has (cell_cmp cmp) range cell ≡ true) cells
-  pub each : (k : ℕ) (cell : Cell V) → k < i → IsCellAt IsOf classes column k cell
-      → has (cell_cmp cmp) range cell ≡ true → HasPlace cells k
 
 -- what a range up to a cell has: it has begun there, and that comes before the cell
 low_parts : (b t : Bool) → b && not (not t) ≡ true → (b ≡ true) × (t ≡ true)
@@ -50,81 +124,6 @@ high_part false e = absurd (cc)
 from_denied : (t : Bool) → not t ≡ true → t ≡ false
 from_denied true e = absurd (cc)
 from_denied false e = refl
-
-module _ {V : Type 0} (kind : Kind) (IsOf : Value → V → Type 0) (cmp : V → V → Ordering)
-    (total : IsTotalOrder cmp) (compares : Compares kind IsOf cmp) where
-  -- a cell of one more row
-  pub listed_more : (range : Range (Cell V)) (classes : List ℕ) (column : List (Option Value)) (i : ℕ) (cell : Cell V)
-      (cells new : List (Cell V)) → IsCellAt IsOf classes column i cell → has (cell_cmp cmp) range cell ≡ true
-      → new ≡ cells ++ cell ∷ []
-      → Listed cmp IsOf range classes column i cells → Listed cmp IsOf range classes column (i + 1) new
-  listed_more range classes column i cell cells new at test put was =
-      subst (Listed cmp IsOf range classes column (i + 1)) (sym put) (record {
-        own = All-push (λ (c : Cell V). IsCellAt IsOf classes column c.place c) cells cell was.own
-            (subst (λ n. IsCellAt IsOf classes column n cell) (sym at.made.place_is) at);
-        within = All-push (λ (c : Cell V). has (cell_cmp cmp) range c ≡ true) cells cell was.within test;
-        each = λ k c lt here passes. elim (cases_lt k i) [
-          | inl less ↦ (let (x, has, place) = was.each k c less here passes in
-              (x, Contains-append_left cells (cell ∷ []) x has, place))
-          | inr le ↦ (let e : i ≡ k = omega arith in (cell, Contains-push cells cell, at.made.place_is ∙ e))
-        ];
-      })
-
-  -- two cells of one row are the same
-  cells_of_place : (classes : List ℕ) (column : List (Option Value)) (i : ℕ) (x y : Cell V)
-      → IsCellAt IsOf classes column i x → IsCellAt IsOf classes column i y → SameCell cmp x y
-  cells_of_place classes column i x y a b =
-      cells_same kind IsOf cmp compares (get_or classes i 0) a.value b.value i i x y a.made b.made
-      (one_value column i a.value b.value a.there b.there)
-
-  -- and of a row whose cell isn't of the range, none
-  pub listed_same : (range : Range (Cell V)) (classes : List ℕ) (column : List (Option Value)) (i : ℕ) (cell : Cell V)
-      (cells : List (Cell V)) → IsCellAt IsOf classes column i cell → has (cell_cmp cmp) range cell ≡ false
-      → Listed cmp IsOf range classes column i cells → Listed cmp IsOf range classes column (i + 1) cells
-  listed_same range classes column i cell cells at test was = record {
-    own = was.own;
-    within = was.within;
-    each = λ k c lt here passes. elim (cases_lt k i) [
-      | inl less ↦ was.each k c less here passes
-      | inr le ↦ absurd (
-          let e : k ≡ i = omega arith in
-          let same : SameCell cmp c cell =
-          cells_of_place classes column i c cell (subst (λ n. IsCellAt IsOf classes column n c) e here) at in
-          let bad : true ≡ false = sym passes ∙ has-same cmp total range c cell same ∙ test in cc)
-    ];
-  }
-
-  -- those of all rows are listed
-  pub all_listed : (range : Range (Cell V)) (classes : List ℕ) (column : List (Option Value)) (i : ℕ)
-      (cells : List (Cell V)) → length column ≤ i → Listed cmp IsOf range classes column i cells → AreCells cmp IsOf range classes column cells
-  all_listed range classes column i cells end was = record {
-    own = was.own;
-    within = was.within;
-    each = λ k c lt here passes. was.each k c (omega (arith, end, lt)) here passes;
-  }
-
-  -- in another order they are the same ones
-  pub cells_moved : (range : Range (Cell V)) (classes : List ℕ) (column : List (Option Value))
-      (made sorted : List (Cell V)) → IsPermutation made sorted → AreCells cmp IsOf range classes column made
-      → AreCells cmp IsOf range classes column sorted
-  cells_moved range classes column made sorted moved are = record {
-    own = All-permutation (λ (c : Cell V). IsCellAt IsOf classes column c.place c) made sorted moved are.own;
-    within = All-permutation (λ (c : Cell V). has (cell_cmp cmp) range c ≡ true) made sorted moved are.within;
-    each = λ i c lt here passes.
-        (let (x, has, place) = are.each i c lt here passes in
-        (x, Contains-permutation made sorted x moved has, place));
-  }
-
-  -- each row has a cell
-  pub cell_there : (classes : List ℕ) (column : List (Option Value))
-      → ((i : ℕ) → i < length column → (v : Value) × (slice_get column i ≡ Some (Some v)))
-      → (i : ℕ) → i < length column → (cell : Cell V) × IsCellAt IsOf classes column i cell
-  cell_there classes column there i within =
-      let (v, at) = there i within in
-      let (made, is) = compares.made v in (
-        record { class = get_or classes i 0; value = made; place = i },
-        record { value = v; there = at; made = record { class_is = refl; value_is = is; place_is = refl } },
-      )
 
 -- ---- sorted cells
 
@@ -172,78 +171,153 @@ module _ {V : Type 0} (cmp : V → V → Ordering) (total : IsTotalOrder cmp) wh
         by_test true e = absurd (
             let bad : true ≡ false = sym (before-trans cmp total x y at e less) ∙ behind in cc)
 
-module _ {V : Type 0} (cmp : V → V → Ordering) (total : IsTotalOrder cmp) (IsOf : Value → V → Type 0)
-    (classes : List ℕ) (column : List (Option Value)) (from : Option (Cell V)) (at : Cell V)
-    (begun : has_begun (cell_cmp cmp) from at ≡ true) where
-  -- the cells of a range without an end: those before a cell, and behind them the others
-  cells-append : (low high : List (Cell V)) → AreCells cmp IsOf (range from (Some at)) classes column low
-      → AreCells cmp IsOf (range (Some at) None) classes column high
-      → AreCells cmp IsOf (range from None) classes column (low ++ high)
-  cells-append low high lows highs = record {
-    own = All-append (λ (c : Cell V). IsCellAt IsOf classes column c.place c) low high lows.own highs.own;
-    within = All-append (λ (c : Cell V). has (cell_cmp cmp) (range from None) c ≡ true) low high
-        (λ k d lt. ap (λ b. b && true)
-        (low_parts (has_begun (cell_cmp cmp) from (get_or low k d)) (is_before cmp (get_or low k d) at)
-        (lows.within k d lt)).0)
-        (λ k d lt. ap (λ b. b && true)
-        (begun_on (cell_cmp cmp) (cell_total cmp total) from at (get_or high k d) begun
-        (high_part (is_from (cell_cmp cmp) at (get_or high k d)) (highs.within k d lt))));
-    each = λ i c lt here passes.
-        by_test i c lt here (high_part (has_begun (cell_cmp cmp) from c) passes) (is_before cmp c at) refl;
-  }
-    where
-      by_test : (i : ℕ) (c : Cell V) → i < length column → IsCellAt IsOf classes column i c
-          → has_begun (cell_cmp cmp) from c ≡ true → (t : Bool) → is_before cmp c at ≡ t → HasPlace (low ++ high) i
-      by_test i c lt here starts true e =
-          let (x, has, place) = lows.each i c lt here
-          (ap (λ b. b && not (not (is_before cmp c at))) starts ∙ ap (λ t. true && not (not t)) e) in
-          (x, Contains-append_left low high x has, place)
-      by_test i c lt here starts false e =
-          let (x, has, place) = highs.each i c lt here (ap (λ t. not t && true) e) in
-          (x, Contains-append_right low high x has, place)
+-- the first cells that a range has, and a next one
+module _ {V : Type 0} (cmp : V → V → Ordering) (range : Range (Cell V)) (cells : List (Cell V)) (i : ℕ) (cell : Cell V)
+    (inside : i < length cells) (here : cell ≡ get_or cells i cell) (old found new : List (Cell V))
+    (was : found ≡ old ++ cells_in cmp range (take i cells)) where
+  one_kept : (b : Bool) → has (cell_cmp cmp) range cell ≡ b
+      → cells_in cmp range (take (i + 1) cells) ≡ cells_in cmp range (take i cells) ++ cond b (cell ∷ []) []
+  one_kept b test =
+      let p : Cell V → Bool = λ x. has (cell_cmp cmp) range x in
+      let before = cells_in cmp range (take i cells) in
+      filter_more p cells i cell inside
+      ∙ ap (λ (x : Cell V). before ++ cond (p x) (x ∷ []) []) (sym here)
+      ∙ ap (λ b. before ++ cond b (cell ∷ []) []) test
+
+  -- it has it
+  pub kept_more : has (cell_cmp cmp) range cell ≡ true → new ≡ found ++ cell ∷ []
+      → new ≡ old ++ cells_in cmp range (take (i + 1) cells)
+  kept_more test put =
+      put ∙ ap (λ l. l ++ cell ∷ []) was
+      ∙ append_assoc old (cells_in cmp range (take i cells)) (cell ∷ [])
+      ∙ ap (λ l. old ++ l) (sym (one_kept true test))
+
+  -- it doesn't
+  pub kept_same : has (cell_cmp cmp) range cell ≡ false → new ≡ found
+      → new ≡ old ++ cells_in cmp range (take (i + 1) cells)
+  kept_same test same =
+      same ∙ was
+      ∙ ap (λ l. old ++ l) (sym (one_kept false test ∙ append-nil (cells_in cmp range (take i cells))))
+
+-- a list parted by a test: those that it doesn't hold of, and behind them those that it holds of, in some order all
+parted_moved : {X : Type 0} (all late : X → Bool) (xs : List X)
+    → IsPermutation (filter all xs) (filter (λ x. all x && not (late x)) xs ++ filter (λ x. all x && late x) xs)
+parted_moved all late [] = IsPermutation-refl []
+parted_moved {X} all late (x ∷ xs) =
+    by_tests (all x) (late x) (filter all xs) (filter (λ (y : X). all y && not (late y)) xs)
+    (filter (λ (y : X). all y && late y) xs) (parted_moved all late xs)
+  where
+    by_tests : (a l : Bool) (rest low high : List X) → IsPermutation rest (low ++ high)
+        → IsPermutation (cond a (x ∷ rest) rest) (cond (a && not l) (x ∷ low) low ++ cond (a && l) (x ∷ high) high)
+    by_tests true true rest low high is =
+        IsPermutation-trans (x ∷ rest) (x ∷ (low ++ high)) (low ++ x ∷ high)
+        (IsPermutation-cons x rest (low ++ high) is)
+        (IsPermutation-sym (low ++ x ∷ high) (x ∷ (low ++ high)) (IsPermutation-middle low x high))
+    by_tests true false rest low high is = IsPermutation-cons x rest (low ++ high) is
+    by_tests false l rest low high is = is
+
+-- a range without ends has all
+whole_kept : {V : Type 0} (cmp : V → V → Ordering) (cells : List (Cell V)) → cells_in cmp (range None None) cells ≡ cells
+whole_kept cmp [] = refl
+whole_kept cmp (c ∷ cells) = ap (λ l. c ∷ l) (whole_kept cmp cells)
+
+module _ {V : Type 0} (cmp : V → V → Ordering) (total : IsTotalOrder cmp) where
+  -- a range without an end has what stands before a cell, and behind it the rest
+  range_moved : (from : Option (Cell V)) (at : Cell V) (cells : List (Cell V)) → has_begun (cell_cmp cmp) from at ≡ true
+      → IsPermutation (cells_in cmp (range from None) cells)
+      (cells_in cmp (range from (Some at)) cells ++ cells_in cmp (range (Some at) None) cells)
+  range_moved from at cells begun =
+      let order = cell_cmp cmp in
+      let all : Cell V → Bool = λ x. has order (range from None) x in
+      let late : Cell V → Bool = λ x. is_from order at x in
+      let low : Cell V → Bool = λ x. has order (range from (Some at)) x in
+      let high : Cell V → Bool = λ x. has order (range (Some at) None) x in
+      let lows : filter (λ (x : Cell V). all x && not (late x)) cells ≡ filter low cells =
+      filter_agree (λ (x : Cell V). all x && not (late x)) low
+      (λ x. sym (low_has order (cell_total cmp total) from at x)) cells in
+      let highs : filter (λ (x : Cell V). all x && late x) cells ≡ filter high cells =
+      filter_agree (λ (x : Cell V). all x && late x) high
+      (λ x. sym (high_has order (cell_total cmp total) from at x begun)) cells in
+      subst (λ (l : List (Cell V)). IsPermutation (filter all cells) (l ++ filter high cells)) lows
+      (subst (λ (l : List (Cell V)). IsPermutation (filter all cells)
+      (filter (λ (x : Cell V). all x && not (late x)) cells ++ l)) highs
+      (parted_moved all late cells))
 
   -- and in rising order
-  sorted_ranges : (low high : List (Cell V)) → AreSortedIn cmp IsOf (range from (Some at)) classes column low
-      → AreSortedIn cmp IsOf (range (Some at) None) classes column high
-      → AreSortedIn cmp IsOf (range from None) classes column (low ++ high)
-  sorted_ranges low high lows highs = record {
-    are = cells-append low high lows.are highs.are;
-    rise = sorted-append cmp total low high at
-        (λ k d lt.
-        (low_parts (has_begun (cell_cmp cmp) from (get_or low k d)) (is_before cmp (get_or low k d) at)
-        (lows.are.within k d lt)).1)
-        (λ k d lt.
-        from_denied (is_before cmp (get_or high k d) at)
-        (high_part (is_from (cell_cmp cmp) at (get_or high k d)) (highs.are.within k d lt)))
-        lows.rise highs.rise;
-  }
+  sorted_ranges : (from : Option (Cell V)) (at : Cell V) (made low high : List (Cell V))
+      → has_begun (cell_cmp cmp) from at ≡ true → AreInOrder cmp (cells_in cmp (range from (Some at)) made) low
+      → AreInOrder cmp (cells_in cmp (range (Some at) None) made) high
+      → AreInOrder cmp (cells_in cmp (range from None) made) (low ++ high)
+  sorted_ranges from at made low high begun lows highs =
+      let order = cell_cmp cmp in
+      let early = cells_in cmp (range from (Some at)) made in
+      let late = cells_in cmp (range (Some at) None) made in
+      let before : All (λ (c : Cell V). has order (range from (Some at)) c ≡ true) low =
+      All-permutation (λ (c : Cell V). has order (range from (Some at)) c ≡ true) early low lows.same
+      (filter_passes (λ (c : Cell V). has order (range from (Some at)) c) made) in
+      let behind : All (λ (c : Cell V). has order (range (Some at) None) c ≡ true) high =
+      All-permutation (λ (c : Cell V). has order (range (Some at) None) c ≡ true) late high highs.same
+      (filter_passes (λ (c : Cell V). has order (range (Some at) None) c) made) in
+      record {
+        same = IsPermutation-trans (cells_in cmp (range from None) made) (early ++ late) (low ++ high)
+            (range_moved from at made begun)
+            (IsPermutation-append early low late high lows.same highs.same);
+        rise = sorted-append cmp total low high at
+            (λ k d lt.
+            (low_parts (has_begun order from (get_or low k d)) (is_before cmp (get_or low k d) at)
+            (before k d lt)).1)
+            (λ k d lt.
+            from_denied (is_before cmp (get_or high k d) at)
+            (high_part (is_from order at (get_or high k d)) (behind k d lt)))
+            lows.rise highs.rise;
+      }
 
-module _ {V : Type 0} (cmp : V → V → Ordering) (total : IsTotalOrder cmp) (IsOf : Value → V → Type 0) where
-  -- the cells of a range without ends, in rising order, are those of all rows
-  sorted_whole : (classes : List ℕ) (column : List (Option Value)) (cells : List (Cell V))
-      → ((i : ℕ) → i < length column → (cell : Cell V) × IsCellAt IsOf classes column i cell)
-      → AreSortedIn cmp IsOf (range None None) classes column cells → AreSorted cmp IsOf classes column cells
-  sorted_whole classes column cells there sorted = record {
-    own = sorted.are.own;
-    each = λ i lt. (let (c, at) = there i lt in sorted.are.each i c lt at refl);
-    rise = sorted.rise;
-  }
-
-  -- the lists of all ranges, one behind another, are the sorted cells of all rows
-  pub sorted_lists : (classes : List ℕ) (column : List (Option Value))
+  -- the lists of all ranges, one behind another, are all cells in rising order
+  pub ranges_in_order : (made : List (Cell V))
       (post : Range (Cell V) → ℕ → Result (Vec (Cell V)) AllocError → Type 0) (cuts : List (Cut (Cell V)))
       (lists : List (Vec (Cell V)))
-      → ((i : ℕ) → i < length column → (cell : Cell V) × IsCellAt IsOf classes column i cell)
       → ((r : Range (Cell V)) (n : ℕ) (cells : Vec (Cell V)) → post r n (Ok cells)
-      → AreSortedIn cmp IsOf r classes column cells.items)
-      → GivesFrom (cell_cmp cmp) (Gives post) None cuts lists → AreSorted cmp IsOf classes column (all_in lists)
-  sorted_lists classes column post cuts lists there told given =
-      sorted_whole classes column (all_in lists) there
+      → AreInOrder cmp (cells_in cmp r made) cells.items)
+      → GivesFrom (cell_cmp cmp) (Gives post) None cuts lists → AreInOrder cmp made (all_in lists)
+  ranges_in_order made post cuts lists told given =
+      subst (λ (l : List (Cell V)). AreInOrder cmp l (all_in lists)) (whole_kept cmp made)
       (all_come (cell_cmp cmp) (Gives post)
-      (λ (r : Range (Cell V)) (all : List (Vec (Cell V))). AreSortedIn cmp IsOf r classes column (all_in all))
+      (λ (r : Range (Cell V)) (all : List (Vec (Cell V))). AreInOrder cmp (cells_in cmp r made) (all_in all))
       (λ r cells own.
-      subst (AreSortedIn cmp IsOf r classes column) (sym (append-nil cells.items)) (told r own.0 cells own.1))
+      subst (AreInOrder cmp (cells_in cmp r made)) (sym (append-nil cells.items)) (told r own.0 cells own.1))
       (λ from at cells more begun one others.
-      sorted_ranges cmp total IsOf classes column from at begun cells.items (all_in more)
+      sorted_ranges from at made cells.items (all_in more) begun
       (told (range from (Some at)) one.0 cells one.1) others)
       None cuts lists given)
+
+-- ---- the cells of all rows
+
+-- the cell of a place
+cell_of_place : {V : Type 0} (cells : List (Cell V)) (places : List ClassedPlace) (i : ℕ) (spot : ClassedPlace)
+    → map spot_of cells ≡ places → slice_get places i ≡ Some spot
+    → (cell : Cell V) × Contains cells cell × (cell.place ≡ spot.place)
+cell_of_place [] places i spot are there =
+    absurd (let none : slice_get [] i ≡ Some spot = ap (λ l. slice_get l i) are ∙ there in cc)
+cell_of_place {V} (c ∷ cells) places zero spot are there =
+    let is : Some (spot_of c) ≡ Some spot = ap (λ l. slice_get l 0) are ∙ there in
+    let same : spot_of c ≡ spot = cc in
+    (c, Contains-head c cells, ap (λ (s : ClassedPlace). s.place) same)
+cell_of_place {V} (c ∷ cells) places (suc i) spot are there =
+    let (x, has, place) = cell_of_place cells (map spot_of cells) i spot refl (ap (λ l. slice_get l (suc i)) are ∙ there) in
+    (x, Contains-cons c cells x has, place)
+
+-- cells of all rows, in rising order
+pub all_sorted : {V : Type 0} (cmp : V → V → Ordering) (IsOf : Value → V → Type 0) (classes : List ℕ)
+    (column : List (Option Value)) (made cells : List (Cell V)) → length classes ≡ length column
+    → AreCellsAt IsOf classes column (placed_from 0 classes) made → AreInOrder cmp made cells
+    → AreSorted cmp IsOf classes column cells
+all_sorted {V} cmp IsOf classes column made cells count are put = record {
+  own = All-permutation (λ (c : Cell V). IsCellAt IsOf classes column c.place c) made cells put.same are.own;
+  each = λ i lt.
+      (let (x, has, place) = cell_of_place made (placed_from 0 classes) i
+      (record { class = get_or classes i 0; place = i }) are.spots
+      (slice_get-placed_from 0 classes i i (omega (arith, lt, count)) (omega arith)) in
+      (x, Contains-permutation made cells x put.same has, place));
+  spots = subst (λ l. IsPermutation l (map spot_of cells)) are.spots (IsPermutation-map spot_of made cells put.same);
+  rise = put.rise;
+}

@@ -1,5 +1,5 @@
 -- The values of a column of two tables, with the classes of their rows so far.
-use Rattle.std.specs.Prelude.{◌≡◌, ◌↔◌, ◌⊎◌, ℕ, ◌+◌, ◌-◌, ◌<◌, ◌≤◌, List, ◌++◌, length, map, All, AllPairs, Bool, true, false, Contains, Option, Some, None, IsSorted, replicate, slice_get, slice_index, slice_index_or, take}
+use Rattle.std.specs.Prelude.{◌≡◌, ◌↔◌, ◌⊎◌, ℕ, ◌+◌, ◌-◌, ◌<◌, ◌≤◌, List, ◌++◌, length, map, All, AllPairs, Bool, true, false, Contains, Option, Some, None, IsPermutation, IsSorted, filter, replicate, slice_get, slice_index, slice_index_or, take}
 use Rattle.std.specs.Borrow.{Bor}
 use Rattle.std.specs.Global.{Vec}
 use Rattle.std.specs.Ordering.{is_eq, is_lt, ordering_then, nat_cmp}
@@ -9,6 +9,8 @@ use Rattle.row_core.specs.declared.row.Row.{Row}
 use Rattle.row_core.specs.declared.value.Kind.{Kind}
 use Rattle.row_core.specs.declared.value.Value.{Value}
 use Rattle.match_core.specs.declared.cells.Cell.{Cell}
+use Rattle.match_core.specs.ClassedPlaces.{placed_from}
+use Rattle.match_core.specs.declared.row_items.ClassedPlace.{ClassedPlace}
 use Rattle.match_core.specs.declared.side_column.SideColumn.{SideColumn}
 use Rattle.list_core.specs.Chunks.{all_in}
 use Rattle.share_core.specs.Ranges.{has}
@@ -66,18 +68,23 @@ is_before cmp a b = is_lt (cell_cmp cmp a b)
 abbrev pub HasPlace : {V : Type 0} → List (Cell V) → ℕ → Type 0
 HasPlace {V} cells i = (cell : Cell V) × Contains cells cell × (cell.place ≡ i)
 
--- the cells of a range of a side's rows: each is that of its place, and each place whose cell is of the range has one
-pub record AreCells {V : Type 0} (cmp : V → V → Ordering) (IsOf : Value → V → Type 0) (range : Range (Cell V))
-    (classes : List ℕ) (column : List (Option Value)) (cells : List (Cell V)) : Type 0 where
-  pub own : All (λ (cell : Cell V). IsCellAt IsOf classes column cell.place cell) cells
-  pub within : All (λ (cell : Cell V). has (cell_cmp cmp) range cell ≡ true) cells
-  pub each : (i : ℕ) (cell : Cell V) → i < length column → IsCellAt IsOf classes column i cell
-      → has (cell_cmp cmp) range cell ≡ true → HasPlace cells i
+-- the class so far of a cell's row, and the row's place
+abbrev pub spot_of : {V : Type 0} → Cell V → ClassedPlace
+spot_of cell = record { class = cell.class; place = cell.place }
 
--- these in rising order
-pub record AreSortedIn {V : Type 0} (cmp : V → V → Ordering) (IsOf : Value → V → Type 0) (range : Range (Cell V))
-    (classes : List ℕ) (column : List (Option Value)) (cells : List (Cell V)) : Type 0 where
-  pub are : AreCells cmp IsOf range classes column cells
+-- the cells of the rows at some places, in the order of these
+pub record AreCellsAt {V : Type 0} (IsOf : Value → V → Type 0) (classes : List ℕ) (column : List (Option Value))
+    (places : List ClassedPlace) (cells : List (Cell V)) : Type 0 where
+  pub own : All (λ (cell : Cell V). IsCellAt IsOf classes column cell.place cell) cells
+  pub spots : map spot_of cells ≡ places
+
+-- those of some cells that a range has
+abbrev pub cells_in : {V : Type 0} → (V → V → Ordering) → Range (Cell V) → List (Cell V) → List (Cell V)
+cells_in {V} cmp range cells = filter (λ (cell : Cell V). has (cell_cmp cmp) range cell) cells
+
+-- the same cells in rising order
+pub record AreInOrder {V : Type 0} (cmp : V → V → Ordering) (made cells : List (Cell V)) : Type 0 where
+  pub same : IsPermutation made cells
   pub rise : IsSorted (cell_cmp cmp) cells
 
 -- the cells of all rows of a side, by rising order: each is that of its place, and each place has one
@@ -85,6 +92,7 @@ pub record AreSorted {V : Type 0} (cmp : V → V → Ordering) (IsOf : Value →
     (column : List (Option Value)) (cells : List (Cell V)) : Type 0 where
   pub own : All (λ (cell : Cell V). IsCellAt IsOf classes column cell.place cell) cells
   pub each : (i : ℕ) → i < length column → HasPlace cells i
+  pub spots : IsPermutation (placed_from 0 classes) (map spot_of cells)
   pub rise : IsSorted (cell_cmp cmp) cells
 
 -- the rows of both cells have one class so far, and one value

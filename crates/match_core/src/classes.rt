@@ -28,7 +28,8 @@ pub struct Classes {
 /// A class for each left row, and one for each right row: two rows, of whichever sides, have one class
 /// exactly where they are equal in each named pair of columns. Without names all rows have one. It takes
 /// time of the order n log n in the rows for each pair of names, whatever their values are. Where rows are many,
-/// half of the workers sort the values of the left side and the others those of the right one, each a range of them.
+/// half of the workers sort the values of the left side and the others those of the right one: each reads those of a
+/// piece of the rows, and then sorts a range of all of them.
 ///
 /// # Errors
 ///

@@ -1,8 +1,13 @@
--- The cells so far are those of the range, of the rows so far.
-use Rattle.match_core.proofs.MadeCells.{Listed}
+-- The cells so far are those of the rows so far.
+use Rattle.std.proofs.Common.{◌≡◌, ◌≤◌, drop, take}
+use Rattle.match_core.specs.Cells.{AreCellsAt}
+use Rattle.match_core.specs.ClassedPlaces.{placed_from}
 use Rattle.match_core.proofs.cells.cells_of.Given as goal
 
 abbrev pub invariant-loop-i : goal.invariant-loop-i
-invariant-loop-i g l =
-    Listed g.V.Ord.cmp g.S.Comparable.IsOf l.range (g.S.Classed.classes l.side) (g.S.Classed.column l.side) l.i
-    l.cells.items
+invariant-loop-i g l = record {
+  from : l.start ≤ l.i;
+  upto : l.i ≤ l.end;
+  are : AreCellsAt g.S.Comparable.IsOf (g.S.Classed.classes l.side) (g.S.Classed.column l.side)
+      (drop l.start (take l.i (placed_from 0 (g.S.Classed.classes l.side)))) l.cells.items;
+}

@@ -1,0 +1,8 @@
+-- What the range has of the cells so far stands behind what was there.
+use Rattle.std.proofs.Common.{◌≡◌, ◌++◌, take}
+use Rattle.match_core.specs.Cells.{cells_in}
+use Rattle.match_core.proofs.cells.add_cells_in.Given as goal
+
+abbrev pub invariant-loop-cell : goal.invariant-loop-cell
+invariant-loop-cell g l =
+    l.found.items ≡ l.fn.found.items ++ cells_in g.V.Ord.cmp l.range (take l.cell-index l.cells)
