@@ -8,7 +8,7 @@ use Rattle.dip_core.specs.declared.item.Item.{Item}
 use Rattle.dip_core.specs.Division.{IsLeast}
 use Rattle.dip_core.specs.Item.{HasDistinctIds}
 use Rattle.dip_core.proofs.DivisionLemmas.{HasDistinctIds-permutation, IsLeast-permutation}
-use Rattle.match_core.specs.Items.{items_of, items_with, unclassed}
+use Rattle.match_core.specs.Items.{AreItemsByClass, items_of, items_with, unclassed}
 use Rattle.match_core.proofs.SideIds.{side-distinct}
 use Rattle.match_core.proofs.Sided.{IsSide, side_len}
 use Rattle.join_core.proofs.RowLemmas.{side-unclassed}
@@ -19,13 +19,9 @@ pub record IsMovedSide (rows : List Row) (classes : List ℕ) (items : List Item
   pub enough : length rows ≤ length classes
 
 -- items made of the rows and their classes are that side
-pub moved_made : (rows slice : List Row) (classes lent : List ℕ) (items : List Item)
-    → IsPermutation (items_with slice lent) items → slice ≡ rows → lent ≡ classes → length classes ≡ length rows
-    → IsMovedSide rows classes items
-moved_made rows slice classes lent items moved e f count = record {
-  moved = subst (λ l. IsPermutation l items) (ap (λ r. items_with r lent) e ∙ ap (items_with rows) f) moved;
-  enough = omega (arith, count);
-}
+pub moved_made : (rows : List Row) (classes : List ℕ) (items : List Item) → AreItemsByClass rows classes items
+    → length classes ≡ length rows → IsMovedSide rows classes items
+moved_made rows classes items made count = record { moved = made.same; enough = omega (arith, count) }
 
 -- the same side in the order of its rows
 in_order : (rows : List Row) (classes : List ℕ) (items : List Item) → IsMovedSide rows classes items

@@ -9,7 +9,7 @@ ghost use Rattle.work_core.specs.Limits.{worker_limit};
 ghost use Rattle.join_core.specs.Join.{IsJoin, IsWithin};
 
 use crate::item_join::{JoinAnswer, join_items};
-use match_core::{QueryRefused, Side, classes_of, items_by_class, refusal_of_pairs};
+use match_core::{QueryRefused, Side, classes_of, items_of_sides, refusal_of_pairs};
 use period_core::NoMemory;
 use row_core::{Failure, Name};
 use std::alloc::Global;
@@ -71,7 +71,6 @@ fn join_rows<R: Threads + Sync, G: Gate>(
 {
     let (rt, alloc, workers) = (crew.rt, crew.alloc, crew.workers);
     let classes = classes_of(rt, alloc, left, right, on, workers)?;
-    let lefts = items_by_class(rt, alloc, left.rows, &classes.left, workers)?;
-    let rights = items_by_class(rt, alloc, right.rows, &classes.right, workers)?;
+    let (lefts, rights) = items_of_sides(rt, alloc, left.rows, right.rows, classes, workers)?;
     join_items(crew, lefts, rights)
 }

@@ -2,14 +2,14 @@
 use Rattle.std.proofs.Common.{◌≡◌, ◌<◌, ◌≤◌, ℕ, zero, suc, ◌+◌, List, [], ◌∷◌, ◌++◌, length, map, take, get_or, Option, Some, None, unwrap_or, option_map, refl, sym, subst, ap, ◌∙◌, arith}
 use Rattle.std.specs.Prelude.{All, IsPermutation, slice_get}
 use Rattle.std.specs.List.Sorted.{IsNonDecreasingBy}
-use Rattle.std.proofs.lemmas.List.{get_or-map, length-map, map_more}
+use Rattle.std.proofs.lemmas.List.{get_or-map, length-map, map_more, take_all}
 use Rattle.std.proofs.lemmas.List.Elements.{All-cons}
-use Rattle.std.proofs.lemmas.List.Sorted.{IsPermutation-map, IsPermutation-refl, length_permutation}
+use Rattle.std.proofs.lemmas.List.Sorted.{All-permutation, IsPermutation-map, IsPermutation-refl, length_permutation}
 use Rattle.row_core.specs.declared.row.Row.{Row}
 use Rattle.dip_core.specs.declared.item.Item.{Item}
 use Rattle.match_core.specs.declared.row_items.ClassedPlace.{ClassedPlace}
-use Rattle.match_core.specs.ClassedPlaces.{item_placed, placed_from}
-use Rattle.match_core.specs.Items.{item_with, items_with}
+use Rattle.match_core.specs.ClassedPlaces.{AreByClass, classed_by, item_placed, numbered_by, placed_from}
+use Rattle.match_core.specs.Items.{AreItemsByClass, item_with, items_with}
 
 -- one more place
 pub placed_from-more : (place : ℕ) (classes : List ℕ) (i at : ℕ) → i < length classes → at ≡ place + i
@@ -32,6 +32,50 @@ placed_from-within place (c ∷ classes) count within =
     All-cons (λ (at : ClassedPlace). at.place < count) (record { class = c; place = place })
     (placed_from (suc place) classes) (omega (arith, within))
     (placed_from-within (suc place) classes count (omega (arith, within)))
+
+-- each class is one of so many where those that stand there are
+pub placed_from-below : (place : ℕ) (classes : List ℕ) (count : ℕ) → All (λ class. class < count) classes
+    → All (λ (at : ClassedPlace). at.class < count) (placed_from place classes)
+placed_from-below place [] count below = λ i d h. absurd (omega arith)
+placed_from-below place (c ∷ classes) count below =
+    All-cons (λ (at : ClassedPlace). at.class < count) (record { class = c; place = place })
+    (placed_from (suc place) classes) (below 0 0 (omega arith))
+    (placed_from-below (suc place) classes count (λ i d h. below (suc i) d (omega (arith, h))))
+
+-- the same places with other classes
+classed-from : (all : List ℕ) (place : ℕ) (old classes : List ℕ) → length classes ≡ length old
+    → ((i at : ℕ) → i < length old → at ≡ place + i → get_or all at 0 ≡ get_or classes i 0)
+    → map (classed_by all) (placed_from place old) ≡ placed_from place classes
+classed-from all place [] [] count each = refl
+classed-from all place [] (c ∷ classes) count each = absurd (omega (arith, count))
+classed-from all place (o ∷ old) [] count each = absurd (omega (arith, count))
+classed-from all place (o ∷ old) (c ∷ classes) count each =
+    let first : get_or all place 0 ≡ c = each 0 place (omega arith) (omega arith) in
+    ap (λ (n : ℕ). record { class = n; place = place } ∷ map (classed_by all) (placed_from (suc place) old)) first
+    ∙ ap (λ l. record { class = c; place = place } ∷ l)
+    (classed-from all (suc place) old classes (omega (arith, count))
+    (λ i at h e. each (suc i) at (omega (arith, h)) (omega (arith, e))))
+
+pub placed_from-classed : (old classes : List ℕ) → length classes ≡ length old
+    → map (classed_by classes) (placed_from 0 old) ≡ placed_from 0 classes
+placed_from-classed old classes count =
+    classed-from classes 0 old classes count
+    (λ i at h e. let same : at ≡ i = omega (arith, e) in ap (λ n. get_or classes n 0) same)
+
+-- the same places with the numbers of their classes
+pub placed_from-numbered : (numbers : List ℕ) (place : ℕ) (old classes : List ℕ) → length classes ≡ length old
+    → ((i : ℕ) → i < length old → get_or classes i 0 ≡ get_or numbers (get_or old i 0) 0)
+    → map (numbered_by numbers) (placed_from place old) ≡ placed_from place classes
+placed_from-numbered numbers place [] [] count each = refl
+placed_from-numbered numbers place [] (c ∷ classes) count each = absurd (omega (arith, count))
+placed_from-numbered numbers place (o ∷ old) [] count each = absurd (omega (arith, count))
+placed_from-numbered numbers place (o ∷ old) (c ∷ classes) count each =
+    let first : c ≡ get_or numbers o 0 = each 0 (omega arith) in
+    ap (λ (n : ℕ). record { class = n; place = place } ∷ map (numbered_by numbers) (placed_from (suc place) old))
+    (sym first)
+    ∙ ap (λ l. record { class = c; place = place } ∷ l)
+    (placed_from-numbered numbers (suc place) old classes (omega (arith, count))
+    (λ i h. each (suc i) (omega (arith, h))))
 
 -- the places behind the first are those of the rows behind it
 placed_behind : (r : Row) (rows : List Row) (place : ℕ) (classes : List ℕ)
@@ -128,3 +172,24 @@ placed-rise rows places items are rise i j d upto inside =
     let high = class_at j (omega arith) in
     let less = rise i j at upto (omega (arith, inside, long)) in
     omega (arith, low, high, less)
+
+-- ---- the places of a side by class
+
+module _ (rows : List Row) (classes : List ℕ) (places : List ClassedPlace) (count : length classes ≡ length rows)
+    (are : AreByClass classes places) where
+  -- they are places of rows
+  pub by_class-within : All (λ (at : ClassedPlace). at.place < length rows) places
+  by_class-within =
+      All-permutation (λ (at : ClassedPlace). at.place < length rows) (placed_from 0 classes) places are.same
+      (placed_from-within 0 classes (length rows) (omega (arith, count)))
+
+  -- and what stands there are the rows' items by class
+  pub by_class-items : (items : List Item) → map Some items ≡ map (item_placed rows) places
+      → AreItemsByClass rows classes items
+  by_class-items items made =
+      let all : take (length rows) classes ≡ classes = take_all (length rows) classes (omega (arith, count)) in
+      record {
+        same = placed-permutation rows classes places items (omega (arith, count))
+            (subst (λ l. IsPermutation (placed_from 0 l) places) (sym all) are.same) made;
+        rise = placed-rise rows places items made are.rise;
+      }

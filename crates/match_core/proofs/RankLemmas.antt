@@ -1,19 +1,23 @@
 -- The ranks of sorted cells: each different cell has one.
-use Rattle.std.proofs.Common.{◌≡◌, ◌≢◌, ℕ, zero, suc, ◌+◌, ◌-◌, ◌<◌, Bool, true, false, List, [], ◌∷◌, ◌++◌, length, length-append, append-nil, take, set, get_or, Some, refl, sym, subst, ap, ◌∙◌, inl, inr, arith, get_or-set_same, get_or-set_other}
+use Rattle.std.proofs.Common.{◌≡◌, ◌≢◌, ℕ, zero, suc, ◌+◌, ◌-◌, ◌<◌, Bool, true, false, List, [], ◌∷◌, ◌++◌, length, length-append, append-nil, map, take, set, get_or, Some, refl, sym, subst, ap, ◌∙◌, inl, inr, arith, get_or-set_same, get_or-set_other}
 use Rattle.std.specs.Cmp.{IsTotalOrder}
 use Rattle.std.specs.declared.cmp.Ordering.{Ordering}
-use Rattle.std.specs.Prelude.{IsSorted, MatchBool, Option, slice_get}
+use Rattle.std.specs.Prelude.{All, IsPermutation, IsSorted, MatchBool, Option, slice_get}
 use Rattle.std.proofs.lemmas.Bool.{cases_eq}
 use Rattle.std.proofs.lemmas.List.{get_or_append_left, get_or-append_right, get_or_read, length_push}
 use Rattle.std.proofs.lemmas.List.Elements.{All-contains}
 use Rattle.std.proofs.lemmas.List.Quantifiers.{all_pairs_push}
+use Rattle.std.proofs.lemmas.List.Sorted.{IsPermutation-map}
 use Rattle.std.proofs.lemmas.Option.{get_or_from_slice_get, slice_get-get_or}
 use Rattle.std.specs.Global.{Vec}
 use Rattle.list_core.specs.Chunks.{all_in}
 use Rattle.list_core.proofs.PlaceLemmas.{slice_get-append_left, slice_get-append_right}
 use Rattle.row_core.specs.declared.value.Value.{Value}
 use Rattle.match_core.specs.declared.cells.Cell.{Cell}
-use Rattle.match_core.specs.Cells.{AgreeOnPlaces, AreRanked, AreRankedUpto, AreRanksOf, AreRising, AreSorted, HasLast, HasRank, IsCellAt, IsEntered, IsFromLast, IsRankAt, cell_cmp, count_before, is_before, same_cell}
+use Rattle.match_core.specs.declared.row_items.ClassedPlace.{ClassedPlace}
+use Rattle.match_core.specs.ClassedPlaces.{classed_by, placed_from}
+use Rattle.match_core.specs.Cells.{AgreeOnPlaces, AreRanked, AreRankedUpto, AreRanksOf, AreRising, AreSorted, HasLast, HasRank, IsCellAt, IsEntered, IsFromLast, IsRankAt, cell_cmp, count_before, is_before, same_cell, spot_of}
+use Rattle.match_core.proofs.PlacedLemmas.{placed_from-classed}
 use Rattle.match_core.proofs.CellOrder.{SameCell, SameCell-sym, SameCell-trans, SameCell-itself, after-from, before-same, before-trans, same_cell-decides, told_apart}
 
 -- ---- lists one behind another
@@ -53,6 +57,36 @@ slice_get-all_in {V} (l ∷ ls) (suc number) i list cell lt is at =
     ap (slice_get (all_in (l ∷ ls))) place
     ∙ slice_get-append_right l.items (all_in ls) (count_before number ls + i)
     ∙ slice_get-all_in ls number i list cell (omega (arith, lt)) is at
+
+-- what is so of all cells is so of those of a list
+pub all_of_list : {V : Type 0} (P : Cell V → Type 0) (lists : List (Vec (Cell V))) (number : ℕ) (list : Vec (Cell V))
+    → All P (all_in lists) → number < length lists → list ≡ get_or lists number list → All P list.items
+all_of_list P [] number list all lt is = absurd (omega (arith, lt))
+all_of_list {V} P (l ∷ ls) zero list all lt is =
+    let count = length-append l.items (all_in ls) in
+    subst (λ (v : Vec (Cell V)). All P v.items) (sym is)
+    (λ k d h. subst P (get_or_append_left l.items (all_in ls) d k h) (all k d (omega (arith, h, count))))
+all_of_list {V} P (l ∷ ls) (suc number) list all lt is =
+    let count = length-append l.items (all_in ls) in
+    all_of_list P ls number list
+    (λ k d h.
+    let same : length l.items + k - length l.items ≡ k = omega arith in
+    subst P
+    (get_or-append_right l.items (all_in ls) (length l.items) (length l.items + k) d refl (omega arith)
+    ∙ ap (λ n. get_or (all_in ls) n d) same)
+    (all (length l.items + k) d (omega (arith, h, count))))
+    (omega (arith, lt)) is
+
+-- the places of sorted cells' rows, with the ranks that these have, are those of all rows
+pub places_ranked : {V : Type 0} (cmp : V → V → Ordering) (IsOf : Value → V → Type 0) (classes : List ℕ)
+    (column : List (Option Value)) (cells : List (Cell V)) (lent ranks : List ℕ) (places : List ClassedPlace)
+    → AreSorted cmp IsOf classes column cells → lent ≡ ranks → length ranks ≡ length classes
+    → places ≡ map (classed_by lent) (map spot_of cells) → IsPermutation (placed_from 0 ranks) places
+places_ranked cmp IsOf classes column cells lent ranks places sorted same count are =
+    subst (λ l. IsPermutation l places) (placed_from-classed classes ranks count)
+    (subst (IsPermutation (map (classed_by ranks) (placed_from 0 classes)))
+    (sym (are ∙ ap (λ l. map (classed_by l) (map spot_of cells)) same))
+    (IsPermutation-map (classed_by ranks) (placed_from 0 classes) (map spot_of cells) sorted.spots))
 
 -- ---- a side's ranks
 

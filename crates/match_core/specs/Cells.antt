@@ -166,6 +166,13 @@ pub record AreRanked {V : Type 0} (cmp : V → V → Ordering) (IsOf : Value →
   pub each : (i : ℕ) → i < length column → IsRankAt cmp IsOf classes column ranks firsts i
   pub rise : AreRising cmp firsts
 
+-- the rows of a side by rank, and their places with their ranks
+pub record AreRankedAndPlaced {V : Type 0} (cmp : V → V → Ordering) (IsOf : Value → V → Type 0) (classes : List ℕ)
+    (column : List (Option Value)) (ranks : List ℕ) (firsts : List (Cell V)) (places : List ClassedPlace)
+    : Type 0 where
+  pub ranked : AreRanked cmp IsOf classes column ranks firsts
+  pub placed : IsPermutation (placed_from 0 ranks) places
+
 -- the left cells up to a place come before a right one, and that at the place doesn't
 pub record IsNextTo {V : Type 0} (cmp : V → V → Ordering) (lefts rights : List (Cell V)) (right left : ℕ)
     : Type 0 where

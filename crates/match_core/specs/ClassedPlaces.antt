@@ -1,5 +1,6 @@
--- Places of rows, each with a class: what is sorted for the rows' items.
-use Rattle.std.specs.Prelude.{ℕ, suc, List, [], ◌∷◌, Option, option_map, slice_get}
+-- Places of rows, each with a class.
+use Rattle.std.specs.Prelude.{ℕ, suc, List, [], ◌∷◌, IsPermutation, Option, option_map, slice_get, slice_index}
+use Rattle.std.specs.List.Sorted.{IsNonDecreasingBy}
 use Rattle.row_core.specs.declared.row.Row.{Row}
 use Rattle.dip_core.specs.declared.item.Item.{Item}
 use Rattle.match_core.specs.declared.row_items.ClassedPlace.{ClassedPlace}
@@ -9,6 +10,19 @@ use Rattle.match_core.specs.Items.{item_with}
 abbrev pub placed_from : ℕ → List ℕ → List ClassedPlace
 placed_from place [] = []
 placed_from place (class ∷ classes) = record { class = class; place = place } ∷ placed_from (suc place) classes
+
+-- the places of rows with their classes, those of lower classes first
+pub record AreByClass (classes : List ℕ) (places : List ClassedPlace) : Type 0 where
+  pub same : IsPermutation (placed_from 0 classes) places
+  pub rise : IsNonDecreasingBy (λ (at : ClassedPlace). at.class) places
+
+-- a place with the class that stands there
+abbrev pub classed_by : List ℕ → ClassedPlace → ClassedPlace
+classed_by classes at = record { class = slice_index classes at.place; place = at.place }
+
+-- a place with the number of its class
+abbrev pub numbered_by : List ℕ → ClassedPlace → ClassedPlace
+numbered_by numbers at = record { class = slice_index numbers at.class; place = at.place }
 
 -- the row at a place as an item of the class there, if there is one
 abbrev pub item_placed : List Row → ClassedPlace → Option Item

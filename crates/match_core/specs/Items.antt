@@ -1,5 +1,6 @@
 -- Rows as items, which are divided and merged.
-use Rattle.std.specs.Prelude.{ℕ, List, [], ◌∷◌, map, pos, filter}
+use Rattle.std.specs.Prelude.{ℕ, List, [], ◌∷◌, IsPermutation, map, pos, filter}
+use Rattle.std.specs.List.Sorted.{IsNonDecreasingBy}
 use Rattle.std.specs.Ordering.{nat_cmp}
 use Rattle.row_core.specs.declared.row.Row.{Row}
 use Rattle.dip_core.specs.declared.item.Item.{Item}
@@ -27,6 +28,11 @@ items_with (row ∷ rows) (class ∷ classes) = item_with row class ∷ items_wi
 -- rows as items, each of its class: those whose classes a range has
 abbrev pub items_in_range : Range ℕ → List Row → List ℕ → List Item
 items_in_range range rows classes = filter (λ (x : Item). has nat_cmp range x.class) (items_with rows classes)
+
+-- rows as items, each of its class, those of lower classes first
+pub record AreItemsByClass (rows : List Row) (classes : List ℕ) (items : List Item) : Type 0 where
+  pub same : IsPermutation (items_with rows classes) items
+  pub rise : IsNonDecreasingBy (λ (x : Item). x.class) items
 
 -- an item in the one class of all
 abbrev pub unclassed : Item → Item

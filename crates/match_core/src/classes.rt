@@ -6,9 +6,11 @@ ghost use Rattle.row_core.specs.Refusals.{first_of};
 ghost use Rattle.match_core.specs.Columns.{columns_refusal, tests_of_names};
 ghost use Rattle.match_core.specs.Classes.{AreClasses, values_under};
 ghost use Rattle.match_core.specs.Cells.{Refines, so_far};
+ghost use Rattle.match_core.specs.ClassedPlaces.{AreByClass};
 
 use crate::NoMemory;
 use crate::comparable::HashedText;
+use crate::row_items::{ClassedPlace, by_class, classed_places};
 use crate::side::Side;
 use crate::side_column::SideColumn;
 use crate::split::refine;
@@ -23,6 +25,10 @@ pub struct Classes {
     pub left: Vec<u64>,
     /// Those of the right rows, in theirs.
     pub right: Vec<u64>,
+    /// The places of the left rows with their classes, those of lower classes first: in the order that sorting gave.
+    pub left_places: Vec<ClassedPlace>,
+    /// The places of the right rows so.
+    pub right_places: Vec<ClassedPlace>,
 }
 
 /// A class for each left row, and one for each right row: two rows, of whichever sides, have one class
@@ -49,9 +55,13 @@ pub fn classes_of<R: Threads + Sync>(
     ensures tell { IfOk result
         (λ classes. AreClasses left.entry.schema.now right.entry.schema.now left.entry.rows.now
         right.entry.rows.now on.now (classes.left.items ++ classes.right.items)) }
+    ensures left_places { IfOk result
+        (λ classes. AreByClass classes.left.items classes.left_places.items) }
+    ensures right_places { IfOk result
+        (λ classes. AreByClass classes.right.items classes.right_places.items) }
 {
     let Some((first, others)) = on.split_first() else {
-        return one_class(alloc, left.rows.len(), right.rows.len());
+        return one_class(rt, alloc, left.rows.len(), right.rows.len());
     };
     let mut classes = split_by(rt, alloc, left, None, right, None, first, workers)?;
     for pair in others {
@@ -63,13 +73,28 @@ pub fn classes_of<R: Threads + Sync>(
 }
 
 /// One class for so many left rows, and so many right ones.
-fn one_class(alloc: Global, lefts: usize, rights: usize) -> Result<Classes, NoMemory>
+fn one_class<R: Threads + Sync>(
+    rt: &R,
+    alloc: Global,
+    lefts: usize,
+    rights: usize,
+) -> Result<Classes, NoMemory>
     ensures left { IfOk result (λ classes. classes.left.items ≡ replicate lefts 0) }
     ensures right { IfOk result (λ classes. classes.right.items ≡ replicate rights 0) }
+    ensures left_places { IfOk result
+        (λ classes. AreByClass classes.left.items classes.left_places.items) }
+    ensures right_places { IfOk result
+        (λ classes. AreByClass classes.right.items classes.right_places.items) }
 {
+    let left = vec![in alloc; 0; lefts]?;
+    let right = vec![in alloc; 0; rights]?;
+    let left_places = by_class(rt, classed_places(alloc, &left)?, 1);
+    let right_places = by_class(rt, classed_places(alloc, &right)?, 1);
     Ok(Classes {
-        left: vec![in alloc; 0; lefts]?,
-        right: vec![in alloc; 0; rights]?,
+        left,
+        right,
+        left_places,
+        right_places,
     })
 }
 
@@ -93,6 +118,10 @@ fn split_by<R: Threads + Sync>(
         (so_far left_classes.entry left.entry.rows.now ++ so_far right_classes.entry right.entry.rows.now)
         (values_under left.entry.schema.now right.entry.schema.now left.entry.rows.now right.entry.rows.now pair.now)
         (new.left.items ++ new.right.items)) }
+    ensures left_places { IfOk result
+        (λ new. AreByClass new.left.items new.left_places.items) }
+    ensures right_places { IfOk result
+        (λ new. AreByClass new.right.items new.right_places.items) }
 {
     let Some(left_place) = left.schema.column(pair.0) else {
         unreachable!()

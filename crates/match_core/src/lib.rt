@@ -21,5 +21,5 @@ pub use classes::{Classes, classes_of};
 pub use columns::{QueryRefused, refusal_of_pairs};
 pub use laws::matching_rows_have_equal_values;
 pub use period_core::NoMemory;
-pub use row_items::{items, items_by_class, items_in_piece, items_in_range};
+pub use row_items::{ClassedPlace, items, items_in_piece, items_in_range, items_of_sides};
 pub use side::Side;

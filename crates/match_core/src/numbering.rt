@@ -1,11 +1,13 @@
 //! Numbers the classes of both sides by the ranks of each.
 
-ghost use Rattle.std.specs.Prelude.{◌≡◌, ◌+◌, ◌<◌, ◌≤◌, All, IfOk, IfSome, length, slice_get, take, true, false};
+ghost use Rattle.std.specs.Prelude.{◌≡◌, ◌+◌, ◌<◌, ◌≤◌, All, IfOk, IfSome, length, map, slice_get, take, true, false};
+ghost use Rattle.match_core.specs.ClassedPlaces.{numbered_by};
 ghost use Rattle.match_core.specs.Cells.{AreMatched, AreNumbered, AreRising, IsNextTo, IsNumberOf, is_before};
 
 use crate::NoMemory;
 use crate::cells::{Cell, is_before};
 use crate::ranks::is_same_cell;
+use crate::row_items::ClassedPlace;
 use std::alloc::Global;
 
 /// A number for each right cell: the place of the left cell that is the same, or one behind those of all left cells.
@@ -66,4 +68,24 @@ pub(crate) fn number_rows(ranks: &mut [u64], numbers: &[u64])
     for i in 0..ranks.len() {
         ranks[i] = numbers[ranks[i] as usize];
     }
+}
+
+/// The places with the numbers of their ranks as their classes.
+pub(crate) fn number_places(
+    alloc: Global,
+    places: &[ClassedPlace],
+    numbers: &[u64],
+) -> Result<Vec<ClassedPlace>, NoMemory>
+    requires { All (λ at. at.class < length numbers.now) places.now }
+    ensures { IfOk result
+        (λ numbered. numbered.items ≡ map (numbered_by numbers.now) places.now) }
+{
+    let mut numbered = Vec::with_capacity(alloc, places.len())?;
+    for at in places {
+        numbered.push(ClassedPlace {
+            class: numbers[at.class as usize],
+            place: at.place,
+        })?;
+    }
+    Ok(numbered)
 }

@@ -1,10 +1,11 @@
 //! Numbers the rows of one side by their values: rows of one class so far and one value have one rank.
 
-ghost use Rattle.std.specs.Prelude.{◌≡◌, ◌+◌, ◌<◌, All, IfOk, IsSorted, MatchBool, length};
+ghost use Rattle.std.specs.Prelude.{◌≡◌, ◌+◌, ◌++◌, ◌<◌, All, IfOk, IsSorted, MatchBool, OnOk, length, map};
 ghost use Rattle.list_core.specs.Chunks.{all_in};
+ghost use Rattle.match_core.specs.ClassedPlaces.{classed_by};
 ghost use Rattle.match_core.specs.Cells.{
   AgreeOnPlaces,
-  AreRanked,
+  AreRankedAndPlaced,
   AreRankedUpto,
   AreRanksOf,
   AreRising,
@@ -15,11 +16,13 @@ ghost use Rattle.match_core.specs.Cells.{
   cell_cmp,
   count_before,
   same_cell,
+  spot_of,
 };
 
 use crate::NoMemory;
 use crate::cells::{Cell, sorted_cells};
 use crate::comparable::Comparable;
+use crate::row_items::ClassedPlace;
 use std::alloc::Global;
 use std::thread::Threads;
 
@@ -30,6 +33,8 @@ pub(crate) struct Ranked<V> {
     pub ranks: Vec<u64>,
     /// By rank, a cell that is the same as those of the rank's rows: each comes before the next one.
     pub firsts: Vec<Cell<V>>,
+    /// The places of the rows with their ranks, in the order of their cells.
+    pub places: Vec<ClassedPlace>,
 }
 
 /// The rows of a side by rank.
@@ -39,13 +44,54 @@ pub(crate) fn rank_side<R: Threads + Sync, V: Ord + Copy + Send + Sync, S: Compa
     side: S,
     workers: u32,
 ) -> Result<Ranked<V>, NoMemory>
-    ensures { IfOk result (λ ranked. AreRanked V.cmp S.IsOf (S.classes side) (S.column side)
-        ranked.ranks.items ranked.firsts.items) }
+    ensures { IfOk result (λ ranked. AreRankedAndPlaced V.cmp S.IsOf (S.classes side)
+        (S.column side) ranked.ranks.items ranked.firsts.items ranked.places.items) }
 {
     let lists = sorted_cells(rt, alloc, side, workers)?;
     let mut ranks = vec![in alloc; 0; side.len()]?;
     let firsts = rank_cells(alloc, &lists, &mut ranks)?;
-    Ok(Ranked { ranks, firsts })
+    let places = places_of(alloc, &lists, &ranks)?;
+    Ok(Ranked {
+        ranks,
+        firsts,
+        places,
+    })
+}
+
+/// The places of the cells' rows with the ranks that these have, in the order of the cells.
+fn places_of<V>(
+    alloc: Global,
+    lists: &[Vec<Cell<V>>],
+    ranks: &[u64],
+) -> Result<Vec<ClassedPlace>, NoMemory>
+    requires { All (λ cell. cell.place < length ranks.now) (all_in lists.now) }
+    ensures { IfOk result (λ places.
+        places.items ≡ map (classed_by ranks.now) (map spot_of (all_in lists.now))) }
+{
+    let mut places = Vec::with_capacity(alloc, ranks.len())?;
+    for list in lists {
+        add_places(list, ranks, &mut places)?;
+    }
+    Ok(places)
+}
+
+/// Adds the places of some cells' rows with their ranks.
+fn add_places<V>(
+    cells: &[Cell<V>],
+    ranks: &[u64],
+    places: &mut Vec<ClassedPlace>,
+) -> Result<(), NoMemory>
+    requires { All (λ cell. cell.place < length ranks.now) cells.now }
+    ensures { OnOk result (places.new.items
+        ≡ places.old.items ++ map (classed_by ranks.now) (map spot_of cells.now)) }
+{
+    for cell in cells {
+        places.push(ClassedPlace {
+            class: ranks[cell.place],
+            place: cell.place,
+        })?;
+    }
+    Ok(())
 }
 
 /// Gives each cell's row the number of different cells before it, and lists those that differ.

@@ -2,25 +2,31 @@
 
 ghost use Rattle.std.specs.Prelude.{◌≡◌, ◌<◌, ◌≤◌, All, IfOk, IsPermutation, Some, length, map};
 ghost use Rattle.std.specs.List.Sorted.{IsNonDecreasingBy};
-ghost use Rattle.dip_core.specs.declared.item.Item.{Item};
-ghost use Rattle.match_core.specs.ClassedPlaces.{item_placed, placed_from};
-ghost use Rattle.match_core.specs.Items.{item_with, items_in_range, items_of, items_with};
+ghost use Rattle.match_core.specs.declared.row_items.ClassedPlace.{ClassedPlace};
+ghost use Rattle.match_core.specs.ClassedPlaces.{AreByClass, item_placed, placed_from};
+ghost use Rattle.match_core.specs.Items.{AreItemsByClass, item_with, items_in_range, items_of};
 ghost use Rattle.share_core.specs.Pieces.{piece};
 ghost use Rattle.table_core.specs.Lent.{lent_row};
 
 use crate::NoMemory;
+use crate::classes::Classes;
 use dip_core::Item;
 use share_core::{Range, piece, places_within};
 use sort_core::sort_unstable_by_key;
 use std::alloc::Global;
-use std::thread::Threads;
+use std::thread::{Threads, join};
 use table_core::{RowRef, SharedRows};
 
+/// Of fewer rows one side's items would be there before the other side's thread has started.
+const ROWS_FOR_THREAD: usize = 4_096;
+
 /// A row's place and its class: what is sorted instead of its item, which is more than twice as long.
-#[derive(Clone, Copy)]
-struct ClassedPlace {
-    class: u64,
-    place: usize,
+#[derive(Clone, Copy, Debug)]
+pub struct ClassedPlace {
+    /// The class of the row.
+    pub class: u64,
+    /// Where it stands among the rows, from 0 on.
+    pub place: usize,
 }
 
 /// The rows as items of one class, in their order.
@@ -38,32 +44,69 @@ pub fn items(alloc: Global, rows: &SharedRows) -> Result<Vec<Item>, NoMemory>
     Ok(items)
 }
 
-/// The rows as items, each of the class that stands at its place: those of lower classes first. Sorting pairs of a
-/// class and a place, and making the items after that, takes less than sorting items.
+/// The rows of both sides as items, each of its class: those of lower classes first. Where rows are many, one thread
+/// makes the left ones and another the right ones, if there are two workers.
 ///
 /// # Errors
 ///
 /// `NoMemory` where a growth is refused.
-pub fn items_by_class<R: Threads + Sync>(
+pub fn items_of_sides<R: Threads + Sync>(
     rt: &R,
     alloc: Global,
-    rows: &SharedRows,
-    classes: &[u64],
+    left: &SharedRows,
+    right: &SharedRows,
+    classes: Classes,
     workers: u32,
-) -> Result<Vec<Item>, NoMemory>
-    requires { length rows.now ≤ length classes.now }
-    ensures same { IfOk result (λ items.
-        IsPermutation (items_with rows.now classes.now) items.items) }
-    ensures sorted { IfOk result (λ items.
-        IsNonDecreasingBy (λ (x : Item). x.class) items.items) }
+) -> Result<(Vec<Item>, Vec<Item>), NoMemory>
+    requires left { length classes.left.items ≡ length left.now }
+    requires right { length classes.right.items ≡ length right.now }
+    requires left_places { AreByClass classes.left.items classes.left_places.items }
+    requires right_places { AreByClass classes.right.items classes.right_places.items }
+    ensures left { IfOk result (λ both.
+        AreItemsByClass left.now classes.left.items both.0.items) }
+    ensures right { IfOk result (λ both.
+        AreItemsByClass right.now classes.right.items both.1.items) }
 {
-    let mut places = classed_places(alloc, &classes[..rows.len()])?;
+    let lefts = classes.left_places.as_slice();
+    let rights = classes.right_places.as_slice();
+    if workers < 2 || lefts.len().min(rights.len()) < ROWS_FOR_THREAD {
+        let lefts = items_at(alloc, left, lefts)?;
+        let rights = items_at(alloc, right, rights)?;
+        return Ok((lefts, rights));
+    }
+    let (lefts, rights) = join(
+        rt,
+        || -> Result<Vec<Item>, NoMemory>
+            requires { All (λ at. at.place < length left.now) lefts.now }
+            ensures { IfOk result (λ items.
+                map Some items.items ≡ map (item_placed left.entry.now) lefts.entry.now) }
+        { items_at(alloc, left, lefts) },
+        || -> Result<Vec<Item>, NoMemory>
+            requires { All (λ at. at.place < length right.now) rights.now }
+            ensures { IfOk result (λ items.
+                map Some items.items ≡ map (item_placed right.entry.now) rights.entry.now) }
+        { items_at(alloc, right, rights) },
+    );
+    let lefts = lefts?;
+    let rights = rights?;
+    Ok((lefts, rights))
+}
+
+/// The places by class.
+pub(crate) fn by_class<R: Threads + Sync>(
+    rt: &R,
+    mut places: Vec<ClassedPlace>,
+    workers: u32,
+) -> Vec<ClassedPlace>
+    ensures same { IsPermutation places.items result.items }
+    ensures rise { IsNonDecreasingBy (λ (at : ClassedPlace). at.class) result.items }
+{
     sort_unstable_by_key(rt, &mut places, |it| it.class, workers);
-    items_at(alloc, rows, &places)
+    places
 }
 
 /// The places of rows in their order, each with the class that stands there.
-fn classed_places(alloc: Global, classes: &[u64]) -> Result<Vec<ClassedPlace>, NoMemory>
+pub(crate) fn classed_places(alloc: Global, classes: &[u64]) -> Result<Vec<ClassedPlace>, NoMemory>
     ensures { IfOk result (λ places. places.items ≡ placed_from 0 classes.now) }
 {
     let mut places = Vec::with_capacity(alloc, classes.len())?;

@@ -3,8 +3,9 @@
 
 ghost use Rattle.std.specs.Prelude.{◌≡◌, ◌++◌, All, IfOk, length};
 ghost use Rattle.std.specs.Thread.{IsSync};
+ghost use Rattle.match_core.specs.ClassedPlaces.{AreByClass};
 ghost use Rattle.match_core.specs.Cells.{
-  AreRanked,
+  AreRankedAndPlaced,
   IsOfKind,
   Refines,
 };
@@ -12,8 +13,9 @@ ghost use Rattle.match_core.specs.Cells.{
 use crate::NoMemory;
 use crate::classes::Classes;
 use crate::comparable::Comparable;
-use crate::numbering::{number_rows, numbers_of};
+use crate::numbering::{number_places, number_rows, numbers_of};
 use crate::ranks::{Ranked, rank_side};
+use crate::row_items::by_class;
 use std::alloc::Global;
 use std::thread::{Threads, join_mut};
 
@@ -37,14 +39,21 @@ pub(crate) fn refine<R: Threads + Sync, V: Ord + Copy + Send + Sync, S: Comparab
         (λ classes. Refines (S.classes left ++ S.classes right)
         (S.column left ++ S.column right)
         (classes.left.items ++ classes.right.items)) }
+    ensures left_places { IfOk result
+        (λ classes. AreByClass classes.left.items classes.left_places.items) }
+    ensures right_places { IfOk result
+        (λ classes. AreByClass classes.right.items classes.right_places.items) }
 {
     let (lefts, rights) = ranked_sides::<R, V, S>(rt, alloc, left, right, workers)?;
     let numbers = numbers_of(alloc, &lefts.firsts, &rights.firsts)?;
+    let right_places = number_places(alloc, &rights.places, &numbers)?;
     let mut right = rights.ranks;
     number_rows(&mut right, &numbers);
     Ok(Classes {
         left: lefts.ranks,
         right,
+        left_places: by_class(rt, lefts.places, workers),
+        right_places: by_class(rt, right_places, workers),
     })
 }
 
@@ -56,10 +65,10 @@ fn ranked_sides<R: Threads + Sync, V: Ord + Copy + Send + Sync, S: Comparable<V>
     right: S,
     workers: u32,
 ) -> Result<(Ranked<V>, Ranked<V>), NoMemory>
-    ensures left { IfOk result (λ both. AreRanked V.cmp S.IsOf (S.classes left)
-        (S.column left) both.0.ranks.items both.0.firsts.items) }
-    ensures right { IfOk result (λ both. AreRanked V.cmp S.IsOf (S.classes right)
-        (S.column right) both.1.ranks.items both.1.firsts.items) }
+    ensures left { IfOk result (λ both. AreRankedAndPlaced V.cmp S.IsOf (S.classes left)
+        (S.column left) both.0.ranks.items both.0.firsts.items both.0.places.items) }
+    ensures right { IfOk result (λ both. AreRankedAndPlaced V.cmp S.IsOf (S.classes right)
+        (S.column right) both.1.ranks.items both.1.firsts.items both.1.places.items) }
 {
     if workers < 2 || left.len().min(right.len()) < ROWS_FOR_THREAD {
         let lefts = rank_side(rt, alloc, left, workers)?;
@@ -74,14 +83,14 @@ fn ranked_sides<R: Threads + Sync, V: Ord + Copy + Send + Sync, S: Comparable<V>
         &mut move || -> Result<Ranked<V>, NoMemory>
             requires { IsSync R.row }
             ensures { IfOk result
-                (λ ranked. AreRanked V.cmp S.IsOf (S.classes left) (S.column left)
-                ranked.ranks.items ranked.firsts.items) }
+                (λ ranked. AreRankedAndPlaced V.cmp S.IsOf (S.classes left) (S.column left)
+                ranked.ranks.items ranked.firsts.items ranked.places.items) }
         { rank_side(rt, alloc, left, few) },
         &mut move || -> Result<Ranked<V>, NoMemory>
             requires { IsSync R.row }
             ensures { IfOk result
-                (λ ranked. AreRanked V.cmp S.IsOf (S.classes right) (S.column right)
-                ranked.ranks.items ranked.firsts.items) }
+                (λ ranked. AreRankedAndPlaced V.cmp S.IsOf (S.classes right) (S.column right)
+                ranked.ranks.items ranked.firsts.items ranked.places.items) }
         { rank_side(rt, alloc, right, others) },
     );
     let lefts = lefts?;

@@ -2,7 +2,7 @@
 
 use crate::tables::{Table, TablePair, january, push_row, side, table_with};
 use dip_core::Item;
-use match_core::{classes_of, items_by_class, refusal_of_pairs};
+use match_core::{classes_of, items_of_sides, refusal_of_pairs};
 use row_core::{Kind, Name, RowList, Text, Value, Values};
 use std::alloc::Global;
 use std::process::Abort;
@@ -105,11 +105,17 @@ fn check_item(rt: &impl Abort, item: Option<&Item>, id: u64, class: u64) {
 
 #[test]
 fn items_of_lower_classes_come_first(rt: HostRuntime) -> Result<(), Fail> {
-    let table = table(&rt, &[(b"x", 1), (b"y", 1)]);
-    assert!(rt; table.rows.len() <= 2);
-    let items = items_by_class(&rt, rt.alloc(), &table.rows, &[7, 4], 1)?;
-    assert!(rt; items.len() == 2);
-    check_item(&rt, items.first(), 2, 4);
-    check_item(&rt, items.get(1), 1, 7);
+    let left = table(&rt, &[(b"x", 2), (b"y", 1)]);
+    let right = table(&rt, &[(b"x", 3), (b"y", 1)]);
+    let (one, other) = (side(&rt, &left), side(&rt, &right));
+    let on = names(&rt, &[b"n"]);
+    assert!(rt; refusal_of_pairs(one.schema, other.schema, &on).is_none());
+    let classes = classes_of(&rt, rt.alloc(), one, other, &on, 1)?;
+    let (lefts, rights) = items_of_sides(&rt, rt.alloc(), one.rows, other.rows, classes, 1)?;
+    assert!(rt; lefts.len() == 2 && rights.len() == 2);
+    check_item(&rt, lefts.first(), 2, 0);
+    check_item(&rt, lefts.get(1), 1, 1);
+    check_item(&rt, rights.first(), 2, 0);
+    check_item(&rt, rights.get(1), 1, 3);
     Ok(())
 }

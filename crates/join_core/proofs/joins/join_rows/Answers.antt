@@ -15,8 +15,7 @@ join_items-requires-clause-left_few g c =
     let rows = c.args.left.rows.now in
     let classes = c.in_ok-classes.classes.left.items in
     let items = c.in_ok-lefts.lefts.items in
-    let side = moved_made rows rows classes c.deref.result.now items c.in_ok-lefts.ensures.same refl
-    c.deref.ensures.value c.in_ok-classes.ensures.left in
+    let side = moved_made rows classes items c.in_ok-lefts.ensures.left c.in_ok-classes.ensures.left in
     let few : length rows ≤ item_limit = c.args.left.few in
     omega (arith, moved_len rows classes items side, few)
 
@@ -24,9 +23,8 @@ pub join_items-requires-clause-right_few : goal.join_items-requires-clause-right
 join_items-requires-clause-right_few g c =
     let rows = c.args.right.rows.now in
     let classes = c.in_ok-classes.classes.right.items in
-    let items = c.in_ok-rights.rights.items in
-    let side = moved_made rows rows classes c.deref-2.result.now items c.in_ok-rights.ensures.same refl
-    c.deref-2.ensures.value c.in_ok-classes.ensures.right in
+    let items = c.in_ok-lefts.rights.items in
+    let side = moved_made rows classes items c.in_ok-lefts.ensures.right c.in_ok-classes.ensures.right in
     let few : length rows ≤ item_limit = c.args.right.few in
     omega (arith, moved_len rows classes items side, few)
 
@@ -35,17 +33,15 @@ join_items-requires-clause-left_ids g c = λ κs outlives.
     (let rows = c.args.left.rows.now in
     let classes = c.in_ok-classes.classes.left.items in
     let items = c.in_ok-lefts.lefts.items in
-    let side = moved_made rows rows classes c.deref.result.now items c.in_ok-lefts.ensures.same refl
-    c.deref.ensures.value c.in_ok-classes.ensures.left in
+    let side = moved_made rows classes items c.in_ok-lefts.ensures.left c.in_ok-classes.ensures.left in
     moved_distinct rows classes items side c.args.left.rise)
 
 pub join_items-requires-clause-right_ids : goal.join_items-requires-clause-right_ids
 join_items-requires-clause-right_ids g c = λ κs outlives.
     (let rows = c.args.right.rows.now in
     let classes = c.in_ok-classes.classes.right.items in
-    let items = c.in_ok-rights.rights.items in
-    let side = moved_made rows rows classes c.deref-2.result.now items c.in_ok-rights.ensures.same refl
-    c.deref-2.ensures.value c.in_ok-classes.ensures.right in
+    let items = c.in_ok-lefts.rights.items in
+    let side = moved_made rows classes items c.in_ok-lefts.ensures.right c.in_ok-classes.ensures.right in
     moved_distinct rows classes items side c.args.right.rise)
 
 pub returns-clause-rows : goal.returns-clause-rows
@@ -54,10 +50,8 @@ returns-clause-rows g c =
     let rights = c.args.right.rows.now in
     let ones = c.in_ok-classes.classes.left.items in
     let others = c.in_ok-classes.classes.right.items in
-    let one = moved_made lefts lefts ones c.deref.result.now c.in_ok-lefts.lefts.items c.in_ok-lefts.ensures.same refl
-    c.deref.ensures.value c.in_ok-classes.ensures.left in
-    let other = moved_made rights rights others c.deref-2.result.now c.in_ok-rights.rights.items
-    c.in_ok-rights.ensures.same refl c.deref-2.ensures.value c.in_ok-classes.ensures.right in
+    let one = moved_made lefts ones c.in_ok-lefts.lefts.items c.in_ok-lefts.ensures.left c.in_ok-classes.ensures.left in
+    let other = moved_made rights others c.in_ok-lefts.rights.items c.in_ok-lefts.ensures.right c.in_ok-classes.ensures.right in
     let left = c.args.left.schema.now in
     let right = c.args.right.schema.now in
     let on = c.args.on.now in
@@ -67,7 +61,7 @@ returns-clause-rows g c =
     (λ answer h.
     IsJoin-of_items (MatchesOn left right on) lefts rights ones others one.enough other.enough tell answer.rows
     (rows-permutation (items_with lefts ones) (items_with rights others) c.in_ok-lefts.lefts.items
-    c.in_ok-rights.rights.items one.moved other.moved RowBefore answer.rows h)) c.join_items.ensures.rows
+    c.in_ok-lefts.rights.items one.moved other.moved RowBefore answer.rows h)) c.join_items.ensures.rows
 
 pub returns-clause-turns : goal.returns-clause-turns
 returns-clause-turns g c =
@@ -76,14 +70,18 @@ returns-clause-turns g c =
     let ones = c.in_ok-classes.classes.left.items in
     let others = c.in_ok-classes.classes.right.items in
     let left = c.in_ok-lefts.lefts.items in
-    let right = c.in_ok-rights.rights.items in
-    let one = moved_made lefts lefts ones c.deref.result.now left c.in_ok-lefts.ensures.same refl
-    c.deref.ensures.value c.in_ok-classes.ensures.left in
-    let other = moved_made rights rights others c.deref-2.result.now right c.in_ok-rights.ensures.same refl
-    c.deref-2.ensures.value c.in_ok-classes.ensures.right in
+    let right = c.in_ok-lefts.rights.items in
+    let one = moved_made lefts ones left c.in_ok-lefts.ensures.left c.in_ok-classes.ensures.left in
+    let other = moved_made rights others right c.in_ok-lefts.ensures.right c.in_ok-classes.ensures.right in
     IfOk-weaker c.join_items.result _ _
     (λ answer h k m lk lm.
     subst (λ (n : ℕ). IsWithin k m (length lefts) n answer.turns) (moved_len rights others right other)
     (subst (λ (n : ℕ). IsWithin k m n (length right) answer.turns) (moved_len lefts ones left one)
     (h k m (moved_least lefts ones left one k lk) (moved_least rights others right other m lm))))
     c.join_items.ensures.turns
+
+pub join_items-requires-clause-left_rise : goal.join_items-requires-clause-left_rise
+join_items-requires-clause-left_rise g c = λ κs outlives. c.in_ok-lefts.ensures.left.rise
+
+pub join_items-requires-clause-right_rise : goal.join_items-requires-clause-right_rise
+join_items-requires-clause-right_rise g c = λ κs outlives. c.in_ok-lefts.ensures.right.rise

@@ -42,6 +42,8 @@ loop-pair-init g c =
       subst (λ (l : List NamePair). AreClasses left right lefts rights l (new.left.items ++ new.right.items)) (sym one)
           (one_more left right lefts rights [] first _ (new.left.items ++ new.right.items) none len
           c.in_ok-classes.ensures.split),
+      c.in_ok-classes.ensures.left_places,
+      c.in_ok-classes.ensures.right_places,
     )
 
 pub split_by-requires-in-loop-pair-clause-allowed : goal.split_by-requires-in-loop-pair-clause-allowed
@@ -93,6 +95,8 @@ loop-pair-preserved g c =
       c.in_ok-classes-2.ensures.left,
       c.in_ok-classes-2.ensures.right,
       subst (λ (l : List NamePair). AreClasses left right lefts rights l (new.left.items ++ new.right.items)) front more,
+      c.in_ok-classes-2.ensures.left_places,
+      c.in_ok-classes-2.ensures.right_places,
     )
 
 -- a list that is lent has as many as it had
@@ -159,3 +163,9 @@ returns-clause-tell g c =
     (λ (l : List NamePair). AreClasses c.args.left.schema.now c.args.right.schema.now c.args.left.rows.now
     c.args.right.rows.now l (c.loop-pair.classes.left.items ++ c.loop-pair.classes.right.items))
     (take_all (c.loop-pair.pair-index + 1) on (omega (arith, len, past))) c.loop-pair.invariant.2
+
+pub returns-clause-left_places : goal.returns-clause-left_places
+returns-clause-left_places g c = c.loop-pair.invariant.3
+
+pub returns-clause-right_places : goal.returns-clause-right_places
+returns-clause-right_places g c = c.loop-pair.invariant.4

@@ -1,10 +1,11 @@
-use Rattle.std.proofs.Common.{◌≡◌, ◌∙◌, ap, length, subst, sym}
+use Rattle.std.proofs.Common.{◌≡◌, ◌∙◌, ap, arith, length, map, subst, sym}
 use Rattle.std.specs.Prelude.{List}
 use Rattle.std.specs.Global.{Vec}
 use Rattle.list_core.specs.Chunks.{all_in}
 use Rattle.match_core.specs.declared.cells.Cell.{Cell}
-use Rattle.match_core.specs.Cells.{AreRanked, AreRanksOf}
-use Rattle.match_core.proofs.RankLemmas.{ranked_from}
+use Rattle.match_core.specs.Cells.{AreRanked, AreRanksOf, spot_of}
+use Rattle.match_core.specs.ClassedPlaces.{classed_by}
+use Rattle.match_core.proofs.RankLemmas.{places_ranked, ranked_from}
 use Rattle.match_core.proofs.VecLemmas.{written_back}
 use Rattle.match_core.proofs.ranks.rank_side.Goals as goal
 
@@ -25,5 +26,17 @@ returns g c =
     let told : AreRanksOf cmp cells new firsts =
     subst (λ (l : List (Vec (Cell g.row.V.Denot))). AreRanksOf cmp (all_in l) new firsts) c.deref.ensures.value
     c.in_ok-firsts.ensures.ranks in
-    subst (λ l. AreRanked cmp IsOf classes column l firsts) (sym kept)
-    (ranked_from cmp IsOf classes column cells firsts new count c.in_ok-lists.ensures told c.in_ok-firsts.ensures.rise)
+    let sides = g.met.S.Classed g.world.𝓛 g.world.𝓜 g.world.𝓡 ((λ s x. x), (λ x. x), (λ x. x), λ x. x) in
+    let counted = sides.counted c.args.side in
+    let ranks = c.deref-3.result.now in
+    let len : length new ≡ length classes = omega (arith, count, counted) in
+    record {
+      ranked = subst (λ l. AreRanked cmp IsOf classes column l firsts) (sym kept)
+          (ranked_from cmp IsOf classes column cells firsts new count c.in_ok-lists.ensures told
+          c.in_ok-firsts.ensures.rise);
+      placed = places_ranked cmp IsOf classes column cells ranks _ c.in_ok-places.places.items c.in_ok-lists.ensures
+          c.deref-3.ensures.value (ap length kept ∙ len)
+          (c.in_ok-places.ensures
+          ∙ ap (λ (l : List (Vec (Cell g.row.V.Denot))). map (classed_by ranks) (map spot_of (all_in l)))
+          c.deref-2.ensures.value);
+    }
