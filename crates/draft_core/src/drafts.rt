@@ -36,7 +36,7 @@ pub struct Drafts {
 impl Model for Drafts {
     ghost use Rattle.std.specs.Prelude.{List};
     ghost use Rattle.draft_core.specs.Columns.{Takes};
-ghost use Rattle.draft_core.specs.Drafts.{AreAlike, CanFollow, TakesRow, TakesRows, drafts_in};
+    ghost use Rattle.draft_core.specs.Drafts.{AreAlike, CanFollow, TakesRow, TakesRows, drafts_in};
     ghost use Rattle.row_core.specs.declared.draft.Draft.{Draft};
 
     ghost Value = { List Draft };
