@@ -1,7 +1,23 @@
 //! Shares.
 
-ghost use Rattle.std.specs.Prelude.{◌≡◌, ◌+◌, ◌/◌, max, min, ℕ, ◌<◌, ◌≤◌, None, length, option_map, slice_get, unwrap_or,
-    IfOk, IfSome, true};
+ghost use Rattle.std.specs.Prelude.{
+  ◌≡◌,
+  ◌+◌,
+  ◌/◌,
+  max,
+  min,
+  ℕ,
+  ◌<◌,
+  ◌≤◌,
+  None,
+  length,
+  option_map,
+  slice_get,
+  unwrap_or,
+  IfOk,
+  IfSome,
+  true,
+};
 ghost use Rattle.share_core.specs.Ranges.{is_from};
 ghost use Rattle.share_core.specs.Shares.{AreCuts, HaveEach, end_at, range_at, workers_in};
 
