@@ -11,7 +11,7 @@ import pandas as pd
 from ruzgalt.frames import checks, division, groups, pairs
 from ruzgalt.frames.errors import Refused
 from ruzgalt.frames.options import (
-    NO_DECIMALS, PERIOD, SUFFIXES, WORKERS, Names, PairOfNames, PairOfSuffixes, options_of,
+    INNER, NO_DECIMALS, PERIOD, SUFFIXES, WORKERS, Names, PairOfNames, PairOfSuffixes, options_of,
 )
 
 if TYPE_CHECKING:
@@ -30,14 +30,14 @@ def are_spread(**frames: Any) -> bool:
 
 @overload
 def join(left: pd.DataFrame, right: pd.DataFrame, on: Names = ..., *, left_on: Names = ..., right_on: Names = ...,
-         period: PairOfNames = ..., right_period: Optional[PairOfNames] = ..., open_end: bool = ...,
+         how: str = ..., period: PairOfNames = ..., right_period: Optional[PairOfNames] = ..., open_end: bool = ...,
          last_day: bool = ..., decimals: Mapping[Any, int] = ..., suffixes: PairOfSuffixes = ..., labels: bool = ...,
          points_as: Optional[str] = ..., workers: int = ..., parts: Optional[int] = ...) -> pd.DataFrame: ...
 
 
 @overload
 def join(left: dd.DataFrame, right: Union[dd.DataFrame, pd.DataFrame], on: Names = ..., *, left_on: Names = ...,
-         right_on: Names = ..., period: PairOfNames = ..., right_period: Optional[PairOfNames] = ...,
+         right_on: Names = ..., how: str = ..., period: PairOfNames = ..., right_period: Optional[PairOfNames] = ...,
          open_end: bool = ..., last_day: bool = ..., decimals: Mapping[Any, int] = ..., suffixes: PairOfSuffixes = ...,
          labels: bool = ..., points_as: Optional[str] = ..., workers: int = ...,
          parts: Optional[int] = ...) -> dd.DataFrame: ...
@@ -45,16 +45,16 @@ def join(left: dd.DataFrame, right: Union[dd.DataFrame, pd.DataFrame], on: Names
 
 @overload
 def join(left: pd.DataFrame, right: dd.DataFrame, on: Names = ..., *, left_on: Names = ..., right_on: Names = ...,
-         period: PairOfNames = ..., right_period: Optional[PairOfNames] = ..., open_end: bool = ...,
+         how: str = ..., period: PairOfNames = ..., right_period: Optional[PairOfNames] = ..., open_end: bool = ...,
          last_day: bool = ..., decimals: Mapping[Any, int] = ..., suffixes: PairOfSuffixes = ..., labels: bool = ...,
          points_as: Optional[str] = ..., workers: int = ..., parts: Optional[int] = ...) -> dd.DataFrame: ...
 
 
 def join(left: Any, right: Any, on: Names = None, *, left_on: Names = None, right_on: Names = None,
-         period: PairOfNames = PERIOD, right_period: Optional[PairOfNames] = None, open_end: bool = False,
-         last_day: bool = False, decimals: Mapping[Any, int] = NO_DECIMALS, suffixes: PairOfSuffixes = SUFFIXES,
-         labels: bool = False, points_as: Optional[str] = None, workers: int = WORKERS,
-         parts: Optional[int] = None) -> Any:
+         how: str = INNER, period: PairOfNames = PERIOD, right_period: Optional[PairOfNames] = None,
+         open_end: bool = False, last_day: bool = False, decimals: Mapping[Any, int] = NO_DECIMALS,
+         suffixes: PairOfSuffixes = SUFFIXES, labels: bool = False, points_as: Optional[str] = None,
+         workers: int = WORKERS, parts: Optional[int] = None) -> Any:
     """The pairs of a left and a right row that are equal in the columns `on`, each for as long as both hold.
 
     Parameters
@@ -65,6 +65,9 @@ def join(left: Any, right: Any, on: Names = None, *, left_on: Names = None, righ
         Columns of both frames that are to be equal. `on=[]` says that each row may meet each.
     left_on, right_on : name or list of names, optional
         The compared columns in place of `on`, where the two frames have different names for them.
+    how : str, default "inner"
+        inner has the pairs; left has the left rows too, each for as long as no right row meets it, with missing cells
+        in the right columns; right has the right rows so, and outer both.
     period : pair of names, default ("from", "to")
         The columns of a row's start and of its end, the first point behind it.
     right_period : pair of names, optional
@@ -90,9 +93,10 @@ def join(left: Any, right: Any, on: Names = None, *, left_on: Names = None, righ
     -------
     DataFrame
         Of Dask where one frame is. Its columns are the period's two, named as the left frame's, then the left frame's
-        others, then the right frame's, the compared ones once; each has the dtype with which it came in. Points of two
-        kinds come as period[S] or the coarser kind. Rows are by start, end, place of the left and of the right row,
-        under labels from 0 on; of Dask within each partition.
+        others, then the right frame's, the compared ones once; each has the dtype with which it came in, or with
+        missing cells that of pandas.merge, of Dask always. Points of two kinds come as period[S] or the coarser kind.
+        Rows are by start, end, place of the left and of the right row, of which none is last, under labels from 0 on;
+        of Dask within each partition.
 
     Raises
     ------
@@ -117,9 +121,15 @@ def join(left: Any, right: Any, on: Names = None, *, left_on: Names = None, righ
             from         to person  cents centre
     0 2024-02-01 2024-07-01    Ada   5000  press
     1 2024-07-01 2024-09-01    Ada   5400  press
+    >>> ruzgalt.join(pay, contract, on="person", how="left", open_end=True)
+            from         to person  cents centre
+    0 2024-01-01 2024-02-01    Ada   5000    NaN
+    1 2024-02-01 2024-07-01    Ada   5000  press
+    2 2024-07-01 2024-09-01    Ada   5400  press
+    3 2024-09-01        NaT    Ada   5400    NaN
     """
     options = options_of(
-        left_on=left_on, right_on=right_on, period=period, right_period=right_period, open_end=open_end,
+        left_on=left_on, right_on=right_on, how=how, period=period, right_period=right_period, open_end=open_end,
         last_day=last_day, decimals=decimals, suffixes=suffixes, labels=labels, points_as=points_as, workers=workers,
         parts=parts,
     )

@@ -22,6 +22,9 @@ PERIOD: Period = ("from", "to")
 SUFFIXES: Suffixes = ("_left", "_right")
 NO_DECIMALS: Mapping[Any, int] = MappingProxyType({})
 WORKERS = 4
+# Whose rows a join has: those of pairs, and the left ones, the right ones or all that are in none.
+HOWS = ("inner", "left", "right", "outer")
+INNER = HOWS[0]
 MOST_WORKERS = 64
 # What may be given of a table's frames.
 OF_TABLE = ("period", "open_end", "last_day", "decimals")
@@ -40,6 +43,7 @@ class Options:
     last_day: bool = False
     decimals: Mapping[Any, int] = field(default_factory=dict)
     suffixes: Suffixes = SUFFIXES
+    how: str = INNER
     labels: bool = False
     points_as: Optional[str] = None
     workers: int = WORKERS
@@ -67,6 +71,10 @@ def parts_of(option: str, given: Any) -> int:
     return checks.whole(option, given, 1)
 
 
+def how_named(option: str, given: Any) -> str:
+    return checks.one_of(option, given, HOWS)
+
+
 def kind_named(option: str, given: Any) -> str:
     return checks.one_of(option, given, kinds.NAMES)
 
@@ -77,7 +85,7 @@ CHECKS: Dict[str, Callable[[str, Any], Any]] = {
     **dict.fromkeys(("period", "right_period"), checks.pair),
     **dict.fromkeys(("open_end", "last_day", "labels"), checks.flag),
     "decimals": checks.digits, "suffixes": checks.suffixes, "points_as": kind_named,
-    "workers": workers_of, "parts": parts_of,
+    "workers": workers_of, "parts": parts_of, "how": how_named,
 }
 # Those that may be None, as where they aren't given.
 OPTIONAL = ("left_on", "right_on", "by", "right_period", "points_as", "parts")

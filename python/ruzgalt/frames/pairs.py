@@ -7,14 +7,15 @@ from __future__ import annotations
 
 from typing import Any, Iterable, List, Sequence
 
-import pandas as pd
+import numpy as np
 
-from ruzgalt.frames import answer, doubts, points, sides, split, values
+from ruzgalt.frames import answer, doubts, missing, points, sides, split, values
 from ruzgalt.frames.answer import Column
 from ruzgalt.frames.arrays import Ints
+from ruzgalt.frames.ask import Found
 from ruzgalt.frames.errors import Refused
 from ruzgalt.frames.kinds import refuse_two_zones
-from ruzgalt.frames.named import column_of, names_of, place_of, refuse_twice, with_levels
+from ruzgalt.frames.named import column_of, names_of, place_of, refuse_twice, same, with_levels
 from ruzgalt.frames.options import Names, Options, compared
 from ruzgalt.frames.sides import Side
 from ruzgalt.frames.values import Values
@@ -32,7 +33,7 @@ def join(left: Any, right: Any, on: Names, options: Options) -> Any:
 def join_part(left: Any, right: Any, on: Names, options: Options) -> Any:
     """Of a partition, in which nothing is looked at that may not be meant."""
     frames = with_keys(left, right, on, options)
-    return joined(frames, sides_of(frames, on, options), on, options)
+    return joined(frames, sides_of(frames, on, options), on, options, is_part=True)
 
 
 def with_keys(left: Any, right: Any, on: Names, options: Options) -> List[Any]:
@@ -46,16 +47,51 @@ def keyed(frames: Sequence[Any], on: Names, options: Options) -> List[Any]:
     return [with_levels(frame, names) for frame, names in zip(frames, compared(on, options))]
 
 
-def joined(frames: Sequence[Any], both: Sequence[Side], on: Names, options: Options) -> Any:
-    start, end, *places = split.join(both, options.workers)
+def joined(frames: Sequence[Any], both: Sequence[Side], on: Names, options: Options, is_part: bool = False) -> Any:
+    """is_part: all parts of an answer are to have the same dtypes, whether a row of theirs is unmatched or not."""
+    start, end, *places = matched(both, options)
+    may_miss = [is_part and options.how in (one, "outer") for one in ("right", "left")]
     own = period_of(start, end, both, options)
     if options.labels:
-        labels = [frame.index.to_flat_index().take(rows) for frame, rows in zip(frames, places)]
-        own += zip(LABELS, labels)
+        own += zip(LABELS, map(missing.labels_at, frames, places, may_miss))
     shared = compared(on, options)[1] if on is not None else []
-    left_out = (options.period, [*options.other_period, *shared])
-    columns = [columns_at(frame, names, rows) for frame, names, rows in zip(frames, left_out, places)]
-    return answer.beside(own, columns, options.suffixes)
+    left = [*columns_at(frames[0], [*options.period, *shared], places[0], may_miss[0])]
+    keys = [shared_column(frames, name, places, may_miss[0]) for name in dict.fromkeys(map(same, shared))]
+    right = columns_at(frames[1], [*options.other_period, *shared], places[1], may_miss[1])
+    return answer.beside(own, [in_order_of(frames[0], [*left, *keys]), right], options.suffixes)
+
+
+def shared_column(frames: Sequence[Any], name: Any, places: Sequence[Ints], is_wide: bool) -> Column:
+    """A compared column of both: the left row's cell, or where there is no left row that of the right one."""
+    one, other = (column_of(frame, name) for frame in frames)
+    if is_wide or (places[0] < 0).any():
+        return name, missing.either(one, other, places, is_wide)
+    return name, one.take(places[0]).reset_index(drop=True)
+
+
+def in_order_of(frame: Any, columns: Iterable[Column]) -> List[Column]:
+    return sorted(columns, key=lambda column: place_of(frame, column[0]))
+
+
+def matched(both: Sequence[Side], options: Options) -> Found:
+    """Start, end, place of the left row and of the right one, in this order; -1 of none is behind all others."""
+    found = [split.join(both, options.workers)]
+    if options.how in ("left", "outer"):
+        found.append(unmatched(both, options))
+    if options.how in ("right", "outer"):
+        start, end, right, left = unmatched(both[::-1], options)
+        found.append((start, end, left, right))
+    if len(found) == 1:
+        return found[0]
+    all_of = split.all_of(found)
+    order = np.lexsort([column.view("u8") for column in all_of[:1:-1]] + [all_of[1], all_of[0]])
+    return tuple(column[order] for column in all_of)
+
+
+def unmatched(both: Sequence[Side], options: Options) -> Found:
+    """The rows of the anti-join, beside the place of none."""
+    start, end, places = split.anti(both, options.workers)
+    return start, end, places, np.full(len(places), -1, np.int64)
 
 
 def anti(left: Any, right: Any, on: Names, options: Options) -> Any:
@@ -96,12 +132,11 @@ def with_labels_twice(frame: Any) -> Any:
     return frame.set_flags(allows_duplicate_labels=True)
 
 
-def columns_at(frame: Any, left_out: Sequence[Any], rows: Ints) -> Iterable[Column]:
-    """The columns but for those left out, each with its cells of these rows."""
+def columns_at(frame: Any, left_out: Sequence[Any], rows: Ints, is_wide: bool = False) -> Iterable[Column]:
+    """The columns but for those left out, each with its cells of these rows, as missing.rows_at has them."""
     away = [place_of(frame, name) for name in left_out]
     kept = [place for place in range(len(frame.columns)) if place not in away]
-    taken = with_labels_twice(frame).iloc[:, kept].take(rows)
-    taken.index = pd.RangeIndex(len(rows))
+    taken = missing.rows_at(with_labels_twice(frame).iloc[:, kept], rows, is_wide)
     return [(name, taken.iloc[:, place]) for place, name in enumerate(names_of(taken))]
 
 

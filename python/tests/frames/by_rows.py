@@ -43,26 +43,59 @@ def answer(columns):
     return None if names is None else (names, [list(row) for row in zip(*(told for _, _, told in columns))])
 
 
+NONE = -1
+# Behind all places.
+LAST = 1000
+
+
 def join(frames, told):
-    """told has periods and on, of each frame, whether its names are shared, whether labels are asked, and suffixes."""
+    """told has periods and on, of each frame; how, labels and suffixes; and whether the compared columns are shared."""
     left, right = (
         list(zip(periods(frame, period), keys(frame, on))) for frame, period, on in zip(frames, told.periods, told.on)
     )
-    found = sorted(
+    found = [
         (max(one[0], two[0]), min(one[1], two[1]), row, other)
         for row, (one, key) in enumerate(left) for other, (two, other_key) in enumerate(right)
         if key == other_key and max(one[0], two[0]) < min(one[1], two[1])
-    )
+    ]
+    if told.how in ("left", "outer"):
+        found += [(start, end, row, NONE) for row, start, end in unmet(left, right)]
+    if told.how in ("right", "outer"):
+        found += [(start, end, NONE, row) for row, start, end in unmet(right, left)]
+    found.sort(key=lambda row: [LAST if one == NONE else one for one in row])
+    places = [[row[2 + side] for row in found] for side in (0, 1)]
     columns = [(name, None, [row[side] for row in found]) for side, name in enumerate(told.periods[0])]
     if told.labels:
-        columns += [("left_label", None, [row[2] for row in found]), ("right_label", None, [row[3] for row in found])]
+        numbers = [list(range(len(own))) for own in (left, right)]
+        columns += zip(("left_label", "right_label"), (None, None), map(taken, numbers, places))
     for side, frame in enumerate(frames):
         away = [*told.periods[side], *(told.on[1] if side and told.is_shared else [])]
-        columns += [
-            (name, told.suffixes[side], [values[row[2 + side]] for row in found])
-            for name, values in frame if not times(away, name)
-        ]
+        for name, values in frame:
+            if not times(away, name):
+                own = taken(values, places[side])
+                if side == 0 and told.is_shared and times(told.on[0], name):
+                    own = either(values, cells(frames[1], name), places)
+                columns.append((name, told.suffixes[side], own))
     return answer(columns)
+
+
+def unmet(left, right):
+    """Place, start and end of what is left of the left rows: pairs of a period and a key."""
+    for row, ((start, end), key) in enumerate(left):
+        met = [period for period, other in right if other == key]
+        held = [start <= day < end and not any(one <= day < two for one, two in met) for day in range(OPEN)]
+        yield from ((row, one, two) for one, two, _ in runs([value or None for value in held]))
+
+
+def taken(values, places):
+    """The cells at these places, of NONE a missing one, beside which whole numbers are floats."""
+    is_whole = NONE in places and all(type(value) is int for value in values)
+    told = [None if place == NONE else values[place] for place in places]
+    return [float(value) if is_whole and value is not None else value for value in told]
+
+
+def either(values, others, places):
+    return [others[two] if one == NONE else values[one] for one, two in zip(*places)]
 
 
 def runs(days):
@@ -77,18 +110,16 @@ def runs(days):
 
 
 def anti(frames, told):
-    left, right = frames
-    rights = list(zip(periods(right, told.periods[1]), keys(right, told.on[1])))
-    ends = [place(left, name) for name in told.periods[0]]
+    left, right = (
+        list(zip(periods(frame, period), keys(frame, on))) for frame, period, on in zip(frames, told.periods, told.on)
+    )
+    ends = [place(frames[0], name) for name in told.periods[0]]
     rows = []
-    for row, ((start, end), key) in enumerate(zip(periods(left, told.periods[0]), keys(left, told.on[0]))):
-        taken = [period for period, other in rights if other == key]
-        held = [start <= day < end and not any(one <= day < two for one, two in taken) for day in range(OPEN)]
-        for one, two, _ in runs([value or None for value in held]):
-            made = [values[row] for _, values in left]
-            made[ends[0]], made[ends[1]] = one, two
-            rows.append(made)
-    return [name for name, _ in left], rows
+    for row, one, two in unmet(left, right):
+        made = [values[row] for _, values in frames[0]]
+        made[ends[0]], made[ends[1]] = one, two
+        rows.append(made)
+    return [name for name, _ in frames[0]], rows
 
 
 def order(group):

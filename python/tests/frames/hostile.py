@@ -37,18 +37,19 @@ WRONG = {
     "suffixes": ["", "_l", (), ("_l",), ("_l", "_r", "_s"), (1, 2), None, {"_l": "_r"}, (b"_l", "_r")],
     "workers": [0, -1, 65, True, 1.0, "4", None, [4]], "parts": [0, -1, 2.0, "2", True],
     "decimals": [2, "id", None, [("id", 2)], {"id": 2.0}, {"id": True}, {"id": -1}, {"id": 19}, {"id": None}],
-    "points_as": ["W", "", 1, ["S"], True], "onn": ["id"],
+    "points_as": ["W", "", 1, ["S"], True], "onn": ["id"], "how": ["", "Left", "cross", True, None, ["left"], 1],
 }
 OF_ALL = ["period", "open_end", "last_day", "workers", "onn"]
 OF_PAIRS = ["right_period", "on", "left_on", "parts", "decimals", "points_as"]
 OF_CALL = {
-    "join": [*OF_PAIRS, "labels", "suffixes"], "anti": OF_PAIRS, "agg": ["by", "parts", "decimals", "points_as"],
+    "join": [*OF_PAIRS, "labels", "suffixes", "how"], "anti": OF_PAIRS, "agg": ["by", "parts", "decimals", "points_as"],
     "dip": [],
 }
 NO_FUNCTIONS = [
     ("summ", "id"), (None, None), (["sum"], "id"), ("Count", None), ("sum", None), ("count", "id"), ("sum", ["id"]),
 ]
 AMOUNTS = [st.integers(-3, 3), st.booleans(), st.sampled_from([0.25, -1.5, 2.75])]
+HOWS = st.sampled_from(["inner", "left", "right", "outer"])
 SUFFIXES = st.sampled_from([("_left", "_right"), ("", "_2"), (None, "_r"), ("_l", None), (None, None), ("", "")])
 
 
@@ -66,6 +67,7 @@ class Case:
     is_shared: bool
     labels: bool
     suffixes: Any
+    how: Any
     columns: Any
     frames: Any = ()
     asked: Any = ("count", None)
@@ -162,7 +164,8 @@ def cases(draw, call):
     if rarely(draw):
         periods, on, amount = leveled(periods), leveled(on), level(amount)
         columns = [[(level(name), told) for name, told in frame] for frame in columns]
-    case = Case(kind, draw(st.booleans()), periods, on, is_shared, draw(st.booleans()), draw(SUFFIXES), columns)
+    of_answer = draw(st.booleans()), draw(SUFFIXES), draw(HOWS)
+    case = Case(kind, draw(st.booleans()), periods, on, is_shared, *of_answer, columns)
     case.frames = [case.frame(*told) for told in zip(columns, periods)]
     given = [by_rows.periods(*told) for told in zip(columns, periods)][:1 if call in ("agg", "dip") else 2]
     case.is_right = all(start < end for frame in given for start, end in frame)
@@ -191,7 +194,7 @@ def options(draw, call, case, is_open):
         told["right_period"] = several(case.periods[1])
         told.update(compared(draw, case, several))
     if call == "join":
-        told.update(labels=flag(case.labels), suffixes=several(case.suffixes))
+        told.update(labels=flag(case.labels), suffixes=several(case.suffixes), how=case.how)
     if call == "agg":
         told["by"] = one_or_all(draw, case.on[0], several)
     if draw(st.booleans()):

@@ -20,7 +20,7 @@ WRONG = {
     "suffixes": (("_l",), "", (), "_l", ("_l", "_r", "_s"), (1, 2), None, {"_l": "_r"}),
     "workers": (0, -1, 65, 1.0, "4", True, None), "parts": (0, -1, 2.0, True),
     "decimals": (2, "k", None, [("k", 2)], {"k": 2.0}, {"k": -1}, {"k": 19}, {"k": True}),
-    "points_as": ("W", "", 5, ["S"]),
+    "points_as": ("W", "", 5, ["S"]), "how": ("", "Left", "cross", True, None, ["left"]),
 }
 OF_AGG = ("by", "period", "open_end", "last_day", "workers", "parts", "decimals", "points_as")
 OF_DIP = ("period", "open_end", "last_day", "workers")
@@ -45,7 +45,7 @@ class Types(unittest.TestCase):
                     self.refuses((name, value), lambda: ruzgalt.dip(FRAME, **words), start)
                 if name != "by":
                     self.refuses((name, value), lambda: ruzgalt.join(FRAME, FRAME, **words), start)
-                if name not in ("by", "labels", "suffixes"):
+                if name not in ("by", "labels", "suffixes", "how"):
                     self.refuses((name, value), lambda: ruzgalt.anti(FRAME, FRAME, **words), start)
 
     def test_what_is_no_frame_is_refused(self):

@@ -59,7 +59,7 @@ def rows_of(frame, has_labels):
     """The rows in some order that is the same for the same rows."""
     times = random_frames.PERIOD
     rows = list(zip(*(map(plainly.moment, frame[name]) if name in times else frame[name] for name in frame)))
-    return sorted([(label, *row) for label, row in zip(frame.index, rows)] if has_labels else rows, key=repr)
+    return sorted(map(repr, [(label, *row) for label, row in zip(frame.index, rows)] if has_labels else rows))
 
 
 class Case:
@@ -81,8 +81,9 @@ class Case:
         words, parts = {"open_end": self.is_open}, {"parts": self.parts}
         left, right = spread(self.random, self.left), spread(self.random, self.right)
         on = {"on": self.names, **words}
-        told = {"labels": True, **on}
-        yield "join", ruzgalt.join(self.left, self.right, **told), ruzgalt.join(left, right, **told, **parts)
+        for name, how in (("join", "inner"), ("unmatched", self.random.choice(["left", "right", "outer"]))):
+            told = {"labels": True, "how": how, **on}
+            yield name, ruzgalt.join(self.left, self.right, **told), ruzgalt.join(left, right, **told, **parts)
         yield "anti", ruzgalt.anti(self.left, self.right, **on), ruzgalt.anti(left, right, **on, **parts)
         by = {"by": self.names, **words}
         yield "agg by", ruzgalt.agg(self.left, "sum", "euros", **by), ruzgalt.agg(left, "sum", "euros", **by, **parts)
@@ -93,6 +94,9 @@ class Case:
 class RandomSpread(unittest.TestCase):
     def is_as_whole(self, name, whole, lazy, found):
         self.assertEqual(list(whole.columns), list(lazy.columns))
+        if name == "unmatched":
+            # Partitions may miss a cell that isn't missed in the whole; numbers are widened for it.
+            whole = whole.astype({one: dtype for one, dtype in found.dtypes.items() if str(dtype) != "category"})
         self.assertEqual(rows_of(found, name == "anti"), rows_of(whole, name == "anti"), name)
         if name == "agg":
             self.assertEqual(repr(found.values.tolist()), repr(whole.values.tolist()))

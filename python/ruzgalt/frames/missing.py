@@ -1,0 +1,68 @@
+"""Rows by their places, of which -1 is none: its cells are missing, and dtypes are widened as by pandas.merge.
+
+A whole number is a float beside a missing cell then; one that would be rounded is refused.
+"""
+from __future__ import annotations
+
+from typing import Any, Sequence
+
+import numpy as np
+import pandas as pd
+
+from ruzgalt.frames.arrays import Ints, Marks
+from ruzgalt.frames.errors import Refused, label_at
+
+# So many bits of a whole number a float has.
+BITS = np.uint64(53)
+
+
+def rows_at(frame: Any, rows: Ints, is_wide: bool = False) -> Any:
+    """The frame's rows of these places, under labels from 0 on.
+
+    is_wide: dtypes have missing cells, even where no cell is missing.
+    """
+    numbered = frame.set_axis(pd.RangeIndex(len(frame)))
+    if not is_wide and not (rows < 0).any():
+        made = numbered.take(rows)
+    else:
+        made = numbered.reindex(index=np.append(rows, -1)).iloc[:-1]
+        for place in range(len(frame.columns)):
+            refuse_rounded(frame.iloc[:, place], rows[rows >= 0], made.dtypes.iloc[place])
+    made.index = pd.RangeIndex(len(rows))
+    return made
+
+
+def labels_at(frame: Any, rows: Ints, is_wide: bool = False) -> Any:
+    labels = frame.index.to_flat_index().to_series(pd.RangeIndex(len(frame)))
+    return rows_at(labels.to_frame(), rows, is_wide).iloc[:, 0]
+
+
+def either(one: Any, other: Any, places: Sequence[Ints], is_wide: bool = False) -> Any:
+    """Of two columns the first one's cells, and where the first place is -1 the second one's: in a dtype for both."""
+    is_first = places[0] >= 0
+    rows = [places[0][is_first], places[1][~is_first]]
+    parts = [column.take(own) for column, own in zip((one, other), rows) if len(own)]
+    made = pd.concat(parts or [one.iloc[:0]], ignore_index=True)
+    dtype = pd.concat([one.iloc[:0], other.iloc[:0]]).dtype if is_wide else made.dtype
+    for column, own in zip((one, other), rows):
+        refuse_rounded(column, own, dtype)
+    order = np.argsort(np.concatenate([np.flatnonzero(is_first), np.flatnonzero(~is_first)]))
+    return made.astype(dtype).take(order).reset_index(drop=True)
+
+
+def refuse_rounded(column: Any, rows: Ints, dtype: Any) -> None:
+    """Raises Refused (BadNumber) for a whole number of these rows that a float of this dtype doesn't hold."""
+    if getattr(column.dtype, "kind", "") not in "iu" or getattr(dtype, "kind", "") != "f":
+        return
+    is_rounded = rounded(column.to_numpy()[rows])
+    if is_rounded.any():
+        told = f"a missing cell beside it makes floats, of {BITS} bits, which don't hold it; .astype('Int64') has both"
+        raise Refused("BadNumber", told, column.name, label_at(is_rounded, column.index[rows]))
+
+
+def rounded(numbers: Any) -> Marks:
+    """Which of these are no floats: between their first bit and their last one lie too many."""
+    sizes = np.where(numbers < 0, -numbers.astype("u8"), numbers.astype("u8"))
+    last_bits = np.maximum(sizes & (~sizes + np.uint64(1)), np.uint64(1))
+    marked: Marks = sizes // last_bits >> BITS > 0
+    return marked

@@ -1,0 +1,95 @@
+"""Joins with unmatched rows: dtypes and cells as pandas.merge has them, where all rows hold for one time."""
+import datetime
+import unittest
+
+import pandas as pd
+
+import ruzgalt
+
+HOWS = ("inner", "left", "right", "outer")
+DAYS = pd.to_datetime(["2024-01-01", "2024-02-01"])
+CELLS = {
+    "i8": pd.Series([1, 2, 3], dtype="int8"), "i64": pd.Series([1, 2**62, -2**53], dtype="int64"),
+    "u64": pd.Series([1, 2, 2**63], dtype="uint64"), "Int64": pd.Series([1, None, 2**63 - 1], dtype="Int64"),
+    "bool": pd.Series([True, False, True]), "boolean": pd.Series([True, None, False], dtype="boolean"),
+    "float32": pd.Series([1.5, float("nan"), 0.5], dtype="float32"), "str": pd.Series(["a", "", None], dtype=object),
+    "string": pd.Series(["a", "b", None], dtype="string"), "category": pd.Series(["a", "b", None], dtype="category"),
+    "whole": pd.Series([3, 1, 3], dtype="category"), "ns": pd.Series(pd.to_datetime(["2024-01-05", None, "2025"])),
+    "zone": pd.Series(pd.to_datetime(["2024-01-05", None, "2025-01-01"])).dt.tz_localize("Europe/Berlin"),
+    "day": pd.Series(pd.PeriodIndex(["2024-01-05", None, "2024-02-01"], freq="D")),
+    "date": pd.Series([datetime.date(2024, 1, 5), None, (1, 2)], dtype=object),
+    "span": pd.Series(pd.interval_range(0, 3)), "long": pd.Series([pd.Timedelta(days=1)] * 3),
+}
+KEYS = [
+    (pd.Series([1, 2, 3], dtype=one), pd.Series([3, 4, 1], dtype=other))
+    for one, other in (("int64", "int64"), ("int64", "int32"), ("Int64", "int8"), ("uint8", "int16"))
+] + [
+    (pd.Series(list("abc"), dtype=one), pd.Series(list("cda"), dtype=other))
+    for one, other in ((object, object), ("string", "string"), (object, "category"), ("category", "category"))
+] + [tuple(pd.Series(list(cells), dtype=pd.CategoricalDtype(list("abcd"))) for cells in ("abc", "cda"))]
+
+
+def frame(cells):
+    return pd.DataFrame(cells).assign(**{"from": DAYS[0], "to": DAYS[1]})
+
+
+def merged(left, right, how, **words):
+    """By pandas, in the order of places, of which none is last."""
+    told = [one.drop(columns=["from", "to"]).assign(**{f"_{side}": range(3)}) for side, one in zip("lr", (left, right))]
+    made = told[0].merge(told[1], how=how, suffixes=("_left", "_right"), **words)
+    return made.sort_values(["_l", "_r"]).drop(columns=["_l", "_r"]).reset_index(drop=True)
+
+
+class Unmatched(unittest.TestCase):
+    def is_as_merged(self, left, right, **words):
+        for how in HOWS:
+            with self.subTest(how=how, **words):
+                got = ruzgalt.join(left, right, how=how, **words)
+                self.assertEqual(set(zip(got["from"], got["to"])), {tuple(DAYS)})
+                pd.testing.assert_frame_equal(got.drop(columns=["from", "to"]), merged(left, right, how, **words))
+
+    def test_cells_and_dtypes_are_as_of_merge(self):
+        left, right = frame({"k": [1, 2, 3], **CELLS}), frame({"k": [3, 1, 5], **CELLS})
+        self.is_as_merged(left, right, on="k")
+        self.is_as_merged(left, right.rename(columns={"k": "w"}), left_on="k", right_on="w")
+        self.is_as_merged(left, right.assign(k=[3, 2, 1]), on="k")
+
+    def test_shared_columns_are_as_of_merge(self):
+        """Where each row of the answer has a left one, in the left frame's dtype."""
+        for one, other in KEYS:
+            left, right = frame({"q": 1, "x": [7, 8, 9], "k": one}), frame({"k": other, "q": 1})
+            for how in ("left", "right", "outer"):
+                with self.subTest(dtypes=(one.dtype, other.dtype), how=how):
+                    got = ruzgalt.join(left, right, on=["q", "k"], how=how)
+                    wanted = merged(left, right, how, on=["q", "k"])
+                    wanted = wanted.astype({"k": one.dtype}) if how == "left" else wanted
+                    pd.testing.assert_frame_equal(got.drop(columns=["from", "to"]), wanted)
+
+    def test_a_number_that_a_float_does_not_hold_is_refused(self):
+        left = frame({"k": [1, 2, 3], "x": [2**53, 2**53 + 1, 2**62]})
+        for how, keys, wanted in (("left", [2, 9], [2**53, 2**53 + 1, 2**62]), ("right", [2], [2**53 + 1])):
+            self.assertEqual(ruzgalt.join(left, frame({"k": keys}), on="k", how=how)["x"].tolist(), wanted)
+        for how, keys in (("right", [2, 9]), ("outer", [1, 9])):
+            with self.subTest(how=how), self.assertRaises(ruzgalt.Refused) as caught:
+                ruzgalt.join(left, frame({"k": keys}), on="k", how=how)
+            told = caught.exception
+            self.assertEqual((told.name, told.column, told.label), ("BadNumber", "x", 1))
+        got = ruzgalt.join(left.astype({"x": "Int64"}), frame({"k": [2, 9]}), on="k", how="right")
+        self.assertEqual(got["x"].tolist(), [2**53 + 1, pd.NA])
+
+    def test_labels_of_none_are_missing(self):
+        left, right = frame({"k": [1]}).set_axis(["a"]), frame({"k": [2]}).set_axis([7])
+        got = ruzgalt.join(left, right, on="k", how="outer", labels=True)
+        self.assertEqual(got[["left_label", "right_label"]].isna().values.tolist(), [[False, True], [True, False]])
+        self.assertEqual((got["left_label"][0], got["right_label"][1]), ("a", 7))
+        levels = left.set_axis(pd.MultiIndex.from_tuples([("a", 1)]))
+        got = ruzgalt.join(levels, right, on="k", how="left", labels=True)
+        self.assertEqual(got["left_label"].tolist(), [("a", 1)])
+
+    def test_a_compared_level_is_a_column(self):
+        left, right = frame({"k": [1, 2]}).set_index("k"), frame({"k": [2, 3]}).set_index("k")
+        self.assertEqual(ruzgalt.join(left, right, on="k", how="outer")["k"].tolist(), [1, 2, 3])
+
+
+if __name__ == "__main__":
+    unittest.main()
