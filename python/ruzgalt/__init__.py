@@ -25,12 +25,13 @@ from importlib.util import find_spec
 from typing import TYPE_CHECKING, Any, List
 
 __all__ = [
-    "join", "anti", "agg", "dip", "Store", "Changed", "Verdict", "Refused", "Stopped", "Doubt", "frames", "__version__",
+    "join", "anti", "agg", "dip", "at", "during",
+    "Store", "Changed", "Verdict", "Refused", "Stopped", "Doubt", "frames", "__version__",
 ]
 
 if TYPE_CHECKING:
     from ruzgalt import frames
-    from ruzgalt.frames import Changed, Doubt, Refused, Stopped, Store, Verdict, agg, anti, dip, join
+    from ruzgalt.frames import Changed, Doubt, Refused, Stopped, Store, Verdict, agg, anti, at, dip, during, join
 
     __version__: str
 else:

@@ -1,6 +1,7 @@
 """Frames of pandas and of Dask, joined, counted and divided by the time for which their rows hold: docs/FRAMES.md.
 
     join, anti, agg, dip    frames in, a frame out
+    at, during              the rows that hold then
     Store                   tables with a past: changes, commits, questions
     Changed, Verdict        what a change of a store did; what a check of a division found
     Refused                 what all of them raise of a value or a call: name, reason, column, label
@@ -14,6 +15,7 @@ A module stands on those above it:
     kinds, zones            the kinds of points; days in a time zone
     arrow                   columns in types of pyarrow
     points, values          columns as seconds, numbers and texts, and back
+    missing                 rows that may be none, whose cells are missing
     sides, script           rows on their way; a script in pieces
     running, output         a run; its answers as columns
     ask, split              a question's run; rows past the limits in parts
@@ -22,7 +24,8 @@ A module stands on those above it:
     pairs, groups, division join and anti; agg; dip
     spread, slices          the same of Dask: by value; by time
     calls                   pandas or Dask
-    instants, tables        single points; a table of a store
+    instants, rows          single points; at and during
+    tables                  a table of a store
     keys, changes, unmeant  why a key refuses; what a change is; what may not be meant by it
     book                    what a store holds at one moment
     questions, divisions    what is asked of it
@@ -33,6 +36,7 @@ from ruzgalt.frames.calls import agg, anti, dip, join
 from ruzgalt.frames.changes import Changed
 from ruzgalt.frames.divisions import Verdict
 from ruzgalt.frames.errors import Doubt, Refused, Stopped
+from ruzgalt.frames.rows import at, during
 from ruzgalt.frames.store import Store
 
-__all__ = ["join", "anti", "agg", "dip", "Store", "Changed", "Verdict", "Refused", "Stopped", "Doubt"]
+__all__ = ["join", "anti", "agg", "dip", "at", "during", "Store", "Changed", "Verdict", "Refused", "Stopped", "Doubt"]

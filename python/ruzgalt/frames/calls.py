@@ -3,12 +3,12 @@
 # mypy: disable-error-code="misc"
 from __future__ import annotations
 
-import sys
 from typing import TYPE_CHECKING, Any, Mapping, Optional, Union, overload
 
 import pandas as pd
 
-from ruzgalt.frames import checks, division, groups, pairs
+from ruzgalt.frames import division, groups, pairs
+from ruzgalt.frames.checks import are_spread
 from ruzgalt.frames.errors import Refused
 from ruzgalt.frames.options import (
     INNER, NO_DECIMALS, PERIOD, SUFFIXES, WORKERS, Names, PairOfNames, PairOfSuffixes, options_of,
@@ -16,16 +16,6 @@ from ruzgalt.frames.options import (
 
 if TYPE_CHECKING:
     import dask.dataframe as dd
-
-
-def are_spread(**frames: Any) -> bool:
-    """Whether one is a frame of Dask, which isn't imported for that. Raises Refused where one is no frame."""
-    dask = sys.modules.get("dask.dataframe")
-    spread = [name for name, frame in frames.items() if dask is not None and isinstance(frame, dask.DataFrame)]
-    for name, frame in frames.items():
-        if name not in spread:
-            checks.frame(name, frame)
-    return bool(spread)
 
 
 @overload

@@ -4,6 +4,7 @@ A wrong value is refused as BadCommand, by the option's name, with what was give
 """
 from __future__ import annotations
 
+import sys
 from typing import Any, Hashable, Iterable, Mapping, Optional, Sequence, Tuple
 
 import numpy as np
@@ -108,6 +109,16 @@ def frame(option: str, given: Any) -> Any:
     if not isinstance(given, pd.DataFrame):
         raise wrong(option, given, f"a frame of pandas is wanted; {remedy_of(given)}")
     return given
+
+
+def are_spread(**frames: Any) -> bool:
+    """Whether one is a frame of Dask, which isn't imported for that. Raises Refused where one is no frame."""
+    dask = sys.modules.get("dask.dataframe")
+    spread = [name for name, told in frames.items() if dask is not None and isinstance(told, dask.DataFrame)]
+    for name, told in frames.items():
+        if name not in spread:
+            frame(name, told)
+    return bool(spread)
 
 
 def remedy_of(given: Any) -> str:

@@ -2,7 +2,7 @@
 from __future__ import annotations
 
 import datetime
-from typing import Any
+from typing import Any, Tuple
 
 import numpy as np
 import pandas as pd
@@ -50,6 +50,44 @@ def second_of(point: Any) -> int:
         return int(points.seconds_of(column)[0][0])
     except Refused as error:
         raise Refused(error.name, f"{point!r}: {error.reason}") from None
+
+
+def second_in(point: Any, zone: Any) -> int:
+    """The point's second of UTC; of one without a zone that at which clocks show it in the zone, a day its begin."""
+    own = getattr(point, "tzinfo", None)
+    if own is None:
+        return second_of(point) if zone is None else second_shown(second_of(point), point, zone)
+    if zone is None:
+        raise Refused("WrongKind", f"{point!r}: points here have no time zone; .tz_localize(None) takes its zone away")
+    return second_of(pd.Timestamp(point).tz_convert(None))
+
+
+def second_shown(wall: int, point: Any, zone: Any) -> int:
+    """The second at which clocks in the zone show a wall. Raises Refused (BadPoint) where they never do, or twice."""
+    if wall % zones.DAY == 0:
+        return int(zones.begins_of(np.array([wall], np.int64), zone)[0])
+    near = wall + np.arange(-zones.DAY, zones.DAY + 1, dtype=np.int64)
+    found = near[zones.walls_of(near, zone) == wall]
+    if len(found) != 1:
+        times = "never" if not len(found) else "twice"
+        remedy = "a Timestamp with tz= says which is meant"
+        raise Refused("BadPoint", f"{point!r}: clocks in {zone} show it {times}; {remedy}")
+    return int(found[0])
+
+
+def span(start: Any, end: Any, form: Form, zone: Any) -> Tuple[int, int]:
+    """The seconds of a start, and of the first point behind an end as the form has it. Raises Refused."""
+    first = second_in(start, zone)
+    behind = points.NO_END if end is None else second_in(end, zone)
+    if form.has_last_days:
+        told = np.array([first, *([] if end is None else [behind])], np.int64)
+        if zones.has_time(told, zone).any():
+            raise Refused("BadPoint", f"{start!r} to {end!r}: with last_day=True points are days, without times")
+        behind = behind if end is None else int(zones.days_behind(told[1:], zone)[0])
+    if first >= behind:
+        last = "the last day" if form.has_last_days else "the first point behind"
+        raise Refused("BadPeriod", f"{start!r} to {end!r}: a start comes before its end, which is {last}")
+    return first, behind
 
 
 def portion(start: Any, end: Any, form: Form) -> Ints:

@@ -89,6 +89,10 @@ class Case:
         yield "agg by", ruzgalt.agg(self.left, "sum", "euros", **by), ruzgalt.agg(left, "sum", "euros", **by, **parts)
         whole = ruzgalt.agg(self.left, function, *amount, **words)
         yield "agg", whole, ruzgalt.agg(left, function, *amount, **words, **parts)
+        if len(self.left):
+            point = self.random.choice(self.left["from"].tolist())
+            yield "at", ruzgalt.at(self.left, point, **words), ruzgalt.at(left, point, **words)
+            yield "during", ruzgalt.during(self.left, point, None, **words), ruzgalt.during(left, point, None, **words)
 
 
 class RandomSpread(unittest.TestCase):
