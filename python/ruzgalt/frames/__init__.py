@@ -20,6 +20,7 @@ A module stands on those above it:
     running, output         a run; its answers as columns
     ask, split              a question's run; rows past the limits in parts
     options, answer         what may be given to a call; the columns of an answer, and their names
+    measures                what an aggregate tells: one function of rows, or several
     doubts                  what may not be meant
     pairs, groups, division join and anti; agg; dip
     spread, slices          the same of Dask: by value; by time

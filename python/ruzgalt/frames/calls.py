@@ -7,11 +7,11 @@ from typing import TYPE_CHECKING, Any, Mapping, Optional, Union, overload
 
 import pandas as pd
 
-from ruzgalt.frames import division, groups, pairs
+from ruzgalt.frames import division, groups, measures, pairs
 from ruzgalt.frames.checks import are_spread
 from ruzgalt.frames.errors import Refused
 from ruzgalt.frames.options import (
-    INNER, NO_DECIMALS, PERIOD, SUFFIXES, WORKERS, Names, PairOfNames, PairOfSuffixes, options_of,
+    FLOAT, INNER, NO_DECIMALS, PERIOD, SUFFIXES, WORKERS, Functions, Names, PairOfNames, PairOfSuffixes, options_of,
 )
 
 if TYPE_CHECKING:
@@ -221,32 +221,36 @@ def anti(left: Any, right: Any, on: Names = None, *, left_on: Names = None, righ
 
 
 @overload
-def agg(frame: pd.DataFrame, function: str, column: Any = ..., *, by: Names = ..., period: PairOfNames = ...,
-        open_end: bool = ..., last_day: bool = ..., decimals: Mapping[Any, int] = ..., points_as: Optional[str] = ...,
-        workers: int = ..., parts: Optional[int] = ...) -> pd.DataFrame: ...
+def agg(frame: pd.DataFrame, function: Functions, column: Any = ..., *, by: Names = ..., mean_as: str = ...,
+        period: PairOfNames = ..., open_end: bool = ..., last_day: bool = ..., decimals: Mapping[Any, int] = ...,
+        points_as: Optional[str] = ..., workers: int = ..., parts: Optional[int] = ...) -> pd.DataFrame: ...
 
 
 @overload
-def agg(frame: dd.DataFrame, function: str, column: Any = ..., *, by: Names = ..., period: PairOfNames = ...,
-        open_end: bool = ..., last_day: bool = ..., decimals: Mapping[Any, int] = ..., points_as: Optional[str] = ...,
-        workers: int = ..., parts: Optional[int] = ...) -> dd.DataFrame: ...
+def agg(frame: dd.DataFrame, function: Functions, column: Any = ..., *, by: Names = ..., mean_as: str = ...,
+        period: PairOfNames = ..., open_end: bool = ..., last_day: bool = ..., decimals: Mapping[Any, int] = ...,
+        points_as: Optional[str] = ..., workers: int = ..., parts: Optional[int] = ...) -> dd.DataFrame: ...
 
 
-def agg(frame: Any, function: str, column: Any = None, *, by: Names = None, period: PairOfNames = PERIOD,
-        open_end: bool = False, last_day: bool = False, decimals: Mapping[Any, int] = NO_DECIMALS,
-        points_as: Optional[str] = None, workers: int = WORKERS, parts: Optional[int] = None) -> Any:
-    """count, sum, min or max of the rows that hold, for each period in which it stays the same, by groups.
+def agg(frame: Any, function: Functions, column: Any = None, *, by: Names = None, mean_as: str = FLOAT,
+        period: PairOfNames = PERIOD, open_end: bool = False, last_day: bool = False,
+        decimals: Mapping[Any, int] = NO_DECIMALS, points_as: Optional[str] = None, workers: int = WORKERS,
+        parts: Optional[int] = None) -> Any:
+    """count, sum, min, max or mean of the rows that hold, for each period in which it stays the same, by groups.
 
     Parameters
     ----------
     frame : DataFrame
         A frame of pandas or of Dask.
-    function : str
-        count, sum, min or max.
+    function : str or dict
+        count, sum, min, max or mean. Or a dict of columns, each with one of these or a list of them, for several at
+        once: a period is one in which all stay the same.
     column : name, optional
-        The column of numbers of a sum, min or max. A count has none.
+        The column of numbers of a sum, min, max or mean. A count has none, nor has a dict.
     by : name or list of names, optional
         Columns whose equal values are a group; without any all rows are one.
+    mean_as : str, default "float"
+        As what a mean comes: the nearest float, the Fraction that it is, or the Decimal as Decimals divide.
     period : pair of names, default ("from", "to")
         The columns of a row's start and of its end, the first point behind it.
     open_end : bool, default False
@@ -265,7 +269,7 @@ def agg(frame: Any, function: str, column: Any = None, *, by: Names = None, peri
     Returns
     -------
     DataFrame
-        Of Dask where the frame is. It has the columns of `by` and the period's two in their dtypes, then the value,
+        Of Dask where the frame is. It has the columns of `by` and the period's two in their dtypes, then the values,
         named count or FUNCTION_COLUMN: of the column's dtype, but a count and a sum of whole numbers are int64, and
         where a sum has more than 64 bits, objects of int. Rows are by group, then start; where no row holds there is
         none. Of Dask with `by` partitions are in no order; without, they are in the order of time, and the frame is
@@ -297,17 +301,22 @@ def agg(frame: Any, function: str, column: Any = None, *, by: Names = None, peri
       person       from         to  count
     0    Ada 2024-01-01 2024-07-01      1
     1  Grace 2024-03-01 2024-10-01      1
+    >>> ruzgalt.agg(pay, {"person": "count", "cents": ["max", "mean"]})
+            from         to  count_person  max_cents  mean_cents
+    0 2024-01-01 2024-03-01             1       5000      5000.0
+    1 2024-03-01 2024-07-01             2       5000      4900.0
+    2 2024-07-01 2024-10-01             1       4800      4800.0
     """
     options = options_of(
-        by=by, period=period, open_end=open_end, last_day=last_day, decimals=decimals, points_as=points_as,
-        workers=workers, parts=parts,
+        by=by, mean_as=mean_as, period=period, open_end=open_end, last_day=last_day, decimals=decimals,
+        points_as=points_as, workers=workers, parts=parts,
     )
-    groups.refuse_call(function, column)
+    told = measures.of_call(function, column)
     if are_spread(frame=frame):
         from ruzgalt.frames import slices, spread
         asked = spread.agg if options.by else slices.agg
-        return asked(frame, function, column, options)
-    return groups.agg(frame, function, column, options)
+        return asked(frame, told, options)
+    return groups.agg(frame, told, options)
 
 
 def dip(frame: pd.DataFrame, *, period: PairOfNames = PERIOD, open_end: bool = False, last_day: bool = False,

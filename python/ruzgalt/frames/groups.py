@@ -2,49 +2,54 @@
 from __future__ import annotations
 
 from dataclasses import replace
-from typing import Any, List, Sequence, Tuple
+from typing import Any, List, Mapping, Sequence, Tuple
 
 import numpy as np
 
-from ruzgalt.frames import checks, doubts, sides, split
+from ruzgalt.frames import doubts, measures, sides
 from ruzgalt.frames.answer import Column, Columns
 from ruzgalt.frames.arrays import Ints
-from ruzgalt.frames.errors import Refused
+from ruzgalt.frames.errors import refuse
+from ruzgalt.frames.measures import Measures
 from ruzgalt.frames.named import column_of, with_levels
 from ruzgalt.frames.options import Options
 from ruzgalt.frames.pairs import period_of, with_labels_twice
 from ruzgalt.frames.sides import Side
-from ruzgalt.frames.values import Values
-
-FUNCTIONS = ("count", "sum", "min", "max")
+from ruzgalt.frames.values import Values, no_value
 
 
-def agg(frame: Any, function: str, column: Any, options: Options) -> Any:
+def agg(frame: Any, asked: Measures, options: Options) -> Any:
     frame = with_levels(frame, options.by or ())
-    side = side_of(frame, function, column, options)
+    side = side_of(frame, asked, options)
     doubts.of_decimals(options.decimals, frame)
     by = side.columns[:len(options.by or ())]
     doubts.of_groups(by)
     doubts.of_ends(side, by, options.period[1], options.last_day)
-    return counted(frame, side, (function, column), options)
+    return counted(frame, side, asked, options)
 
 
-def agg_part(frame: Any, function: str, column: Any, options: Options) -> Any:
+def agg_part(frame: Any, asked: Measures, options: Options) -> Any:
     """Of a partition, in which nothing is looked at that may not be meant."""
     frame = with_levels(frame, options.by or ())
-    return counted(frame, side_of(frame, function, column, options), (function, column), options)
+    return counted(frame, side_of(frame, asked, options), asked, options)
 
 
-def counted(frame: Any, side: Side, asked: Tuple[str, Any], options: Options) -> Any:
-    """asked: the function and its column."""
-    groups, function = options.by or (), asked[0]
+def counted(frame: Any, side: Side, asked: Measures, options: Options) -> Any:
+    groups = options.by or ()
     codes, firsts = group_codes(side, len(groups))
-    amounts = side.columns[len(groups):]
-    start, end, group, value = split.agg(replace(side, columns=[codes, *amounts]), function, options.workers)
+    amounts = amounts_in(side, asked)
+    numbered = replace(side, columns=[codes])
+    start, end, group, *values = measures.measured(numbered, amounts, asked, options.workers)
     columns = Columns(groups_at(frame, groups, firsts[group]))
     columns.add(period_of(start, end, [side], options))
-    columns.add([(name_of(*asked), restored(value, function, amounts))])
+    columns.add(measures.columns_of(values, asked, amounts, options.mean_as))
     return columns.frame()
+
+
+def amounts_in(side: Side, asked: Measures) -> Mapping[Any, Values]:
+    """The columns whose numbers come together, which are the last ones of the side."""
+    names = measures.amounts_of(asked)
+    return dict(zip(names, side.columns[len(side.columns) - len(names):]))
 
 
 def groups_at(frame: Any, names: Sequence[Any], rows: Ints) -> List[Column]:
@@ -52,39 +57,16 @@ def groups_at(frame: Any, names: Sequence[Any], rows: Ints) -> List[Column]:
     return [(name, column_of(with_labels_twice(frame), name).take(rows).reset_index(drop=True)) for name in names]
 
 
-def refuse_call(function: Any, column: Any) -> None:
-    checks.one_of("function", function, FUNCTIONS)
-    if function == "count" and column is not None:
-        raise checks.wrong("column", column, "a count is of rows: agg(frame, 'count')")
-    if function != "count" and column is None:
-        raise Refused("BadCommand", f"{function} is of a column: agg(frame, {function!r}, COLUMN)")
-    if column is not None:
-        checks.name("column", column)
-
-
-def side_of(frame: Any, function: str, column: Any, options: Options) -> Side:
-    """The rows with the columns of `by`, and the one that comes together. Raises Refused."""
-    names = [*(options.by or ()), *([column] if column is not None else [])]
+def side_of(frame: Any, asked: Measures, options: Options) -> Side:
+    """The rows with the columns of `by`, and those that come together. Raises Refused."""
+    names = [*(options.by or ()), *measures.amounts_of(asked)]
     side = sides.side_of(frame, names, options.period, options.form, options.decimals)
-    refuse_texts(function, side.columns[-1:] if column is not None else [])
+    measures.refuse_texts(asked, amounts_in(side, asked))
+    for one in asked:
+        if one.function == "count" and one.is_of_column:
+            counted_column = column_of(frame, one.column)
+            refuse(counted_column.isna().to_numpy(), counted_column, "BadNumber", no_value(one.column))
     return side
-
-
-def refuse_texts(function: str, amounts: Sequence[Values]) -> None:
-    for one in amounts:
-        if one.kind != "int":
-            raise Refused("WrongKind", f"{function} is of numbers, and these are texts; by= takes texts", one.name)
-
-
-def name_of(function: str, column: Any) -> str:
-    """The name of the answer's value."""
-    return function if column is None else f"{function}_{column}"
-
-
-def restored(value: Any, function: str, amounts: Sequence[Values]) -> Any:
-    """A least or greatest value is of the column's dtype, so is a sum of decimals; other sums are int64 or longer."""
-    is_of_column = amounts and (function != "sum" or amounts[0].digits is not None)
-    return amounts[0].restored(value) if is_of_column else value
 
 
 def group_codes(side: Side, count: int) -> Tuple[Values, Ints]:

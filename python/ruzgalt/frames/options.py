@@ -14,6 +14,7 @@ from ruzgalt.frames.sides import Period
 
 # As a call takes them, and as they are worked with.
 Names = Union[str, int, Sequence[Any], None]
+Functions = Union[str, Mapping[Any, Union[str, Sequence[str]]]]
 PairOfNames = Union[Tuple[Any, Any], List[Any]]
 PairOfSuffixes = Union[Suffixes, List[Optional[str]]]
 Told = Optional[Tuple[Any, ...]]
@@ -25,6 +26,9 @@ WORKERS = 4
 # Whose rows a join has: those of pairs, and the left ones, the right ones or all that are in none.
 HOWS = ("inner", "left", "right", "outer")
 INNER = HOWS[0]
+# As what a mean comes.
+MEANS = ("float", "Fraction", "Decimal")
+FLOAT = MEANS[0]
 MOST_WORKERS = 64
 # What may be given of a table's frames.
 OF_TABLE = ("period", "open_end", "last_day", "decimals")
@@ -44,6 +48,7 @@ class Options:
     decimals: Mapping[Any, int] = field(default_factory=dict)
     suffixes: Suffixes = SUFFIXES
     how: str = INNER
+    mean_as: str = FLOAT
     labels: bool = False
     points_as: Optional[str] = None
     workers: int = WORKERS
@@ -75,6 +80,10 @@ def how_named(option: str, given: Any) -> str:
     return checks.one_of(option, given, HOWS)
 
 
+def mean_named(option: str, given: Any) -> str:
+    return checks.one_of(option, given, MEANS)
+
+
 def kind_named(option: str, given: Any) -> str:
     return checks.one_of(option, given, kinds.NAMES)
 
@@ -85,7 +94,7 @@ CHECKS: Dict[str, Callable[[str, Any], Any]] = {
     **dict.fromkeys(("period", "right_period"), checks.pair),
     **dict.fromkeys(("open_end", "last_day", "labels"), checks.flag),
     "decimals": checks.digits, "suffixes": checks.suffixes, "points_as": kind_named,
-    "workers": workers_of, "parts": parts_of, "how": how_named,
+    "workers": workers_of, "parts": parts_of, "how": how_named, "mean_as": mean_named,
 }
 # Those that may be None, as where they aren't given.
 OPTIONAL = ("left_on", "right_on", "by", "right_period", "points_as", "parts")

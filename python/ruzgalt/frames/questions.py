@@ -2,17 +2,18 @@
 from __future__ import annotations
 
 from dataclasses import dataclass, replace
-from typing import Any, Iterator, List, Optional, Sequence
+from typing import Any, Iterator, List, Optional, Sequence, Tuple
 
 import numpy as np
 import pandas as pd
 
-from ruzgalt.frames import answer, checks, doubts, groups, instants, pairs, script, split, unmeant
+from ruzgalt.frames import answer, checks, doubts, groups, instants, measures, pairs, script, unmeant
 from ruzgalt.frames.answer import Columns
 from ruzgalt.frames.arrays import Cells
 from ruzgalt.frames.book import Book
 from ruzgalt.frames.errors import Refused
 from ruzgalt.frames.kinds import Kind
+from ruzgalt.frames.measures import Measures
 from ruzgalt.frames.options import Options, compared
 from ruzgalt.frames.sides import Side
 from ruzgalt.frames.tables import Table, coded
@@ -134,42 +135,46 @@ def filled(asked: Asked, table: Table, names: Sequence[str]) -> List[Values]:
     return [coded(table.columns[name], cells[name]) for name in names]
 
 
-def agg(asked: Asked, name: str, function: str, column: Any) -> Any:
-    groups.refuse_call(function, column)
+def agg(asked: Asked, name: str, function: Any, column: Any) -> Any:
+    told = measures.of_call(function, column)
     table = asked.book.known(name)
     by = [table.column(one) for one in asked.options.by or ()]
-    amounts = [table.column(column)] if column is not None else []
-    groups.refuse_texts(function, amounts)
-    found = (by_several if len(by) > 1 else by_one)(asked, table, function, [*by, *amounts])
-    *told, start, end, value = found
-    doubts.of_groups(coded(one, pd.unique(cells)) for one, cells in zip(by, told))
-    columns = Columns([(one.name, one.restored(cells)) for one, cells in zip(by, told)])
+    for one in told:
+        if one.is_of_column:
+            table.column(one.column)
+    amounts = {one: table.column(one) for one in measures.amounts_of(told)}
+    measures.refuse_texts(told, amounts)
+    is_alone = len(by) < 2 and len(told) == 1 and told[0].function != "mean"
+    groups_of, (start, end, *values) = (by_one if is_alone else by_several)(asked, table, told, by)
+    doubts.of_groups(coded(one, pd.unique(cells)) for one, cells in zip(by, groups_of))
+    columns = Columns([(one.name, one.restored(cells)) for one, cells in zip(by, groups_of)])
     columns.add(table.period_cells(iter((start, end)), asked.options.kind_of(table.kind)))
-    columns.add([(groups.name_of(function, column), groups.restored(value, function, amounts))])
+    columns.add(measures.columns_of(values, told, amounts, asked.options.mean_as))
     return columns.frame()
 
 
-def by_one(asked: Asked, table: Table, function: str, columns: Sequence[Values]) -> Sequence[Cells]:
-    """The group's column where there is one, start, end and value, as the language has them."""
-    count = len(columns) - (function != "count")
-    group = columns[:count]
-    names = [*(one.name for one in columns[count:]), *(text for one in group for text in ("by", one.name))]
-    kinds = "".join("i" if one.kind == "int" else "t" for one in group) + "ppi"
-    return list(asked.block(["agg", table.name, function, *names], kinds))
+# The groups' columns; start, end and values.
+Counted = Tuple[Sequence[Cells], Sequence[Cells]]
 
 
-def by_several(asked: Asked, table: Table, function: str, columns: Sequence[Values]) -> Sequence[Cells]:
-    """The groups' columns, start, end and value: of the table's rows, as frames have them."""
-    cells = asked.block(["rows", table.name], "-pp" + table.readers)
-    start, end, *told = cells
-    found = dict(zip(table.columns, told))
-    sides = [coded(one, found[one.name]) for one in columns]
-    count = len(columns) - (function != "count")
-    side = Side(start, end, sides, places=np.arange(len(start)))
-    codes, firsts = groups.group_codes(side, count)
-    numbered = replace(side, columns=[codes, *sides[count:]])
-    start, end, group, value = split.agg(numbered, function, asked.book.workers)
-    return [*(found[one.name][firsts[group]] for one in columns[:count]), start, end, value]
+def by_one(asked: Asked, table: Table, told: Measures, by: Sequence[Values]) -> Counted:
+    """Of one measure, by at most one column: as the language has it."""
+    names = [*told[0].amount, *(text for one in by for text in ("by", one.name))]
+    kinds = "".join("i" if one.kind == "int" else "t" for one in by) + "ppi"
+    cells = list(asked.block(["agg", table.name, told[0].function, *names], kinds))
+    return cells[:len(by)], cells[len(by):]
+
+
+def by_several(asked: Asked, table: Table, told: Measures, by: Sequence[Values]) -> Counted:
+    """Of the table's rows, as frames have them."""
+    start, end, *cells = asked.block(["rows", table.name], "-pp" + table.readers)
+    found = {name: coded(one, own) for (name, one), own in zip(table.columns.items(), cells)}
+    side = Side(start, end, [found[one.name] for one in by], places=np.arange(len(start)))
+    codes, firsts = groups.group_codes(side, len(by))
+    amounts = {name: found[name] for name in measures.amounts_of(told)}
+    start, end, group, *values = measures.measured(replace(side, columns=[codes]), amounts, told, asked.book.workers)
+    whole = dict(zip(table.columns, cells))
+    return [whole[one.name][firsts[group]] for one in by], [start, end, *values]
 
 
 def log(asked: Asked) -> Any:

@@ -10,11 +10,12 @@ import dask.dataframe as dd
 import numpy as np
 import pandas as pd
 
-from ruzgalt.frames import doubts, groups, kinds, pairs, points, split
+from ruzgalt.frames import doubts, groups, kinds, pairs, points
 from ruzgalt.frames.answer import Columns
 from ruzgalt.frames.arrays import NO_INTS, Ints
 from ruzgalt.frames.ask import Found
 from ruzgalt.frames.kinds import Kind
+from ruzgalt.frames.measures import Measures, amounts_of, columns_of, measured
 from ruzgalt.frames.options import Options
 from ruzgalt.frames.sides import Side
 from ruzgalt.frames.spread import PART, by_part, with_objects
@@ -26,27 +27,26 @@ QUANTILES = np.linspace(0, 1, 101)
 
 @dataclass(frozen=True)
 class Question:
-    """What is asked, of which column, and how."""
+    """What is asked, and how."""
 
-    function: str
-    column: Any
+    measures: Measures
     options: Options
 
     def side_of(self, frame: Any) -> Side:
-        return groups.side_of(frame, self.function, self.column, self.options)
+        return groups.side_of(frame, self.measures, self.options)
 
     def agg(self, frame: Any) -> Any:
-        return groups.agg_part(frame, self.function, self.column, self.options)
+        return groups.agg_part(frame, self.measures, self.options)
 
 
 @with_objects
-def agg(frame: Any, function: str, column: Any, options: Options) -> Any:
+def agg(frame: Any, measures: Measures, options: Options) -> Any:
     """Partitions in the order of time. The frame is read at once, for the cuts."""
     doubts.of_decimals(options.decimals, frame)
-    asked = Question(function, column, options)
+    asked = Question(measures, options)
     meta = asked.agg(frame._meta)
     cuts, kind = cuts_of(frame, asked, options.parts or frame.npartitions)
-    names = ["start", "end", *(["amount"] if column is not None else []), PART]
+    names = ["start", "end", *amount_names(asked.side_of(frame._meta)), PART]
     slim = pd.DataFrame({name: NO_INTS for name in names})
     sliced = frame.map_partitions(slices, asked, cuts, meta=slim)
     spread = by_part(sliced, len(cuts) + 1)
@@ -80,38 +80,43 @@ def slices(frame: Any, asked: Question, cuts: Ints) -> Any:
     part = np.arange(len(rows)) - np.repeat(np.cumsum(count) - count, count) + first[rows]
     lows, highs = np.concatenate([[points.FIRST], cuts]), np.concatenate([cuts, [points.LAST]])
     cells = {"start": np.maximum(side.start[rows], lows[part]), "end": np.minimum(side.end[rows], highs[part])}
-    if side.columns:
-        cells["amount"] = side.columns[0].codes[rows]
+    cells.update((name, column.codes[rows]) for name, column in zip(amount_names(side), side.columns))
     return pd.DataFrame({**cells, PART: part.astype(np.int64)})
 
 
+def amount_names(side: Side) -> List[str]:
+    """As the numbers that come together are called meanwhile."""
+    return [f"amount{place}" for place, _ in enumerate(side.columns)]
+
+
 def answered(frame: Any, asked: Question) -> Found:
-    """Start, end and value within a slice."""
-    groups_of = Values(None, "int", np.zeros(len(frame), np.int64))
-    amounts = [Values(None, "int", frame["amount"].to_numpy())] if "amount" in frame.columns else []
-    columns = [groups_of, *amounts]
+    """Start, end and values within a slice."""
+    names = amounts_of(asked.measures)
+    amounts = {name: Values(None, "int", frame[f"amount{place}"].to_numpy()) for place, name in enumerate(names)}
+    columns = [Values(None, "int", np.zeros(len(frame), np.int64))]
     side = Side(frame["start"].to_numpy(), frame["end"].to_numpy(), columns, places=np.arange(len(frame)))
-    start, end, _, value = split.agg(side, asked.function, asked.options.workers)
-    return start, end, value
+    start, end, _, *values = measured(side, amounts, asked.measures, asked.options.workers)
+    return (start, end, *values)
 
 
 @dataclass(frozen=True)
 class Edges:
-    """Of a slice's rows: the first one's start, end and value, the last one's end and value, whether they are one."""
+    """Of a slice's rows: the first one's start, end and values, the last one's end and values, whether they are one."""
 
     start: int
     first_end: int
-    first: int
+    first: Sequence[Any]
     end: int
-    last: int
+    last: Sequence[Any]
     is_one: bool
 
 
 def edges_of(found: Found) -> Optional[Edges]:
-    start, end, value = found
+    start, end, *values = found
     if not len(start):
         return None
-    return Edges(int(start[0]), int(end[0]), int(value[0]), int(end[-1]), int(value[-1]), len(start) == 1)
+    first, last = ([value[place] for value in values] for place in (0, -1))
+    return Edges(int(start[0]), int(end[0]), first, int(end[-1]), last, len(start) == 1)
 
 
 def plan_of(told: Sequence[Optional[Edges]]) -> List[Tuple[bool, int]]:
@@ -130,8 +135,9 @@ def fitted(found: Found, plan: Sequence[Tuple[bool, int]], place: int, form: Tup
     """A slice's rows as they are in the answer."""
     asked, empty = form
     goes_on, last = plan[place]
-    start, end, value = (column[int(goes_on):].copy() for column in found)
+    start, end, *values = (column[int(goes_on):].copy() for column in found)
     end[-1:] = last
     columns = Columns(pairs.period_of(start, end, [empty], asked.options))
-    columns.add([(groups.name_of(asked.function, asked.column), groups.restored(value, asked.function, empty.columns))])
+    amounts = groups.amounts_in(empty, asked.measures)
+    columns.add(columns_of(values, asked.measures, amounts, asked.options.mean_as))
     return columns.frame()

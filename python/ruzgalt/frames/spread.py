@@ -17,6 +17,7 @@ import pandas as pd
 
 from ruzgalt.frames import doubts, groups, values
 from ruzgalt.frames.errors import Refused
+from ruzgalt.frames.measures import Measures
 from ruzgalt.frames.named import column_of, names_of, with_levels
 from ruzgalt.frames.options import Names, Options, compared
 from ruzgalt.frames.pairs import with_labels_twice
@@ -62,12 +63,12 @@ def as_spread(frame: Any) -> Any:
 
 
 @with_objects
-def agg(frame: Any, function: str, column: Any, options: Options) -> Any:
+def agg(frame: Any, asked: Measures, options: Options) -> Any:
     """Of groups: those in a partition are in order, and partitions are in none."""
     doubts.of_decimals(options.decimals, frame)
-    meta = groups.agg_part(frame._meta, function, column, options)
+    meta = groups.agg_part(frame._meta, asked, options)
     sent = by_value(frame, options.by or (), options.decimals, options.parts or frame.npartitions)
-    return sent.map_partitions(groups.agg_part, function, column, options, meta=meta, transform_divisions=False)
+    return sent.map_partitions(groups.agg_part, asked, options, meta=meta, transform_divisions=False)
 
 
 def by_value(frame: Any, names: Sequence[Any], decimals: Mapping[Any, int], parts: int) -> Any:

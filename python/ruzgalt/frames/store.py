@@ -19,7 +19,8 @@ from ruzgalt.frames.divisions import Verdict
 from ruzgalt.frames.errors import Refused, doubt
 from ruzgalt.frames.opening import Script
 from ruzgalt.frames.options import (
-    NO_DECIMALS, PERIOD, SUFFIXES, WORKERS, Names, PairOfNames, PairOfSuffixes, options_of, workers_of,
+    FLOAT, NO_DECIMALS, PERIOD, SUFFIXES, WORKERS, Functions, Names, PairOfNames, PairOfSuffixes, options_of,
+    workers_of,
 )
 from ruzgalt.frames.questions import Asked
 from ruzgalt.frames.tables import Table
@@ -656,29 +657,32 @@ class Store:
         told = self.asked(as_of, left_on=left_on, right_on=right_on, points_as=points_as)
         return questions.anti(told, left, right, on)
 
-    def agg(self, name: str, function: str, column: Optional[str] = None, by: Names = None,
-            as_of: Optional[int] = None, *, points_as: Optional[str] = None) -> pd.DataFrame:
-        """count, sum, min or max of the rows that hold, for each period in which it stays the same, by groups.
+    def agg(self, name: str, function: Functions, column: Optional[str] = None, by: Names = None,
+            as_of: Optional[int] = None, *, mean_as: str = FLOAT, points_as: Optional[str] = None) -> pd.DataFrame:
+        """count, sum, min, max or mean of the rows that hold, for each period in which it stays the same, by groups.
 
         Parameters
         ----------
         name : str
             The table.
-        function : str
-            count, sum, min or max.
+        function : str or dict
+            count, sum, min, max or mean. Or a dict of columns, each with one of these or a list of them, for several at
+            once: a period is one in which all stay the same.
         column : name, optional
-            The column of numbers of a sum, min or max. A count has none.
+            The column of numbers of a sum, min, max or mean. A count has none, nor has a dict.
         by : name or list of names, optional
             Columns whose equal values are a group; without any all rows are one.
         as_of : int, optional
             The number of a commit, as of which it is asked, where not of the newest. log() lists them.
+        mean_as : str, default "float"
+            As what a mean comes: the nearest float, the Fraction that it is, or the Decimal as Decimals divide.
         points_as : str, optional
             ns, us, ms, s, D, S, date or datetime: the answer's points, where not of the table's kind.
 
         Returns
         -------
         DataFrame
-            The columns of `by`, the period's, and the value, as of ruzgalt.agg. Rows are by group, then start.
+            The columns of `by`, the period's, and the values, as of ruzgalt.agg. Rows are by group, then start.
 
         Raises
         ------
@@ -700,7 +704,7 @@ class Store:
         1    Ada 2024-07-01 2025-01-01       5400
         2  Grace 2024-03-01 2024-10-01       4800
         """
-        return questions.agg(self.asked(as_of, by=by, points_as=points_as), name, function, column)
+        return questions.agg(self.asked(as_of, by=by, mean_as=mean_as, points_as=points_as), name, function, column)
 
     def dip(self, name: str, as_of: Optional[int] = None) -> pd.DataFrame:
         """The fewest parts into which the rows can be divided so that no two of a part hold at one time.

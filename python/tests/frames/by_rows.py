@@ -3,8 +3,12 @@
 A frame is a list of columns, each a name and its cells. Points are numbers of days, OPEN for no end. An answer is a
 list of names and a list of rows, or None where some column has no name of its own.
 """
+from fractions import Fraction
+
 OPEN = 40
-FUNCTIONS = {"count": len, "sum": sum, "min": min, "max": max}
+FUNCTIONS = {
+    "count": len, "sum": sum, "min": min, "max": max, "mean": lambda told: Fraction(sum(told)) / len(told),
+}
 
 
 def is_same(one, other):
@@ -126,15 +130,21 @@ def order(group):
     return [cell.encode() if isinstance(cell, str) else cell for cell in group]
 
 
-def agg(frame, function, column, told):
-    groups, amounts = keys(frame, told.on[0]), cells(frame, column) if function != "count" else frame[0][1]
-    held, rows = list(zip(periods(frame, told.periods[0]), amounts, groups)), []
+def agg(frame, measures, told):
+    """measures: functions with their columns, None of the rows alone."""
+    groups, rows = keys(frame, told.on[0]), []
+    amounts = [frame[0][1] if column is None else cells(frame, column[0]) for _, column in measures]
+    held = list(zip(periods(frame, told.periods[0]), groups, zip(*amounts)))
     for group in sorted(set(groups), key=order):
         days = [
-            [amount for (start, end), amount, own in held if own == group and start <= day < end] for day in range(OPEN)
+            [own for (start, end), other, own in held if other == group and start <= day < end] for day in range(OPEN)
         ]
-        rows += [[*group, *run] for run in runs([FUNCTIONS[function](day) if day else None for day in days])]
-    names = [*told.on[0], *told.periods[0], function if function == "count" else f"{function}_{column}"]
+        values = [
+            tuple(FUNCTIONS[one](column) for (one, _), column in zip(measures, zip(*day))) or None for day in days
+        ]
+        rows += [[*group, start, end, *value] for start, end, value in runs(values)]
+    names = [function if column is None else f"{function}_{column[0]}" for function, column in measures]
+    names = [*told.on[0], *told.periods[0], *names]
     return (names, rows) if all(times(names, name) == 1 for name in names) else None
 
 

@@ -1,5 +1,6 @@
 """What hypothesis draws: frames whose columns have the names of answers, or hardly any, and options of wrong types."""
 import datetime
+import decimal
 from dataclasses import dataclass, field
 from typing import Any
 
@@ -38,6 +39,7 @@ WRONG = {
     "workers": [0, -1, 65, True, 1.0, "4", None, [4]], "parts": [0, -1, 2.0, "2", True],
     "decimals": [2, "id", None, [("id", 2)], {"id": 2.0}, {"id": True}, {"id": -1}, {"id": 19}, {"id": None}],
     "points_as": ["W", "", 1, ["S"], True], "onn": ["id"], "how": ["", "Left", "cross", True, None, ["left"], 1],
+    "mean_as": ["", "Float", float, None, True],
 }
 OF_ALL = ["period", "open_end", "last_day", "workers", "onn"]
 OF_PAIRS = ["right_period", "on", "left_on", "parts", "decimals", "points_as"]
@@ -47,7 +49,13 @@ OF_CALL = {
 }
 NO_FUNCTIONS = [
     ("summ", "id"), (None, None), (["sum"], "id"), ("Count", None), ("sum", None), ("count", "id"), ("sum", ["id"]),
+    ({},), ({"id": "sum"}, "id"), ({"id": ["sum", "sum"]},), ({"id": []},), ({"id": {"sum"}},), ({None: "count"},),
 ]
+# A mean as it comes.
+MEANS = {
+    "float": float, "Fraction": lambda told: told,
+    "Decimal": lambda told: decimal.Decimal(told.numerator) / decimal.Decimal(told.denominator),
+}
 AMOUNTS = [st.integers(-3, 3), st.booleans(), st.sampled_from([0.25, -1.5, 2.75])]
 HOWS = st.sampled_from(["inner", "left", "right", "outer"])
 SUFFIXES = st.sampled_from([("_left", "_right"), ("", "_2"), (None, "_r"), ("_l", None), (None, None), ("", "")])
@@ -71,6 +79,7 @@ class Case:
     columns: Any
     frames: Any = ()
     asked: Any = ("count", None)
+    measures: Any = (("count", None),)
     options: Any = field(default_factory=dict)
     is_right: bool = True
 
@@ -214,13 +223,20 @@ def compared(draw, case, several):
 
 
 def draw_asked(draw, case, amount):
-    """A function and its column; rarely none that is."""
-    function = draw(st.sampled_from(["count", "sum", "min", "max"]))
-    case.asked = (function, None if function == "count" else amount)
-    case.is_right &= function == "count" or amount is not None
+    """A function and its column, or a dict of several; rarely none that is. Among measures a column is in a tuple."""
+    functions = draw(st.lists(st.sampled_from(sorted(by_rows.FUNCTIONS)), min_size=1, max_size=4, unique=True))
+    keys = [(name, "count") for name in case.on[0] if name is not None and draw(st.booleans())]
+    if draw(st.booleans()):
+        case.asked = ({**dict(keys), amount: functions if len(functions) > 1 or draw(st.booleans()) else functions[0]},)
+        case.measures = [(one, (name,)) for name, one in keys] + [(one, (amount,)) for one in functions]
+    else:
+        case.asked = (functions[0], None if functions[0] == "count" else amount)
+        case.measures = [(functions[0], None if functions[0] == "count" else (amount,))]
+    case.is_right &= amount is not None or case.asked == ("count", None)
     cells = by_rows.cells(case.columns[0], amount)
-    if function != "count" and dtype_of(cells) == "float64":
+    if dtype_of(cells) == "float64" and any(one != "count" for one, _ in case.measures):
         case.options["decimals"] = {amount: draw(st.sampled_from([2, 3, np.int8(2)]))}
+    case.options["mean_as"] = draw(st.sampled_from(sorted(MEANS)))
     if rarely(draw):
         case.asked, case.is_right = draw(st.sampled_from(NO_FUNCTIONS)), False
 

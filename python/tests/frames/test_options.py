@@ -21,8 +21,9 @@ WRONG = {
     "workers": (0, -1, 65, 1.0, "4", True, None), "parts": (0, -1, 2.0, True),
     "decimals": (2, "k", None, [("k", 2)], {"k": 2.0}, {"k": -1}, {"k": 19}, {"k": True}),
     "points_as": ("W", "", 5, ["S"]), "how": ("", "Left", "cross", True, None, ["left"]),
+    "mean_as": ("", "Float", float, None),
 }
-OF_AGG = ("by", "period", "open_end", "last_day", "workers", "parts", "decimals", "points_as")
+OF_AGG = ("by", "mean_as", "period", "open_end", "last_day", "workers", "parts", "decimals", "points_as")
 OF_DIP = ("period", "open_end", "last_day", "workers")
 NO_FRAMES = (FRAME["k"], [1], {"from": [1]}, "pay.csv", Path("pay.csv"), None, FRAME.to_numpy())
 
@@ -43,9 +44,9 @@ class Types(unittest.TestCase):
                     self.refuses((name, value), lambda: ruzgalt.agg(FRAME, "count", **words), start)
                 if name in OF_DIP:
                     self.refuses((name, value), lambda: ruzgalt.dip(FRAME, **words), start)
-                if name != "by":
+                if name not in ("by", "mean_as"):
                     self.refuses((name, value), lambda: ruzgalt.join(FRAME, FRAME, **words), start)
-                if name not in ("by", "labels", "suffixes", "how"):
+                if name not in ("by", "labels", "suffixes", "how", "mean_as"):
                     self.refuses((name, value), lambda: ruzgalt.anti(FRAME, FRAME, **words), start)
 
     def test_what_is_no_frame_is_refused(self):

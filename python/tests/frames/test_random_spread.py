@@ -87,6 +87,9 @@ class Case:
         yield "anti", ruzgalt.anti(self.left, self.right, **on), ruzgalt.anti(left, right, **on, **parts)
         by = {"by": self.names, **words}
         yield "agg by", ruzgalt.agg(self.left, "sum", "euros", **by), ruzgalt.agg(left, "sum", "euros", **by, **parts)
+        several = {"euros": ["mean", "max"], self.names[0]: "count"}
+        yield "agg by", ruzgalt.agg(self.left, several, **by), ruzgalt.agg(left, several, **by, **parts)
+        yield "agg", ruzgalt.agg(self.left, several, **words), ruzgalt.agg(left, several, **words, **parts)
         whole = ruzgalt.agg(self.left, function, *amount, **words)
         yield "agg", whole, ruzgalt.agg(left, function, *amount, **words, **parts)
         if len(self.left):

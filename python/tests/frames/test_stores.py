@@ -117,6 +117,9 @@ class Names(Case):
             for function in ("sum", "min"):
                 wanted = ruzgalt.agg(told, function, "price", **words)
                 pd.testing.assert_frame_equal(made.agg("t", function, "price", by=by), wanted)
+            several = {"price": ["mean", "max"], "k": "count"}
+            wanted = ruzgalt.agg(told, several, mean_as="Fraction", **words)
+            pd.testing.assert_frame_equal(made.agg("t", several, by=by, mean_as="Fraction"), wanted)
 
     def test_numbers_of_other_units_are_not_compared(self):
         made = store(frame(price=[0.1, 0.2]), "l", decimals={"price": 2})
