@@ -7,7 +7,8 @@
     for answer in answers.of("examples/pay.csv", "examples/pay.csv.stdout"):
         print(answer.number, answer.line, answer.command.text, answer.table.names)
 
-Python 3.9 and its library are all that is needed, but for frames. A folder stands on those above it:
+Python 3.9 and its library are all that is needed, but for frames. Importing it changes nothing of the process.
+A folder is a subject:
 
     errors, version     the one way in which tools end early; which version this is
     periods             periods in whole numbers: united, between, overlapping, by the calendar

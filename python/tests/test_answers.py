@@ -362,10 +362,9 @@ class Terminals(unittest.TestCase):
         said = io.StringIO()
         with contextlib.redirect_stderr(said), mock.patch.object(said, "isatty", return_value=True, create=True):
             with mock.patch("ruzgalt.commands.progress.monotonic", side_effect=[0.0, 1.0, 2.5, 2.5]):
-                progress = Progress("answers")
-                progress.tell(1000)
-                progress.tell(2000)
-                progress.end()
+                with Progress("answers") as tell:
+                    tell(1000)
+                    tell(2000)
         self.assertEqual(said.getvalue(), "\ranswers: 2,000 records\r\033[K")
 
 

@@ -2,21 +2,21 @@
 from dataclasses import dataclass, field
 from itertools import islice
 from pathlib import Path
-from typing import Dict, Iterable, Iterator, List, Optional, Sequence, Union
+from typing import Callable, Dict, Iterable, Iterator, List, Optional, Sequence, Union
 
 from ruzgalt.answers.lists import Checks
-from ruzgalt.commands import called
-from ruzgalt.commands.progress import Progress
 from ruzgalt.errors import Misfit
 from ruzgalt.script import commands, schemas
 from ruzgalt.script.commands import Command
 from ruzgalt.script.forms import is_count, is_printed, printed
-from ruzgalt.script.reader import PIECE, Block, Place, Reader, Row, Rows, Source
+from ruzgalt.script.reader import PIECE, Block, Place, Reader, Row, Rows, Source, long_fields
 from ruzgalt.script.records import Record, short
 from ruzgalt.script.schemas import Column, Schema, Table
 
 # Bytes, or the file that has them.
 Given = Union[bytes, str, Path]
+# Takes how many records were read so far.
+Tell = Callable[[int], None]
 
 
 @dataclass(frozen=True)
@@ -61,11 +61,18 @@ class Answer:
 
 def of(script: Given, output: Given) -> List[Answer]:
     """The answers in the output, which are those to the script. Raises Misfit where they can't be."""
-    return of_commands(commands.commands(Source(bytes_of(script))), bytes_of(output))
+    with long_fields():
+        return of_commands(commands.commands(Source(bytes_of(script))), bytes_of(output))
 
 
-def of_commands(script: Iterable[Command], output: bytes, is_own: bool = False) -> List[Answer]:
-    return list(Reading(Source(output), is_own).answers(script))
+def silently(_: int) -> None:
+    """Tells nobody."""
+
+
+def of_commands(
+    script: Iterable[Command], output: bytes, is_own: bool = False, tell: Tell = silently,
+) -> List[Answer]:
+    return list(Reading(Source(output), is_own, tell).answers(script))
 
 
 def bytes_of(source: Given) -> bytes:
@@ -75,24 +82,20 @@ def bytes_of(source: Given) -> bytes:
 class Reading:
     """The answers' records, of which some first ones are read, and the tables and commits of the store by then."""
 
-    def __init__(self, output: Source, is_own: bool):
+    def __init__(self, output: Source, is_own: bool, tell: Tell = silently):
         """Of answers that the program gave just now the long lists are passed over."""
-        self.source, self.output, self.is_own = output, Reader(output), is_own
+        self.source, self.output, self.is_own, self.tell = output, Reader(output), is_own, tell
         self.place = self.output.place
-        self.progress = Progress(called.ANSWERS_SAY)
         self.tables: Dict[str, Schema] = {}
         self.commits = 0
         # The queries of a block read the commit that it began with, and its load is the next.
         self.held: Optional[int] = None
 
     def answers(self, script: Iterable[Command]) -> Iterator[Answer]:
-        try:
-            for number, command in enumerate(script, 1):
-                if not command.in_together:
-                    self.held = None
-                yield self.answer(number, command)
-        finally:
-            self.progress.end()
+        for number, command in enumerate(script, 1):
+            if not command.in_together:
+                self.held = None
+            yield self.answer(number, command)
         extra = self.output.next()
         if extra is not None:
             raise Misfit(f"the script has no command for the answer at line {extra.line}: {short(extra.text)}")
@@ -171,7 +174,7 @@ class Reading:
                 if not checks.pass_over(piece):
                     raise checks.fault(Reader(self.source, place), first)
                 count += len(piece)
-                self.progress.tell(self.output.number)
+                self.tell(self.output.number)
                 behind = self.output.at_list_end(first) if self.is_own and len(piece) == PIECE else None
                 if behind:
                     self.output, count = behind, behind.number - first.number

@@ -14,6 +14,7 @@ from ruzgalt.checking import fitting, marks, overlaps, queries, refusals, single
 from ruzgalt.checking.replay import Replay
 from ruzgalt.commands import called, picture, streams
 from ruzgalt.commands.given import bytes_of, chosen, last, read, warn
+from ruzgalt.commands.progress import Progress
 from ruzgalt.commands.words import Words, pair
 from ruzgalt.errors import Misfit
 from ruzgalt.page import contents, document, sources
@@ -165,11 +166,12 @@ def do_front(options: Namespace) -> int:
         warn(f"{options.kept} is empty, and so the front of any answers")
     lines = list(front.edits(bytes_of(options.before), script)) if options.before else []
     output = asking.output(options.program, script)
-    reading = answers.Reading(Source(output), True)
     found, places = [], []
-    for answer in reading.answers(commands.commands(Source(script))):
-        found.append(answer)
-        places.append(reading.place.number)
+    with Progress(called.ANSWERS_SAY) as tell:
+        reading = answers.Reading(Source(output), True, tell)
+        for answer in reading.answers(commands.commands(Source(script))):
+            found.append(answer)
+            places.append(reading.place.number)
     lines.extend(front.told_of(kept, output, found, places))
     streams.show_lines(lines)
     return 1 if lines else 0

@@ -7,6 +7,7 @@ from ruzgalt import answers
 from ruzgalt.answers import Answer, asking, picks
 from ruzgalt.checking import fitting, refusals, replay
 from ruzgalt.commands import called, streams
+from ruzgalt.commands.progress import Progress
 from ruzgalt.errors import Misfit
 from ruzgalt.script import questions, records
 
@@ -48,7 +49,8 @@ def read(options: Namespace, shows_refusals: bool = False, script: Optional[byte
     if all(command.record.is_asked for command in begun):
         warn(EMPTY)
     output = running.output() if running else bytes_of(options.answers)
-    found = answers.of_commands(begun, output, running is not None)
+    with Progress(called.ANSWERS_SAY) as tell:
+        found = answers.of_commands(begun, output, running is not None, tell)
     refused = [answer for answer in found if answer.refusal and not shows_refusals]
     if refused and not options.go_on:
         more = f"{len(refused)} refused; `{called.ANSWERS} refusals` explains, --go-on goes on"

@@ -4,9 +4,10 @@ import os
 import sys
 from argparse import ArgumentParser, ArgumentTypeError, Namespace
 from pathlib import Path
-from typing import List, Optional, Sequence, Tuple
+from typing import Iterator, List, Optional, Sequence, Tuple
 
 from ruzgalt.commands import called, streams
+from ruzgalt.commands.progress import Progress
 from ruzgalt.commands.words import Words, decimals as digits_of
 from ruzgalt.errors import Misfit
 from ruzgalt.loading import claims, dates, decimals
@@ -173,12 +174,20 @@ def made(options: Namespace) -> Tuple[List[bytes], List[str], List[str], int]:
     opening = b"" if options.update else records.encode(records.to_text([["load", options.table]]))
     end = b"" if options.update else b"end\n"
     try:
-        pieces = list(load.made())
+        pieces = list(made_of(load))
     except Misfit as error:
         load.add_fault(str(error))
         pieces = []
     notes = [] if load.count_of_faults else [*notes, *load.noted()]
     return [head, opening, *pieces, end], load.faults, notes, load.count_of_faults
+
+
+def made_of(load: Load) -> Iterator[bytes]:
+    """The load by pieces, while a terminal is shown how far it is."""
+    with Progress(called.LOAD_SAYS) as tell_rows:
+        for piece in load.made():
+            yield piece
+            tell_rows(load.rows)
 
 
 def tell(told: List[str], count: int) -> None:

@@ -1,9 +1,12 @@
 """A line on a terminal that tells how far a tool is, where it takes more than two seconds."""
 import sys
 from time import monotonic
+from typing import Callable
 
 
 class Progress:
+    """For a `with`, which takes the line away; in it how many records there were is told now and then."""
+
     PATIENCE, PAUSE = 2.0, 0.5
 
     def __init__(self, what: str) -> None:
@@ -16,8 +19,10 @@ class Progress:
             sys.stderr.flush()
             self.next, self.is_shown = monotonic() + self.PAUSE, True
 
-    def end(self) -> None:
-        """Takes the line away."""
+    def __enter__(self) -> Callable[[int], None]:
+        return self.tell
+
+    def __exit__(self, *_: object) -> None:
         if self.is_shown:
             sys.stderr.write("\r\033[K")
             sys.stderr.flush()

@@ -1,4 +1,5 @@
 """Standard input, output and error as a shell may leave them: closed, a terminal, or read by what ends early."""
+import csv
 import os
 import signal
 import sys
@@ -7,13 +8,15 @@ from typing import Iterable
 from ruzgalt.commands import screen
 from ruzgalt.errors import Misfit
 from ruzgalt.script import records
+from ruzgalt.script.reader import LONGEST_FIELD
 
 
 def prepare(name: str) -> None:
-    """Lets the tool end as other programs do, where its output isn't read to its end, or by Ctrl-C.
+    """Makes the process a tool's: it ends as other programs do, where its output isn't read to its end, or by Ctrl-C.
 
     Ends where there is no place for what would be printed. What would be told goes nowhere, if it has no place.
     """
+    csv.field_size_limit(LONGEST_FIELD)
     signal.signal(signal.SIGPIPE, signal.SIG_DFL)
     signal.signal(signal.SIGINT, signal.SIG_DFL)
     if sys.stderr is None:

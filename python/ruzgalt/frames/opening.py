@@ -4,7 +4,7 @@ from __future__ import annotations
 import os
 from dataclasses import replace
 from pathlib import Path
-from typing import Any, Dict, Mapping, Sequence, Union
+from typing import Any, Dict, List, Mapping, Sequence, Union
 
 import numpy as np
 import pandas as pd
@@ -23,7 +23,7 @@ from ruzgalt.frames.sides import Side
 from ruzgalt.frames.tables import Table, coded
 from ruzgalt.frames.values import Texts, Values
 from ruzgalt.script import commands
-from ruzgalt.script.reader import Block, Source
+from ruzgalt.script.reader import Block, Source, long_fields
 from ruzgalt.script.schemas import Kind, Schema
 
 Script = Union[bytes, str, "os.PathLike[str]"]
@@ -33,17 +33,25 @@ NAMED = 10
 
 def book_of(given: Script, options: Any, empty: Book) -> Book:
     """The book of a script's accepted changes. Raises Refused, Stopped; warns of refused changes."""
-    data = bytes_of(given)
-    output = running.answer([data], empty.workers).tobytes()
-    try:
-        found = answers.of_commands(commands.commands(Source(data)), output, is_own=True)
-    except Misfit as misfit:
-        raise Stopped(f"the program's answers aren't those of the script: {misfit}") from None
-    warn_of_refused([one for one in found if one.refusal and one.command.word not in answers.READERS])
+    found = answers_of(bytes_of(given), empty.workers)
     kept = [command_of(one) for one in found if one.command.word in answers.CHANGES and not one.refusal]
     schemas = found[-1].tables if found else {}
     made = [table_of(schema, options_of_table(options, schema, schemas)) for schema in schemas.values()]
     return filled(Book(empty.workers, {one.name: one for one in made}, tuple(kept)))
+
+
+def answers_of(data: bytes, workers: int) -> List[Answer]:
+    """The script's commands with their answers. Warns of refused changes, and raises Stopped."""
+    output = running.answer([data], workers).tobytes()
+    with long_fields():
+        try:
+            found = answers.of_commands(commands.commands(Source(data)), output, is_own=True)
+        except Misfit as misfit:
+            raise Stopped(f"the program's answers aren't those of the script: {misfit}") from None
+        told = told_of_refused([one for one in found if one.refusal and one.command.word not in answers.READERS])
+    if told:
+        doubt(told)
+    return found
 
 
 def bytes_of(given: Script) -> bytes:
@@ -58,10 +66,9 @@ def bytes_of(given: Script) -> bytes:
         raise checks.wrong("script", given, f"{getattr(error, 'strerror', None) or error}; {wanted}") from None
 
 
-def warn_of_refused(refused: Sequence[Answer]) -> None:
-    if refused:
-        more = f"; and {len(refused) - NAMED} more" if len(refused) > NAMED else ""
-        doubt(f"refused changes are left out: {'; '.join(map(refusals.told, refused[:NAMED]))}{more}")
+def told_of_refused(refused: Sequence[Answer]) -> str:
+    more = f"; and {len(refused) - NAMED} more" if len(refused) > NAMED else ""
+    return f"refused changes are left out: {'; '.join(map(refusals.told, refused[:NAMED]))}{more}" if refused else ""
 
 
 def command_of(answer: Answer) -> Command:

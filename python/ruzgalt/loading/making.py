@@ -7,8 +7,6 @@ from typing import Iterator, List, Optional, Sequence, Tuple, cast
 from zlib import crc32
 
 from ruzgalt.checking.doubts import Ends, Notes, Overwrites, Repeats, Twins
-from ruzgalt.commands import called
-from ruzgalt.commands.progress import Progress
 from ruzgalt.errors import Misfit
 from ruzgalt.loading.columns import Column, End, Start, Text, form_of, mark_of, point_text
 from ruzgalt.loading.dates import as_good_swapped, without_half
@@ -64,13 +62,8 @@ class Load:
 
     def made(self) -> Iterator[bytes]:
         """What the rows become, by pieces. Where something is at fault, the rest is read for its faults."""
-        progress = Progress(called.LOAD_SAYS)
-        try:
-            for piece in self.sheet.pieces():
-                yield self.made_of(self.whole(piece))
-                progress.tell(self.rows)
-        finally:
-            progress.end()
+        for piece in self.sheet.pieces():
+            yield self.made_of(self.whole(piece))
         self.refuse_either()
 
     def made_of(self, piece: Piece) -> bytes:

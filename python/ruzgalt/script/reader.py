@@ -1,18 +1,23 @@
 """Reads the records of a text one behind another, and keeps of many only where they stand.
 
 Bytes that are no UTF-8 stay as they are in texts (`surrogateescape`), so what is read and printed again is the same.
+How long a field may be is a matter of the process, by csv.field_size_limit: a tool sets it, and others do for a while.
 """
 import csv
 import io
 import re
 from bisect import bisect_left
+from contextlib import contextmanager
 from itertools import accumulate
+from threading import RLock
 from typing import Callable, Iterator, List, NamedTuple, Optional, Sequence, Set, Tuple, Union, overload
 
+from ruzgalt.errors import Misfit
 from ruzgalt.script.records import Record
 
-csv.field_size_limit(1 << 27)
-
+# No script has as many characters.
+LONGEST_FIELD = 1 << 27
+LIMITING = RLock()
 END = ["end"]
 # Records of one form are looked at by so many at once.
 PIECE = 1 << 13
@@ -22,6 +27,17 @@ LIST_END = re.compile(rb"\nend,(\d{1,9})\n")
 BYTE_ORDER_MARK = b"\xef\xbb\xbf"
 # Python 3.9's csv takes no zero byte, so one is put in its place that no decoded text has.
 ZERO, STAND_IN = "\0", "\ud800"
+
+
+@contextmanager
+def long_fields() -> Iterator[None]:
+    """Within, fields may be as long as any are; behind it as long as before. Threads come one behind another."""
+    with LIMITING:
+        before = csv.field_size_limit(LONGEST_FIELD)
+        try:
+            yield
+        finally:
+            csv.field_size_limit(before)
 
 
 class Place(NamedTuple):
@@ -88,10 +104,18 @@ class Reader:
         self.source = source
         self.line, self.number = place or Place(1, 1)
         lines = source.lines_from(self.line)
-        self.csv = csv.reader(map(without_zeros, lines) if source.has_zero else lines)
-        self.fields: Iterator[List[str]] = map(with_zeros, self.csv) if source.has_zero else self.csv
         self.first_line = self.line
+        self.csv = csv.reader(map(without_zeros, lines) if source.has_zero else lines)
+        self.fields = map(with_zeros, self.records()) if source.has_zero else self.records()
         self.held: Optional[Record] = None
+
+    def records(self) -> Iterator[List[str]]:
+        """The fields of each record. Raises Misfit where one is too long for the process."""
+        try:
+            yield from self.csv
+        except csv.Error as error:
+            remedy = "is a quote missing? csv.field_size_limit(..) takes longer fields"
+            raise Misfit(f"line {self.first_line + self.csv.line_num - 1}: {error}; {remedy}") from None
 
     @property
     def place(self) -> Place:

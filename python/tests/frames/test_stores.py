@@ -1,5 +1,6 @@
 """Stores: names of answers' columns, points, what changes report, batches, threads, copies, scripts, wrong calls."""
 import copy
+import csv
 import datetime
 import decimal
 import pickle
@@ -615,6 +616,13 @@ class Scripts(Case):
                 self.assertEqual(len(quietly(lambda: ruzgalt.Store.from_script(path))[0].rows("pay")), 4)
         for given in (file, "table,pay\n", "a\0b", 5, None, frame()):
             self.refuses(lambda: ruzgalt.Store.from_script(given), "BadCommand", "script=")
+
+    def test_a_script_with_a_long_field_is_read_and_the_host_keeps_its_limit(self):
+        given = SCRIPT + b"\nend\nload,shift\nrow,2024-01-02,2024-01-03," + 200_000 * b"1" + b"\nend\n"
+        before = csv.field_size_limit()
+        made, doubts = quietly(lambda: ruzgalt.Store.from_script(given))
+        self.assertEqual((len(made.rows("shift")), csv.field_size_limit()), (1, before))
+        self.assertIn("BadNumber", doubts[0])
 
     def test_an_empty_script_is_an_empty_store(self):
         for given in (b"", b"\n", b"rows,pay\n"):

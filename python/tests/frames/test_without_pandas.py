@@ -10,6 +10,14 @@ from unittest import mock
 import ruzgalt
 
 TOP = Path(__file__).resolve().parents[3]
+# What of a process is everybody's.
+HOST = """
+import csv, gc, locale, signal, sys, warnings
+def host():
+    signals = [signal.getsignal(one) for one in signal.valid_signals()]
+    settings = csv.field_size_limit(), gc.isenabled(), gc.get_threshold(), locale.setlocale(locale.LC_ALL)
+    return settings, signals, warnings.filters[:], sys.path[:]
+before = host()"""
 
 
 class WithoutPandas(unittest.TestCase):
@@ -36,16 +44,30 @@ class WithoutPandas(unittest.TestCase):
             self.assertIn("apt-get install python3-pandas", said)
 
     def test_importing_it_imports_nothing_of_frames_and_changes_nothing_of_the_host(self):
-        lines = """
-import csv, gc, signal, sys, warnings
-def host():
-    signals = [signal.getsignal(one) for one in signal.valid_signals()]
-    return csv.field_size_limit(), gc.isenabled(), gc.get_threshold(), signals, warnings.filters[:], sys.path[:]
-before = host()
+        lines = f"""{HOST}
 import ruzgalt
 print(host() == before, "join" in dir(ruzgalt), sorted(one for one in sys.modules if one.startswith("ruzgalt.")))
 """
         self.assertEqual(self.run_lines(lines), ("True True []\n", ""))
+
+    def test_neither_do_the_modules_of_the_tools_nor_a_script_with_a_long_field_that_they_read(self):
+        lines = f"""{HOST}
+import importlib, pathlib
+from ruzgalt import answers
+for file in sorted(pathlib.Path(answers.__file__).parents[1].rglob("*.py")):
+    if file.parent.name not in ("frames", "ruzgalt"):
+        importlib.import_module(f"ruzgalt.{{file.parent.name}}.{{file.stem}}")
+script = b"table,t,name,text\\nload,t\\nrow,2024-01-01,2024-01-02," + 200_000 * b"x" + b"\\nend\\n"
+[_, load] = answers.of(script, b"ok,1\\nerror,3,TooLong\\n")
+print(host() == before, load.refused.name)
+try:
+    list(load.command.rows)
+except Exception as told:
+    print(type(told).__name__, told)
+"""
+        remedy = "is a quote missing? csv.field_size_limit(..) takes longer fields"
+        told = f"Misfit line 3: field larger than field limit (131072); {remedy}"
+        self.assertEqual(self.run_lines(lines), (f"True TooLong\n{told}\n", ""))
 
     def test_calls_that_cannot_be_had_are_not_listed(self):
         with mock.patch.object(ruzgalt, "find_spec", return_value=None):
