@@ -9,7 +9,7 @@ ghost use Rattle.anti_core.specs.Anti.{IsAnti};
 use crate::class_rows::anti_sides;
 use crate::classed_rows::ClassedRows;
 use crate::rows::AntiRows;
-use match_core::{QueryRefused, Side, classes_of, refusal_of_pairs};
+use match_core::{Classes, QueryRefused, Side, classes_of, refusal_of_pairs};
 use period_core::NoMemory;
 use row_core::{Failure, Name};
 use std::alloc::Global;
@@ -58,14 +58,18 @@ fn anti_rows<R: Threads + Sync, G: Gate>(
     ensures { IfOk result (IsAnti (MatchesOn left.entry.schema.now right.entry.schema.now on.now)
         left.entry.rows.now right.entry.rows.now) }
 {
-    let classes = classes_of(crew.rt, crew.alloc, left, right, on, crew.workers)?;
+    let Classes {
+        left: ones,
+        right: others,
+        ..
+    } = classes_of(crew.rt, crew.alloc, left, right, on, crew.workers)?;
     let lefts = ClassedRows {
         rows: left.rows,
-        classes: &classes.left,
+        classes: &ones,
     };
     let rights = ClassedRows {
         rows: right.rows,
-        classes: &classes.right,
+        classes: &others,
     };
     anti_sides(crew, &lefts, &rights)
 }
