@@ -28,7 +28,8 @@ use Rattle.agg_core.specs.Agg.{AggHasSomeList, AreAggRows, IsAggRow, amount_in, 
 use Rattle.agg_core.specs.Groups.{AggRowBefore, agg_row_cmp, rows_of_group}
 use Rattle.agg_core.specs.Grouping.{amount_item}
 use Rattle.agg_core.proofs.OrderLemmas.{agg_row_total}
-use Rattle.agg_core.proofs.PlateauLemmas.{filtered_in, filtered_passes, maximal_of_items, maximal_of_rows, period_held, row_of_group}
+use Rattle.match_core.proofs.SentLemmas.{kept_in, kept_passes}
+use Rattle.agg_core.proofs.PlateauLemmas.{maximal_of_items, maximal_of_rows, period_held, row_of_group}
 
 -- a row is determined by its fields
 AggRow-same : (a b : AggRow) → a.group ≡ b.group → a.period ≡ b.period → a.value ≡ b.value → a ≡ b
@@ -94,10 +95,10 @@ module _ (measure : Measure) (amount_of : Row → ℤ) (group_of : Row → Optio
   plateau_class group p is =
       let (x, there) = period_held measure (of_class p.class (items_of group)) p.value p.period is.maximal in
       let test : (x.class == p.class) ≡ true =
-      filtered_passes (λ (y : Item). y.class == p.class) (items_of group) x there in
+      kept_passes (λ (y : Item). y.class == p.class) (items_of group) x there in
       let (r, within, made) =
       Contains-map_source (amount_item amount_of 0) (rows_of_group group_of group rows) x
-      (filtered_in (λ (y : Item). y.class == p.class) (items_of group) x there) in
+      (kept_in (λ (y : Item). y.class == p.class) (items_of group) x there) in
       sym ((Decides-eqb x.class p.class).0 test) ∙ sym (ap (λ (y : Item). y.class) made)
 
   -- the row of a plateau is for the group

@@ -14,7 +14,7 @@ use Rattle.row_core.specs.declared.value.Kind.TheVariants as kind
 use Rattle.std.proofs.lemmas.Cmp.{tied_itself}
 use Rattle.std.proofs.lemmas.Int.{ints}
 use Rattle.std.proofs.lemmas.List.{length-map}
-use Rattle.std.proofs.lemmas.List.Elements.{All-contains, All-contains_itself, All-filter, filter_passes}
+use Rattle.std.proofs.lemmas.List.Elements.{All-contains}
 use Rattle.std.proofs.lemmas.Option.{get_or_from_slice_get, slice_get-get_or}
 use Rattle.period_core.specs.declared.period.Period.{Period}
 use Rattle.period_core.specs.Period.{holds_at}
@@ -29,6 +29,7 @@ use Rattle.list_core.proofs.RisingLemmas.{Contains-head}
 use Rattle.merge_core.specs.declared.tally.Tally.{Tally}
 use Rattle.merge_core.specs.Gaps.{IsMaximal}
 use Rattle.merge_core.specs.Tallies.{IsTally, IsTallyAt, amounts, holding}
+use Rattle.match_core.proofs.SentLemmas.{kept_in, kept_passes}
 use Rattle.merge_core.proofs.SharedLemmas.{first_held}
 use Rattle.merge_core.proofs.SweepLemmas.{IsMaximal-same}
 use Rattle.round_core.specs.declared.measure.Measure.{Measure}
@@ -44,17 +45,6 @@ use Rattle.agg_core.specs.Groups.{AggRowBefore, rows_of_group}
 use Rattle.agg_core.specs.Grouping.{ArePlateauRows, IsGrouping, agg_row_of, amount_item}
 use Rattle.agg_core.proofs.EntryLemmas.{filter-map}
 
--- ---- lists
-
--- what passes stands in the list
-pub filtered_in : {X : Type 0} (p : X → Bool) (xs : List X) (x : X) → Contains (filter p xs) x → Contains xs x
-filtered_in p xs x h =
-    All-contains (Contains xs) (filter p xs) x (All-filter p (Contains xs) xs (All-contains_itself xs)) h
-
--- what passes has passed
-pub filtered_passes : {X : Type 0} (p : X → Bool) (xs : List X) (x : X) → Contains (filter p xs) x → p x ≡ true
-filtered_passes p xs x h = All-contains (λ y. p y ≡ true) (filter p xs) x (filter_passes p xs) h
-
 -- ---- values of items
 
 -- where items come to a value there is one
@@ -62,7 +52,7 @@ value_held : (measure : Measure) (items : List Item) (value t : ℤ) → HasValu
     → (x : Item) × Contains items x
 value_held measure items value t has =
     let (x, there, is) = Contains-map_source (λ (y : Item). y.amount) (holding items t) has.tally.min has.is.min_in in
-    (x, filtered_in (λ (y : Item). holds_at t y.period) items x there)
+    (x, kept_in (λ (y : Item). holds_at t y.period) items x there)
 
 -- in a period of one value there is an item
 pub period_held : (measure : Measure) (items : List Item) (value : ℤ) (p : Period)
@@ -179,10 +169,10 @@ row_of_group measure amount_of group_of rows row is =
     let group = rows_of_group group_of row.group rows in
     let t = row.period.from in
     let (r, there) = inside_some (rows_on t group) (is.maximal.inside t (first_held row.period)).some in
-    let within : Contains group r = filtered_in (λ (z : Row). holds_at t z.period) group r there in
-    let test = filtered_passes (λ (z : Row). same_maybe (group_of z) row.group) rows r within in (
+    let within : Contains group r = kept_in (λ (z : Row). holds_at t z.period) group r there in
+    let test = kept_passes (λ (z : Row). same_maybe (group_of z) row.group) rows r within in (
       r,
-      filtered_in (λ (z : Row). same_maybe (group_of z) row.group) rows r within,
+      kept_in (λ (z : Row). same_maybe (group_of z) row.group) rows r within,
       (maybe_decides (group_of r) row.group).0 test,
     )
 
@@ -191,10 +181,10 @@ plateau_within : (measure : Measure) (items : List Item) (n : ℕ) (p : Plateau)
     → All (λ (x : Item). x.class < n) items → IsPlateau measure items p → p.class < n
 plateau_within measure items n p within is =
     let (x, there) = period_held measure (of_class p.class items) p.value p.period is.maximal in
-    let test : (x.class == p.class) ≡ true = filtered_passes (λ (y : Item). y.class == p.class) items x there in
+    let test : (x.class == p.class) ≡ true = kept_passes (λ (y : Item). y.class == p.class) items x there in
     subst (λ k. k < n) ((Decides-eqb x.class p.class).0 test)
     (All-contains (λ (y : Item). y.class < n) items x within
-    (filtered_in (λ (y : Item). y.class == p.class) items x there))
+    (kept_in (λ (y : Item). y.class == p.class) items x there))
 
 module _ (measure : Measure) (amount_of : Row → ℤ) (group_of : Row → Option Value) (rows : List Row) (items : List Item)
     (groups : List (Option Value)) (grouping : IsGrouping amount_of group_of rows items groups) where

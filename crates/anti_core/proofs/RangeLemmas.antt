@@ -19,7 +19,7 @@ use Rattle.share_core.proofs.NumberLemmas.{from_is}
 use Rattle.share_core.proofs.RangeLemmas.{high_has, low_has}
 use Rattle.share_core.proofs.ShareLemmas.{all_come}
 use Rattle.grid_core.specs.Bundles.{ArePartedAt, items_in}
-use Rattle.grid_core.proofs.RangeItems.{filter_all, filter_both, in-distinct}
+use Rattle.grid_core.proofs.RangeItems.{filter_all, filter_both, in-below, in-distinct, in-from}
 use Rattle.anti_core.specs.declared.rows.AntiRow.{AntiRow}
 use Rattle.anti_core.specs.ItemAnti.{AreItemsRows}
 use Rattle.anti_core.proofs.BundleLemmas.{AreItemsRows-parted}
@@ -64,23 +64,7 @@ module _ (from : Option ℕ) (at : ℕ) (begun : has_begun nat_cmp from at ≡ t
       → ArePartedAt at (items_in (range from (Some at)) items ++ items_in (range (Some at) None) items)
       (items_in (range from (Some at)) items) (items_in (range (Some at) None) items)
   range_parted items =
-      let low : Item → Bool = λ x. has nat_cmp (range from (Some at)) x.class in
-      let high : Item → Bool = λ x. has nat_cmp (range (Some at) None) x.class in
-      record {
-        whole = refl;
-        below = λ k d h.
-            (let passes = filter_passes low items k d h in
-            let x = slice_index_or (filter low items) k d in
-            let is = from_is at x.class in
-            let both = low_has nat_cmp nat_cmp_total from at x.class in
-            grind (arith, nat_tests, passes, is, both));
-        from = λ k d h.
-            (let passes = filter_passes high items k d h in
-            let x = slice_index_or (filter high items) k d in
-            let is = from_is at x.class in
-            let both = high_has nat_cmp nat_cmp_total from at x.class begun in
-            grind (arith, nat_tests, passes, is, both));
-      }
+      record { whole = refl; below = in-below from at items; from = in-from at items }
 
   -- the rows of both parts
   rows-cut : (left right : List Item) (rows more : List AntiRow) → HasDistinctIds left

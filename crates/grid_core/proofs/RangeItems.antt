@@ -118,6 +118,27 @@ module _ (r : Range ℕ) (items : List Item) where
       (let fewer = count_by-filter (λ (x : Item). x.id == i) (λ (x : Item). has nat_cmp r x.class) items in
       let one = distinct i in omega (arith, fewer, one))
 
+-- up to a class stand lower ones
+pub in-below : (from : Option ℕ) (at : ℕ) (items : List Item)
+    → All (λ (x : Item). x.class < at) (items_in (range from (Some at)) items)
+in-below from at items k d h =
+    let low : Item → Bool = λ x. has nat_cmp (range from (Some at)) x.class in
+    let passes = filter_passes low items k d h in
+    let x = slice_index_or (filter low items) k d in
+    let is = from_is at x.class in
+    let both = low_has nat_cmp nat_cmp_total from at x.class in
+    grind (arith, nat_tests, passes, is, both)
+
+-- and from it on the others
+pub in-from : (at : ℕ) (items : List Item) → All (λ (x : Item). at ≤ x.class) (items_in (range (Some at) None) items)
+in-from at items k d h =
+    let high : Item → Bool = λ x. has nat_cmp (range (Some at) None) x.class in
+    let passes = filter_passes high items k d h in
+    let x = slice_index_or (filter high items) k d in
+    let is = from_is at x.class in
+    let both = high_has nat_cmp nat_cmp_total None at x.class refl in
+    grind (arith, nat_tests, passes, is, both)
+
 -- a range without an end, cut at a class that it has begun at
 pub in-parted : (from : Option ℕ) (at : ℕ) (items : List Item) → ClassesRise items → has_begun nat_cmp from at ≡ true
     → ArePartedAt at (items_in (range from None) items) (items_in (range from (Some at)) items)
@@ -137,16 +158,6 @@ in-parted from at items rise begun =
           ∙ ap (λ (xs : List Item). filter low items ++ xs)
           (filter_same (λ (x : Item). all x && late x) high items
           (λ x. sym (high_has nat_cmp nat_cmp_total from at x.class begun))));
-      below = λ k d h.
-          (let passes = filter_passes low items k d h in
-          let x = slice_index_or (filter low items) k d in
-          let is = from_is at x.class in
-          let both = low_has nat_cmp nat_cmp_total from at x.class in
-          grind (arith, nat_tests, passes, is, both));
-      from = λ k d h.
-          (let passes = filter_passes high items k d h in
-          let x = slice_index_or (filter high items) k d in
-          let is = from_is at x.class in
-          let both = high_has nat_cmp nat_cmp_total from at x.class begun in
-          grind (arith, nat_tests, passes, is, both));
+      below = in-below from at items;
+      from = in-from at items;
     }
