@@ -94,8 +94,8 @@ fn plateaus_within<R: Threads + Sync, G: Gate>(
     plateaus_of_spans(crew, measure, &cut, cuts)
 }
 
-/// The plateaus of all classes. Where all items are of one class, and many, they are cut at an instant, and half of the
-/// workers find those before it; they may be cut so often.
+/// The plateaus of all classes. Where all items are of one class, and many, they are cut at an instant; they may be cut so
+/// often.
 #[cycle(spans)]
 pub(crate) fn plateaus_of_spans<R: Threads + Sync, G: Gate>(
     crew: &Crew<'_, R, G>,
@@ -107,17 +107,26 @@ pub(crate) fn plateaus_of_spans<R: Threads + Sync, G: Gate>(
     requires rise { ClassesRise items.now }
     ensures { IfOk result (λ plateaus. ArePlateaus measure items.now plateaus) }
 {
-    let Crew {
-        rt,
-        alloc,
-        workers,
-        gate,
-        ..
-    } = *crew;
-    let Some(at) = middle_instant(alloc, items, cuts, workers)? else {
-        return plateaus_by_rounds(crew, measure, items);
-    };
-    let cuts = cuts - 1;
+    match middle_instant(crew.alloc, items, cuts, crew.workers)? {
+        Some(at) => plateaus_cut_at(crew, measure, items, at, cuts - 1),
+        None => plateaus_by_rounds(crew, measure, items),
+    }
+}
+
+/// The plateaus of items of one class, cut at an instant: half of the workers find those before it, the others those from it
+/// on, and one finds both. They may be cut so often again.
+#[cycle(spans)]
+fn plateaus_cut_at<R: Threads + Sync, G: Gate>(
+    crew: &Crew<'_, R, G>,
+    measure: Measure,
+    items: &[Item],
+    at: Point,
+    cuts: u32,
+) -> Result<Plateaus, NoMemory>
+    requires few { length items.now ≤ item_limit }
+    requires class { AreOfOneClass items.now }
+    ensures { IfOk result (λ plateaus. ArePlateaus measure items.now plateaus) }
+{
     let before = Range {
         from: None,
         before: Some(at),
@@ -126,11 +135,18 @@ pub(crate) fn plateaus_of_spans<R: Threads + Sync, G: Gate>(
         from: Some(at),
         before: None,
     };
-    if workers < 2 {
+    if crew.workers < 2 {
         let early = plateaus_within(crew, measure, items, &before, cuts);
         let late = plateaus_within(crew, measure, items, &behind, cuts);
         return both_spliced(early, late);
     }
+    let Crew {
+        rt,
+        alloc,
+        workers,
+        gate,
+        ..
+    } = *crew;
     let few = workers / 2;
     let others = workers - few;
     let (early, late) = join(
@@ -141,13 +157,8 @@ pub(crate) fn plateaus_of_spans<R: Threads + Sync, G: Gate>(
             ensures { IfOk result (λ plateaus.
                 ArePlateausWithin before measure items.entry.now plateaus) }
         {
-            plateaus_within(
-                &Crew::new(rt, alloc, few, gate),
-                measure,
-                items,
-                &before,
-                cuts,
-            )
+            let crew = Crew::new(rt, alloc, few, gate);
+            plateaus_within(&crew, measure, items, &before, cuts)
         },
         || -> Result<Plateaus, NoMemory>
             requires { IsSync R.row × IsSync G.row × (0 < others) × (others ≤ worker_limit)
@@ -155,13 +166,8 @@ pub(crate) fn plateaus_of_spans<R: Threads + Sync, G: Gate>(
             ensures { IfOk result (λ plateaus.
                 ArePlateausWithin behind measure items.entry.now plateaus) }
         {
-            plateaus_within(
-                &Crew::new(rt, alloc, others, gate),
-                measure,
-                items,
-                &behind,
-                cuts,
-            )
+            let crew = Crew::new(rt, alloc, others, gate);
+            plateaus_within(&crew, measure, items, &behind, cuts)
         },
     );
     both_spliced(early, late)

@@ -13,18 +13,18 @@ plateaus_within-plateaus_of_spans-requires-clause-rise g t c κs within =
     (own_rise class c.in_ok-cut.cut.items
     (owned class c.args.items.now c.in_ok-cut.cut.items c.requires.class.own c.in_ok-cut.ensures.own))
 
-pub plateaus_of_spans-returns-then-workers-lt2 : goal.plateaus_of_spans-returns-then-workers-lt2
-plateaus_of_spans-returns-then-workers-lt2 g t c =
-    let within =
-    subst (λ (o : Option ℤ). IfSome o (λ at. (0 < c.args.cuts) × AreOfOneClass c.args.items.now)) c.in-Some.is
-    c.in_ok-at.ensures in
-    c.both_spliced.ensures c.args.measure c.in-Some.at c.args.items.now within.1 c.plateaus_within-early.ensures
+pub plateaus_of_spans-plateaus_cut_at-requires-clause-class :
+    goal.plateaus_of_spans-plateaus_cut_at-requires-clause-class
+plateaus_of_spans-plateaus_cut_at-requires-clause-class g t c κs within =
+    (subst (λ (o : Option ℤ). IfSome o (λ at. (0 < c.args.cuts) × AreOfOneClass c.args.items.now)) c.in-Some.is
+    c.in_ok-at.ensures).1
+
+pub plateaus_cut_at-returns-then-crew-lt2 : goal.plateaus_cut_at-returns-then-crew-lt2
+plateaus_cut_at-returns-then-crew-lt2 g t c =
+    c.both_spliced.ensures c.args.measure c.args.at c.args.items.now c.requires.class c.plateaus_within-early.ensures
     c.plateaus_within-late.ensures
 
-pub plateaus_of_spans-returns : goal.plateaus_of_spans-returns
-plateaus_of_spans-returns g t c =
-    let within =
-    subst (λ (o : Option ℤ). IfSome o (λ at. (0 < c.args.cuts) × AreOfOneClass c.args.items.now)) c.in-Some.is
-    c.in_ok-at.ensures in
-    c.both_spliced-2.ensures c.args.measure c.in-Some.at c.args.items.now within.1 c.join-early.ensures.first
+pub plateaus_cut_at-returns : goal.plateaus_cut_at-returns
+plateaus_cut_at-returns g t c =
+    c.both_spliced-2.ensures c.args.measure c.args.at c.args.items.now c.requires.class c.join-early.ensures.first
     c.join-early.ensures.second
