@@ -29,7 +29,7 @@ use work_core::{Crew, Gate};
 ///
 /// The first that applies: `NoColumn` where the column that numbers are taken from is missing, `WrongKind` where its
 /// values are texts, `NoColumn` where the column of the groups is missing; and `NoMemory` after these, where a growth
-/// is refused.
+/// is refused, and where there would be 2^64 rows, of which no table's rows have so many.
 pub fn agg<R: Threads + Sync, G: Gate>(
     rt: &R,
     alloc: Global,

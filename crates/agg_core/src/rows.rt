@@ -97,6 +97,10 @@ impl Model for AggRows {
 
 impl AggRows {
     /// The rows of some shares.
+    ///
+    /// # Errors
+    ///
+    /// `NoMemory` where they are 2^64 or more, which no table's rows come to.
     pub(crate) fn of_shares(shares: Vec<AggShare>) -> Result<AggRows, NoMemory>
         ensures { IfOk result (λ rows. rows ≡ rows_in_shares shares.items) }
     {

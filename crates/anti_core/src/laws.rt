@@ -34,11 +34,11 @@ pub fn unmet_periods_are_bordered()
 {}
 
 /// What is sent to lots can be anti-joined lot by lot. A function sends each left row to a lot, and another each right
-/// row, so that rows that match are sent to one. Then the anti-join of what is sent to a lot is just the rows of the
-/// anti-join of all whose left row is sent there, in their order; the anti-join of all is the ordered list of what
-/// stands in those of the lots; and no row stands in two of them. A lot to which left rows are sent, and no right ones,
-/// has an anti-join too: leaving it out leaves rows out. Rows keep their ids and periods. Whether a program outside
-/// sends rows so is not said here.
+/// row, so that rows that match are sent to one. Then the anti-join of all is the ordered list of what stands in those of
+/// the lots. Where the left rows' ids rise too, the anti-join of what is sent to a lot is just the rows of the anti-join of
+/// all whose left row is sent there, in their order. Where they rise, no row stands in two of them, whatever is sent where.
+/// A lot to which left rows are sent, and no right ones, has an anti-join too: leaving it out leaves rows out. Rows keep
+/// their ids and periods. Whether a program outside sends rows so is not said here.
 pub fn anti_is_that_of_its_lots()
     ensures lot { LotAntiIsOfWhole }
     ensures whole { WholeAntiIsOfLots }

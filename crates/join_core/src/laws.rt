@@ -23,10 +23,10 @@ pub fn join_has_one_list()
 {}
 
 /// What is sent to lots can be joined lot by lot. A function sends each left row to a lot, and another each right row,
-/// so that rows that match are sent to one. Then the join of what is sent to a lot is just the rows of the join of all
-/// whose left row is sent there, in their order; the join of all is the ordered list of what stands in those of the
-/// lots; and no row stands in two of them. Rows keep their ids and periods. Whether a program outside sends rows so is
-/// not said here.
+/// so that rows that match are sent to one. Then the join of all is the ordered list of what stands in those of the lots.
+/// Where the left rows' ids rise too, the join of what is sent to a lot is just the rows of the join of all whose left row
+/// is sent there, in their order. Where they rise, no row stands in two of them, whatever is sent where. Rows keep their
+/// ids and periods. Whether a program outside sends rows so is not said here.
 pub fn join_is_that_of_its_lots()
     ensures lot { LotJoinIsOfWhole }
     ensures whole { WholeJoinIsOfLots }
