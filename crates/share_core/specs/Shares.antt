@@ -1,5 +1,5 @@
 -- Shares: ranges that follow one another.
-use Rattle.std.specs.Prelude.{◌≡◌, ℕ, zero, suc, ◌+◌, ◌<◌, ◌≤◌, List, [], ◌∷◌, Option, Some, None, Result, Ok, true, All, AllPairs, length, sum_by}
+use Rattle.std.specs.Prelude.{◌≡◌, ℕ, zero, suc, ◌+◌, ◌<◌, ◌≤◌, List, [], ◌∷◌, Option, Some, None, Result, Ok, true, All, AllPairs, length, option_map, slice_get, sum_by, unwrap_or}
 use Rattle.std.specs.declared.cmp.Ordering.{Ordering}
 use Rattle.share_core.specs.Ranges.{has, has_begun, is_from, range}
 use Rattle.share_core.specs.declared.range.Range.{Range}
@@ -28,6 +28,15 @@ start_at from cuts (suc i) = end_at cuts i
 -- the range of that number, where the first one begins there
 abbrev pub range_at : {T : Type 0} → Option T → List (Cut T) → ℕ → Range T
 range_at from cuts i = range (start_at from cuts i) (end_at cuts i)
+
+-- how many workers the range of that number has, where the last one has so many
+abbrev pub workers_at : {T : Type 0} → List (Cut T) → ℕ → ℕ → ℕ
+workers_at {T} cuts last i = unwrap_or (option_map (λ (c : Cut T). c.workers) (slice_get cuts i)) last
+
+-- a range of those that cuts part, and the workers that it has
+abbrev pub IsShare : {T : Type 0} → List (Cut T) → ℕ → Range T → ℕ → Type 0
+IsShare cuts last r n =
+    (i : ℕ) × (i ≤ length cuts) × (r ≡ range_at None cuts i) × (n ≡ workers_at cuts last i)
 
 -- some number of workers may answer a range by it
 abbrev pub Gives : {T X E : Type 0} → (Range T → ℕ → Result X E → Type 0) → Range T → X → Type 0

@@ -2,7 +2,7 @@
 
 ghost use Rattle.std.specs.Prelude.{◌≡◌, ℕ, ◌<◌, ◌≤◌, None, Ok, map, length, IfOk};
 ghost use Rattle.std.specs.Thread.{IsSync};
-ghost use Rattle.share_core.specs.Shares.{Gives, GivesFrom, range_at};
+ghost use Rattle.share_core.specs.Shares.{Gives, GivesFrom, IsShare, range_at};
 ghost use Rattle.share_core.specs.declared.range.Range.{Range as AnyRange};
 
 use crate::range::Range;
@@ -11,8 +11,8 @@ use std::alloc::{AllocError, Global};
 use std::thread;
 use std::thread::Threads;
 
-/// What the work gives for each range, by so many of the workers, in their order. Each range is looked after by a thread
-/// of its own, where one can be started.
+/// What the work gives for each range, by the workers that it has, in their order: the work can be done for these shares
+/// alone. Each range is looked after by a thread of its own, where one can be started.
 ///
 /// # Errors
 ///
@@ -23,7 +23,8 @@ pub fn shared_out<
     X: Send + Drop,
     F: Fn(Range<T>, u32) -> Result<X, AllocError> + Sync,
 >(rt: &R, alloc: Global, shares: &Shares<T>, work: &F) -> Result<Vec<X>, AllocError>
-    requires { (r : AnyRange T) (n : ℕ) → 0 < n → n ≤ shares.now.workers → F.pre work.now r n }
+    requires { (r : AnyRange T) (n : ℕ) → 0 < n → n ≤ shares.now.workers
+        → IsShare shares.now.cuts.items shares.now.last r n → F.pre work.now r n }
     ensures { IfOk result (λ found.
         GivesFrom T.cmp (Gives (F.post work.now)) None shares.now.cuts.items found.items) }
 {
@@ -33,7 +34,8 @@ pub fn shared_out<
         shares.len(),
         &|number: usize| -> Result<X, AllocError>
             requires { (number ≤ length shares.now.cuts.items)
-                × ((r : AnyRange T) (n : ℕ) → 0 < n → n ≤ shares.now.workers → F.pre work.now r n) }
+                × ((r : AnyRange T) (n : ℕ) → 0 < n → n ≤ shares.now.workers
+                → IsShare shares.now.cuts.items shares.now.last r n → F.pre work.now r n) }
             ensures { (n : ℕ)
                 × F.post work.entry.now (range_at None shares.entry.now.cuts.items number) n result }
         { work(shares.range(number), shares.workers_of(number)) },

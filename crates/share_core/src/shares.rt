@@ -1,25 +1,8 @@
 //! Shares.
 
-ghost use Rattle.std.specs.Prelude.{
-  ◌≡◌,
-  ◌+◌,
-  ◌/◌,
-  max,
-  min,
-  ℕ,
-  ◌<◌,
-  ◌≤◌,
-  None,
-  length,
-  option_map,
-  slice_get,
-  unwrap_or,
-  IfOk,
-  IfSome,
-  true,
-};
+ghost use Rattle.std.specs.Prelude.{◌≡◌, ◌+◌, ◌/◌, max, min, ℕ, ◌<◌, ◌≤◌, None, length, IfOk, IfSome, true};
 ghost use Rattle.share_core.specs.Ranges.{is_from};
-ghost use Rattle.share_core.specs.Shares.{AreCuts, HaveEach, end_at, range_at, workers_in};
+ghost use Rattle.share_core.specs.Shares.{AreCuts, HaveEach, end_at, range_at, workers_at, workers_in};
 
 use crate::range::Range;
 use std::alloc::{AllocError, Global};
@@ -105,8 +88,7 @@ impl<T: Ord + Copy> Shares<T> {
     pub fn workers_of(&self, number: usize) -> u32
         requires { number ≤ length self.now.cuts.items }
         ensures some { (0 < result) × (result ≤ self.now.workers) }
-        ensures value { result ≡ unwrap_or (
-            option_map (λ cut. cut.workers) (slice_get self.now.cuts.items number)) self.now.last }
+        ensures value { result ≡ workers_at self.now.cuts.items self.now.last number }
     {
         match self.cuts.get(number) {
             None => self.last,
