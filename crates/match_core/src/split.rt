@@ -49,6 +49,8 @@ pub(crate) fn refine<R: Threads + Sync, V: Ord + Copy + Send + Sync, S: Comparab
     let right_places = number_places(alloc, &rights.places, &numbers)?;
     let mut right = rights.ranks;
     number_rows(&mut right, &numbers);
+    // Left places rise already, and so do right ones but where a left row has no such value: what is in order a sort
+    // only passes over.
     Ok(Classes {
         left: lefts.ranks,
         right,
