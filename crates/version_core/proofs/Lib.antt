@@ -5,6 +5,7 @@ pub mod KeyLemmas
 pub mod ListLemmas
 pub mod OpenLemmas
 pub mod PartLemmas
+pub mod PortionLemmas
 pub mod Seen
 pub mod SoughtLemmas
 pub mod StoredLemmas

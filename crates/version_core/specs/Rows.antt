@@ -41,14 +41,20 @@ removes (Update table portion sets conds) columns row = is_touched columns porti
 removes (Delete table portion conds) columns row = is_touched columns portion conds row
 removes c columns row = false
 
--- what comes in the place of one that is taken out: its parts before, inside and after the portion
-abbrev pub parts_of : Change → List Column → Row → List Draft
-parts_of (Update table portion sets conds) columns row =
+-- what comes in the place of a row that a change of the portion takes out: its parts before, inside and after it,
+-- with the settings inside; without any, none inside
+abbrev pub parts_within : Period → Option (List Pair) → List Column → Row → List Draft
+parts_within portion None columns row =
+    part (before row.period portion) row.values ++ part (later row.period portion) row.values
+parts_within portion (Some sets) columns row =
     part (before row.period portion) row.values
     ++ (part (meet row.period portion) (fold (set_at columns) row.values sets)
     ++ part (later row.period portion) row.values)
-parts_of (Delete table portion conds) columns row =
-    part (before row.period portion) row.values ++ part (later row.period portion) row.values
+
+-- what comes in the place of one that is taken out
+abbrev pub parts_of : Change → List Column → Row → List Draft
+parts_of (Update table portion sets conds) columns row = parts_within portion (Some sets) columns row
+parts_of (Delete table portion conds) columns row = parts_within portion None columns row
 parts_of c columns row = []
 
 -- what comes in the place of all rows that a change takes out
@@ -65,6 +71,13 @@ drafts_of c columns rows = parts_of_all c columns rows
 abbrev pub with_parts : Change → List Draft → List Draft
 with_parts (Load table drafts) parts = drafts
 with_parts c parts = parts
+
+-- the settings of a change that has some
+abbrev pub sets_of : Change → Option (List Pair)
+sets_of (Make table schema) = None
+sets_of (Load table rows) = None
+sets_of (Update table portion sets conds) = Some sets
+sets_of (Delete table portion conds) = None
 
 -- the conditions of a change
 abbrev pub conds_of : Change → List Pair

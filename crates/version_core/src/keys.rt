@@ -12,7 +12,6 @@ ghost use Rattle.table_core.specs.Numbered.{unnumbered};
 ghost use Rattle.version_core.specs.Lent.{lent_version};
 ghost use Rattle.version_core.specs.declared.version.Version.{Version};
 
-use crate::change::Change;
 use crate::seeker::Seeker;
 use crate::stored::StoredVersions;
 use crate::version_ref::VersionRef;
@@ -30,21 +29,22 @@ pub struct KeyOverlap;
 /// Whether the change can leave rows of one key that share an instant, where none do before it. A load
 /// can; an update only where it sets a column of the key, since what it leaves of a row holds where the
 /// row did.
-pub(crate) fn may_overlap(schema: &Schema, change: &Change, key: &[u32]) -> bool
-    requires { key.now ≡ key_of schema.now }
-    ensures keyed { result ≡ true → key_of schema.now ≢ [] }
+pub(crate) fn may_overlap(seeker: &Seeker<'_>, key: &[u32]) -> bool
+    requires { key.now ≡ key_of seeker.now.schema.now }
+    ensures keyed { result ≡ true → key_of seeker.now.schema.now ≢ [] }
     ensures never { result ≡ false → (versions : List Version)
-        → break_key (key_of schema.now) (map unnumbered (current versions)) ≡ false
-        → overlap_after change.now schema.now versions ≡ false }
+        → break_key (key_of seeker.now.schema.now) (map unnumbered (current versions)) ≡ false
+        → overlap_after seeker.now.change.now seeker.now.schema.now versions ≡ false }
 {
     if key.is_empty() {
         return false;
     }
-    match change {
-        Change::Make { .. } => false,
-        Change::Load { .. } => true,
-        Change::Update { sets, .. } => any_sets_key(schema, key, sets.as_slice()),
-        Change::Delete { .. } => false,
+    match seeker.portion {
+        None => true,
+        Some(_) => match seeker.sets {
+            Some(sets) => any_sets_key(seeker.schema, key, sets),
+            None => false,
+        },
     }
 }
 

@@ -9,7 +9,6 @@ ghost use Rattle.version_core.specs.Plans.{IsPlanOf, parts_at};
 ghost use Rattle.version_core.specs.Rows.{parts_of_all, with_parts};
 
 use crate::change::Change;
-use crate::portion::{count_of, portion_of, push_parts};
 use crate::seeker::Seeker;
 use crate::stored::StoredVersions;
 use draft_core::Drafts;
@@ -77,7 +76,7 @@ pub(crate) fn plan_change(
     ensures { IfOk result (IsPlanOf seeker.now.change.now seeker.now.schema.now versions.now) }
 {
     let mut plan = Plan::empty(alloc);
-    let Some(portion) = portion_of(seeker.change) else {
+    let Some(portion) = seeker.portion() else {
         return Ok(plan);
     };
     let (rows, _) = versions.rows_and_spans();
@@ -135,7 +134,7 @@ fn plan_block(
     for place in places {
         let row = RowRef::of_draft(*place as usize, drafts.at(*place as usize));
         if seeker.takes(row, &spans[*place as usize]) {
-            push_parts(alloc, &mut plan.parts, seeker.schema, seeker.change, row)?;
+            seeker.push_parts(alloc, &mut plan.parts, row)?;
             plan.taken.push(*place)?;
         }
     }
@@ -154,7 +153,7 @@ pub(crate) fn count_parts(seeker: &Seeker<'_>, versions: &StoredVersions, places
     for place in places {
         let row = RowRef::of_draft(*place as usize, drafts.at(*place as usize));
         if seeker.takes(row, &spans[*place as usize]) {
-            count += count_of(seeker.change, row);
+            count += seeker.count_of(row);
         }
     }
     count

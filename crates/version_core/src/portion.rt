@@ -1,16 +1,15 @@
 //! Changes of a portion of time: which rows they take out, and what comes in the place of each.
 
-ghost use Rattle.std.specs.Prelude.{◌≡◌, ◌+◌, ◌≤◌, ◌<◌, ◌++◌, ◌&&◌, List, false, length, fold, is_some, option_map, option_and_then, slice_get, slice_set, unwrap_or, if◌then◌else◌, IfOk, IfSome, OnOk};
+ghost use Rattle.std.specs.Prelude.{◌≡◌, ◌+◌, ◌≤◌, ◌<◌, ◌++◌, ◌&&◌, List, false, length, fold, is_some, option_map, option_and_then, slice_get, slice_set, unwrap_or, if◌then◌else◌, IfOk, IfSome, OnOk, None, Some};
 ghost use Rattle.std.specs.List.{list_all};
 ghost use Rattle.period_core.specs.Period.{before, meet, after as later};
 ghost use Rattle.row_core.specs.Schema.{column_of};
 ghost use Rattle.row_core.specs.ValueOrder.{same_value};
 ghost use Rattle.row_core.specs.declared.schema.Column.{Column};
 ghost use Rattle.table_core.specs.Lent.{lent_row};
-ghost use Rattle.version_core.specs.Finding.{AreSought, portion_of, reaches};
-ghost use Rattle.version_core.specs.Rows.{conds_of, is_touched, is_equal_at, removes, part, parts_of, set_at};
+ghost use Rattle.version_core.specs.Finding.{AreSought};
+ghost use Rattle.version_core.specs.Rows.{Pair, is_touched, is_equal_at, part, parts_within, set_at};
 
-use crate::change::Change;
 use draft_core::Drafts;
 use list_core::{DeepCopy, copy_each};
 use period_core::Period;
@@ -22,27 +21,25 @@ use table_core::RowRef;
 /// conditions, but a table has no more columns.
 pub(crate) const SOUGHT_LIMIT: usize = 16;
 
-/// How many parts of the row the change leaves or makes.
-pub(crate) fn count_of(change: &Change, row: RowRef<'_>) -> usize
-    ensures parts { (columns : List Column)
-        → result ≡ length (parts_of change.now columns (lent_row row.entry)) }
+/// How many parts of the row a change of the portion leaves and makes.
+pub(crate) fn count_changed(portion: &Period, row: RowRef<'_>) -> usize
+    ensures parts { (sets : List Pair) (columns : List Column)
+        → result ≡ length (parts_within portion.now (Some sets) columns (lent_row row.entry)) }
     ensures few { result ≤ 3 }
 {
-    match change {
-        Change::Make { .. } => 0,
-        Change::Load { .. } => 0,
-        Change::Update { portion, .. } => {
-            let period = row.period();
-            let (before, after) = period.minus(portion);
-            let inside = period.meet(portion);
-            one_if(before) + one_if(inside) + one_if(after)
-        }
-        Change::Delete { portion, .. } => {
-            let period = row.period();
-            let (before, after) = period.minus(portion);
-            one_if(before) + one_if(after)
-        }
-    }
+    let period = row.period();
+    let (before, after) = period.minus(portion);
+    one_if(before) + one_if(period.meet(portion)) + one_if(after)
+}
+
+/// How many parts of the row lie outside the portion.
+pub(crate) fn count_outside(portion: &Period, row: RowRef<'_>) -> usize
+    ensures parts { (columns : List Column)
+        → result ≡ length (parts_within portion.now None columns (lent_row row.entry)) }
+    ensures few { result ≤ 2 }
+{
+    let (before, after) = row.period().minus(portion);
+    one_if(before) + one_if(after)
 }
 
 /// A part counts only where its period has an instant.
@@ -55,29 +52,8 @@ fn one_if(period: Option<Period>) -> usize
     }
 }
 
-/// Adds what comes in the place of a row that the change takes out.
-pub(crate) fn push_parts(
-    alloc: Global,
-    new: &mut Drafts,
-    schema: &Schema,
-    change: &Change,
-    row: RowRef<'_>,
-) -> Result<(), NoMemory>
-    ensures { OnOk result (new.new
-        ≡ new.old ++ (parts_of change.now schema.now (lent_row row.entry))) }
-{
-    match change {
-        Change::Make { .. } => Ok(()),
-        Change::Load { .. } => Ok(()),
-        Change::Update { portion, sets, .. } => {
-            push_changed(alloc, new, schema, portion, sets.as_slice(), row)
-        }
-        Change::Delete { portion, .. } => push_outside(alloc, new, portion, row),
-    }
-}
-
 /// Adds the parts of a row before, inside and after the portion, with the settings inside.
-fn push_changed(
+pub(crate) fn push_changed(
     alloc: Global,
     new: &mut Drafts,
     schema: &Schema,
@@ -85,11 +61,8 @@ fn push_changed(
     sets: &[(Name, Value)],
     row: RowRef<'_>,
 ) -> Result<(), NoMemory>
-    ensures { OnOk result (new.new ≡ new.old ++ (
-        part (before (lent_row row.entry).period portion.now) (lent_row row.entry).values
-        ++ (part (meet (lent_row row.entry).period portion.now)
-        (fold (set_at schema.now) (lent_row row.entry).values sets.now)
-        ++ part (later (lent_row row.entry).period portion.now) (lent_row row.entry).values))) }
+    ensures { OnOk result (new.new ≡ new.old
+        ++ (parts_within portion.now (Some sets.now) schema.now (lent_row row.entry))) }
 {
     let period = row.period();
     let (earlier, rest) = period.minus(portion);
@@ -102,15 +75,14 @@ fn push_changed(
 }
 
 /// Adds the parts of a row before and after the portion. Of a row without them no values are read.
-fn push_outside(
+pub(crate) fn push_outside(
     alloc: Global,
     new: &mut Drafts,
     portion: &Period,
     row: RowRef<'_>,
 ) -> Result<(), NoMemory>
-    ensures { OnOk result (new.new ≡ new.old ++ (
-        part (before (lent_row row.entry).period portion.now) (lent_row row.entry).values
-        ++ part (later (lent_row row.entry).period portion.now) (lent_row row.entry).values)) }
+    ensures { (columns : List Column) → OnOk result (new.new ≡ new.old
+        ++ (parts_within portion.now None columns (lent_row row.entry))) }
 {
     let period = row.period();
     let (before, after) = period.minus(portion);
@@ -161,21 +133,9 @@ fn set_value(values: &mut [Value], i: usize, value: Value)
     }
 }
 
-/// The places of the columns that the first conditions of a change name. Looked up once, they make
-/// the test of each row cheap.
-pub(crate) fn columns_sought(schema: &Schema, change: &Change) -> [Option<u32>; SOUGHT_LIMIT]
-    ensures { AreSought schema.now (conds_of change.now) result }
-{
-    match change {
-        Change::Make { .. } => [None; SOUGHT_LIMIT],
-        Change::Load { .. } => [None; SOUGHT_LIMIT],
-        Change::Update { conds, .. } => columns_named(schema, conds.as_slice()),
-        Change::Delete { conds, .. } => columns_named(schema, conds.as_slice()),
-    }
-}
-
-/// The places of the columns that the first pairs name.
-fn columns_named(schema: &Schema, pairs: &[(Name, Value)]) -> [Option<u32>; SOUGHT_LIMIT]
+/// The places of the columns that the first pairs name. Looked up once, they make the test of each row
+/// cheap.
+pub(crate) fn columns_named(schema: &Schema, pairs: &[(Name, Value)]) -> [Option<u32>; SOUGHT_LIMIT]
     ensures { AreSought schema.now pairs.now result }
 {
     let mut columns = [None; SOUGHT_LIMIT];
@@ -185,71 +145,11 @@ fn columns_named(schema: &Schema, pairs: &[(Name, Value)]) -> [Option<u32>; SOUG
     columns
 }
 
-/// The conditions of a change.
-pub(crate) fn conds_of(change: &Change) -> &[(Name, Value)]
-    ensures { result.now ≡ conds_of change.now }
-{
-    match change {
-        Change::Make { .. } => &[],
-        Change::Load { .. } => &[],
-        Change::Update { conds, .. } => conds.as_slice(),
-        Change::Delete { conds, .. } => conds.as_slice(),
-    }
-}
-
-/// The portion of a change of one.
-pub(crate) fn portion_of(change: &Change) -> Option<Period>
-    ensures { result ≡ portion_of change.now }
-{
-    match change {
-        Change::Make { .. } => None,
-        Change::Load { .. } => None,
-        Change::Update { portion, .. } => Some(*portion),
-        Change::Delete { portion, .. } => Some(*portion),
-    }
-}
-
-/// Whether the change is one of a portion that shares an instant with the period. It takes out no row where
-/// it isn't.
+/// Whether the row meets all conditions and overlaps the portion. `columns` are those that the conditions
+/// name. This and what it calls become part of the loop over the rows, which a call for each would make
+/// slower.
 #[inline(always)]
-pub(crate) fn reaches(change: &Change, period: &Period) -> bool
-    ensures { result ≡ reaches change.now period.now }
-{
-    match change {
-        Change::Make { .. } => false,
-        Change::Load { .. } => false,
-        Change::Update { portion, .. } => period.overlaps(*portion),
-        Change::Delete { portion, .. } => period.overlaps(*portion),
-    }
-}
-
-/// Whether the change takes out the row. `columns` are those that its conditions name. This and what
-/// it calls become part of the loop over the rows, which a call for each would make slower.
-#[inline(always)]
-pub(crate) fn is_removed(
-    schema: &Schema,
-    change: &Change,
-    columns: &[Option<u32>; SOUGHT_LIMIT],
-    row: RowRef<'_>,
-) -> bool
-    requires { AreSought schema.now (conds_of change.now) columns.now }
-    ensures { result ≡ removes change.now schema.now (lent_row row.entry) }
-{
-    match change {
-        Change::Make { .. } => false,
-        Change::Load { .. } => false,
-        Change::Update { portion, conds, .. } => {
-            is_touched(schema, portion, conds.as_slice(), columns, row)
-        }
-        Change::Delete { portion, conds, .. } => {
-            is_touched(schema, portion, conds.as_slice(), columns, row)
-        }
-    }
-}
-
-/// Whether the row meets all conditions and overlaps the portion.
-#[inline(always)]
-fn is_touched(
+pub(crate) fn is_touched(
     schema: &Schema,
     portion: &Period,
     conds: &[(Name, Value)],

@@ -256,9 +256,7 @@ impl Versions {
         let new = rows_made(seeker.change, &plan.parts);
         if !is_small(new, &plan.taken, self.items.len()) {
             self.key_index = None;
-        } else if index_by(&self.key_index, key).is_none()
-            && may_overlap(seeker.schema, seeker.change, key)
-        {
+        } else if index_by(&self.key_index, key).is_none() && may_overlap(seeker, key) {
             self.key_index = KeyIndex::of(alloc, &self.items, key).ok();
         }
     }
@@ -317,7 +315,7 @@ impl Versions {
         ensures { IfOk result (λ overlap. overlap
             ≡ overlap_after seeker.now.change.now seeker.now.schema.now self.now) }
     {
-        if may_overlap(seeker.schema, seeker.change, key) {
+        if may_overlap(seeker, key) {
             self.find_overlap(alloc, seeker, key, rows_made(seeker.change, parts))
         } else {
             Ok(false)

@@ -1,25 +1,21 @@
 use Rattle.std.proofs.Common.{◌∙◌, ap, sym}
 use Rattle.std.specs.List.{list_any}
+use Rattle.std.specs.Option.{option_copied}
 use Rattle.version_core.specs.Keys.{sets_key}
-use Rattle.version_core.specs.OpenVersions.{current}
-use Rattle.version_core.proofs.Unbroken.{delete-unbroken, make-unbroken, update-unbroken}
+use Rattle.version_core.proofs.PortionLemmas.{out-unbroken, unset-unbroken}
 use Rattle.version_core.proofs.keys.may_overlap.Goals as goal
 
-pub returns-in-Make-clause-never : goal.returns-in-Make-clause-never
-returns-in-Make-clause-never c =
-    rw c.in-Make.is (λ no versions. make-unbroken c.in-Make.table c.in-Make.schema c.args.schema.now (current versions))
+pub returns-in-Some-sets-clause-never : goal.returns-in-Some-sets-clause-never
+returns-in-Some-sets-clause-never c = λ no versions whole.
+    let seeker = c.args.seeker.now in
+    let sets = c.in-Some-sets.sets.now in
+    unset-unbroken seeker.change.now sets seeker.schema.now versions
+    (sym seeker.sets_are ∙ ap option_copied c.in-Some-sets.is)
+    (ap (λ key. list_any (sets_key seeker.schema.now key) sets) (sym c.requires)
+    ∙ sym c.any_sets_key.ensures ∙ no) whole
 
-pub returns-in-Update-clause-never : goal.returns-in-Update-clause-never
-returns-in-Update-clause-never c =
-    rw c.in-Update.is
-    (λ no versions. update-unbroken c.in-Update.table c.in-Update.portion c.in-Update.sets c.in-Update.conds
-    c.args.schema.now (current versions)
-    (ap (λ key. list_any (sets_key c.args.schema.now key) c.in-Update.sets) (sym c.requires)
-    ∙ ap (list_any (sets_key c.args.schema.now c.args.key.now)) (sym c.as_slice.ensures)
-    ∙ sym c.any_sets_key.ensures ∙ no))
-
-pub returns-in-Delete-clause-never : goal.returns-in-Delete-clause-never
-returns-in-Delete-clause-never c =
-    rw c.in-Delete.is
-    (λ no versions. delete-unbroken c.in-Delete.table c.in-Delete.portion c.in-Delete.conds c.args.schema.now
-    (current versions))
+pub returns-in-None-sets-clause-never : goal.returns-in-None-sets-clause-never
+returns-in-None-sets-clause-never c = λ no versions whole.
+    let seeker = c.args.seeker.now in
+    out-unbroken seeker.change.now c.in-Some.field-0 seeker.schema.now versions
+    (sym seeker.portion_is ∙ c.in-Some.is) (sym seeker.sets_are ∙ ap option_copied c.in-None-sets.is) whole

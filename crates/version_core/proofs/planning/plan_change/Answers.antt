@@ -13,7 +13,7 @@ pub returns-in_default : goal.returns-in_default
 returns-in_default c =
     let schema = c.args.seeker.now.schema.now in
     let vs = c.args.versions.now in
-    let none = no-portion c.args.seeker.now.change.now schema vs (sym c.portion_of.ensures ∙ c.in_default.is) in
+    let none = no-portion c.args.seeker.now.change.now schema vs (sym c.portion.ensures ∙ c.in_default.is) in
     record {
       parts = c.empty-plan.ensures.parts ∙ parts_at-taken c.args.seeker.now.change.now schema vs [] (sym none);
       taken = c.empty-plan.ensures.taken ∙ sym none;
@@ -81,7 +81,7 @@ loop-block-preserved c =
     let rest = chunks_rest c.next.new.self in
     let taken = c.loop-block.plan.taken.items in
     let none = none-reached c.args.seeker.now.change.now c.args.seeker.now.schema.now c.in-Some.portion c.rows_and_spans.result.0.now
-    c.rows_and_spans.result.1.now vs block (sym c.portion_of.ensures ∙ c.in-Some.is) c.rows_and_spans.ensures.versions
+    c.rows_and_spans.result.1.now vs block (sym c.portion.ensures ∙ c.in-Some.is) c.rows_and_spans.ensures.versions
     (sym c.any_reached.ensures ∙ c.if-any_reached.false) in
     record {
       can_next = search rules;

@@ -7,7 +7,7 @@ use Rattle.version_core.proofs.PartLemmas.{part-added, two-added}
 use Rattle.version_core.proofs.portion.push_outside.Goals as goal
 
 pub returns : goal.returns
-returns c =
+returns c = λ columns.
     let row = lent_row c.args.row in
     let portion = c.args.portion.now in
     let old = c.args.new.now in
