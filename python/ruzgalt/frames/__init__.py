@@ -3,6 +3,7 @@
     join, anti, agg, dip    frames in, a frame out
     at, during              the rows that hold then
     Store                   tables with a past: changes, commits, questions
+    Division                the fewest parts of rows of which no two overlap
     Changed, Verdict        what a change of a store did; what a check of a division found
     Refused                 what all of them raise of a value or a call: name, reason, column, label
     Stopped                 the program ended without all answers
@@ -35,9 +36,13 @@ A module stands on those above it:
 """
 from ruzgalt.frames.calls import agg, anti, dip, join
 from ruzgalt.frames.changes import Changed
+from ruzgalt.frames.division import Division
 from ruzgalt.frames.divisions import Verdict
 from ruzgalt.frames.errors import Doubt, Refused, Stopped
 from ruzgalt.frames.rows import at, during
 from ruzgalt.frames.store import Store
 
-__all__ = ["join", "anti", "agg", "dip", "at", "during", "Store", "Changed", "Verdict", "Refused", "Stopped", "Doubt"]
+__all__ = [
+    "join", "anti", "agg", "dip", "at", "during",
+    "Store", "Division", "Changed", "Verdict", "Refused", "Stopped", "Doubt",
+]

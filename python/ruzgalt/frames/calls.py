@@ -9,6 +9,7 @@ import pandas as pd
 
 from ruzgalt.frames import division, groups, measures, pairs
 from ruzgalt.frames.checks import are_spread
+from ruzgalt.frames.division import Division
 from ruzgalt.frames.errors import Refused
 from ruzgalt.frames.options import (
     FLOAT, INNER, NO_DECIMALS, PERIOD, SUFFIXES, WORKERS, Functions, Names, PairOfNames, PairOfSuffixes, options_of,
@@ -320,7 +321,7 @@ def agg(frame: Any, function: Functions, column: Any = None, *, by: Names = None
 
 
 def dip(frame: pd.DataFrame, *, period: PairOfNames = PERIOD, open_end: bool = False, last_day: bool = False,
-        workers: int = WORKERS) -> pd.Series:
+        workers: int = WORKERS) -> Division[pd.Series]:
     """The fewest parts into which the rows can be divided so that no two of a part hold at one time.
 
     Parameters
@@ -338,10 +339,10 @@ def dip(frame: pd.DataFrame, *, period: PairOfNames = PERIOD, open_end: bool = F
 
     Returns
     -------
-    Series
-        The number of each row's part, from 0 on, under its label: int64, of the name part. Its attrs have count, how
-        many parts there are, and instant, the first point at which as many rows hold: why there can't be fewer. It is a
-        Period of a second, and None where there is no row.
+    Division
+        Its parts are a Series, the number of each row's part, from 0 on, under its label: int64, of the name part. It
+        has count, how many parts there are, and instant, the first point at which as many rows hold: why there can't be
+        fewer. It can be used as the Series.
 
     Raises
     ------
@@ -360,9 +361,11 @@ def dip(frame: pd.DataFrame, *, period: PairOfNames = PERIOD, open_end: bool = F
     >>> day = pd.to_datetime
     >>> stay = pd.DataFrame({"from": day(["2024-01-01", "2024-01-03", "2024-01-05"]),
     ...                      "to": day(["2024-01-05", "2024-01-08", "2024-01-06"])}, index=["a", "b", "c"])
-    >>> parts = ruzgalt.dip(stay)
-    >>> parts.to_dict(), parts.attrs["count"], str(parts.attrs["instant"])
-    ({'a': 0, 'b': 1, 'c': 0}, 2, '2024-01-03 00:00:00')
+    >>> division = ruzgalt.dip(stay)
+    >>> division
+    2 parts of 3 rows, as many as hold at 2024-01-03 00:00:00
+    >>> division.parts.to_dict(), division.count, division.instant
+    ({'a': 0, 'b': 1, 'c': 0}, 2, Timestamp('2024-01-03 00:00:00'))
     """
     options = options_of(period=period, open_end=open_end, last_day=last_day, workers=workers)
     if are_spread(frame=frame):

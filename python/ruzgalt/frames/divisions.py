@@ -9,6 +9,7 @@ import pandas as pd
 
 from ruzgalt.frames import checks, division, groups, instants, script, values
 from ruzgalt.frames.arrays import NO_INTS, Ints
+from ruzgalt.frames.division import Division
 from ruzgalt.frames.errors import Refused, refuse
 from ruzgalt.frames.named import column_of
 from ruzgalt.frames.questions import Asked
@@ -16,7 +17,16 @@ from ruzgalt.frames.questions import Asked
 COLUMNS = ("part", "row_id")
 
 
-@dataclass(frozen=True)
+# What each reason of a no says, with its numbers.
+REASONS = {
+    "WrongCount": "the number of parts is {}", "EmptyPart": "part {} has no row", "Unknown": "no row has the id {}",
+    "Twice": "the row of id {} stands twice", "Missing": "the row of id {} is in no part",
+    "Overlap": "the rows of ids {} and {} of one part overlap",
+    "NotCrowded": "the number of rows that hold at the instant is {}",
+}
+
+
+@dataclass(frozen=True, repr=False)
 class Verdict:
     """What a check of a store found: whether parts are a division with as few as can be. It is true or false.
 
@@ -36,11 +46,11 @@ class Verdict:
     >>> store = ruzgalt.Store()
     >>> store.table("stay", stay)
     commit 2: 2 added, 0 closed
-    >>> parts = store.dip("stay")
-    >>> bool(store.check("stay", parts))
-    True
-    >>> store.check("stay", parts.assign(part=0), count=1, instant="2024-01-01")
-    Verdict(is_yes=False, reason='Overlap', numbers=(1, 2))
+    >>> division = store.dip("stay")
+    >>> store.check("stay", division)
+    yes
+    >>> store.check("stay", division.parts.assign(part=0), count=1, instant="2024-01-01")
+    no, Overlap: the rows of ids 1 and 2 of one part overlap
     """
 
     is_yes: bool
@@ -50,26 +60,31 @@ class Verdict:
     def __bool__(self) -> bool:
         return self.is_yes
 
+    def __repr__(self) -> str:
+        return "yes" if self.is_yes else f"no, {self.reason}: {REASONS[self.reason].format(*self.numbers)}"
 
-def dip(asked: Asked, name: str) -> Any:
-    asked.book.known(name)
+
+def dip(asked: Asked, name: str) -> Division[Any]:
+    table = asked.book.known(name)
     output = asked.book.answer(script.command("dip", name, *asked.suffix))
     told = output.record()
     lists = [division.ids_of(output) for _ in range(int(told[2]))]
     parts = np.repeat(np.arange(len(lists)), [len(one) for one in lists])
     made = pd.DataFrame(dict(zip(COLUMNS, (parts, np.concatenate([NO_INTS, *lists])))))
-    made.attrs = division.attributes(told)
-    return made
+    return division.division_of(made, told, table.kind)
 
 
 def check(asked: Asked, name: str, parts: Any, count: Any, instant: Any) -> Verdict:
     asked.book.known(name)
+    if isinstance(parts, Division):
+        count = parts.count if count is None else count
+        instant = parts.instant if instant is None else instant
+        parts = parts.parts
     lists = lists_of(parts)
-    told = parts.attrs.get("count") if count is None else count
-    point = parts.attrs.get("instant") if instant is None else instant
-    if told is None:
+    if count is None:
         raise Refused("BadCommand", "count= and instant= tell how many parts there are, when as many rows hold")
-    fields = ["check", name, str(checks.whole("count", told, 0)), "-" if point is None else instants.text_of(point)]
+    point = "-" if instant is None else instants.text_of(instant)
+    fields = ["check", name, str(checks.whole("count", count, 0)), point]
     records = [["part", *map(str, ids.tolist())] for ids in lists]
     answer = asked.book.answer(script.block([*fields, *asked.suffix], records)).record()
     return Verdict(answer[0] == "yes", "".join(answer[1:2]), tuple(map(int, answer[2:])))
@@ -78,7 +93,7 @@ def check(asked: Asked, name: str, parts: Any, count: Any, instant: Any) -> Verd
 def lists_of(parts: Any) -> List[Ints]:
     """The ids of each part, by parts. Raises Refused where it is no frame of parts and ids."""
     if not isinstance(parts, pd.DataFrame):
-        told = "a frame of part and row_id is wanted, as Store.dip has it; ruzgalt.dip tells labels, and no ids"
+        told = "what Store.dip gives, or a frame of part and row_id, is wanted; ruzgalt.dip tells labels, and no ids"
         raise checks.wrong("parts", parts, told)
     part, row_id = (column_of(parts, name) for name in COLUMNS)
     if not len(parts):

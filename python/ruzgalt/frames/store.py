@@ -7,7 +7,7 @@ from __future__ import annotations
 
 import copy
 from threading import RLock
-from typing import Any, Dict, List, Mapping, Optional, Sequence
+from typing import Any, Dict, List, Mapping, Optional, Sequence, Union
 
 import pandas as pd
 
@@ -15,6 +15,7 @@ from ruzgalt.frames import changes, checks, divisions, opening, questions
 from ruzgalt.frames.batches import Batch, Draft
 from ruzgalt.frames.book import Book, accepted
 from ruzgalt.frames.changes import Change, Changed
+from ruzgalt.frames.division import Division
 from ruzgalt.frames.divisions import Verdict
 from ruzgalt.frames.errors import Refused, doubt
 from ruzgalt.frames.opening import Script
@@ -706,7 +707,7 @@ class Store:
         """
         return questions.agg(self.asked(as_of, by=by, mean_as=mean_as, points_as=points_as), name, function, column)
 
-    def dip(self, name: str, as_of: Optional[int] = None) -> pd.DataFrame:
+    def dip(self, name: str, as_of: Optional[int] = None) -> Division[pd.DataFrame]:
         """The fewest parts into which the rows can be divided so that no two of a part hold at one time.
 
         Parameters
@@ -718,8 +719,9 @@ class Store:
 
         Returns
         -------
-        DataFrame
-            part, from 0 on, and row_id, both in int64, by part and start. Its attrs are as of ruzgalt.dip.
+        Division
+            Its parts are a frame of part, from 0 on, and row_id, both in int64, by part and start. It has count and
+            instant as of ruzgalt.dip, and can be used as the frame.
 
         Raises
         ------
@@ -730,26 +732,28 @@ class Store:
 
         Examples
         --------
-        >>> parts = store.dip("pay")
-        >>> parts.to_dict("list"), parts.attrs["count"]
-        ({'part': [0, 0, 1], 'row_id': [3, 4, 2]}, 2)
+        >>> division = store.dip("pay")
+        >>> division
+        2 parts of 3 rows, as many as hold at 2024-03-01 00:00:00
+        >>> division.parts.to_dict("list")
+        {'part': [0, 0, 1], 'row_id': [3, 4, 2]}
         """
         return divisions.dip(self.asked(as_of), name)
 
-    def check(self, name: str, parts: pd.DataFrame, count: Optional[int] = None, instant: Any = None,
-              as_of: Optional[int] = None) -> Verdict:
-        """Whether a frame divides the rows into parts of which no two rows overlap, as few as can be.
+    def check(self, name: str, parts: Union[Division[pd.DataFrame], pd.DataFrame], count: Optional[int] = None,
+              instant: Any = None, as_of: Optional[int] = None) -> Verdict:
+        """Whether the rows are divided into parts of which no two rows overlap, as few as can be.
 
         Parameters
         ----------
         name : str
             The table.
-        parts : DataFrame
-            part, numbers or texts, and row_id.
+        parts : Division or DataFrame
+            What dip() gave; or a frame of part, numbers or texts, and row_id.
         count : int, optional
-            How many parts there are, where not as parts.attrs has it, as of dip().
+            How many parts there are: of a frame; of a Division where not as it says.
         instant : str, date, datetime, Timestamp or Period, optional
-            A point at which as many rows hold, where not as parts.attrs has it.
+            A point at which as many rows hold: of a frame that has rows; of a Division where not as it says.
         as_of : int, optional
             The number of a commit, as of which it is asked, where not of the newest. log() lists them.
 
@@ -767,11 +771,11 @@ class Store:
 
         Examples
         --------
-        >>> parts = store.dip("pay")
-        >>> store.check("pay", parts)
-        Verdict(is_yes=True, reason='', numbers=())
-        >>> store.check("pay", parts.assign(part=0), count=1, instant="2024-03-01")
-        Verdict(is_yes=False, reason='Overlap', numbers=(3, 2))
+        >>> division = store.dip("pay")
+        >>> store.check("pay", division)
+        yes
+        >>> store.check("pay", division.parts.assign(part=0), count=1, instant="2024-03-01")
+        no, Overlap: the rows of ids 3 and 2 of one part overlap
         """
         return divisions.check(self.asked(as_of), name, parts, count, instant)
 

@@ -41,7 +41,7 @@ class Frames(unittest.TestCase):
         self.assertEqual(list(ruzgalt.join(none, pay(), on="person").columns), ["from", "to", "person"])
         self.assertEqual(len(ruzgalt.anti(pay(), none, on="person")), 4)
         self.assertEqual(len(ruzgalt.agg(none, "count")), 0)
-        self.assertEqual(ruzgalt.dip(none).attrs, {"count": 0, "instant": None})
+        self.assertEqual((ruzgalt.dip(none).count, ruzgalt.dip(none).instant), (0, None))
         self.assertEqual(str(ruzgalt.join(none, none, on=[]).dtypes["from"]), "datetime64[ns]")
 
     def test_one_row(self):

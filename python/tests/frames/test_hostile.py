@@ -87,7 +87,7 @@ class Hostile(unittest.TestCase):
         if found is None:
             return
         parts, count = found
-        self.assertEqual((parts.attrs["count"], parts.max() + 1), (count, count))
+        self.assertEqual((parts.count, parts.max() + 1), (count, count))
         rows = list(zip(by_rows.periods(case.columns[0], case.periods[0]), parts))
         overlaps = [
             (one, other) for place, (one, part) in enumerate(rows) for other, own in rows[:place]

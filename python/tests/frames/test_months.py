@@ -90,7 +90,7 @@ class Months(unittest.TestCase):
         self.assertEqual([str(got[name][0]) for name in ("from", "to")], ["2023-01-01", "2023-04-01"])
         got = ruzgalt.agg(one, "count", points_as="date", last_day=True)
         self.assertEqual(got["to"].tolist(), [datetime.date(2023, 3, 31)])
-        self.assertEqual(str(ruzgalt.dip(one).attrs["instant"]), "2023-01-01 00:00:00")
+        self.assertEqual(ruzgalt.dip(one).instant, one["from"][0])
 
     def test_a_month_beside_a_quarter_comes_as_points(self):
         got = ruzgalt.join(frame([(1, 6, "a")], "M"), frame([(0, 1, "a")], "Q"), on="k")

@@ -86,7 +86,7 @@ class Page(unittest.TestCase):
                 for name, column in (("count", ()), ("sum", "x"), ("min", "x"), ("max", "x"))
             ] == [[1], [3, 4], [3, 4], [3, 4]],
             "`dip(frame)`": lambda: (lambda parts: (
-                parts.tolist(), parts.attrs["count"], str(parts.attrs["instant"]),
+                parts.tolist(), parts.count, str(parts.instant),
             ))(ruzgalt.dip(left)) == ([0, 0], 1, "2024-01-01 00:00:00"),
         })
 

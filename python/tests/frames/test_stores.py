@@ -376,7 +376,9 @@ class Changes(Case):
         self.assertNotIn("decimals", str(self.refuses(lambda: made.check("t", floats), "WrongKind", "'part'", "parts")))
         self.refuses(lambda: made.check("t", parts, count=True), "BadCommand", "count")
         self.refuses(lambda: made.check("t", parts.assign(part=[0, None])), "WrongKind", "'part'")
-        self.assertTrue(made.check("t", parts.assign(part=["desk b", "desk a"])))
+        named = parts.assign(part=["desk b", "desk a"])
+        self.refuses(lambda: made.check("t", named), "BadCommand", "count=")
+        self.assertTrue(made.check("t", named, parts.count, parts.instant))
 
     def test_an_overlap_by_an_update_names_both_rows(self):
         made = store(frame(n=[1, 2]), key=["k"])

@@ -27,7 +27,9 @@ store = ruzgalt.Store(workers=2)
 pairs: pd.DataFrame = ruzgalt.join(frame, frame, on="k", labels=True, suffixes=("_l", None))
 left: pd.DataFrame = ruzgalt.anti(frame, frame, ["k"], period=["start", "end"], decimals={"k": 2})
 costs: pd.DataFrame = ruzgalt.agg(frame, "sum", "cents", by="k", open_end=True)
-parts: pd.Series = ruzgalt.dip(frame, last_day=True)
+division: ruzgalt.Division[pd.Series] = ruzgalt.dip(frame, last_day=True)
+parts: pd.Series = division.parts
+number: int = division.count
 two: dd.DataFrame = ruzgalt.join(spread, spread, on="k", parts=2)
 first: dd.DataFrame = ruzgalt.join(spread, frame, on="k")
 second: dd.DataFrame = ruzgalt.anti(frame, spread, on="k")

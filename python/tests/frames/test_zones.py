@@ -98,8 +98,7 @@ class Zones(unittest.TestCase):
         got = ruzgalt.anti(frame(one), frame(other), on="k")
         self.assertEqual(told(got), [[begin, begin + 4 * HOUR, "a"], [begin + 6 * HOUR, begin + 10 * HOUR, "a"]])
         self.assertEqual(list(map(str, got["from"])), ["2024-10-26 21:00:00+02:00", "2024-10-27 02:00:00+01:00"])
-        instant = ruzgalt.dip(frame(other)).attrs["instant"]
-        self.assertEqual(str(instant), "2024-10-27 01:00:00+02:00")
+        self.assertEqual(str(ruzgalt.dip(frame(other)).instant), "2024-10-27 01:00:00+02:00")
 
     def test_a_missing_end_is_missing_in_the_zone(self):
         begin = NIGHTS[0]

@@ -1,0 +1,97 @@
+"""Divisions and verdicts as objects: what they have, in the frame's own kinds, and in words."""
+import copy
+import datetime
+import pickle
+import unittest
+
+import numpy as np
+import pandas as pd
+
+import ruzgalt
+
+FIRST = pd.to_datetime(["2024-01-01", "2024-02-01"])
+LAST = pd.to_datetime(["2024-03-01", "2024-04-01"])
+
+
+def frame(start, end):
+    return pd.DataFrame({"from": start, "to": end}, index=["x", "y"])
+
+
+def objects(points):
+    return pd.Series(list(points), index=["x", "y"], dtype=object)
+
+
+class Divisions(unittest.TestCase):
+    def test_the_instant_is_as_the_starts_are(self):
+        months = FIRST.to_period("M")
+        for start, end in (
+            (FIRST, LAST), (FIRST.tz_localize("Europe/Berlin"), LAST.tz_localize("Europe/Berlin")),
+            (FIRST.to_period("D"), LAST.to_period("D")), (FIRST.to_period("S"), LAST.to_period("S")),
+            (months, months + 1), (objects(FIRST.date), objects(LAST.date)),
+            (objects(FIRST.to_pydatetime()), objects(LAST.to_pydatetime())),
+        ):
+            with self.subTest(dtype=start.dtype):
+                told = frame(start, end)
+                division = ruzgalt.dip(told)
+                wanted = told["from"].iloc[1]
+                self.assertEqual((division.count, division.instant, type(division.instant)), (2, wanted, type(wanted)))
+
+    def test_a_store_has_it_in_its_table_s_kind(self):
+        days = objects([datetime.date(2024, 1, 1), datetime.date(2024, 1, 1)])
+        store = ruzgalt.Store()
+        store.table("t", frame(days, objects([datetime.date(2024, 3, 1)] * 2)))
+        self.assertIs(type(store.dip("t").instant), datetime.date)
+        store.delete("t", "2024-01-01", "2024-01-10T08:00:00")
+        self.assertEqual(store.dip("t").instant, datetime.datetime(2024, 1, 10, 8))
+
+    def test_of_no_rows_there_is_none(self):
+        for division in (ruzgalt.dip(frame(FIRST, LAST).iloc[:0]),):
+            self.assertEqual((division.count, division.instant, len(division)), (0, None, 0))
+            self.assertEqual(repr(division), "0 parts of 0 rows")
+
+    def test_it_is_used_as_its_parts(self):
+        told = frame(FIRST, LAST)
+        division = ruzgalt.dip(told)
+        self.assertEqual(repr(division), "2 parts of 2 rows, as many as hold at 2024-02-01 00:00:00")
+        self.assertIsInstance(division.parts, pd.Series)
+        self.assertEqual((division["y"], division.tolist(), list(division), len(division)), (1, [0, 1], [0, 1], 2))
+        for whole in (told.assign(part=division), told.assign(part=division.parts)):
+            self.assertEqual(whole["part"].dtype, np.int64)
+            self.assertEqual(whole["part"].tolist(), [0, 1])
+        self.assertFalse(isinstance(division, pd.Series) or pd.api.types.is_dict_like(division))
+        for other in (copy.copy(division), copy.deepcopy(division), pickle.loads(pickle.dumps(division))):
+            self.assertEqual((other.tolist(), other.count, other.instant), ([0, 1], 2, FIRST[1]))
+        self.assertRaises(AttributeError, lambda: division.part_count)
+
+    def test_that_of_a_store_is_a_frame_and_is_checked_as_it_is(self):
+        store = ruzgalt.Store()
+        store.table("t", frame(FIRST, LAST))
+        division = store.dip("t")
+        self.assertEqual(list(division.parts), ["part", "row_id"])
+        self.assertEqual(division["row_id"].tolist(), [1, 2])
+        self.assertEqual(repr(store.check("t", division)), "yes")
+        self.assertFalse(store.check("t", division, count=1))
+
+
+class Verdicts(unittest.TestCase):
+    def test_each_is_said_in_words(self):
+        store = ruzgalt.Store()
+        store.table("t", frame(FIRST, LAST))
+        parts = store.dip("t").parts
+        double = pd.concat([parts, parts.iloc[:1]])
+        for given, count, instant, wanted in (
+            (parts, 2, "2024-02-01", "yes"),
+            (parts, 3, "2024-02-01", "no, WrongCount: the number of parts is 2"),
+            (parts.assign(row_id=[1, 9]), 2, "2024-02-01", "no, Unknown: no row has the id 9"),
+            (double, 2, "2024-02-01", "no, Twice: the row of id 1 stands twice"),
+            (parts.iloc[:1], 1, "2024-02-01", "no, Missing: the row of id 2 is in no part"),
+            (parts.assign(part=0), 1, "2024-01-01", "no, Overlap: the rows of ids 1 and 2 of one part overlap"),
+            (parts, 2, "2024-01-01", "no, NotCrowded: the number of rows that hold at the instant is 1"),
+        ):
+            with self.subTest(wanted):
+                verdict = store.check("t", given, count, instant)
+                self.assertEqual((repr(verdict), bool(verdict)), (wanted, wanted == "yes"))
+
+
+if __name__ == "__main__":
+    unittest.main()
